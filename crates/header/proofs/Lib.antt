@@ -1,0 +1,4 @@
+pub mod RefusalLaws
+pub mod StartLaws
+pub mod WordLaws
+pub mod WritingLaws

@@ -1,0 +1,66 @@
+-- What is known of a packet whose first refusals are none.
+-- Assumes nothing.
+use Prim.Native.Nat.{ℕ, _*_, _^_, _<_, _≤_}
+use mathlib.Core.Path.{_≡_}
+use mathlib.Core.Bool.{not}
+use mathlib.Core.List.{List}
+use native.Mathlib.Nat.{pow-le-pow-right}
+use native.Mathlib.Omega.{arith}
+use lib.ListN.{length}
+use lib.Dec.{ltb, eqb}
+use borrow.Author.Tests.{ltb-false, eqb-true, eqb-false, not-false}
+use Rattle.octets.specs.Numbers.{Width}
+use Rattle.octets.proofs.NumberLaws.{width-of}
+use Rattle.header.specs.Refusals.{_▹_, when}
+use Rattle.header.specs.Word.{markOf, typeOf, widthOf, kindOf, descriptorOctets}
+use Rattle.header.specs.Start.{wordOf, startRefusal, typeRefusal, fileRefusal}
+use Rattle.header.proofs.RefusalLaws.{first-none, rest-none, failed}
+
+pub record StartFine (s : List ℕ) : Type 0 where
+  pub short : length s ≤ 65535
+  pub long : 8 ≤ length s
+  pub mark : markOf (wordOf s) ≡ 1
+
+pub start-fine : (s : List ℕ) → startRefusal s ≡ 0 → StartFine s
+unfolding startRefusal
+start-fine s e =
+    let r1 = rest-none (when (ltb 65535 (length s)) 2) _ e in
+    let r2 = rest-none (when (ltb (length s) 8) 1) _ r1 in
+    record {
+      short = ltb-false _ _ (failed _ 1 (first-none _ _ e));
+      long = ltb-false _ _ (failed _ 0 (first-none _ _ r1));
+      mark = eqb-true _ _ (not-false _ (failed _ 2 r2));
+    }
+
+pub record TypeFine (t : ℕ) (s : List ℕ) : Type 0 where
+  pub start : StartFine s
+  pub ptype : typeOf (wordOf s) ≡ t
+
+pub type-fine : (t : ℕ) (s : List ℕ) → typeRefusal t s ≡ 0 → TypeFine t s
+unfolding typeRefusal
+type-fine t s e =
+    record {
+      start = start-fine s (first-none _ _ e);
+      ptype = eqb-true _ _ (not-false _ (failed _ 3 (rest-none (startRefusal s) _ e)));
+    }
+
+-- descriptors that are not of 128 bits
+pub narrow-octets : (w : ℕ) → (widthOf w ≡ 3 → ⊥) → Width (descriptorOctets w)
+narrow-octets w n = width-of (widthOf w) (omega arith)
+
+pub record FileFine (w : ℕ) : Type 0 where
+  pub narrow : widthOf w < 3
+  pub octets : Width (descriptorOctets w)
+  pub small : descriptorOctets w ≤ 8
+  pub kind : kindOf w ≡ 0
+
+pub file-fine : (w : ℕ) → fileRefusal w ≡ 0 → FileFine w
+unfolding fileRefusal
+file-fine w e =
+    let n : widthOf w ≡ 3 → ⊥ = eqb-false _ _ (failed (eqb (widthOf w) 3) 4 (first-none _ _ e)) in
+    record {
+      narrow = omega arith;
+      octets = narrow-octets w n;
+      small = omega (arith, pow-le-pow-right {n = 2} (omega arith) {i = widthOf w} {j = 2} (omega arith));
+      kind = eqb-true _ _ (not-false _ (failed _ 5 (rest-none (when (eqb (widthOf w) 3) 5) _ e)));
+    }

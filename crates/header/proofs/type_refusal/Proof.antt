@@ -1,0 +1,45 @@
+-- `header::type_refusal` meets its contract: what the start refuses stands, and then the type is tested.
+-- Assumes nothing.
+use mathlib.Core.Path.{_≡_, sym, _∙_}
+use denote.Ref.{now}
+use borrow.Author.Tests.{eq-eqb, ne-eqb}
+use Rattle.header.specs.Word.{typeOf}
+use Rattle.header.specs.Start.{wordOf, startRefusal, typeRefusal}
+use Rattle.header.proofs.RefusalLaws.{stays}
+use Rattle.header.proofs.StartLaws.{start-fine}
+use borrow.Author.Needs.{needs}
+use native.Mathlib.Omega.{arith}
+use Rattle.header.proofs.type_refusal.Statement.{statement}
+use Rattle.header.proofs.type_refusal.Tie as tie
+
+start-refusal-requires : tie.Need-start-refusal-requires
+start-refusal-requires c κs = search needs
+
+returns : tie.Need-returns
+unfolding typeRefusal
+returns c = let s = now (c .before .before .before .args .p) in c .before .start-refusal .ensures ∙ sym (stays (startRefusal s) _ (omega arith))
+
+word-requires : tie.Need-word-requires
+word-requires c κs = start-fine (now (c .before .before .before .args .p)) (omega arith) .long
+
+split-requires : tie.Need-split-requires
+split-requires c κs = search needs
+
+returns-2 : tie.Need-returns-2
+unfolding typeRefusal
+returns-2 c =
+    let s = now (c .before .before .before .before .before .before .before .args .p) in
+    let z : startRefusal s ≡ 0 = omega arith in
+    rw (z, ne-eqb (typeOf (wordOf s)) (c .before .before .before .before .before .before .before .args .ptype) (omega arith))
+
+returns-3 : tie.Need-returns-3
+unfolding typeRefusal
+returns-3 c =
+    let s = now (c .before .before .before .before .before .before .before .args .p) in
+    let z : startRefusal s ≡ 0 = omega arith in
+    rw (z, eq-eqb (typeOf (wordOf s)) (c .before .before .before .before .before .before .before .args .ptype) (omega arith))
+
+pub type-refusal-spec : {M : Type 1} → statement M
+type-refusal-spec =
+    tie.close
+    (tie.spec start-refusal-requires returns word-requires split-requires returns-2 returns-3)

@@ -1,0 +1,4 @@
+pub mod Refusals
+pub mod Word
+pub mod Start
+pub mod Writing

@@ -1,0 +1,32 @@
+-- What every packet begins with, and the refusals that come first in reading.
+-- Assumes nothing.
+use Prim.Native.Nat.{ℕ}
+use mathlib.Core.Bool.{not}
+use mathlib.Core.List.{List}
+use lib.ListN.{length, take, drop}
+use lib.Dec.{ltb, eqb}
+use Rattle.octets.specs.Numbers.{beValue}
+use Rattle.header.specs.Refusals.{_▹_, when}
+use Rattle.header.specs.Word.{markOf, typeOf, widthOf, kindOf}
+
+-- "Every packet begins with a 32-bit word and a 32-bit Id"
+abbrev pub wordOf : List ℕ → ℕ
+wordOf s = beValue (take 4 s)
+
+abbrev pub idOf : List ℕ → ℕ
+idOf s = beValue (take 4 (drop 4 s))
+
+-- "Order in reading: 2, 1 (first 8 octets), 3"
+unfoldable pub startRefusal : List ℕ → ℕ
+startRefusal s =
+    when (ltb 65535 (length s)) 2
+    ▹ when (ltb (length s) 8) 1
+    ▹ when (not (eqb (markOf (wordOf s)) 1)) 3
+
+-- then 4, for a reader that takes the type t alone
+unfoldable pub typeRefusal : ℕ → List ℕ → ℕ
+typeRefusal t s = startRefusal s ▹ when (not (eqb (typeOf (wordOf s)) t)) 4
+
+-- "then width, kind": 5 and 6 of METADATA and DATA
+unfoldable pub fileRefusal : ℕ → ℕ
+fileRefusal w = when (eqb (widthOf w) 3) 5 ▹ when (not (eqb (kindOf w) 0)) 6

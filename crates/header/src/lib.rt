@@ -1,0 +1,202 @@
+// The first word of a packet by shifts and masks, the refusals with their codes, and what all readers and writers share.
+ghost use mathlib.Core.Path.{_≡_};
+ghost use Prim.Native.Nat.{_+_, _*_, _<_, _≤_, _^_};
+ghost use lib.ListN.{length};
+ghost use Rattle.header.specs.Refusals.{codeOf, refusalOf};
+ghost use Rattle.header.specs.Word.{Splits, descriptorOctets, timestampOctets, wordFor};
+ghost use Rattle.header.specs.Start.{wordOf, idOf, startRefusal, typeRefusal, fileRefusal};
+ghost use Rattle.header.specs.Writing.{roomRefusal};
+
+// A refusal: its number, and the status code to send (0: nothing to send).
+pub struct Refusal {
+    pub number: u64,
+    pub code: u64,
+}
+
+// What a writer answers: the size of the packet that it wrote, or why it wrote nothing.
+pub enum Written {
+    Size(usize),
+    Refused(Refusal),
+}
+
+// The fields of a packet's first word. What some of them mean depends on the packet's type.
+pub struct Head {
+    pub mark: u64,
+    pub ptype: u64,
+    pub flags: u64,
+    pub width: u64,
+    pub kind: u64,
+    pub stamped: u64,
+    pub partial: u64,
+    pub wanted: u64,
+    pub eod: u64,
+    pub words: u64,
+    pub sum: u64,
+    pub status: u64,
+}
+
+const CODES: [u64; 23] = [
+    0,
+    0,
+    0,
+    0,
+    10,
+    9,
+    1,
+    1,
+    1,
+    9,
+    1,
+    0,
+    6,
+    9,
+    9,
+    1,
+    3,
+    3,
+    9,
+    0,
+    0,
+    0,
+    0,
+];
+
+// The refusal with its status code.
+pub fn refuse(number: u64) -> Refusal
+    ensures { λ r. ⌜ r ≡ refusalOf number ⌝ }
+{
+    if number < 23 {
+        return Refusal {
+            number,
+            code: CODES[number as usize],
+        };
+    }
+    Refusal { number, code: 0 }
+}
+
+// Bit b of the word, counted from the highest, is bit 31 - b counted from the lowest.
+pub fn split(w: u64) -> Head
+    ensures { λ r. ⌜ Splits w r ⌝ }
+{
+    Head {
+        mark: (w >> 30) & 3,
+        ptype: (w >> 24) & 0x3f,
+        flags: w & 0xffffff,
+        width: (w >> 22) & 3,
+        kind: (w >> 20) & 3,
+        stamped: (w >> 19) & 1,
+        partial: (w >> 17) & 1,
+        wanted: (w >> 16) & 1,
+        eod: (w >> 15) & 1,
+        words: (w >> 4) & 15,
+        sum: w & 15,
+        status: w & 255,
+    }
+}
+
+// The word of a packet of type `ptype` with these flags.
+pub fn join(ptype: u64, flags: u64) -> u64
+    requires { ⌜ (ptype < 2 ^ 6) × (flags < 2 ^ 24) ⌝ }
+    ensures { λ r. ⌜ r ≡ wordFor ptype flags ⌝ }
+{
+    (0x40000000 | (ptype << 24)) | flags
+}
+
+// The first word of a packet.
+pub fn word(p: &[u8]) -> u64
+    requires { ⌜ 8 ≤ length (now p) ⌝ }
+    ensures { λ r. ⌜ r ≡ wordOf (now (p .entry)) ⌝ }
+{
+    octets::read_number(p, 0, 4)
+}
+
+// The Id of a packet.
+pub fn id(p: &[u8]) -> u64
+    requires { ⌜ 8 ≤ length (now p) ⌝ }
+    ensures { λ r. ⌜ r ≡ idOf (now (p .entry)) ⌝ }
+{
+    octets::read_number(p, 4, 4)
+}
+
+// The octets of a descriptor, by the width bits of a word or of the properties.
+pub fn octets_of_width(width: u64) -> usize
+    requires { ⌜ width < 4 ⌝ }
+    ensures { λ r. ⌜ r ≡ 2 * 2 ^ width ⌝ }
+{
+    2 << width
+}
+
+// The octets of a descriptor, by the first word or the flags.
+pub fn descriptor_octets(w: u64) -> usize
+    ensures { λ r. ⌜ r ≡ descriptorOctets w ⌝ }
+{
+    let h = split(w);
+    octets_of_width(h.width)
+}
+
+// The octets of the timestamp, by the first word or the flags.
+pub fn timestamp_octets(w: u64) -> usize
+    ensures { λ r. ⌜ r ≡ timestampOctets w ⌝ }
+{
+    let h = split(w);
+    16 * (h.stamped as usize)
+}
+
+// Refusals 2, 1, 3 of any packet; 0 for none.
+pub fn start_refusal(p: &[u8]) -> u64
+    ensures { λ r. ⌜ r ≡ startRefusal (now (p .entry)) ⌝ }
+{
+    if 65535 < p.len() {
+        return 2;
+    }
+    if p.len() < 8 {
+        return 1;
+    }
+    let h = split(word(p));
+    if h.mark != 1 {
+        return 3;
+    }
+    0
+}
+
+// Refusals 2, 1, 3, 4 of a packet that has to be of type `ptype`; 0 for none.
+pub fn type_refusal(p: &[u8], ptype: u64) -> u64
+    ensures { λ r. ⌜ r ≡ typeRefusal ptype (now (p .entry)) ⌝ }
+{
+    let n = start_refusal(p);
+    if n != 0 {
+        return n;
+    }
+    let h = split(word(p));
+    if h.ptype != ptype {
+        return 4;
+    }
+    0
+}
+
+// Refusals 5 and 6 of the first word, or the flags, of METADATA and DATA; 0 for none.
+pub fn file_refusal(w: u64) -> u64
+    ensures { λ r. ⌜ r ≡ fileRefusal w ⌝ }
+{
+    let h = split(w);
+    if h.width == 3 {
+        return 5;
+    }
+    if h.kind != 0 {
+        return 6;
+    }
+    0
+}
+
+// Refusals 2 and 20 of a packet of `size` octets to be written into `room`; 0 for none.
+pub fn room_refusal(size: usize, room: usize) -> u64
+    ensures { λ r. ⌜ r ≡ roomRefusal size room ⌝ }
+{
+    if 65535 < size {
+        return 2;
+    }
+    if room < size {
+        return 20;
+    }
+    0
+}

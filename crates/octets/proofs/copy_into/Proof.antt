@@ -1,0 +1,73 @@
+-- `octets::copy_into` meets its contract: before each turn, out is what it was with the first j octets of src pasted in.
+-- Assumes nothing.
+use Prim.Native.Nat.{_+_, _-_, _≤_}
+use mathlib.Core.Path.{_≡_, refl, sym, _∙_}
+use native.Mathlib.Numerals.{add-one}
+use denote.Ref.{now}
+use lib.ListN.{length, length-set}
+use lib.Seq.{paste, paste-zero, paste-suc}
+use Rattle.octets.proofs.PutLaws.{paste-put}
+use borrow.Author.Needs.{needs}
+use native.Mathlib.Omega.{arith}
+use Rattle.octets.proofs.copy_into.Statement.{statement}
+use Rattle.octets.proofs.copy_into.Tie as tie
+use Rattle.octets.proofs.copy_into.Reads as reads
+use Rattle.octets.proofs.copy_into.Lts as lts
+
+abbrev Inv-loop : tie.InvT-loop
+Inv-loop out₀ at src j₀ out j = (j ≤ length src) × (length out ≡ length out₀) × (out ≡ paste out₀ at src j)
+
+abbrev μ-loop : tie.MeasureT-loop
+μ-loop out₀ at src j₀ out j = length src - j
+
+loop-holds : tie.Need-loop-holds Inv-loop μ-loop
+loop-holds c = (omega arith, refl, paste-zero (now (c .args .out)) (c .args .at) (now (c .args .src)))
+
+shared-slice-read-out : tie.Need-shared-slice-read-out Inv-loop μ-loop
+shared-slice-read-out c = omega arith
+
+add-out : tie.Need-add-out Inv-loop μ-loop
+add-out c = omega arith
+
+slice-write-out : tie.Need-slice-write-out Inv-loop μ-loop
+slice-write-out c = omega arith
+
+add-j : tie.Need-add-j Inv-loop μ-loop
+add-j c = omega arith
+
+loop-less : tie.Need-loop-less Inv-loop μ-loop
+loop-less c = omega arith
+
+loop-again : tie.Need-loop-again Inv-loop μ-loop
+loop-again c =
+    let a = c .before .before .before .args in
+    let l = c .before .before .loop in (
+      omega arith,
+      length-set (l .out) _ _ ∙ l .inv .1,
+      rw (l .inv .2, add-one) (paste-suc (now (a .out)) (a .at) (now (a .src)) (l .j) 0 (omega arith) (omega arith)),
+    )
+
+same-length : tie.Need-same-length Inv-loop μ-loop
+same-length c = c .before .loop .inv .1
+
+returns : tie.Need-returns Inv-loop μ-loop
+returns c =
+    let a = c .before .before .args in
+    let e : c .before .loop .j ≡ length (now (a .src)) = omega arith in
+    (rw e at (c .before .loop .inv .2)) ∙ paste-put (now (a .out)) (a .at) (now (a .src))
+
+pub copy-into-spec : {M : Type 1} → statement M
+copy-into-spec =
+    tie.close
+    (tie.spec
+    Inv-loop
+    μ-loop
+    loop-holds
+    shared-slice-read-out
+    add-out
+    slice-write-out
+    add-j
+    loop-less
+    loop-again
+    same-length
+    returns)

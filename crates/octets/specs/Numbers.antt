@@ -1,0 +1,33 @@
+-- "All numbers are big-endian": the octets of a number, highest first, and the number that octets stand for.
+-- Assumes nothing.
+use Prim.Native.Nat.{ℕ, zero, suc, _+_, _*_, _/_, _%_, _<_}
+use mathlib.Core.List.{List, [], _∷_}
+use lib.ListN.{getD}
+
+-- the number so far, with the octets that are left to read
+abbrev pub beFrom : ℕ → List ℕ → ℕ
+beFrom v [] = v
+beFrom v (x ∷ xs) = beFrom (v * 256 + x) xs
+
+-- the number that octets stand for
+abbrev pub beValue : List ℕ → ℕ
+beValue xs = beFrom 0 xs
+
+-- the last d octets of v, in front of those that follow
+abbrev pub beOnto : ℕ → ℕ → List ℕ → List ℕ
+beOnto zero v r = r
+beOnto (suc d) v r = beOnto d (v / 256) (v % 256 ∷ r)
+
+-- v as d octets
+abbrev pub beDigits : ℕ → ℕ → List ℕ
+beDigits d v = beOnto d v []
+
+-- each element is an octet
+abbrev pub Octets : List ℕ → Type 0
+Octets xs = (i : ℕ) → getD xs i 0 < 256
+
+-- the octets of a descriptor: 16, 32 or 64 bits
+pub data Width : ℕ → Type 0 where
+  two : Width 2
+  four : Width 4
+  eight : Width 8

@@ -3,10 +3,10 @@
 use Prim.Native.Nat.{ℕ, _+_, _≤_}
 use mathlib.Core.Path.{_≡_, sym, _∙_}
 use mathlib.Core.List.{List, _++_, append-assoc}
-use native.Mathlib.Nat.{add-assoc, le-refl, zero-add}
+use native.Mathlib.Nat.{le-refl}
 use native.Mathlib.Omega.{arith}
 use lib.ListN.{length, take, drop, length-append}
-use lib.Seq.{paste, take-length, length-paste, take-append-seam, drop-append-add, drop-drop}
+use lib.Seq.{paste, take-length, length-paste, take-at, length-take-le, drop-append-add, drop-drop}
 use Rattle.octets.specs.Put.{put}
 
 -- what a copy of the whole list leaves
@@ -17,9 +17,24 @@ paste-put l at bs = simp (take-length, append-assoc)
 pub length-put : (at : ℕ) (bs l : List ℕ) → at + length bs ≤ length l → length (put at bs l) ≡ length l
 length-put at bs l h = rw (← paste-put) (length-paste l at bs (length bs) h (le-refl (length bs)))
 
--- the next part, at n, after what was put at the start: `done` is what stands there already
-pub put-next : (n : ℕ) (done bs old : List ℕ) → length done ≡ n → n + length bs ≤ length old
-    → put n bs (put 0 done old) ≡ put 0 (done ++ bs) old
+-- the next part, at n, after what was put at the place `at`: `done` is what stands there already
+pub put-next : (at n : ℕ) (done bs old : List ℕ) → at + length done ≡ n → n + length bs ≤ length old
+    → put n bs (put at done old) ≡ put at (done ++ bs) old
 unfolding put
-put-next n done bs old e h =
-    rw (← e) (simp (zero-add, take-append-seam, drop-append-add, drop-drop, append-assoc, length-append))
+put-next at n done bs old e h =
+    let front = take at old ++ done in
+    let l : length (take at old) ≡ at = length-take-le at old (omega arith) in
+    let f : length front ≡ n = length-append (take at old) done ∙ omega arith in
+    let d : at + length (done ++ bs) ≡ n + length bs = rw length-append (omega arith) in
+    rw (
+      e,
+      ← append-assoc (take at old) done (drop n old),
+      take-at front (drop n old) n f,
+      drop-past front (drop n old) n (length bs) f,
+      drop-drop,
+      d,
+    )
+    (simp append-assoc)
+  where
+    drop-past : (a b : List ℕ) (n k : ℕ) → length a ≡ n → drop (n + k) (a ++ b) ≡ drop k b
+    drop-past a b n k e = rw (← e) (drop-append-add a b k)

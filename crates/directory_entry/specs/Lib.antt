@@ -1,0 +1,4 @@
+pub mod Properties
+pub mod Path
+pub mod Entry
+pub mod WriteEntry

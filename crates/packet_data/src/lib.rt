@@ -1,0 +1,189 @@
+// DATA packets: read, the payload handed back as a part of the packet, and written.
+ghost use mathlib.Core.Path.{_≡_};
+ghost use Prim.Native.Nat.{_+_, _<_, _≤_, _^_};
+ghost use lib.ListN.{length};
+ghost use Rattle.octets.specs.Put.{put};
+ghost use Rattle.packet_data.specs.Data.{payloadAt, dataRefusal, dataOf, readData, payloadOf};
+ghost use Rattle.packet_data.specs.WriteData.{dataExcess, dataWriteRefusal, dataOctets, DataFits, dataWritten, dataBuffer};
+use header::Refusal;
+use header::Written;
+
+// The fields of a DATA packet. `width` and `timestamp` count octets; the payload is `length` octets from `start` on.
+pub struct Data {
+    pub flags: u64,
+    pub id: u64,
+    pub width: usize,
+    pub timestamp: usize,
+    pub wanted: u64,
+    pub eod: u64,
+    pub offset: u64,
+    pub start: usize,
+    pub length: usize,
+}
+
+pub enum DataRead {
+    Accepted(Data),
+    Refused(Refusal),
+}
+
+// The refusal of a packet that has to be DATA; 0 for none.
+pub fn data_refusal(p: &[u8]) -> u64
+    ensures { λ r. ⌜ r ≡ dataRefusal (now (p .entry)) ⌝ }
+{
+    let n = header::type_refusal(p, 3);
+    if n != 0 {
+        return n;
+    }
+    let w = header::word(p);
+    let f = header::file_refusal(w);
+    if f != 0 {
+        return f;
+    }
+    let start = 8 + header::timestamp_octets(w) + header::descriptor_octets(w);
+    if p.len() < start {
+        return 1;
+    }
+    if p.len() == start {
+        return 10;
+    }
+    0
+}
+
+// The fields of a packet that is not refused.
+pub fn data_fields(p: &[u8]) -> Data
+    requires { ⌜ dataRefusal (now p) ≡ 0 ⌝ }
+    ensures { λ r. ⌜ r ≡ dataOf (now (p .entry)) ⌝ }
+{
+    let w = header::word(p);
+    let h = header::split(w);
+    let timestamp = header::timestamp_octets(w);
+    let width = header::descriptor_octets(w);
+    let at = 8 + timestamp;
+    let start = at + width;
+    Data {
+        flags: h.flags,
+        id: header::id(p),
+        width,
+        timestamp,
+        wanted: h.wanted,
+        eod: h.eod,
+        offset: octets::read_number(p, at, width),
+        start,
+        length: p.len() - start,
+    }
+}
+
+// Reads a packet that has to be DATA.
+pub fn read_data(p: &[u8]) -> DataRead
+    ensures { λ r. ⌜ r ≡ readData (now (p .entry)) ⌝ }
+{
+    let n = data_refusal(p);
+    if n != 0 {
+        return DataRead::Refused(header::refuse(n));
+    }
+    DataRead::Accepted(data_fields(p))
+}
+
+// The payload of DATA: the very part of the packet, empty where the packet is refused.
+pub fn payload(p: &[u8]) -> &[u8]
+    ensures { λ r. ⌜ now r ≡ payloadOf (now (p .entry)) ⌝ }
+{
+    if data_refusal(p) != 0 {
+        return &p[..0];
+    }
+    let w = header::word(p);
+    let start = 8 + header::timestamp_octets(w) + header::descriptor_octets(w);
+    &p[start..]
+}
+
+// Refusal 21 of the fields to be written; 0 for none. `timestamp` is a length.
+fn data_excess(flags: u64, id: u64, timestamp: usize, offset: u64) -> u64
+    ensures { λ r. ⌜ r ≡ dataExcess flags id timestamp offset ⌝ }
+{
+    if 0x1000000 <= flags {
+        return 21;
+    }
+    if 0x100000000 <= id {
+        return 21;
+    }
+    if header::timestamp_octets(flags) < timestamp {
+        return 21;
+    }
+    if !octets::fits(offset, header::descriptor_octets(flags)) {
+        return 21;
+    }
+    0
+}
+
+// The refusal of fields to be written; 0 for none. Timestamp, payload and room are lengths.
+fn data_write_refusal(
+    flags: u64,
+    id: u64,
+    timestamp: usize,
+    offset: u64,
+    payload: usize,
+    room: usize,
+) -> u64
+    requires { ⌜ payload < 2 ^ 63 ⌝ }
+    ensures { λ r. ⌜ r ≡ dataWriteRefusal flags id timestamp offset payload room ⌝ }
+{
+    let e = data_excess(flags, id, timestamp, offset);
+    if e != 0 {
+        return e;
+    }
+    let f = header::file_refusal(flags);
+    if f != 0 {
+        return f;
+    }
+    let due = header::timestamp_octets(flags);
+    if timestamp < due {
+        return 1;
+    }
+    if payload == 0 {
+        return 10;
+    }
+    header::room_refusal(8 + due + header::descriptor_octets(flags) + payload, room)
+}
+
+// The octets of fields that are not refused, and their number.
+fn put_data(
+    out: &mut [u8],
+    flags: u64,
+    id: u64,
+    timestamp: &[u8],
+    offset: u64,
+    payload: &[u8],
+) -> usize
+    requires { ⌜ DataFits flags (length (now timestamp)) (length (now payload)) (length (now out)) ⌝ }
+    ensures { λ r. ⌜ (r ≡ payloadAt flags + length (now (payload .entry)))
+        × (now (out .exit) ≡ put 0 (dataOctets flags id (now (timestamp .entry)) offset (now (payload .entry))) (now (out .entry))) ⌝ }
+{
+    let at = 8 + header::timestamp_octets(flags);
+    let d = header::descriptor_octets(flags);
+    let start = at + d;
+    octets::write_number(out, 0, 4, header::join(3, flags));
+    octets::write_number(out, 4, 4, id);
+    octets::copy_into(out, 8, timestamp);
+    octets::write_number(out, at, d, offset);
+    octets::copy_into(out, start, payload);
+    start + payload.len()
+}
+
+// Writes DATA into a lent buffer.
+pub fn write_data(
+    out: &mut [u8],
+    flags: u64,
+    id: u64,
+    timestamp: &[u8],
+    offset: u64,
+    payload: &[u8],
+) -> Written
+    ensures { λ r. ⌜ (r ≡ dataWritten flags id (now (timestamp .entry)) offset (now (payload .entry)) (now (out .entry)))
+        × (now (out .exit) ≡ dataBuffer flags id (now (timestamp .entry)) offset (now (payload .entry)) (now (out .entry))) ⌝ }
+{
+    let n = data_write_refusal(flags, id, timestamp.len(), offset, payload.len(), out.len());
+    if n != 0 {
+        return Written::Refused(header::refuse(n));
+    }
+    Written::Size(put_data(out, flags, id, timestamp, offset, payload))
+}

@@ -1,0 +1,46 @@
+-- METADATA, read: which packets are refused, and the fields of the others.
+-- Assumes nothing.
+use Prim.Native.Nat.{ℕ, zero, suc, _+_}
+use mathlib.Core.List.{List}
+use lib.ListN.{length, drop}
+use lib.Dec.{ltb}
+use Rattle.header.specs.Refusals.{_▹_, when, refusalOf}
+use Rattle.header.specs.Word.{flagsOf, descriptorOctets}
+use Rattle.header.specs.Start.{wordOf, idOf, typeRefusal, fileRefusal}
+use Rattle.directory_entry.specs.Entry.{entryRefusal, entryOf}
+use Rattle.packet_metadata.specs.Checksum.{pairRefusal, checksumOctets}
+use Rattle.packet_metadata.specs.declared.Metadata.{Metadata}
+use Rattle.packet_metadata.specs.declared.MetadataRead.{MetadataRead}
+use Rattle.packet_metadata.specs.declared.MetadataRead.the-variants.{Accepted, Refused}
+
+-- "After the Id: the checksum, then a directory entry to the packet's end"
+abbrev pub entryAt : ℕ → ℕ
+entryAt w = 8 + checksumOctets w
+
+-- the order in reading: 2, 1, 3, 4, 5, 6 for the kind, 7, 1 for the checksum, and then the entry's
+unfoldable pub metadataRefusal : List ℕ → ℕ
+metadataRefusal s =
+    typeRefusal 2 s
+    ▹ fileRefusal (wordOf s)
+    ▹ pairRefusal (wordOf s)
+    ▹ when (ltb (length s) (entryAt (wordOf s))) 1
+    ▹ entryRefusal (descriptorOctets (wordOf s)) (drop (entryAt (wordOf s)) s)
+
+unfoldable pub metadataOf : List ℕ → Metadata
+metadataOf s =
+    let w = wordOf s in
+    record {
+      flags = flagsOf w;
+      id = idOf s;
+      width = descriptorOctets w;
+      checksum = checksumOctets w;
+      entry = entryOf (entryAt w) (drop (entryAt w) s);
+    }
+
+-- the fields, or the refusal
+abbrev pub metadataAnswer : ℕ → Metadata → MetadataRead
+metadataAnswer zero m = Accepted m
+metadataAnswer (suc n) m = Refused (refusalOf (suc n))
+
+unfoldable pub readMetadata : List ℕ → MetadataRead
+readMetadata s = metadataAnswer (metadataRefusal s) (metadataOf s)

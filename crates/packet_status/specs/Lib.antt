@@ -1,0 +1,3 @@
+pub mod Holes
+pub mod Status
+pub mod WriteFailure

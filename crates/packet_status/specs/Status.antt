@@ -1,0 +1,113 @@
+-- STATUS, read: which packets are refused, the fields of the others, and one hole of the list.
+-- Assumes nothing.
+use Prim.Native.Nat.{ℕ, zero, suc, _+_, _*_, _-_, _/_, _%_}
+use mathlib.Core.Bool.{not}
+use mathlib.Core.List.{List}
+use lib.ListN.{length, take, drop}
+use lib.Dec.{ltb, eqb}
+use Rattle.octets.specs.Numbers.{beValue}
+use Rattle.header.specs.Refusals.{_▹_, when, refusalOf}
+use Rattle.header.specs.Word.{flagsOf, widthOf, descriptorOctets, timestampOctets, partialOf, statusOf}
+use Rattle.header.specs.Start.{wordOf, idOf, typeRefusal}
+use Rattle.packet_status.specs.Holes.{holeAt, holesOf, holesWell}
+use Rattle.packet_status.specs.declared.Hole.{Hole}
+use Rattle.packet_status.specs.declared.HoleRead.{HoleRead}
+use Rattle.packet_status.specs.declared.HoleRead.the-variants as hole-read
+use Rattle.packet_status.specs.declared.SuccessStatus.{SuccessStatus}
+use Rattle.packet_status.specs.declared.FailureStatus.{FailureStatus}
+use Rattle.packet_status.specs.declared.StatusRead.{StatusRead}
+use Rattle.packet_status.specs.declared.StatusRead.the-variants.{Success, Failure, Refused}
+
+-- "16 octets of timestamp if bit 12 is set, Progress, In-Response-To, then holes"
+abbrev pub progressAt : ℕ → ℕ
+progressAt w = 8 + timestampOctets w
+
+abbrev pub responseAt : ℕ → ℕ
+responseAt w = progressAt w + descriptorOctets w
+
+abbrev pub holesAt : ℕ → ℕ
+holesAt w = progressAt w + 2 * descriptorOctets w
+
+abbrev pub progressOf : List ℕ → ℕ
+progressOf s = beValue (take (descriptorOctets (wordOf s)) (drop (progressAt (wordOf s)) s))
+
+abbrev pub responseOf : List ℕ → ℕ
+responseOf s = beValue (take (descriptorOctets (wordOf s)) (drop (responseAt (wordOf s)) s))
+
+-- the octets that follow In-Response-To
+abbrev pub listOctets : List ℕ → ℕ
+listOctets s = length s - holesAt (wordOf s)
+
+-- how many whole pairs they are, and the pairs
+abbrev pub holeCount : List ℕ → ℕ
+holeCount s = listOctets s / (2 * descriptorOctets (wordOf s))
+
+unfoldable pub holeList : List ℕ → List Hole
+holeList s = holesOf (descriptorOctets (wordOf s)) (holeCount s) (holesAt (wordOf s)) s
+
+-- 11: "hole list not as above", where bit 14 "says that the hole list isn't complete"; "it is whole pairs"
+unfoldable pub listRefusal : List ℕ → ℕ
+listRefusal s =
+    when (not (eqb (listOctets s % (2 * descriptorOctets (wordOf s))) 0)) 11
+    ▹ when (not (holesWell (eqb (partialOf (wordOf s)) 1) (progressOf s) (responseOf s) (holeList s))) 11
+
+-- a success STATUS after the Id: 5, 1 for timestamp, Progress and In-Response-To, 11
+unfoldable pub successRefusal : List ℕ → ℕ
+successRefusal s =
+    when (eqb (widthOf (wordOf s)) 3) 5
+    ▹ when (ltb (length s) (holesAt (wordOf s))) 1
+    ▹ listRefusal s
+
+-- the order in reading: 2, 1, 3, 4; "a failure STATUS is then accepted": "If the code isn't 0, reading stops after the Id
+-- and the rest is ignored"
+unfoldable pub statusRefusal : List ℕ → ℕ
+statusRefusal s = typeRefusal 4 s ▹ when (eqb (statusOf (wordOf s)) 0) (successRefusal s)
+
+unfoldable pub successOf : List ℕ → SuccessStatus
+successOf s =
+    let w = wordOf s in
+    record {
+      flags = flagsOf w;
+      id = idOf s;
+      width = descriptorOctets w;
+      timestamp = timestampOctets w;
+      progress = progressOf s;
+      response = responseOf s;
+      holes = holesAt w;
+      count = holeCount s;
+    }
+
+unfoldable pub failureOf : List ℕ → FailureStatus
+failureOf s = record { flags = flagsOf (wordOf s); id = idOf s; status = statusOf (wordOf s) }
+
+-- the fields, by the status code, or the refusal
+abbrev pub acceptedStatus : ℕ → List ℕ → StatusRead
+acceptedStatus zero s = Success (successOf s)
+acceptedStatus (suc code) s = Failure (failureOf s)
+
+abbrev pub statusAnswer : ℕ → List ℕ → StatusRead
+statusAnswer zero s = acceptedStatus (statusOf (wordOf s)) s
+statusAnswer (suc n) s = Refused (refusalOf (suc n))
+
+unfoldable pub readStatus : List ℕ → StatusRead
+readStatus s = statusAnswer (statusRefusal s) s
+
+-- one pair of the hole list: the reader's refusals, 11 for a failure STATUS, 19 for an index that the list doesn't have
+unfoldable pub holeRefusal : ℕ → List ℕ → ℕ
+holeRefusal index s =
+    statusRefusal s
+    ▹ when (not (eqb (statusOf (wordOf s)) 0)) 11
+    ▹ when (not (ltb index (holeCount s))) 19
+
+-- the hole with this index, counted from 0
+unfoldable pub indexedHole : ℕ → List ℕ → Hole
+indexedHole index s =
+    let d = descriptorOctets (wordOf s) in
+    holeAt d (holesAt (wordOf s) + index * (2 * d)) s
+
+abbrev pub holeAnswer : ℕ → Hole → HoleRead
+holeAnswer zero h = hole-read.Accepted h
+holeAnswer (suc n) h = hole-read.Refused (refusalOf (suc n))
+
+unfoldable pub readHole : ℕ → List ℕ → HoleRead
+readHole index s = holeAnswer (holeRefusal index s) (indexedHole index s)

@@ -1,0 +1,275 @@
+// STATUS packets: a success STATUS read with its hole list, a failure STATUS read and written.
+ghost use mathlib.Core.Path.{_≡_};
+ghost use Prim.Native.Nat.{_+_, _*_, _<_, _≤_};
+ghost use lib.ListN.{length};
+ghost use Rattle.octets.specs.Numbers.{Width};
+ghost use Rattle.packet_status.specs.Holes.{holeAt, holesOf, holesAfter, startsWell, holesWell};
+ghost use Rattle.packet_status.specs.Status.{successRefusal, statusRefusal, successOf, failureOf, readStatus, holeRefusal, readHole};
+ghost use Rattle.packet_status.specs.WriteFailure.{failureWriteRefusal, failureWritten, failureBuffer};
+use header::Refusal;
+use header::Written;
+
+// A hole: its first offset, and the first offset after it.
+pub struct Hole {
+    pub start: u64,
+    pub end: u64,
+}
+
+// The fields of a success STATUS. `width` and `timestamp` count octets; `count` holes stand from the place `holes` on.
+pub struct SuccessStatus {
+    pub flags: u64,
+    pub id: u64,
+    pub width: usize,
+    pub timestamp: usize,
+    pub progress: u64,
+    pub response: u64,
+    pub holes: usize,
+    pub count: usize,
+}
+
+// The fields of a failure STATUS; `status` is its code.
+pub struct FailureStatus {
+    pub flags: u64,
+    pub id: u64,
+    pub status: u64,
+}
+
+pub enum StatusRead {
+    Success(SuccessStatus),
+    Failure(FailureStatus),
+    Refused(Refusal),
+}
+
+pub enum HoleRead {
+    Accepted(Hole),
+    Refused(Refusal),
+}
+
+// The pair of descriptors of d octets at a place.
+fn hole_at(s: &[u8], at: usize, d: usize) -> Hole
+    requires { ⌜ Width d × (at + 2 * d ≤ length (now s)) ⌝ }
+    ensures { λ r. ⌜ r ≡ holeAt d at (now (s .entry)) ⌝ }
+{
+    Hole {
+        start: octets::read_number(s, at, d),
+        end: octets::read_number(s, at + d, d),
+    }
+}
+
+// Whether the n holes from `from` on come one after the other, the first above prev, and none ends above top.
+fn holes_after(s: &[u8], from: usize, d: usize, n: usize, prev: u64, top: u64) -> bool
+    requires { ⌜ Width d × (from + n * (2 * d) ≤ length (now s)) ⌝ }
+    ensures { λ r. ⌜ r ≡ holesAfter prev top (holesOf d n from (now (s .entry))) ⌝ }
+{
+    let mut at = from;
+    let mut left = n;
+    let mut last = prev;
+    while 0 < left {
+        let h = hole_at(s, at, d);
+        if h.start <= last {
+            return false;
+        }
+        if h.end <= h.start {
+            return false;
+        }
+        if top < h.end {
+            return false;
+        }
+        last = h.end;
+        at = at + 2 * d;
+        left -= 1;
+    }
+    true
+}
+
+// Whether a list may start so: from Progress on where it is partial, else at Progress.
+fn starts_well(partial: bool, progress: u64, first: u64) -> bool
+    ensures { λ r. ⌜ r ≡ startsWell partial progress first ⌝ }
+{
+    if partial {
+        progress <= first
+    } else {
+        progress == first
+    }
+}
+
+// Whether the n holes from `at` on are a list from Progress to In-Response-To.
+fn holes_well(
+    s: &[u8],
+    at: usize,
+    d: usize,
+    n: usize,
+    partial: bool,
+    progress: u64,
+    top: u64,
+) -> bool
+    requires { ⌜ Width d × (at + n * (2 * d) ≤ length (now s)) ⌝ }
+    ensures { λ r. ⌜ r ≡ holesWell partial progress top (holesOf d n at (now (s .entry))) ⌝ }
+{
+    if n == 0 {
+        return starts_well(partial, progress, top);
+    }
+    let h = hole_at(s, at, d);
+    if !starts_well(partial, progress, h.start) {
+        return false;
+    }
+    if h.end <= h.start {
+        return false;
+    }
+    if top < h.end {
+        return false;
+    }
+    holes_after(s, at + 2 * d, d, n - 1, h.end, top)
+}
+
+// Refusals 5, 1 and 11 of a success STATUS; 0 for none.
+fn success_refusal(p: &[u8]) -> u64
+    requires { ⌜ 8 ≤ length (now p) ⌝ }
+    ensures { λ r. ⌜ r ≡ successRefusal (now (p .entry)) ⌝ }
+{
+    let w = header::word(p);
+    let h = header::split(w);
+    if h.width == 3 {
+        return 5;
+    }
+    let d = header::descriptor_octets(w);
+    let at = 8 + header::timestamp_octets(w);
+    let holes = at + 2 * d;
+    if p.len() < holes {
+        return 1;
+    }
+    let rest = p.len() - holes;
+    if rest % (2 * d) != 0 {
+        return 11;
+    }
+    let progress = octets::read_number(p, at, d);
+    let top = octets::read_number(p, at + d, d);
+    if holes_well(p, holes, d, rest / (2 * d), h.partial == 1, progress, top) {
+        return 0;
+    }
+    11
+}
+
+// The refusal of a packet that has to be STATUS; 0 for none.
+pub fn status_refusal(p: &[u8]) -> u64
+    ensures { λ r. ⌜ r ≡ statusRefusal (now (p .entry)) ⌝ }
+{
+    let n = header::type_refusal(p, 4);
+    if n != 0 {
+        return n;
+    }
+    let h = header::split(header::word(p));
+    if h.status != 0 {
+        return 0;
+    }
+    success_refusal(p)
+}
+
+// The fields of a success STATUS that is not refused.
+fn success_fields(p: &[u8]) -> SuccessStatus
+    requires { ⌜ (8 ≤ length (now p)) × (successRefusal (now p) ≡ 0) ⌝ }
+    ensures { λ r. ⌜ r ≡ successOf (now (p .entry)) ⌝ }
+{
+    let w = header::word(p);
+    let h = header::split(w);
+    let width = header::descriptor_octets(w);
+    let timestamp = header::timestamp_octets(w);
+    let at = 8 + timestamp;
+    let holes = at + 2 * width;
+    SuccessStatus {
+        flags: h.flags,
+        id: header::id(p),
+        width,
+        timestamp,
+        progress: octets::read_number(p, at, width),
+        response: octets::read_number(p, at + width, width),
+        holes,
+        count: (p.len() - holes) / (2 * width),
+    }
+}
+
+// Reads a packet that has to be STATUS. Of a failure STATUS nothing after the Id is read.
+pub fn read_status(p: &[u8]) -> StatusRead
+    ensures { λ r. ⌜ r ≡ readStatus (now (p .entry)) ⌝ }
+{
+    let n = status_refusal(p);
+    if n != 0 {
+        return StatusRead::Refused(header::refuse(n));
+    }
+    let h = header::split(header::word(p));
+    let status = h.status;
+    if status == 0 {
+        return StatusRead::Success(success_fields(p));
+    }
+    StatusRead::Failure(FailureStatus {
+        flags: h.flags,
+        id: header::id(p),
+        status,
+    })
+}
+
+// The refusal of the hole with this index, counted from 0; 0 for none.
+fn hole_refusal(p: &[u8], index: u64) -> u64
+    ensures { λ r. ⌜ r ≡ holeRefusal index (now (p .entry)) ⌝ }
+{
+    let n = status_refusal(p);
+    if n != 0 {
+        return n;
+    }
+    let h = header::split(header::word(p));
+    if h.status != 0 {
+        return 11;
+    }
+    let fields = success_fields(p);
+    if fields.count as u64 <= index {
+        return 19;
+    }
+    0
+}
+
+// One pair of the hole list of a success STATUS.
+pub fn read_hole(p: &[u8], index: u64) -> HoleRead
+    ensures { λ r. ⌜ r ≡ readHole index (now (p .entry)) ⌝ }
+{
+    let n = hole_refusal(p, index);
+    if n != 0 {
+        return HoleRead::Refused(header::refuse(n));
+    }
+    let w = header::word(p);
+    let d = header::descriptor_octets(w);
+    let holes = 8 + header::timestamp_octets(w) + 2 * d;
+    HoleRead::Accepted(hole_at(p, holes + (index as usize) * (2 * d), d))
+}
+
+// The refusal of a failure STATUS to be written into `room` octets; 0 for none.
+fn failure_write_refusal(id: u64, status: u64, room: usize) -> u64
+    ensures { λ r. ⌜ r ≡ failureWriteRefusal id status room ⌝ }
+{
+    if 0x100000000 <= id {
+        return 21;
+    }
+    if status == 0 {
+        return 21;
+    }
+    if 255 < status {
+        return 21;
+    }
+    if room < 8 {
+        return 20;
+    }
+    0
+}
+
+// Writes a failure STATUS into a lent buffer.
+pub fn write_failure(out: &mut [u8], id: u64, status: u64) -> Written
+    ensures { λ r. ⌜ (r ≡ failureWritten id status (now (out .entry)))
+        × (now (out .exit) ≡ failureBuffer id status (now (out .entry))) ⌝ }
+{
+    let n = failure_write_refusal(id, status, out.len());
+    if n != 0 {
+        return Written::Refused(header::refuse(n));
+    }
+    octets::write_number(out, 0, 4, header::join(4, status));
+    octets::write_number(out, 4, 4, id);
+    Written::Size(8)
+}

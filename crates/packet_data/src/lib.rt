@@ -3,7 +3,7 @@ ghost use mathlib.Core.Path.{_≡_};
 ghost use Prim.Native.Nat.{_+_, _<_, _≤_, _^_};
 ghost use lib.ListN.{length};
 ghost use Rattle.octets.specs.Put.{put};
-ghost use Rattle.packet_data.specs.Data.{payloadAt, dataRefusal, dataOf, readData, payloadOf};
+ghost use Rattle.packet_data.specs.Data.{offsetAt, payloadAt, dataRefusal, dataOf, readData, payloadOf};
 ghost use Rattle.packet_data.specs.WriteData.{dataExcess, dataWriteRefusal, dataOctets, DataFits, dataWritten, dataBuffer};
 use header::Refusal;
 use header::Written;
@@ -26,6 +26,20 @@ pub enum DataRead {
     Refused(Refusal),
 }
 
+// Where the offset stands, by the first word or the flags.
+fn offset_at(w: u64) -> usize
+    ensures { λ r. ⌜ r ≡ offsetAt w ⌝ }
+{
+    8 + header::timestamp_octets(w)
+}
+
+// Where the payload starts, by the first word or the flags.
+fn payload_at(w: u64) -> usize
+    ensures { λ r. ⌜ r ≡ payloadAt w ⌝ }
+{
+    offset_at(w) + header::descriptor_octets(w)
+}
+
 // The refusal of a packet that has to be DATA; 0 for none.
 pub fn data_refusal(p: &[u8]) -> u64
     ensures { λ r. ⌜ r ≡ dataRefusal (now (p .entry)) ⌝ }
@@ -39,7 +53,7 @@ pub fn data_refusal(p: &[u8]) -> u64
     if f != 0 {
         return f;
     }
-    let start = 8 + header::timestamp_octets(w) + header::descriptor_octets(w);
+    let start = payload_at(w);
     if p.len() < start {
         return 1;
     }
@@ -56,18 +70,16 @@ pub fn data_fields(p: &[u8]) -> Data
 {
     let w = header::word(p);
     let h = header::split(w);
-    let timestamp = header::timestamp_octets(w);
     let width = header::descriptor_octets(w);
-    let at = 8 + timestamp;
-    let start = at + width;
+    let start = payload_at(w);
     Data {
         flags: h.flags,
         id: header::id(p),
         width,
-        timestamp,
+        timestamp: header::timestamp_octets(w),
         wanted: h.wanted,
         eod: h.eod,
-        offset: octets::read_number(p, at, width),
+        offset: octets::read_number(p, offset_at(w), width),
         start,
         length: p.len() - start,
     }
@@ -91,8 +103,7 @@ pub fn payload(p: &[u8]) -> &[u8]
     if data_refusal(p) != 0 {
         return &p[..0];
     }
-    let w = header::word(p);
-    let start = 8 + header::timestamp_octets(w) + header::descriptor_octets(w);
+    let start = payload_at(header::word(p));
     &p[start..]
 }
 
@@ -135,14 +146,13 @@ fn data_write_refusal(
     if f != 0 {
         return f;
     }
-    let due = header::timestamp_octets(flags);
-    if timestamp < due {
+    if timestamp < header::timestamp_octets(flags) {
         return 1;
     }
     if payload == 0 {
         return 10;
     }
-    header::room_refusal(8 + due + header::descriptor_octets(flags) + payload, room)
+    header::room_refusal(payload_at(flags) + payload, room)
 }
 
 // The octets of fields that are not refused, and their number.
@@ -158,13 +168,11 @@ fn put_data(
     ensures { λ r. ⌜ (r ≡ payloadAt flags + length (now (payload .entry)))
         × (now (out .exit) ≡ put 0 (dataOctets flags id (now (timestamp .entry)) offset (now (payload .entry))) (now (out .entry))) ⌝ }
 {
-    let at = 8 + header::timestamp_octets(flags);
-    let d = header::descriptor_octets(flags);
-    let start = at + d;
+    let start = payload_at(flags);
     octets::write_number(out, 0, 4, header::join(3, flags));
     octets::write_number(out, 4, 4, id);
     octets::copy_into(out, 8, timestamp);
-    octets::write_number(out, at, d, offset);
+    octets::write_number(out, offset_at(flags), header::descriptor_octets(flags), offset);
     octets::copy_into(out, start, payload);
     start + payload.len()
 }

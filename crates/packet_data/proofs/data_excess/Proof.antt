@@ -1,44 +1,59 @@
-use native.Mathlib.Omega.{arith}
+-- `packet_data::data_excess` meets its contract: a return for each field. Assumes nothing.
+use mathlib.Core.Path.{_≡_, sym, ap, _∙_}
+use mathlib.Core.Bool.{true, false}
+use Prim.Native.Nat.{ℕ, _^_, _<_, _≤_}
+use lib.Dec.{ltb}
+use borrow.Author.Tests.{lt-ltb, le-ltb, not-true, not-false}
+use Rattle.header.specs.Word.{descriptorOctets, timestampOctets}
+use Rattle.packet_data.specs.WriteData.{dataExcess}
 use borrow.Author.Needs.{needs}
+use native.Mathlib.Omega.{arith}
 use Rattle.packet_data.proofs.data_excess.Statement.{statement}
 use Rattle.packet_data.proofs.data_excess.Tie as tie
-use Rattle.packet_data.proofs.data_excess.Reads as reads
-use Rattle.packet_data.proofs.data_excess.Lts as lts
-use Rattle.header.proofs.descriptor_octets.Reads as descriptor-octets-reads
-use Rattle.header.proofs.timestamp_octets.Reads as timestamp-octets-reads
-use Rattle.octets.proofs.fits.Reads as fits-reads
 
--- src/lib.rt:103:9
 returns : tie.Need-returns
-returns c = ?
+unfolding dataExcess
+returns c = rw (le-ltb (c .before .args .flags) (2 ^ 24) (c .if1 .taken))
 
--- src/lib.rt:106:9
 returns-2 : tie.Need-returns-2
-returns-2 c = ?
+unfolding dataExcess
+returns-2 c = rw (lt-ltb (c .before .before .args .flags) (2 ^ 24) (c .before .if1 .left), le-ltb (c .before .before .args .id) (2 ^ 32) (c .if2 .taken))
 
--- src/lib.rt:108:8
 timestamp-octets-requires : tie.Need-timestamp-octets-requires
 timestamp-octets-requires c κs = search needs
 
--- src/lib.rt:109:9
 returns-3 : tie.Need-returns-3
-returns-3 c = ?
+unfolding dataExcess
+returns-3 c =
+    let a = c .before .before .before .before .args in
+    rw (lt-ltb (a .flags) (2 ^ 24) (c .before .before .before .if1 .left), lt-ltb (a .id) (2 ^ 32) (c .before .before .if2 .left),
+        lt-ltb (timestampOctets (a .flags)) (a .timestamp) (omega arith))
 
--- src/lib.rt:111:30
 descriptor-octets-requires : tie.Need-descriptor-octets-requires
 descriptor-octets-requires c κs = search needs
 
--- src/lib.rt:111:9
 fits-requires : tie.Need-fits-requires
 fits-requires c κs = search needs
 
--- src/lib.rt:112:9
-returns-4 : tie.Need-returns-4
-returns-4 c = ?
+-- whether the offset fits, as the definition has it
+offset-fits : (c : tie.After-fits2) → c .fits2 .result ≡ ltb (c .before .before .before .before .before .before .args .offset) (256 ^ descriptorOctets (c .before .before .before .before .before .before .args .flags))
+offset-fits c = c .fits2 .ensures ∙ ap (λ (d : ℕ). ltb (c .before .before .before .before .before .before .args .offset) (256 ^ d)) (c .before .descriptor-octets .ensures)
 
--- src/lib.rt:99:1
+returns-4 : tie.Need-returns-4
+unfolding dataExcess
+returns-4 c =
+    let a = c .before .before .before .before .before .before .before .args in
+    let v : ltb (a .offset) (256 ^ descriptorOctets (a .flags)) ≡ false = sym (offset-fits (c .before)) ∙ not-true _ (c .if4 .taken) in
+    rw (lt-ltb (a .flags) (2 ^ 24) (c .before .before .before .before .before .before .if1 .left), lt-ltb (a .id) (2 ^ 32) (c .before .before .before .before .before .if2 .left),
+        le-ltb (timestampOctets (a .flags)) (a .timestamp) (omega arith), v)
+
 returns-5 : tie.Need-returns-5
-returns-5 c = ?
+unfolding dataExcess
+returns-5 c =
+    let a = c .before .before .before .before .before .before .before .args in
+    let v : ltb (a .offset) (256 ^ descriptorOctets (a .flags)) ≡ true = sym (offset-fits (c .before)) ∙ not-false _ (c .if4 .left) in
+    rw (lt-ltb (a .flags) (2 ^ 24) (c .before .before .before .before .before .before .if1 .left), lt-ltb (a .id) (2 ^ 32) (c .before .before .before .before .before .if2 .left),
+        le-ltb (timestampOctets (a .flags)) (a .timestamp) (omega arith), v)
 
 pub data-excess-spec : {M : Type 1} → statement M
 data-excess-spec =

@@ -1,55 +1,68 @@
-use native.Mathlib.Omega.{arith}
+-- `packet_data::data_fields` meets its contract: what a packet that is not refused holds, field by field.
+-- Assumes nothing.
+use mathlib.Core.Path.{_≡_, ap, _∙_}
+use Prim.Native.Nat.{_+_, _<_, _≤_}
+use denote.Ref.{now}
+use lib.ListN.{length}
+use Rattle.octets.specs.Numbers.{Width}
+use Rattle.header.specs.Word.{flagsOf, descriptorOctets, timestampOctets, wantedOf, eodOf}
+use Rattle.header.specs.Start.{wordOf}
+use Rattle.packet_data.specs.Data.{offsetAt, payloadAt, dataOf}
+use Rattle.packet_data.proofs.DataLaws.{data-fine}
 use borrow.Author.Needs.{needs}
+use native.Mathlib.Omega.{arith}
 use Rattle.packet_data.proofs.data_fields.Statement.{statement}
 use Rattle.packet_data.proofs.data_fields.Tie as tie
-use Rattle.packet_data.proofs.data_fields.Reads as reads
-use Rattle.packet_data.proofs.data_fields.Lts as lts
-use Rattle.header.proofs.descriptor_octets.Reads as descriptor-octets-reads
-use Rattle.header.proofs.id.Reads as id-reads
-use Rattle.header.proofs.split.Reads as split-reads
-use Rattle.header.proofs.timestamp_octets.Reads as timestamp-octets-reads
-use Rattle.header.proofs.word.Reads as word-reads
-use Rattle.octets.proofs.read_number.Reads as read-number-reads
 
--- src/lib.rt:56:9
 word-requires : tie.Need-word-requires
-word-requires c κs = ?
+word-requires c κs = data-fine (now (c .before .args .p)) (c .before .pre) .head .start .long
 
--- src/lib.rt:57:9
 split-requires : tie.Need-split-requires
 split-requires c κs = search needs
 
--- src/lib.rt:58:9
-timestamp-octets-requires : tie.Need-timestamp-octets-requires
-timestamp-octets-requires c κs = search needs
-
--- src/lib.rt:59:9
 descriptor-octets-requires : tie.Need-descriptor-octets-requires
 descriptor-octets-requires c κs = search needs
 
--- src/lib.rt:60:14
-add-at : tie.Need-add-at
-add-at c = search needs
+payload-at-requires : tie.Need-payload-at-requires
+payload-at-requires c κs = search needs
 
--- src/lib.rt:61:17
-add-start : tie.Need-add-start
-add-start c = ?
-
--- src/lib.rt:64:13
 id-requires : tie.Need-id-requires
-id-requires c κs = ?
+id-requires c κs = data-fine (now (c .before .before .before .before .before .args .p)) (c .before .before .before .before .before .pre) .head .start .long
 
--- src/lib.rt:69:17
+timestamp-octets-requires : tie.Need-timestamp-octets-requires
+timestamp-octets-requires c κs = search needs
+
+offset-at-requires : tie.Need-offset-at-requires
+offset-at-requires c κs = search needs
+
 read-number-requires : tie.Need-read-number-requires
-read-number-requires c κs = ?
+read-number-requires c κs =
+    let s = now (c .before .before .before .before .before .before .before .before .args .p) in
+    let f = data-fine s (c .before .before .before .before .before .before .before .before .pre) in
+    let w : c .before .before .before .before .before .before .word .result ≡ wordOf s = c .before .before .before .before .before .before .word .ensures in
+    let o : c .offset-at .result ≡ offsetAt (wordOf s) = c .offset-at .ensures ∙ ap offsetAt w in
+    let d : c .before .before .before .before .descriptor-octets .result ≡ descriptorOctets (wordOf s) = c .before .before .before .before .descriptor-octets .ensures ∙ ap descriptorOctets w in
+    (rw d (f .file .octets), omega (arith, f .more))
 
--- src/lib.rt:71:17
 sub-t11 : tie.Need-sub-t11
-sub-t11 c = ?
+sub-t11 c =
+    let s = now (c .before .before .before .before .before .before .before .before .before .args .p) in
+    let e : c .before .before .before .before .payload-at .result ≡ payloadAt (wordOf s) = c .before .before .before .before .payload-at .ensures ∙ ap payloadAt (c .before .before .before .before .before .before .before .word .ensures) in
+    omega (arith, data-fine s (c .before .before .before .before .before .before .before .before .before .pre) .more)
 
--- src/lib.rt:52:1
 returns : tie.Need-returns
-returns c = ?
+unfolding dataOf
+returns c =
+    let s = now (c .before .before .before .before .before .before .before .before .before .args .p) in
+    let w : c .before .before .before .before .before .before .before .word .result ≡ wordOf s = c .before .before .before .before .before .before .before .word .ensures in
+    let f : c .before .before .before .before .before .before .split .result .flags ≡ flagsOf (wordOf s) = c .before .before .before .before .before .before .split .ensures .flags-is ∙ ap flagsOf w in
+    let q : c .before .before .before .before .before .before .split .result .wanted ≡ wantedOf (wordOf s) = c .before .before .before .before .before .before .split .ensures .wanted-is ∙ ap wantedOf w in
+    let e : c .before .before .before .before .before .before .split .result .eod ≡ eodOf (wordOf s) = c .before .before .before .before .before .before .split .ensures .eod-is ∙ ap eodOf w in
+    let d : c .before .before .before .before .before .descriptor-octets .result ≡ descriptorOctets (wordOf s) = c .before .before .before .before .before .descriptor-octets .ensures ∙ ap descriptorOctets w in
+    let t : c .before .before .timestamp-octets .result ≡ timestampOctets (wordOf s) = c .before .before .timestamp-octets .ensures ∙ ap timestampOctets w in
+    let o : c .before .offset-at .result ≡ offsetAt (wordOf s) = c .before .offset-at .ensures ∙ ap offsetAt w in
+    let p : c .before .before .before .before .payload-at .result ≡ payloadAt (wordOf s) = c .before .before .before .before .payload-at .ensures ∙ ap payloadAt w in
+    simp (f, q, e, t, c .before .before .before .id .ensures, c .read-number .ensures, o, d, p)
 
 pub data-fields-spec : {M : Type 1} → statement M
 data-fields-spec =
@@ -57,11 +70,11 @@ data-fields-spec =
     (tie.spec
     word-requires
     split-requires
-    timestamp-octets-requires
     descriptor-octets-requires
-    add-at
-    add-start
+    payload-at-requires
     id-requires
+    timestamp-octets-requires
+    offset-at-requires
     read-number-requires
     sub-t11
     returns)

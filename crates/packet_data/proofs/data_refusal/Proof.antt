@@ -1,62 +1,68 @@
-use native.Mathlib.Omega.{arith}
+-- `packet_data::data_refusal` meets its contract: each refusal stands where those before it are none.
+-- Assumes nothing.
+use mathlib.Core.Path.{_≡_, sym, ap, _∙_}
+use denote.Ref.{now}
+use lib.ListN.{length}
+use borrow.Author.Tests.{lt-ltb, le-ltb, eq-eqb, ne-eqb}
+use Rattle.header.specs.Start.{wordOf, typeRefusal, fileRefusal}
+use Rattle.header.proofs.RefusalLaws.{stays}
+use Rattle.header.proofs.StartLaws.{type-fine}
+use Rattle.packet_data.specs.Data.{payloadAt, dataRefusal}
 use borrow.Author.Needs.{needs}
+use native.Mathlib.Omega.{arith}
 use Rattle.packet_data.proofs.data_refusal.Statement.{statement}
 use Rattle.packet_data.proofs.data_refusal.Tie as tie
-use Rattle.packet_data.proofs.data_refusal.Reads as reads
-use Rattle.packet_data.proofs.data_refusal.Lts as lts
-use Rattle.header.proofs.descriptor_octets.Reads as descriptor-octets-reads
-use Rattle.header.proofs.file_refusal.Reads as file-refusal-reads
-use Rattle.header.proofs.timestamp_octets.Reads as timestamp-octets-reads
-use Rattle.header.proofs.type_refusal.Reads as type-refusal-reads
-use Rattle.header.proofs.word.Reads as word-reads
 
--- src/lib.rt:32:9
 type-refusal-requires : tie.Need-type-refusal-requires
 type-refusal-requires c κs = search needs
 
--- src/lib.rt:34:9
 returns : tie.Need-returns
-returns c = ?
+unfolding dataRefusal
+returns c = let s = now (c .before .before .before .args .p) in c .before .type-refusal .ensures ∙ sym (stays (typeRefusal 3 s) _ (omega arith))
 
--- src/lib.rt:36:9
 word-requires : tie.Need-word-requires
-word-requires c κs = ?
+word-requires c κs = type-fine 3 (now (c .before .before .before .args .p)) (omega arith) .start .long
 
--- src/lib.rt:37:9
 file-refusal-requires : tie.Need-file-refusal-requires
 file-refusal-requires c κs = search needs
 
--- src/lib.rt:39:9
 returns-2 : tie.Need-returns-2
-returns-2 c = ?
+unfolding dataRefusal
+returns-2 c =
+    let s = now (c .before .before .before .before .before .before .args .p) in
+    let z : typeRefusal 3 s ≡ 0 = omega arith in
+    let f : c .before .file-refusal .result ≡ fileRefusal (wordOf s) = c .before .file-refusal .ensures ∙ ap fileRefusal (c .before .before .word .ensures) in
+    rw z (f ∙ sym (stays (fileRefusal (wordOf s)) _ (omega arith)))
 
--- src/lib.rt:41:21
-timestamp-octets-requires : tie.Need-timestamp-octets-requires
-timestamp-octets-requires c κs = search needs
+payload-at-requires : tie.Need-payload-at-requires
+payload-at-requires c κs = search needs
 
--- src/lib.rt:41:17
-add-start : tie.Need-add-start
-add-start c = search needs
+-- what is known where the start of the payload is at hand
+known : (c : tie.After-payload-at)
+    → let s = now (c .before .before .before .before .before .before .before .args .p) in
+      (typeRefusal 3 s ≡ 0) × (fileRefusal (wordOf s) ≡ 0) × (c .payload-at .result ≡ payloadAt (wordOf s))
+known c =
+    let s = now (c .before .before .before .before .before .before .before .args .p) in
+    let f : c .before .before .file-refusal .result ≡ fileRefusal (wordOf s) = c .before .before .file-refusal .ensures ∙ ap fileRefusal (c .before .before .before .word .ensures) in
+    (omega arith, omega arith, c .payload-at .ensures ∙ ap payloadAt (c .before .before .before .word .ensures))
 
--- src/lib.rt:41:51
-descriptor-octets-requires : tie.Need-descriptor-octets-requires
-descriptor-octets-requires c κs = search needs
-
--- src/lib.rt:41:17
-add-start-2 : tie.Need-add-start-2
-add-start-2 c = ?
-
--- src/lib.rt:43:9
 returns-3 : tie.Need-returns-3
-returns-3 c = ?
+unfolding dataRefusal
+returns-3 c =
+    let k = known (c .before) in
+    rw (k .0, k .1, lt-ltb _ _ (rw (k .2) at (c .if3 .taken)))
 
--- src/lib.rt:46:9
 returns-4 : tie.Need-returns-4
-returns-4 c = ?
+unfolding dataRefusal
+returns-4 c =
+    let k = known (c .before .before) in
+    rw (k .0, k .1, le-ltb _ _ (rw (k .2) at (c .before .if3 .left)), eq-eqb _ _ (rw (k .2) at (c .if4 .taken)))
 
--- src/lib.rt:29:1
 returns-5 : tie.Need-returns-5
-returns-5 c = ?
+unfolding dataRefusal
+returns-5 c =
+    let k = known (c .before .before) in
+    rw (k .0, k .1, le-ltb _ _ (rw (k .2) at (c .before .if3 .left)), ne-eqb _ _ (rw (k .2) at (c .if4 .left)))
 
 pub data-refusal-spec : {M : Type 1} → statement M
 data-refusal-spec =
@@ -67,10 +73,7 @@ data-refusal-spec =
     word-requires
     file-refusal-requires
     returns-2
-    timestamp-octets-requires
-    add-start
-    descriptor-octets-requires
-    add-start-2
+    payload-at-requires
     returns-3
     returns-4
     returns-5)

@@ -1,66 +1,77 @@
-use native.Mathlib.Omega.{arith}
+-- `packet_data::data_write_refusal` meets its contract: each refusal stands where those before it are none.
+-- Assumes nothing.
+use mathlib.Core.Path.{_≡_, sym, ap, _∙_}
+use Prim.Native.Nat.{ℕ, _+_}
+use borrow.Author.Tests.{lt-ltb, le-ltb, eq-eqb, ne-eqb}
+use Rattle.header.specs.Word.{timestampOctets}
+use Rattle.header.specs.Start.{fileRefusal}
+use Rattle.header.specs.Writing.{roomRefusal}
+use Rattle.header.proofs.RefusalLaws.{stays}
+use Rattle.packet_data.specs.Data.{payloadAt}
+use Rattle.packet_data.specs.WriteData.{dataExcess, dataWriteRefusal}
+use Rattle.packet_data.proofs.DataLaws.{payload-at-le}
 use borrow.Author.Needs.{needs}
+use native.Mathlib.Omega.{arith}
 use Rattle.packet_data.proofs.data_write_refusal.Statement.{statement}
 use Rattle.packet_data.proofs.data_write_refusal.Tie as tie
-use Rattle.packet_data.proofs.data_write_refusal.Reads as reads
-use Rattle.packet_data.proofs.data_write_refusal.Lts as lts
-use Rattle.header.proofs.descriptor_octets.Reads as descriptor-octets-reads
-use Rattle.header.proofs.file_refusal.Reads as file-refusal-reads
-use Rattle.header.proofs.room_refusal.Reads as room-refusal-reads
-use Rattle.header.proofs.timestamp_octets.Reads as timestamp-octets-reads
-use Rattle.packet_data.proofs.data_excess.Reads as data-excess-reads
 
--- src/lib.rt:122:9
 data-excess-requires : tie.Need-data-excess-requires
 data-excess-requires c κs = search needs
 
--- src/lib.rt:124:9
 returns : tie.Need-returns
-returns c = ?
+unfolding dataWriteRefusal
+returns c =
+    let a = c .before .before .args in
+    c .before .data-excess .ensures ∙ sym (stays (dataExcess (a .flags) (a .id) (a .timestamp) (a .offset)) _ (omega arith))
 
--- src/lib.rt:126:9
 file-refusal-requires : tie.Need-file-refusal-requires
 file-refusal-requires c κs = search needs
 
--- src/lib.rt:128:9
 returns-2 : tie.Need-returns-2
-returns-2 c = ?
+unfolding dataWriteRefusal
+returns-2 c =
+    let a = c .before .before .before .before .args in
+    let z : dataExcess (a .flags) (a .id) (a .timestamp) (a .offset) ≡ 0 = omega arith in
+    rw z (c .before .file-refusal .ensures ∙ sym (stays (fileRefusal (a .flags)) _ (omega arith)))
 
--- src/lib.rt:130:9
 timestamp-octets-requires : tie.Need-timestamp-octets-requires
 timestamp-octets-requires c κs = search needs
 
--- src/lib.rt:132:9
+-- the fields have no excess and are those of a file
+known : (c : tie.Else2)
+    → (dataExcess (c .before .before .before .before .args .flags) (c .before .before .before .before .args .id) (c .before .before .before .before .args .timestamp) (c .before .before .before .before .args .offset) ≡ 0) × (fileRefusal (c .before .before .before .before .args .flags) ≡ 0)
+known c = (omega arith, omega arith)
+
 returns-3 : tie.Need-returns-3
-returns-3 c = ?
+unfolding dataWriteRefusal
+returns-3 c =
+    let a = c .before .before .before .before .before .before .args in
+    let k = known (c .before .before) in
+    rw (k .0, k .1, lt-ltb (a .timestamp) (timestampOctets (a .flags)) (omega arith))
 
--- src/lib.rt:135:9
 returns-4 : tie.Need-returns-4
-returns-4 c = ?
+unfolding dataWriteRefusal
+returns-4 c =
+    let a = c .before .before .before .before .before .before .before .args in
+    let k = known (c .before .before .before) in
+    rw (k .0, k .1, le-ltb (a .timestamp) (timestampOctets (a .flags)) (omega arith), eq-eqb (a .payload) 0 (c .if4 .taken))
 
--- src/lib.rt:137:26
+payload-at-requires : tie.Need-payload-at-requires
+payload-at-requires c κs = search needs
+
 add-room-refusal : tie.Need-add-room-refusal
-add-room-refusal c = search needs
+add-room-refusal c = omega (arith, payload-at-le (c .before .before .before .before .before .before .before .before .args .flags))
 
--- src/lib.rt:137:36
-descriptor-octets-requires : tie.Need-descriptor-octets-requires
-descriptor-octets-requires c κs = search needs
-
--- src/lib.rt:137:26
-add-room-refusal-2 : tie.Need-add-room-refusal-2
-add-room-refusal-2 c = ?
-
--- src/lib.rt:137:26
-add-room-refusal-3 : tie.Need-add-room-refusal-3
-add-room-refusal-3 c = ?
-
--- src/lib.rt:137:5
 room-refusal-requires : tie.Need-room-refusal-requires
 room-refusal-requires c κs = search needs
 
--- src/lib.rt:118:1
 returns-5 : tie.Need-returns-5
-returns-5 c = ?
+unfolding dataWriteRefusal
+returns-5 c =
+    let a = c .before .before .before .before .before .before .before .before .before .args in
+    let k = known (c .before .before .before .before .before) in
+    rw (k .0, k .1, le-ltb (a .timestamp) (timestampOctets (a .flags)) (omega arith), ne-eqb (a .payload) 0 (c .before .before .if4 .left))
+    (c .room-refusal .ensures ∙ ap (λ (n : ℕ). roomRefusal (n + a .payload) (a .room)) (c .before .payload-at .ensures))
 
 pub data-write-refusal-spec : {M : Type 1} → statement M
 data-write-refusal-spec =
@@ -73,9 +84,7 @@ data-write-refusal-spec =
     timestamp-octets-requires
     returns-3
     returns-4
+    payload-at-requires
     add-room-refusal
-    descriptor-octets-requires
-    add-room-refusal-2
-    add-room-refusal-3
     room-refusal-requires
     returns-5)

@@ -1,61 +1,58 @@
-use native.Mathlib.Omega.{arith}
+-- `packet_data::payload` meets its contract: what stands from the payload's start on, or an empty part.
+-- Assumes nothing.
+use mathlib.Core.Path.{_≡_, ap, _∙_}
+use Prim.Native.Nat.{_-_, _≤_}
+use denote.Ref.{now}
+use lib.ListN.{length, drop, length-drop}
+use lib.Seq.{take-all}
+use Rattle.header.specs.Start.{wordOf}
+use Rattle.packet_data.specs.Data.{payloadAt, dataRefusal, payloadOf}
+use Rattle.packet_data.proofs.DataLaws.{data-fine, part-refused}
 use borrow.Author.Needs.{needs}
+use native.Mathlib.Omega.{arith}
 use Rattle.packet_data.proofs.payload.Statement.{statement}
 use Rattle.packet_data.proofs.payload.Tie as tie
-use Rattle.packet_data.proofs.payload.Reads as reads
-use Rattle.packet_data.proofs.payload.Lts as lts
-use Rattle.header.proofs.descriptor_octets.Reads as descriptor-octets-reads
-use Rattle.header.proofs.timestamp_octets.Reads as timestamp-octets-reads
-use Rattle.header.proofs.word.Reads as word-reads
-use Rattle.packet_data.proofs.data_refusal.Reads as data-refusal-reads
 
--- src/lib.rt:90:8
 data-refusal-requires : tie.Need-data-refusal-requires
 data-refusal-requires c κs = search needs
 
--- src/lib.rt:91:9
 slice-aggregate-result : tie.Need-slice-aggregate-result
 slice-aggregate-result c = search needs
 
--- src/lib.rt:91:9
 returns : tie.Need-returns
-returns c = ?
+unfolding payloadOf
+returns c = let s = now (c .before .before .before .before .args .p) in part-refused (dataRefusal s) s (omega arith)
 
--- src/lib.rt:93:9
 word-requires : tie.Need-word-requires
-word-requires c κs = ?
+word-requires c κs = data-fine (now (c .before .before .before .args .p)) (omega arith) .head .start .long
 
--- src/lib.rt:94:21
-timestamp-octets-requires : tie.Need-timestamp-octets-requires
-timestamp-octets-requires c κs = search needs
+payload-at-requires : tie.Need-payload-at-requires
+payload-at-requires c κs = search needs
 
--- src/lib.rt:94:17
-add-start : tie.Need-add-start
-add-start c = search needs
+starts : (c : tie.After-payload-at)
+    → let s = now (c .before .before .before .before .before .args .p) in
+      (dataRefusal s ≡ 0) × (c .payload-at .result ≡ payloadAt (wordOf s)) × (payloadAt (wordOf s) ≤ length s)
+starts c =
+    let s = now (c .before .before .before .before .before .args .p) in
+    let z : dataRefusal s ≡ 0 = omega arith in
+    (z, c .payload-at .ensures ∙ ap payloadAt (c .before .word .ensures), omega (arith, data-fine s z .more))
 
--- src/lib.rt:94:51
-descriptor-octets-requires : tie.Need-descriptor-octets-requires
-descriptor-octets-requires c κs = search needs
-
--- src/lib.rt:94:17
-add-start-2 : tie.Need-add-start-2
-add-start-2 c = ?
-
--- src/lib.rt:95:5
 sub-result : tie.Need-sub-result
-sub-result c = ?
+sub-result c = omega (arith, starts c)
 
--- src/lib.rt:95:5
 part-result-start : tie.Need-part-result-start
-part-result-start c = ?
+part-result-start c = omega (arith, starts c)
 
--- src/lib.rt:95:5
 part-result-end : tie.Need-part-result-end
 part-result-end c = search needs
 
--- src/lib.rt:87:1
 returns-2 : tie.Need-returns-2
-returns-2 c = ?
+unfolding payloadOf
+returns-2 c =
+    let s = now (c .before .before .before .before .before .before .args .p) in
+    let k = starts (c .before) in
+    let at = payloadAt (wordOf s) in
+    rw (k .0, k .1) (take-all (length s - at) (drop at s) (simp length-drop (omega arith)))
 
 pub payload-spec : {M : Type 1} → statement M
 payload-spec =
@@ -65,10 +62,7 @@ payload-spec =
     slice-aggregate-result
     returns
     word-requires
-    timestamp-octets-requires
-    add-start
-    descriptor-octets-requires
-    add-start-2
+    payload-at-requires
     sub-result
     part-result-start
     part-result-end

@@ -1,79 +1,80 @@
-use native.Mathlib.Omega.{arith}
+-- `packet_data::put_data` meets its contract: the parts stand one after the other.
+-- Assumes nothing.
+use mathlib.Core.Path.{_≡_, refl}
+use Prim.Native.Nat.{_+_, _≤_}
+use denote.Ref.{now}
+use lib.ListN.{length}
+use Rattle.octets.specs.Numbers.{beDigits}
+use Rattle.octets.proofs.NumberLaws.{length-digits}
+use Rattle.header.specs.Word.{descriptorOctets, timestampOctets, wordFor}
+use Rattle.packet_data.specs.Data.{offsetAt, payloadAt}
+use Rattle.packet_data.specs.WriteData.{dataOctets}
+use Rattle.packet_data.proofs.WriteDataLaws.{puts}
 use borrow.Author.Needs.{needs}
+use native.Mathlib.Omega.{arith}
 use Rattle.packet_data.proofs.put_data.Statement.{statement}
 use Rattle.packet_data.proofs.put_data.Tie as tie
-use Rattle.packet_data.proofs.put_data.Reads as reads
-use Rattle.packet_data.proofs.put_data.Lts as lts
-use Rattle.header.proofs.descriptor_octets.Reads as descriptor-octets-reads
-use Rattle.header.proofs.join.Reads as join-reads
-use Rattle.header.proofs.timestamp_octets.Reads as timestamp-octets-reads
-use Rattle.octets.proofs.copy_into.Reads as copy-into-reads
-use Rattle.octets.proofs.write_number.Reads as write-number-reads
 
--- src/lib.rt:146:18
-timestamp-octets-requires : tie.Need-timestamp-octets-requires
-timestamp-octets-requires c κs = search needs
+payload-at-requires : tie.Need-payload-at-requires
+payload-at-requires c κs = search needs
 
--- src/lib.rt:146:14
-add-at : tie.Need-add-at
-add-at c = search needs
-
--- src/lib.rt:147:9
-descriptor-octets-requires : tie.Need-descriptor-octets-requires
-descriptor-octets-requires c κs = search needs
-
--- src/lib.rt:148:17
-add-start : tie.Need-add-start
-add-start c = search needs
-
--- src/lib.rt:149:37
 join-requires : tie.Need-join-requires
 join-requires c κs = search needs
 
--- src/lib.rt:149:5
 write-number-requires : tie.Need-write-number-requires
 write-number-requires c κs = search needs
 
--- src/lib.rt:150:5
 write-number-requires-2 : tie.Need-write-number-requires-2
 write-number-requires-2 c κs = search needs
 
--- src/lib.rt:151:5
 copy-into-requires : tie.Need-copy-into-requires
 copy-into-requires c κs = search needs
 
--- src/lib.rt:152:5
+offset-at-requires : tie.Need-offset-at-requires
+offset-at-requires c κs = search needs
+
+descriptor-octets-requires : tie.Need-descriptor-octets-requires
+descriptor-octets-requires c κs = search needs
+
 write-number-requires-3 : tie.Need-write-number-requires-3
 write-number-requires-3 c κs = search needs
 
--- src/lib.rt:153:5
 copy-into-requires-2 : tie.Need-copy-into-requires-2
 copy-into-requires-2 c κs = search needs
 
--- src/lib.rt:154:5
 add-result : tie.Need-add-result
 add-result c = search needs
 
--- src/lib.rt:141:1
 same-length : tie.Need-same-length
 same-length c = search needs
 
--- src/lib.rt:141:1
 returns : tie.Need-returns
-returns c = ?
+unfolding dataOctets
+returns c =
+    let a = c .before .before .before .before .before .before .before .before .before .before .before .before .before .before .before .before .before .before .before .before .before .before .before .before .before .before .before .args in
+    let f = a .flags in
+    let t = now (a .timestamp) in
+    let p = now (a .payload) in
+    let s : length t ≡ timestampOctets f = c .before .before .before .before .before .before .before .before .before .before .before .before .before .before .before .before .before .before .before .before .before .before .before .before .before .before .before .pre .timestamp-is in
+    let h : payloadAt f + length p ≤ length (now (a .out)) = c .before .before .before .before .before .before .before .before .before .before .before .before .before .before .before .before .before .before .before .before .before .before .before .before .before .before .before .pre .fits in
+    let l : length (beDigits (descriptorOctets f) (a .offset)) ≡ descriptorOctets f = length-digits (descriptorOctets f) (a .offset) in
+    ( omega arith
+    , rw (c .before .before .copy-into2 .ensures, c .before .before .before .before .before .before .write-number3 .ensures, c .before .before .before .before .before .before .before .before .before .before .before .before .copy-into .ensures, c .before .before .before .before .before .before .before .before .before .before .before .before .before .before .before .before .write-number2 .ensures, c .before .before .before .before .before .before .before .before .before .before .before .before .before .before .before .before .before .before .before .before .write-number .ensures,
+          c .before .before .before .before .before .before .before .before .before .before .before .before .before .before .before .before .before .before .before .before .before .join .ensures, c .before .before .before .before .before .before .before .before .offset-at .ensures, c .before .before .before .before .before .before .before .before .before .before .before .before .before .before .before .before .before .before .before .before .before .before .before .payload-at .ensures, c .before .before .before .before .before .before .before .descriptor-octets .ensures)
+      (puts (beDigits 4 (wordFor 3 f)) (beDigits 4 (a .id)) t (beDigits (descriptorOctets f) (a .offset)) p (now (a .out))
+        4 8 (offsetAt f) (payloadAt f) refl refl (omega arith) (omega arith) h))
 
 pub put-data-spec : {M : Type 1} → statement M
 put-data-spec =
     tie.close
     (tie.spec
-    timestamp-octets-requires
-    add-at
-    descriptor-octets-requires
-    add-start
+    payload-at-requires
     join-requires
     write-number-requires
     write-number-requires-2
     copy-into-requires
+    offset-at-requires
+    descriptor-octets-requires
     write-number-requires-3
     copy-into-requires-2
     add-result

@@ -1,32 +1,36 @@
-use native.Mathlib.Omega.{arith}
+-- `packet_data::read_data` meets its contract: the refusal, or the fields. Assumes nothing.
+use mathlib.Core.Path.{_≡_, ap, _∙_}
+use denote.Ref.{now}
+use Rattle.packet_data.specs.Data.{dataRefusal, dataOf, readData}
+use Rattle.packet_data.specs.declared.DataRead.the-variants.{Accepted, Refused}
+use Rattle.packet_data.proofs.DataLaws.{answer-refused}
 use borrow.Author.Needs.{needs}
+use native.Mathlib.Omega.{arith}
 use Rattle.packet_data.proofs.read_data.Statement.{statement}
 use Rattle.packet_data.proofs.read_data.Tie as tie
-use Rattle.packet_data.proofs.read_data.Reads as reads
-use Rattle.packet_data.proofs.read_data.Lts as lts
-use Rattle.header.proofs.refuse.Reads as refuse-reads
-use Rattle.packet_data.proofs.data_fields.Reads as data-fields-reads
-use Rattle.packet_data.proofs.data_refusal.Reads as data-refusal-reads
 
--- src/lib.rt:79:9
 data-refusal-requires : tie.Need-data-refusal-requires
 data-refusal-requires c κs = search needs
 
--- src/lib.rt:81:34
 refuse-requires : tie.Need-refuse-requires
 refuse-requires c κs = search needs
 
--- src/lib.rt:81:9
 returns : tie.Need-returns
-returns c = ?
+unfolding readData
+returns c =
+    let s = now (c .before .before .before .before .args .p) in
+    let n : c .before .before .data-refusal .result ≡ dataRefusal s = c .before .before .data-refusal .ensures in
+    rw (c .refuse .ensures, n) (answer-refused (dataRefusal s) (dataOf s) (omega arith))
 
--- src/lib.rt:83:24
 data-fields-requires : tie.Need-data-fields-requires
 data-fields-requires c κs = search needs
 
--- src/lib.rt:76:1
 returns-2 : tie.Need-returns-2
-returns-2 c = ?
+unfolding readData
+returns-2 c =
+    let s = now (c .before .before .before .before .args .p) in
+    let z : dataRefusal s ≡ 0 = omega arith in
+    rw z (ap Accepted (c .data-fields .ensures))
 
 pub read-data-spec : {M : Type 1} → statement M
 read-data-spec =

@@ -1,36 +1,47 @@
-use native.Mathlib.Omega.{arith}
+-- `packet_data::write_data` meets its contract: a refusal leaves the buffer, and else the packet stands in it.
+-- Assumes nothing.
+use mathlib.Core.Path.{_≡_, sym}
+use denote.Ref.{now}
+use lib.ListN.{length}
+use Rattle.header.proofs.WritingLaws.{written-refused, buffer-refused}
+use Rattle.packet_data.specs.WriteData.{dataRefused, dataWritten, dataBuffer}
+use Rattle.packet_data.proofs.WriteDataLaws.{writable}
 use borrow.Author.Needs.{needs}
+use native.Mathlib.Omega.{arith}
 use Rattle.packet_data.proofs.write_data.Statement.{statement}
 use Rattle.packet_data.proofs.write_data.Tie as tie
-use Rattle.packet_data.proofs.write_data.Reads as reads
-use Rattle.packet_data.proofs.write_data.Lts as lts
-use Rattle.header.proofs.refuse.Reads as refuse-reads
-use Rattle.packet_data.proofs.data_write_refusal.Reads as data-write-refusal-reads
-use Rattle.packet_data.proofs.put_data.Reads as put-data-reads
 
--- src/lib.rt:162:9
 data-write-refusal-requires : tie.Need-data-write-refusal-requires
 data-write-refusal-requires c κs = search needs
 
--- src/lib.rt:164:33
 refuse-requires : tie.Need-refuse-requires
 refuse-requires c κs = search needs
 
--- src/lib.rt:164:9
 returns : tie.Need-returns
-returns c = ?
+unfolding dataWritten dataBuffer
+returns c =
+    let a = c .before .before .before .before .before .before .args in
+    let n = dataRefused (a .flags) (a .id) (now (a .timestamp)) (a .offset) (now (a .payload)) (now (a .out)) in
+    let e : c .before .before .data-write-refusal .result ≡ n = c .before .before .data-write-refusal .ensures in
+    ( rw (c .refuse .ensures, e) (written-refused n _ (omega arith))
+    , buffer-refused n _ (now (a .out)) (omega arith))
 
--- src/lib.rt:166:19
 put-data-requires : tie.Need-put-data-requires
-put-data-requires c κs = ?
+put-data-requires c κs =
+    let a = c .before .before .before .before .before .before .args in
+    writable (a .flags) (a .id) (length (now (a .timestamp))) (a .offset) (length (now (a .payload))) (length (now (a .out))) (omega arith) .fine
 
--- src/lib.rt:158:1
 same-length : tie.Need-same-length
 same-length c = search needs
 
--- src/lib.rt:158:1
 returns-2 : tie.Need-returns-2
-returns-2 c = ?
+unfolding dataWritten dataBuffer
+returns-2 c =
+    let a = c .before .before .before .before .before .before .before .before .before .args in
+    let n = dataRefused (a .flags) (a .id) (now (a .timestamp)) (a .offset) (now (a .payload)) (now (a .out)) in
+    let z : n ≡ 0 = omega arith in
+    ( rw (z, c .before .before .put-data .ensures .0)
+    , rw z (c .before .before .put-data .ensures .1))
 
 pub write-data-spec : {M : Type 1} → statement M
 write-data-spec =

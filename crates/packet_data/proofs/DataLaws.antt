@@ -1,0 +1,51 @@
+-- What is known of DATA that is not refused.
+-- Assumes nothing.
+use Prim.Native.Nat.{ℕ, zero, suc, _+_, _<_, _≤_}
+use mathlib.Core.Path.{_≡_, refl, sym}
+use mathlib.Core.List.{List, []}
+use native.Mathlib.Omega.{arith}
+use lib.ListN.{length}
+use lib.Dec.{ltb, eqb}
+use borrow.Author.Tests.{ltb-false, eqb-false}
+use Rattle.header.specs.Refusals.{_▹_, when, refusalOf}
+use Rattle.header.specs.Start.{wordOf, typeRefusal, fileRefusal}
+use Rattle.header.proofs.RefusalLaws.{first-none, rest-none, failed}
+use Rattle.header.proofs.StartLaws.{TypeFine, type-fine, FileFine, file-fine}
+use Rattle.header.proofs.WordLaws.{octets-le}
+use Rattle.packet_data.specs.Data.{payloadAt, dataRefusal, dataAnswer, payloadPart}
+use Rattle.packet_data.specs.declared.Data.{Data}
+use Rattle.packet_data.specs.declared.DataRead.the-variants.{Refused}
+
+pub payload-at-le : (w : ℕ) → payloadAt w ≤ 40
+payload-at-le w = omega (arith, octets-le w)
+
+pub record DataFine (s : List ℕ) : Type 0 where
+  pub head : TypeFine 3 s
+  pub file : FileFine (wordOf s)
+  pub file-none : fileRefusal (wordOf s) ≡ 0
+  pub more : payloadAt (wordOf s) < length s
+
+pub data-fine : (s : List ℕ) → dataRefusal s ≡ 0 → DataFine s
+unfolding dataRefusal
+data-fine s e =
+    let w = wordOf s in
+    let r1 = rest-none (typeRefusal 3 s) _ e in
+    let r2 = rest-none (fileRefusal w) _ r1 in
+    let r3 = rest-none (when (ltb (length s) (payloadAt w)) 1) _ r2 in
+    let le : payloadAt w ≤ length s = ltb-false _ _ (failed (ltb (length s) (payloadAt w)) 0 (first-none _ _ r2)) in
+    let ne : length s ≡ payloadAt w → ⊥ = eqb-false _ _ (failed (eqb (length s) (payloadAt w)) 9 r3) in
+    record
+      { head = type-fine 3 s (first-none _ _ e)
+      ; file = file-fine w (first-none _ _ r1)
+      ; file-none = first-none _ _ r1
+      ; more = omega arith
+      }
+
+-- the answers of a refused read
+pub answer-refused : (n : ℕ) (d : Data) → (n ≡ 0 → ⊥) → Refused (refusalOf n) ≡ dataAnswer n d
+answer-refused zero d h = absurd (h refl)
+answer-refused (suc n) d h = refl
+
+pub part-refused : (n : ℕ) (s : List ℕ) → (n ≡ 0 → ⊥) → [] ≡ payloadPart n s
+part-refused zero s h = absurd (h refl)
+part-refused (suc n) s h = refl

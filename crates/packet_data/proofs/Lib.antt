@@ -1,0 +1,3 @@
+pub mod DataLaws
+pub mod WriteDataLaws
+pub mod RoundTrip

@@ -1,0 +1,176 @@
+-- "reading what was written gives the same fields", and "writing what was read gives the same octets": DATA.
+-- Assumes nothing.
+use Prim.Native.Nat.{ℕ, _+_, _*_, _-_, _^_, _<_, _≤_}
+use mathlib.Core.Path.{_≡_, sym, ap, _∙_}
+use mathlib.Core.List.{List, _++_}
+use native.Mathlib.Omega.{arith}
+use lib.ListN.{length, take, drop, length-append, length-drop, take-append-drop}
+use lib.Seq.{take-at, drop-at, drop-drop, length-take-le}
+use borrow.Author.Tests.{le-ltb, lt-ltb, eq-eqb, ne-eqb}
+use Rattle.octets.specs.Numbers.{beValue, beDigits, Octets}
+use Rattle.octets.specs.Put.{put}
+use Rattle.octets.proofs.NumberLaws.{value-digits, length-digits, part-digits, part-lt}
+use Rattle.header.specs.Word.{flagsOf, descriptorOctets, timestampOctets, wantedOf, eodOf, markOf, typeOf, wordFor}
+use Rattle.header.specs.Start.{wordOf, idOf, startRefusal, typeRefusal, fileRefusal}
+use Rattle.header.specs.Writing.{roomRefusal}
+use Rattle.header.specs.declared.Written.the-variants.{Size}
+use Rattle.header.proofs.WordLaws.{mark-for, type-for, flags-for, octets-for, timestamp-for, file-for, octets-flags, timestamp-flags, file-flags, flags-lt, word-again}
+use Rattle.packet_data.specs.Data.{offsetAt, payloadAt, dataRefusal, dataOf, readData, payloadOf}
+use Rattle.packet_data.specs.WriteData.{dataExcess, dataWriteRefusal, dataOctets, dataWritten, dataBuffer}
+use Rattle.packet_data.specs.declared.DataRead.the-variants.{Accepted}
+use Rattle.packet_data.proofs.DataLaws.{DataFine, data-fine}
+use Rattle.packet_data.proofs.WriteDataLaws.{Writable, writable}
+
+-- fields that are not refused, in a buffer with room
+module _ (f i : ℕ) (t : List ℕ) (o : ℕ) (p : List ℕ) (room : ℕ) (ok : dataWriteRefusal f i (length t) o (length p) room ≡ 0) where
+  fine : Writable f i (length t) o (length p) room
+  fine = writable f i (length t) o (length p) room ok
+
+  flags-fit : f < 2 ^ 24
+  flags-fit = fine .fine .flags-fit
+
+  word : wordOf (dataOctets f i t o p) ≡ wordFor 3 f
+  unfolding dataOctets
+  word = value-digits 4 (wordFor 3 f) (omega (arith, flags-fit))
+
+  id : idOf (dataOctets f i t o p) ≡ i
+  unfolding dataOctets
+  id = value-digits 4 i (fine .id-fits)
+
+  pub data-octets-length : length (dataOctets f i t o p) ≡ payloadAt f + length p
+  unfolding dataOctets
+  data-octets-length = simp (length-append, length-digits) (omega (arith, fine .fine))
+
+  pub timestamp-read-written : take (timestampOctets f) (drop 8 (dataOctets f i t o p)) ≡ t
+  unfolding dataOctets
+  timestamp-read-written = take-at t (beDigits (descriptorOctets f) o ++ p) (timestampOctets f) (fine .fine .timestamp-is)
+
+  after-timestamp : drop (offsetAt f) (dataOctets f i t o p) ≡ beDigits (descriptorOctets f) o ++ p
+  unfolding dataOctets
+  after-timestamp =
+      sym (drop-drop (timestampOctets f) 8 (dataOctets f i t o p))
+      ∙ drop-at t (beDigits (descriptorOctets f) o ++ p) (timestampOctets f) (fine .fine .timestamp-is)
+
+  offset : beValue (take (descriptorOctets f) (drop (offsetAt f) (dataOctets f i t o p))) ≡ o
+  offset =
+      rw (after-timestamp, take-at (beDigits (descriptorOctets f) o) p (descriptorOctets f) (length-digits (descriptorOctets f) o))
+      (value-digits (descriptorOctets f) o (fine .offset-fits))
+
+  payload : drop (payloadAt f) (dataOctets f i t o p) ≡ p
+  payload =
+      sym (drop-drop (descriptorOctets f) (offsetAt f) (dataOctets f i t o p))
+      ∙ rw after-timestamp (drop-at (beDigits (descriptorOctets f) o) p (descriptorOctets f) (length-digits (descriptorOctets f) o))
+
+  offset-at : offsetAt (wordFor 3 f) ≡ offsetAt f
+  offset-at = ap (λ (n : ℕ). 8 + n) (timestamp-for 3 f (omega arith) flags-fit)
+
+  payload-at : payloadAt (wordFor 3 f) ≡ payloadAt f
+  payload-at = rw (octets-for 3 f (omega arith) flags-fit) (omega (arith, timestamp-for 3 f (omega arith) flags-fit))
+
+  accepted : dataRefusal (dataOctets f i t o p) ≡ 0
+  unfolding dataRefusal typeRefusal startRefusal
+  accepted =
+      let n = payloadAt f + length p in
+      rw (word, data-octets-length, file-for 3 f (omega arith) flags-fit, payload-at, fine .file,
+          le-ltb 65535 n (fine .short),
+          le-ltb n 8 (omega arith),
+          eq-eqb (markOf (wordFor 3 f)) 1 (mark-for 3 f (omega arith) flags-fit),
+          eq-eqb (typeOf (wordFor 3 f)) 3 (type-for 3 f (omega arith) flags-fit),
+          le-ltb n (payloadAt f) (omega arith),
+          ne-eqb n (payloadAt f) (omega (arith, fine .some)))
+
+  pub data-read-written : readData (dataOctets f i t o p) ≡ Accepted (record
+    { flags = f; id = i; width = descriptorOctets f; timestamp = timestampOctets f; wanted = wantedOf f; eod = eodOf f
+    ; offset = o; start = payloadAt f; length = length p })
+  unfolding readData dataOf
+  data-read-written =
+      let h : f < 2 ^ 24 = flags-fit in
+      let fl : flagsOf (wordFor 3 f) ≡ f = flags-for 3 f (omega arith) h in
+      let wa : wantedOf (wordFor 3 f) ≡ wantedOf f = omega arith in
+      let eo : eodOf (wordFor 3 f) ≡ eodOf f = omega arith in
+      let ts : timestampOctets (wordFor 3 f) ≡ timestampOctets f = timestamp-for 3 f (omega arith) h in
+      let ln : payloadAt f + length p - payloadAt f ≡ length p = omega arith in
+      simp (accepted, word, id, data-octets-length, fl, wa, eo, octets-for 3 f (omega arith) h, ts, offset, ln)
+
+  pub payload-read-written : payloadOf (dataOctets f i t o p) ≡ p
+  unfolding payloadOf
+  payload-read-written = rw (accepted, word, payload-at) payload
+
+-- the parts of a list, joined again
+refold : (m d : ℕ) (s : List ℕ) → take d (drop m s) ++ drop (m + d) s ≡ drop m s
+refold m d s = rw (← drop-drop) (take-append-drop d (drop m s))
+
+rejoin : (s a b o : List ℕ) (n d : ℕ) → a ≡ take 4 s → b ≡ take 4 (drop 4 s) → o ≡ take d (drop (8 + n) s)
+    → a ++ (b ++ (take n (drop 8 s) ++ (o ++ drop (8 + n + d) s))) ≡ s
+rejoin s a b o n d ea eb eo = rw (ea, eb, eo, refold (8 + n) d s, refold 8 n s, refold 4 4 s) (take-append-drop 4 s)
+
+-- a packet that is not refused
+module _ (s : List ℕ) (os : Octets s) (ok : dataRefusal s ≡ 0) where
+  read : DataFine s
+  read = data-fine s ok
+
+  abbrev w : ℕ
+  w = wordOf s
+
+  abbrev offsetRead : ℕ
+  offsetRead = beValue (take (descriptorOctets w) (drop (offsetAt w) s))
+
+  abbrev timestampRead : List ℕ
+  timestampRead = take (timestampOctets w) (drop 8 s)
+
+  abbrev payloadRead : List ℕ
+  payloadRead = drop (payloadAt w) s
+
+  same-octets : dataOctets (flagsOf w) (idOf s) timestampRead offsetRead payloadRead ≡ s
+  unfolding dataOctets
+  same-octets =
+      let l : 8 ≤ length s = read .head .start .long in
+      let m : payloadAt w < length s = read .more in
+      let again = word-again w 3 (part-lt s 0 4 os (omega arith)) (read .head .start .mark) (read .head .ptype) in
+      rejoin s (beDigits 4 (wordFor 3 (flagsOf w))) (beDigits 4 (idOf s)) (beDigits (descriptorOctets (flagsOf w)) offsetRead)
+        (timestampOctets w) (descriptorOctets w)
+        (ap (beDigits 4) again ∙ part-digits s 0 4 os (omega arith))
+        (part-digits s 4 4 os (omega arith))
+        (rw octets-flags (part-digits s (offsetAt w) (descriptorOctets w) os (omega arith)))
+
+  timestamp-length : length timestampRead ≡ timestampOctets w
+  timestamp-length =
+      let m : payloadAt w < length s = read .more in
+      length-take-le (timestampOctets w) (drop 8 s) (simp length-drop (omega arith))
+
+  not-excess : dataExcess (flagsOf w) (idOf s) (timestampOctets w) offsetRead ≡ 0
+  unfolding dataExcess
+  not-excess =
+      let l : 8 ≤ length s = read .head .start .long in
+      let m : payloadAt w < length s = read .more in
+      rw (octets-flags, timestamp-flags,
+          lt-ltb (flagsOf w) (2 ^ 24) (flags-lt w),
+          lt-ltb (idOf s) (2 ^ 32) (part-lt s 4 4 os (omega arith)),
+          le-ltb (timestampOctets w) (timestampOctets w) (omega arith),
+          lt-ltb offsetRead (256 ^ descriptorOctets w) (part-lt s (offsetAt w) (descriptorOctets w) os (omega arith)))
+
+  not-refused : (room : ℕ) → length s ≤ room
+      → dataWriteRefusal (flagsOf w) (idOf s) (length timestampRead) offsetRead (length payloadRead) room ≡ 0
+  unfolding dataWriteRefusal roomRefusal
+  not-refused room r =
+      let sh : length s ≤ 65535 = read .head .start .short in
+      let m : payloadAt w < length s = read .more in
+      let n = payloadAt w + (length s - payloadAt w) in
+      rw (timestamp-length, not-excess, file-flags, read .file-none, length-drop, octets-flags, timestamp-flags,
+          le-ltb (timestampOctets w) (timestampOctets w) (omega arith),
+          ne-eqb (length s - payloadAt w) 0 (omega arith),
+          le-ltb 65535 n (omega arith),
+          le-ltb room n (omega arith))
+
+  -- the fields as they were read, written into a buffer with room for the packet: its size, and the very packet
+  module _ (old : List ℕ) (room : length s ≤ length old) where
+    pub data-written-read : dataWritten (flagsOf w) (idOf s) timestampRead offsetRead payloadRead old ≡ Size (length s)
+    unfolding dataWritten
+    data-written-read =
+        let m : payloadAt w < length s = read .more in
+        let e : payloadAt w + (length s - payloadAt w) ≡ length s = omega arith in
+        rw (not-refused (length old) room, octets-flags, timestamp-flags, length-drop, e)
+
+    pub data-buffer-read : dataBuffer (flagsOf w) (idOf s) timestampRead offsetRead payloadRead old ≡ put 0 s old
+    unfolding dataBuffer
+    data-buffer-read = rw (not-refused (length old) room, same-octets)

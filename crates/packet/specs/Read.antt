@@ -1,0 +1,47 @@
+-- A packet of any type, read: "It reads METADATA, DATA and STATUS".
+-- Assumes nothing.
+use Prim.Native.Nat.{ℕ, zero, suc}
+use mathlib.Core.List.{List}
+use Rattle.header.specs.Refusals.{refusalOf}
+use Rattle.header.specs.Word.{typeOf}
+use Rattle.header.specs.Start.{wordOf, startRefusal}
+use Rattle.packet_metadata.specs.Metadata.{readMetadata}
+use Rattle.packet_metadata.specs.declared.MetadataRead.{MetadataRead}
+use Rattle.packet_metadata.specs.declared.MetadataRead.the-variants as metadata-read
+use Rattle.packet_data.specs.Data.{readData}
+use Rattle.packet_data.specs.declared.DataRead.{DataRead}
+use Rattle.packet_data.specs.declared.DataRead.the-variants as data-read
+use Rattle.packet_status.specs.Status.{readStatus}
+use Rattle.packet_status.specs.declared.StatusRead.{StatusRead}
+use Rattle.packet_status.specs.declared.StatusRead.the-variants as status-read
+use Rattle.packet.specs.declared.Read.{Read}
+use Rattle.packet.specs.declared.Read.the-variants.{Metadata, Data, Success, Failure, Refused}
+
+-- what the reader of each type answers, as a case of Read
+abbrev pub ofMetadata : MetadataRead → Read
+ofMetadata (metadata-read.Accepted m) = Metadata m
+ofMetadata (metadata-read.Refused r) = Refused r
+
+abbrev pub ofData : DataRead → Read
+ofData (data-read.Accepted d) = Data d
+ofData (data-read.Refused r) = Refused r
+
+abbrev pub ofStatus : StatusRead → Read
+ofStatus (status-read.Success s) = Success s
+ofStatus (status-read.Failure f) = Failure f
+ofStatus (status-read.Refused r) = Refused r
+
+-- "METADATA 2, DATA 3, STATUS 4"; 4: "type not 2, 3 or 4"
+unfoldable pub readType : ℕ → List ℕ → Read
+readType (suc (suc zero)) s = ofMetadata (readMetadata s)
+readType (suc (suc (suc zero))) s = ofData (readData s)
+readType (suc (suc (suc (suc zero)))) s = ofStatus (readStatus s)
+readType _ s = Refused (refusalOf 4)
+
+-- "Order in reading: 2, 1 (first 8 octets), 3, 4"
+unfoldable pub readAfter : ℕ → List ℕ → Read
+readAfter zero s = readType (typeOf (wordOf s)) s
+readAfter (suc n) s = Refused (refusalOf (suc n))
+
+unfoldable pub readPacket : List ℕ → Read
+readPacket s = readAfter (startRefusal s) s

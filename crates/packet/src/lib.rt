@@ -1,0 +1,65 @@
+// Reading a packet of any type.
+ghost use mathlib.Core.Path.{_≡_};
+ghost use Rattle.packet.specs.Read.{ofMetadata, ofData, ofStatus, readPacket};
+use header::Refusal;
+use packet_data::{Data, DataRead};
+use packet_metadata::{Metadata, MetadataRead};
+use packet_status::{FailureStatus, StatusRead, SuccessStatus};
+
+// What a packet holds, by its type, or why it is refused.
+pub enum Read {
+    Metadata(Metadata),
+    Data(Data),
+    Success(SuccessStatus),
+    Failure(FailureStatus),
+    Refused(Refusal),
+}
+
+fn of_metadata(a: MetadataRead) -> Read
+    ensures { λ r. ⌜ r ≡ ofMetadata a ⌝ }
+{
+    match a {
+        MetadataRead::Accepted(m) => Read::Metadata(m),
+        MetadataRead::Refused(r) => Read::Refused(r),
+    }
+}
+
+fn of_data(a: DataRead) -> Read
+    ensures { λ r. ⌜ r ≡ ofData a ⌝ }
+{
+    match a {
+        DataRead::Accepted(d) => Read::Data(d),
+        DataRead::Refused(r) => Read::Refused(r),
+    }
+}
+
+fn of_status(a: StatusRead) -> Read
+    ensures { λ r. ⌜ r ≡ ofStatus a ⌝ }
+{
+    match a {
+        StatusRead::Success(s) => Read::Success(s),
+        StatusRead::Failure(f) => Read::Failure(f),
+        StatusRead::Refused(r) => Read::Refused(r),
+    }
+}
+
+// Reads a packet of any of the three types.
+pub fn read_packet(p: &[u8]) -> Read
+    ensures { λ r. ⌜ r ≡ readPacket (now (p .entry)) ⌝ }
+{
+    let n = header::start_refusal(p);
+    if n != 0 {
+        return Read::Refused(header::refuse(n));
+    }
+    let h = header::split(header::word(p));
+    if h.ptype == 2 {
+        return of_metadata(packet_metadata::read_metadata(p));
+    }
+    if h.ptype == 3 {
+        return of_data(packet_data::read_data(p));
+    }
+    if h.ptype == 4 {
+        return of_status(packet_status::read_status(p));
+    }
+    Read::Refused(header::refuse(4))
+}

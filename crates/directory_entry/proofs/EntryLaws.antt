@@ -1,14 +1,16 @@
 -- What is known of an entry that is not refused, read or to be written.
 -- Assumes nothing.
 use Prim.Native.Nat.{ℕ, _+_, _-_, _^_, _<_, _≤_}
-use mathlib.Core.Path.{_≡_}
+use mathlib.Core.Path.{_≡_, _∙_}
 use mathlib.Core.Bool.{not}
-use mathlib.Core.List.{List}
+use mathlib.Core.List.{List, _++_, append-assoc}
 use native.Mathlib.Omega.{arith}
-use lib.ListN.{length, take, drop, length-drop}
+use lib.ListN.{length, take, drop, length-append, length-drop}
 use lib.Seq.{take-all}
 use lib.Dec.{ltb}
 use borrow.Author.Tests.{ltb-true, ltb-false, not-false}
+use Rattle.octets.specs.Put.{put}
+use Rattle.octets.proofs.PutLaws.{put-next}
 use Rattle.header.specs.Refusals.{_▹_, when}
 use Rattle.header.proofs.RefusalLaws.{first-none, rest-none, failed}
 use Rattle.directory_entry.specs.Properties.{sizeOctets, pathAt, propertyRefusal}
@@ -47,3 +49,21 @@ entry-fine d e q =
       long = omega (arith, p .some, p .closed, length-drop (pathAt x) e);
       size-fits = ltb-true _ _ (not-false _ (failed _ 8 r4));
     }
+
+-- six parts, put one after the other
+pub puts : (a b c d e f old : List ℕ) (at k l m n o : ℕ) → at + length a ≡ k → k + length b ≡ l → l + length c ≡ m → m + length d ≡ n → n + length e ≡ o
+    → o + length f ≤ length old
+    → put o f (put n e (put m d (put l c (put k b (put at a old))))) ≡ put at (a ++ (b ++ (c ++ (d ++ (e ++ f))))) old
+puts a b c d e f old at k l m n o hk hl hm hn ho h =
+    let el : at + length (a ++ b) ≡ l = rw length-append (omega arith) in
+    let em : at + length (a ++ b ++ c) ≡ m = rw length-append (omega arith) in
+    let en : at + length (a ++ b ++ c ++ d) ≡ n = rw length-append (omega arith) in
+    let eo : at + length (a ++ b ++ c ++ d ++ e) ≡ o = rw length-append (omega arith) in
+    rw (
+      put-next at k a b old hk (omega arith),
+      put-next at l (a ++ b) c old el (omega arith),
+      put-next at m (a ++ b ++ c) d old em (omega arith),
+      put-next at n (a ++ b ++ c ++ d) e old en (omega arith),
+      put-next at o (a ++ b ++ c ++ d ++ e) f old eo h,
+    )
+    (simp append-assoc)

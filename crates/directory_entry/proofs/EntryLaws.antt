@@ -10,13 +10,14 @@ use lib.Seq.{take-all}
 use lib.Dec.{ltb}
 use borrow.Author.Tests.{ltb-true, ltb-false, not-false}
 use Rattle.octets.specs.Put.{put}
+use Rattle.octets.proofs.NumberLaws.{length-digits}
 use Rattle.octets.proofs.PutLaws.{put-next}
 use Rattle.header.specs.Refusals.{_▹_, when}
 use Rattle.header.proofs.RefusalLaws.{first-none, rest-none, failed}
 use Rattle.directory_entry.specs.Properties.{sizeOctets, pathAt, propertyRefusal}
-use Rattle.directory_entry.specs.Path.{zeroAt, pathRefusal, pathWriteRefusal}
+use Rattle.directory_entry.specs.Path.{zeroAt, pathRefusal}
 use Rattle.directory_entry.specs.Entry.{propertiesOf, sizeOf, afterTimes, entryRefusal}
-use Rattle.directory_entry.specs.WriteEntry.{entryExcess, entryWriteRefusal}
+use Rattle.directory_entry.specs.WriteEntry.{entryOctets, entrySize}
 use Rattle.directory_entry.proofs.PropertyLaws.{PropertiesFine, properties-fine}
 use Rattle.directory_entry.proofs.PathLaws.{PathFine, path-fine}
 
@@ -67,3 +68,7 @@ puts a b c d e f old at k l m n o hk hl hm hn ho h =
       put-next at o (a ++ b ++ c ++ d ++ e) f old eo h,
     )
     (simp append-assoc)
+
+pub length-entry : (properties size mtime ctime : ℕ) (path : List ℕ) → length (entryOctets properties size mtime ctime path) ≡ entrySize properties (length path)
+unfolding entryOctets
+length-entry properties size mtime ctime path = simp (length-append, length-digits) (omega arith)

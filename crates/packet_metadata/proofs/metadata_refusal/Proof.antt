@@ -1,80 +1,104 @@
-use native.Mathlib.Omega.{arith}
+-- `packet_metadata::metadata_refusal` meets its contract: the first refusal stands. Assumes nothing.
+use Prim.Native.Nat.{ℕ, _+_, _<_, _≤_}
+use mathlib.Core.Path.{_≡_, sym, ap, _∙_}
+use denote.Ref.{now}
+use lib.ListN.{length, drop}
+use borrow.Author.Tests.{lt-ltb, le-ltb}
+use Rattle.header.specs.Word.{descriptorOctets}
+use Rattle.header.specs.Start.{wordOf, typeRefusal, fileRefusal}
+use Rattle.header.proofs.RefusalLaws.{stays}
+use Rattle.header.proofs.StartLaws.{type-fine}
+use Rattle.directory_entry.specs.Entry.{entryRefusal}
+use Rattle.directory_entry.proofs.EntryLaws.{rest-part}
+use Rattle.packet_metadata.specs.Checksum.{pairRefusal, checksumOctets}
+use Rattle.packet_metadata.specs.Metadata.{entryAt, metadataRefusal}
 use borrow.Author.Needs.{needs}
+use native.Mathlib.Omega.{arith}
 use Rattle.packet_metadata.proofs.metadata_refusal.Statement.{statement}
 use Rattle.packet_metadata.proofs.metadata_refusal.Tie as tie
-use Rattle.packet_metadata.proofs.metadata_refusal.Reads as reads
-use Rattle.packet_metadata.proofs.metadata_refusal.Lts as lts
-use Rattle.directory_entry.proofs.entry_refusal.Reads as entry-refusal-reads
-use Rattle.header.proofs.descriptor_octets.Reads as descriptor-octets-reads
-use Rattle.header.proofs.file_refusal.Reads as file-refusal-reads
-use Rattle.header.proofs.type_refusal.Reads as type-refusal-reads
-use Rattle.header.proofs.word.Reads as word-reads
-use Rattle.packet_metadata.proofs.checksum_octets.Reads as checksum-octets-reads
-use Rattle.packet_metadata.proofs.pair_refusal.Reads as pair-refusal-reads
 
--- src/lib.rt:66:9
 type-refusal-requires : tie.Need-type-refusal-requires
 type-refusal-requires c κs = search needs
 
--- src/lib.rt:68:9
 returns : tie.Need-returns
-returns c = ?
+unfolding metadataRefusal
+returns c = c .before .type-refusal .ensures ∙ sym (stays (typeRefusal 2 (now (c .before .before .before .args .p))) _ (omega arith))
 
--- src/lib.rt:70:9
 word-requires : tie.Need-word-requires
-word-requires c κs = ?
+word-requires c κs = type-fine 2 (now (c .before .before .before .args .p)) (omega arith) .start .long
 
--- src/lib.rt:71:9
 file-refusal-requires : tie.Need-file-refusal-requires
 file-refusal-requires c κs = search needs
 
--- src/lib.rt:73:9
-returns-2 : tie.Need-returns-2
-returns-2 c = ?
+file : (c : tie.After-file-refusal) → (typeRefusal 2 (now (c .before .before .before .before .before .args .p)) ≡ 0) × (c .file-refusal .result ≡ fileRefusal (wordOf (now (c .before .before .before .before .before .args .p))))
+file c = (omega arith, c .file-refusal .ensures ∙ ap fileRefusal (c .before .word .ensures))
 
--- src/lib.rt:75:9
+returns-2 : tie.Need-returns-2
+unfolding metadataRefusal
+returns-2 c =
+    let f = file (c .before) in
+    rw (f .0) (f .1 ∙ sym (stays (fileRefusal (wordOf (now (c .before .before .before .before .before .before .args .p)))) _ (omega arith)))
+
 pair-refusal-requires : tie.Need-pair-refusal-requires
 pair-refusal-requires c κs = search needs
 
--- src/lib.rt:77:9
-returns-3 : tie.Need-returns-3
-returns-3 c = ?
+pair : (c : tie.After-pair-refusal)
+    → (typeRefusal 2 (now (c .before .before .before .before .before .before .before .args .p)) ≡ 0) × (fileRefusal (wordOf (now (c .before .before .before .before .before .before .before .args .p))) ≡ 0) × (c .pair-refusal .result ≡ pairRefusal (wordOf (now (c .before .before .before .before .before .before .before .args .p))))
+pair c =
+    let f = file (c .before .before) in
+    (f .0, omega arith, c .pair-refusal .ensures ∙ ap pairRefusal (c .before .before .before .word .ensures))
 
--- src/lib.rt:79:18
+returns-3 : tie.Need-returns-3
+unfolding metadataRefusal
+returns-3 c =
+    let g = pair (c .before) in
+    rw (g .0, g .1) (g .2 ∙ sym (stays (pairRefusal (wordOf (now (c .before .before .before .before .before .before .before .before .args .p)))) _ (omega arith)))
+
 checksum-octets-requires : tie.Need-checksum-octets-requires
 checksum-octets-requires c κs = search needs
 
--- src/lib.rt:79:14
 add-at : tie.Need-add-at
 add-at c = search needs
 
--- src/lib.rt:81:9
-returns-4 : tie.Need-returns-4
-returns-4 c = ?
+known : (c : tie.After-checksum-octets)
+    → (typeRefusal 2 (now (c .before .before .before .before .before .before .before .before .before .args .p)) ≡ 0) × (fileRefusal (wordOf (now (c .before .before .before .before .before .before .before .before .before .args .p))) ≡ 0) × (pairRefusal (wordOf (now (c .before .before .before .before .before .before .before .before .before .args .p))) ≡ 0)
+    × (c .checksum-octets .result ≡ checksumOctets (wordOf (now (c .before .before .before .before .before .before .before .before .before .args .p))))
+known c =
+    let g = pair (c .before .before) in
+    (g .0, g .1, omega arith, c .checksum-octets .ensures ∙ ap (λ (x : ℕ). checksumOctets x) (c .before .before .before .before .before .word .ensures))
 
--- src/lib.rt:83:36
+returns-4 : tie.Need-returns-4
+unfolding metadataRefusal
+returns-4 c =
+    let s = now (c .before .before .before .before .before .before .before .before .before .before .args .p) in
+    let k = known (c .before) in
+    rw (k .0, k .1, k .2, lt-ltb (length s) (entryAt (wordOf s)) (omega arith))
+
 sub-entry-refusal : tie.Need-sub-entry-refusal
 sub-entry-refusal c = search needs
 
--- src/lib.rt:83:36
 part-entry-refusal-start : tie.Need-part-entry-refusal-start
 part-entry-refusal-start c = search needs
 
--- src/lib.rt:83:36
 part-entry-refusal-end : tie.Need-part-entry-refusal-end
 part-entry-refusal-end c = search needs
 
--- src/lib.rt:83:46
 descriptor-octets-requires : tie.Need-descriptor-octets-requires
 descriptor-octets-requires c κs = search needs
 
--- src/lib.rt:83:5
 entry-refusal-requires : tie.Need-entry-refusal-requires
 entry-refusal-requires c κs = search needs
 
--- src/lib.rt:63:1
 returns-5 : tie.Need-returns-5
-returns-5 c = ?
+unfolding metadataRefusal
+returns-5 c =
+    let s = now (c .before .before .before .before .before .before .before .before .before .before .before .before .before .args .p) in
+    let k = known (c .before .before .before .before) in
+    let n = c .before .before .before .before .checksum-octets .result in
+    rw (k .0, k .1, k .2, le-ltb (length s) (entryAt (wordOf s)) (omega arith))
+    (c .entry-refusal .ensures
+    ∙ ap (entryRefusal (c .before .descriptor-octets .result)) (rest-part s (8 + n))
+    ∙ rw (c .before .descriptor-octets .ensures, k .3, c .before .before .before .before .before .before .before .before .before .word .ensures))
 
 pub metadata-refusal-spec : {M : Type 1} → statement M
 metadata-refusal-spec =

@@ -1,32 +1,33 @@
-use native.Mathlib.Omega.{arith}
+-- `packet_metadata::read_metadata` meets its contract. Assumes nothing.
+use mathlib.Core.Path.{_≡_}
+use denote.Ref.{now}
+use Rattle.packet_metadata.specs.Metadata.{metadataRefusal, metadataOf, readMetadata}
+use Rattle.packet_metadata.proofs.MetadataLaws.{answer-refused}
 use borrow.Author.Needs.{needs}
+use native.Mathlib.Omega.{arith}
 use Rattle.packet_metadata.proofs.read_metadata.Statement.{statement}
 use Rattle.packet_metadata.proofs.read_metadata.Tie as tie
-use Rattle.packet_metadata.proofs.read_metadata.Reads as reads
-use Rattle.packet_metadata.proofs.read_metadata.Lts as lts
-use Rattle.header.proofs.refuse.Reads as refuse-reads
-use Rattle.packet_metadata.proofs.metadata_fields.Reads as metadata-fields-reads
-use Rattle.packet_metadata.proofs.metadata_refusal.Reads as metadata-refusal-reads
 
--- src/lib.rt:110:9
 metadata-refusal-requires : tie.Need-metadata-refusal-requires
 metadata-refusal-requires c κs = search needs
 
--- src/lib.rt:112:38
 refuse-requires : tie.Need-refuse-requires
 refuse-requires c κs = search needs
 
--- src/lib.rt:112:9
 returns : tie.Need-returns
-returns c = ?
+unfolding readMetadata
+returns c =
+    let s = now (c .before .before .before .before .args .p) in
+    rw (c .refuse .ensures, c .before .before .metadata-refusal .ensures) (answer-refused (metadataRefusal s) (metadataOf s) (omega arith))
 
--- src/lib.rt:114:28
 metadata-fields-requires : tie.Need-metadata-fields-requires
 metadata-fields-requires c κs = search needs
 
--- src/lib.rt:107:1
 returns-2 : tie.Need-returns-2
-returns-2 c = ?
+unfolding readMetadata
+returns-2 c =
+    let z : metadataRefusal (now (c .before .before .before .before .args .p)) ≡ 0 = omega arith in
+    rw (c .metadata-fields .ensures, z)
 
 pub read-metadata-spec : {M : Type 1} → statement M
 read-metadata-spec =

@@ -1,3 +1,4 @@
 pub mod PropertyLaws
 pub mod PathLaws
 pub mod EntryLaws
+pub mod RoundTrip

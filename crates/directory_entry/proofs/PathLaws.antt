@@ -6,10 +6,10 @@ use mathlib.Core.Bool.{not, _&&_}
 use mathlib.Core.List.{List, [], _∷_, _++_}
 use native.Mathlib.Numerals.{add-one}
 use native.Mathlib.Omega.{arith}
-use lib.ListN.{length, getD, take, drop, drop-of-length-le}
-use lib.Seq.{drop-cons}
+use lib.ListN.{length, getD, take, drop, length-append, drop-of-length-le}
+use lib.Seq.{drop-cons, length-take-le}
 use lib.Dec.{ltb, eqb}
-use borrow.Author.Tests.{ltb-false, eqb-true, eqb-false, not-false}
+use borrow.Author.Tests.{ltb-false, eqb-true, eqb-false, not-false, le-ltb, eq-eqb, ne-eqb}
 use Rattle.header.specs.Refusals.{_▹_, when}
 use Rattle.header.proofs.RefusalLaws.{first-none, rest-none, failed}
 use Rattle.directory_entry.specs.Path.{zeroAt, pathRefusal, pathWriteRefusal}
@@ -81,3 +81,25 @@ path-write-fine path e =
       short = ltb-false _ _ (failed _ 7 (first-none _ _ r1));
       whole = eqb-true _ _ (not-false _ (failed _ 7 r2));
     }
+
+-- a path that may be written is read again, and a path that was read may be written
+pub closed-fine : (path : List ℕ) → pathWriteRefusal path ≡ 0 → pathRefusal (path ++ (0 ∷ [])) ≡ 0
+unfolding pathRefusal
+closed-fine path e =
+    let f = path-write-fine path e in
+    let n = length path in
+    rw (
+      zero-closed path (f .whole),
+      length-append,
+      ne-eqb n (n + 1) (omega arith),
+      ne-eqb n 0 (omega (arith, f .some)),
+      le-ltb 1023 n (f .short),
+      eq-eqb (n + 1) (n + 1) refl,
+    )
+
+pub open-fine : (r : List ℕ) → PathFine r → pathWriteRefusal (take (zeroAt r) r) ≡ 0
+unfolding pathWriteRefusal
+open-fine r f =
+    let z = zeroAt r in
+    let l : length (take z r) ≡ z = length-take-le z r (omega (arith, f .closed)) in
+    rw (l, zero-before r, ne-eqb z 0 (omega (arith, f .some)), le-ltb 1023 z (f .short), eq-eqb z z refl)

@@ -1,39 +1,52 @@
-use native.Mathlib.Omega.{arith}
+-- `directory_entry::entry_excess` meets its contract: a return for each test. Assumes nothing.
+use Prim.Native.Nat.{ℕ, _^_}
+use mathlib.Core.Path.{_≡_, sym, ap, _∙_}
+use borrow.Author.Tests.{lt-ltb, le-ltb, not-true, not-false}
+use lib.Dec.{ltb}
+use Rattle.directory_entry.specs.Properties.{sizeOctets}
+use Rattle.directory_entry.specs.WriteEntry.{entryExcess}
 use borrow.Author.Needs.{needs}
+use native.Mathlib.Omega.{arith}
 use Rattle.directory_entry.proofs.entry_excess.Statement.{statement}
 use Rattle.directory_entry.proofs.entry_excess.Tie as tie
-use Rattle.directory_entry.proofs.entry_excess.Reads as reads
-use Rattle.directory_entry.proofs.entry_excess.Lts as lts
-use Rattle.directory_entry.proofs.size_octets.Reads as size-octets-reads
-use Rattle.octets.proofs.fits.Reads as fits-reads
 
--- src/lib.rt:152:9
 returns : tie.Need-returns
-returns c = ?
+unfolding entryExcess
+returns c = rw (le-ltb (c .before .args .properties) (2 ^ 16) (omega arith))
 
--- src/lib.rt:154:28
 size-octets-requires : tie.Need-size-octets-requires
 size-octets-requires c κs = search needs
 
--- src/lib.rt:154:9
 fits-requires : tie.Need-fits-requires
 fits-requires c κs = search needs
 
--- src/lib.rt:155:9
+-- the test of the size
+tested : (c : tie.After-fits2) → ltb (c .before .before .before .args .size) (256 ^ sizeOctets (c .before .before .before .args .properties)) ≡ c .fits2 .result
+tested c = sym (c .fits2 .ensures ∙ ap (λ (n : ℕ). ltb (c .before .before .before .args .size) (256 ^ n)) (c .before .size-octets .ensures))
+
 returns-2 : tie.Need-returns-2
-returns-2 c = ?
+unfolding entryExcess
+returns-2 c =
+    let a = c .before .before .before .before .args in
+    rw (lt-ltb (a .properties) (2 ^ 16) (omega arith), tested (c .before), not-true (c .before .fits2 .result) (c .if2 .taken))
 
--- src/lib.rt:158:9
 returns-3 : tie.Need-returns-3
-returns-3 c = ?
+unfolding entryExcess
+returns-3 c =
+    let a = c .before .before .before .before .before .args in
+    rw (lt-ltb (a .properties) (2 ^ 16) (omega arith), tested (c .before .before), not-false (c .before .before .fits2 .result) (c .before .if2 .left), le-ltb (a .mtime) (2 ^ 32) (omega arith))
 
--- src/lib.rt:161:9
 returns-4 : tie.Need-returns-4
-returns-4 c = ?
+unfolding entryExcess
+returns-4 c =
+    let a = c .before .before .before .before .before .before .args in
+    rw (lt-ltb (a .properties) (2 ^ 16) (omega arith), tested (c .before .before .before), not-false (c .before .before .before .fits2 .result) (c .before .before .if2 .left), lt-ltb (a .mtime) (2 ^ 32) (omega arith), le-ltb (a .ctime) (2 ^ 32) (omega arith))
 
--- src/lib.rt:148:1
 returns-5 : tie.Need-returns-5
-returns-5 c = ?
+unfolding entryExcess
+returns-5 c =
+    let a = c .before .before .before .before .before .before .args in
+    rw (lt-ltb (a .properties) (2 ^ 16) (omega arith), tested (c .before .before .before), not-false (c .before .before .before .fits2 .result) (c .before .before .if2 .left), lt-ltb (a .mtime) (2 ^ 32) (omega arith), lt-ltb (a .ctime) (2 ^ 32) (omega arith))
 
 pub entry-excess-spec : {M : Type 1} → statement M
 entry-excess-spec =

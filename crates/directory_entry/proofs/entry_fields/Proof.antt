@@ -1,59 +1,63 @@
-use native.Mathlib.Omega.{arith}
+-- `directory_entry::entry_fields` meets its contract: an entry that is not refused is long enough for its fields.
+-- Assumes nothing.
+use Prim.Native.Nat.{ℕ, _*_, _+_, _^_, _<_, _≤_}
+use mathlib.Core.Path.{_≡_, ap, _∙_}
+use denote.Ref.{now}
+use lib.ListN.{length}
+use Rattle.octets.specs.Numbers.{Width}
+use Rattle.octets.specs.Numbers.Width.{two, four}
+use Rattle.directory_entry.specs.Properties.{sizeOctets, pathAt}
+use Rattle.directory_entry.specs.Entry.{propertiesOf, entryOf}
+use Rattle.directory_entry.proofs.EntryLaws.{entry-fine}
 use borrow.Author.Needs.{needs}
+use native.Mathlib.Omega.{arith}
 use Rattle.directory_entry.proofs.entry_fields.Statement.{statement}
 use Rattle.directory_entry.proofs.entry_fields.Tie as tie
-use Rattle.directory_entry.proofs.entry_fields.Reads as reads
-use Rattle.directory_entry.proofs.entry_fields.Lts as lts
-use Rattle.directory_entry.proofs.size_octets.Reads as size-octets-reads
-use Rattle.octets.proofs.read_number.Reads as read-number-reads
 
--- src/lib.rt:134:9
 read-number-requires : tie.Need-read-number-requires
-read-number-requires c κs = ?
+read-number-requires c κs = (two, omega (arith, entry-fine (c .before .args .d) (now (c .before .args .e)) (c .before .pre .0) .long))
 
--- src/lib.rt:135:9
 size-octets-requires : tie.Need-size-octets-requires
 size-octets-requires c κs = search needs
 
--- src/lib.rt:136:16
+-- the octets of the size, and the room for what follows it
+known : (c : tie.After-size-octets)
+    → (c .size-octets .result ≡ sizeOctets (propertiesOf (now (c .before .before .before .args .e)))) × Width (c .size-octets .result) × (c .size-octets .result ≤ 8) × (10 + c .size-octets .result < length (now (c .before .before .before .args .e)))
+known c =
+    let f = entry-fine (c .before .before .before .args .d) (now (c .before .before .before .args .e)) (c .before .before .before .pre .0) in
+    let k : c .size-octets .result ≡ sizeOctets (propertiesOf (now (c .before .before .before .args .e))) = c .size-octets .ensures ∙ ap (λ (x : ℕ). sizeOctets x) (c .before .read-number .ensures) in
+    (k, rw k (f .properties .octets), omega (arith, f .properties .small), omega (arith, f .long))
+
 add-path : tie.Need-add-path
-add-path c = ?
+add-path c = omega (arith, known c)
 
--- src/lib.rt:139:15
 read-number-requires-2 : tie.Need-read-number-requires-2
-read-number-requires-2 c κs = ?
+read-number-requires-2 c κs = (known c .1, omega (arith, known c))
 
--- src/lib.rt:140:39
 add-read-number : tie.Need-add-read-number
-add-read-number c = ?
+add-read-number c = omega (arith, known (c .before))
 
--- src/lib.rt:140:16
 read-number-requires-3 : tie.Need-read-number-requires-3
-read-number-requires-3 c κs = ?
+read-number-requires-3 c κs = (four, omega (arith, known (c .before)))
 
--- src/lib.rt:141:39
 add-read-number-2 : tie.Need-add-read-number-2
-add-read-number-2 c = ?
+add-read-number-2 c = omega (arith, known (c .before .before))
 
--- src/lib.rt:141:16
 read-number-requires-4 : tie.Need-read-number-requires-4
-read-number-requires-4 c κs = ?
+read-number-requires-4 c κs = (four, omega (arith, known (c .before .before)))
 
--- src/lib.rt:142:15
 add-t12 : tie.Need-add-t12
-add-t12 c = ?
+add-t12 c = omega (arith, known (c .before .before .before))
 
--- src/lib.rt:143:17
 sub-t14 : tie.Need-sub-t14
-sub-t14 c = ?
+sub-t14 c = omega (arith, known (c .before .before .before))
 
--- src/lib.rt:143:17
 sub-t15 : tie.Need-sub-t15
-sub-t15 c = ?
+sub-t15 c = omega (arith, known (c .before .before .before))
 
--- src/lib.rt:130:1
 returns : tie.Need-returns
-returns c = ?
+unfolding entryOf
+returns c = simp (c .before .before .read-number2 .ensures, c .before .read-number3 .ensures, c .read-number4 .ensures, known (c .before .before .before) .0, c .before .before .before .before .read-number .ensures)
 
 pub entry-fields-spec : {M : Type 1} → statement M
 entry-fields-spec =

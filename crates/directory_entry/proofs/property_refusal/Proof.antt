@@ -1,30 +1,29 @@
-use native.Mathlib.Omega.{arith}
+-- `directory_entry::property_refusal` meets its contract: a return for each test. Assumes nothing.
+use borrow.Author.Tests.{eq-eqb, ne-eqb}
+use Rattle.directory_entry.specs.Properties.{specialOf, bundleOf, sizeWidth, propertyRefusal}
 use borrow.Author.Needs.{needs}
+use native.Mathlib.Omega.{arith}
 use Rattle.directory_entry.proofs.property_refusal.Statement.{statement}
 use Rattle.directory_entry.proofs.property_refusal.Tie as tie
-use Rattle.directory_entry.proofs.property_refusal.Reads as reads
-use Rattle.directory_entry.proofs.property_refusal.Lts as lts
-use Rattle.directory_entry.proofs.split_properties.Reads as split-properties-reads
 
--- src/lib.rt:52:9
 split-properties-requires : tie.Need-split-properties-requires
 split-properties-requires c κs = search needs
 
--- src/lib.rt:54:9
 returns : tie.Need-returns
-returns c = ?
+unfolding propertyRefusal
+returns c = let x = c .before .before .before .args .x in rw (ne-eqb (specialOf x) 0 (omega arith))
 
--- src/lib.rt:57:9
 returns-2 : tie.Need-returns-2
-returns-2 c = ?
+unfolding propertyRefusal
+returns-2 c = let x = c .before .before .before .before .before .args .x in rw (eq-eqb (specialOf x) 0 (omega arith), ne-eqb (bundleOf x) 0 (omega arith))
 
--- src/lib.rt:60:9
 returns-3 : tie.Need-returns-3
-returns-3 c = ?
+unfolding propertyRefusal
+returns-3 c = let x = c .before .before .before .before .before .before .before .args .x in rw (eq-eqb (specialOf x) 0 (omega arith), eq-eqb (bundleOf x) 0 (omega arith), eq-eqb (sizeWidth x) 3 (omega arith))
 
--- src/lib.rt:49:1
 returns-4 : tie.Need-returns-4
-returns-4 c = ?
+unfolding propertyRefusal
+returns-4 c = let x = c .before .before .before .before .before .before .before .args .x in rw (eq-eqb (specialOf x) 0 (omega arith), eq-eqb (bundleOf x) 0 (omega arith), ne-eqb (sizeWidth x) 3 (omega arith))
 
 pub property-refusal-spec : {M : Type 1} → statement M
 property-refusal-spec =

@@ -1,76 +1,73 @@
-use native.Mathlib.Omega.{arith}
+-- `directory_entry::put_entry` meets its contract: the parts stand one after the other. Assumes nothing.
+use Prim.Native.Nat.{_+_}
+use mathlib.Core.Path.{_≡_, refl}
+use mathlib.Core.List.{[], _∷_}
+use denote.Ref.{now}
+use lib.ListN.{length}
+use Rattle.octets.specs.Numbers.{beDigits}
+use Rattle.octets.proofs.NumberLaws.{length-digits}
+use Rattle.directory_entry.specs.Properties.{sizeOctets}
+use Rattle.directory_entry.specs.WriteEntry.{entryOctets}
+use Rattle.directory_entry.proofs.EntryLaws.{puts}
 use borrow.Author.Needs.{needs}
+use native.Mathlib.Omega.{arith}
 use Rattle.directory_entry.proofs.put_entry.Statement.{statement}
 use Rattle.directory_entry.proofs.put_entry.Tie as tie
-use Rattle.directory_entry.proofs.put_entry.Reads as reads
-use Rattle.directory_entry.proofs.put_entry.Lts as lts
-use Rattle.directory_entry.proofs.size_octets.Reads as size-octets-reads
-use Rattle.octets.proofs.copy_into.Reads as copy-into-reads
-use Rattle.octets.proofs.write_number.Reads as write-number-reads
 
--- src/lib.rt:205:9
 size-octets-requires : tie.Need-size-octets-requires
 size-octets-requires c κs = search needs
 
--- src/lib.rt:206:17
 add-times : tie.Need-add-times
 add-times c = search needs
 
--- src/lib.rt:206:17
 add-times-2 : tie.Need-add-times-2
 add-times-2 c = search needs
 
--- src/lib.rt:207:5
 write-number-requires : tie.Need-write-number-requires
 write-number-requires c κs = search needs
 
--- src/lib.rt:208:31
 add-write-number : tie.Need-add-write-number
 add-write-number c = search needs
 
--- src/lib.rt:208:5
 write-number-requires-2 : tie.Need-write-number-requires-2
 write-number-requires-2 c κs = search needs
 
--- src/lib.rt:209:5
 write-number-requires-3 : tie.Need-write-number-requires-3
 write-number-requires-3 c κs = search needs
 
--- src/lib.rt:210:31
 add-write-number-2 : tie.Need-add-write-number-2
 add-write-number-2 c = search needs
 
--- src/lib.rt:210:5
 write-number-requires-4 : tie.Need-write-number-requires-4
 write-number-requires-4 c κs = search needs
 
--- src/lib.rt:211:28
 add-copy-into : tie.Need-add-copy-into
 add-copy-into c = search needs
 
--- src/lib.rt:211:5
 copy-into-requires : tie.Need-copy-into-requires
 copy-into-requires c κs = search needs
 
--- src/lib.rt:212:31
 add-write-number-3 : tie.Need-add-write-number-3
 add-write-number-3 c = search needs
 
--- src/lib.rt:212:31
 add-write-number-4 : tie.Need-add-write-number-4
 add-write-number-4 c = search needs
 
--- src/lib.rt:212:5
 write-number-requires-5 : tie.Need-write-number-requires-5
 write-number-requires-5 c κs = search needs
 
--- src/lib.rt:201:1
 same-length : tie.Need-same-length
 same-length c = search needs
 
--- src/lib.rt:201:1
 returns : tie.Need-returns
-returns c = ?
+unfolding entryOctets
+returns c =
+    let a = c .before .before .before .before .before .before .before .before .before .before .before .before .before .before .before .before .before .before .before .before .before .before .before .before .before .before .before .args in
+    let k = sizeOctets (a .properties) in
+    let p = now (a .path) in
+    let l : length (beDigits k (a .size)) ≡ k = length-digits k (a .size) in
+    rw (c .before .before .write-number5 .ensures, c .before .before .before .before .before .before .copy-into .ensures, c .before .before .before .before .before .before .before .before .before .before .write-number4 .ensures, c .before .before .before .before .before .before .before .before .before .before .before .before .before .before .write-number3 .ensures, c .before .before .before .before .before .before .before .before .before .before .before .before .before .before .before .before .before .before .write-number2 .ensures, c .before .before .before .before .before .before .before .before .before .before .before .before .before .before .before .before .before .before .before .before .before .before .write-number .ensures, c .before .before .before .before .before .before .before .before .before .before .before .before .before .before .before .before .before .before .before .before .before .before .before .before .size-octets .ensures)
+    (puts (beDigits 2 (a .properties)) (beDigits k (a .size)) (beDigits 4 (a .mtime)) (beDigits 4 (a .ctime)) p (0 ∷ []) (now (a .out)) (a .at) (a .at + 2) (a .at + 2 + k) (a .at + 2 + k + 4) (a .at + 2 + k + 8) (a .at + 2 + k + 8 + length p) refl (omega arith) (omega arith) (omega arith) refl (omega arith))
 
 pub put-entry-spec : {M : Type 1} → statement M
 put-entry-spec =

@@ -1,43 +1,48 @@
-use borrow.Author.Needs.{needs}
+-- `directory_entry::zero_at` meets its contract: no zero octet stands before i, so the search goes on from i.
+-- Assumes nothing.
+use Prim.Native.Nat.{_+_, _-_, _≤_}
+use mathlib.Core.Path.{_≡_, sym, _∙_}
+use native.Mathlib.Nat.{zero-add}
+use denote.Ref.{now}
+use lib.ListN.{length, drop}
+use Rattle.directory_entry.specs.Path.{zeroAt}
+use Rattle.directory_entry.proofs.PathLaws.{zero-step, zero-here, zero-end}
 use native.Mathlib.Omega.{arith}
 use Rattle.directory_entry.proofs.zero_at.Statement.{statement}
 use Rattle.directory_entry.proofs.zero_at.Tie as tie
-use Rattle.directory_entry.proofs.zero_at.Reads as reads
-use Rattle.directory_entry.proofs.zero_at.Lts as lts
 
 abbrev Inv-loop : tie.InvT-loop
-Inv-loop r i₀ i = ?
+Inv-loop r i₀ i = (i ≤ length r) × (zeroAt r ≡ i + zeroAt (drop i r))
 
 abbrev μ-loop : tie.MeasureT-loop
-μ-loop r i₀ i = ?
+μ-loop r i₀ i = length r - i
 
--- src/lib.rt:70:5
 loop-holds : tie.Need-loop-holds Inv-loop μ-loop
-loop-holds c = ?
+loop-holds c = (omega arith, sym (zero-add (zeroAt (now (c .args .r)))))
 
--- src/lib.rt:71:12
 shared-slice-read-if1 : tie.Need-shared-slice-read-if1 Inv-loop μ-loop
-shared-slice-read-if1 c = ?
+shared-slice-read-if1 c = omega arith
 
--- src/lib.rt:72:13
 returns : tie.Need-returns Inv-loop μ-loop
-returns c = ?
+returns c =
+    let l = c .before .before .before .loop in
+    sym (l .inv .1 ∙ zero-here (now (c .before .before .before .before .args .r)) (l .i) (omega arith) (c .if1 .taken))
 
--- src/lib.rt:74:9
 add-i : tie.Need-add-i Inv-loop μ-loop
-add-i c = ?
+add-i c = omega arith
 
--- src/lib.rt:70:5
 loop-less : tie.Need-loop-less Inv-loop μ-loop
-loop-less c = ?
+loop-less c = omega arith
 
--- src/lib.rt:70:5
 loop-again : tie.Need-loop-again Inv-loop μ-loop
-loop-again c = ?
+loop-again c =
+    let l = c .before .before .before .loop in
+    (omega arith, l .inv .1 ∙ zero-step (now (c .before .before .before .before .args .r)) (l .i) (omega arith) (c .if1 .left))
 
--- src/lib.rt:66:1
 returns-2 : tie.Need-returns-2 Inv-loop μ-loop
-returns-2 c = ?
+returns-2 c =
+    let l = c .before .loop in
+    sym (l .inv .1 ∙ zero-end (now (c .before .before .args .r)) (l .i) (omega arith))
 
 pub zero-at-spec : {M : Type 1} → statement M
 zero-at-spec =

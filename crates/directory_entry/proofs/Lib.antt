@@ -1,0 +1,4 @@
+pub mod PropertyLaws
+pub mod PathLaws
+pub mod EntryLaws
+pub mod RoundTrip

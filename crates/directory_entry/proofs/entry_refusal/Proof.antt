@@ -1,0 +1,136 @@
+-- `directory_entry::entry_refusal` meets its contract: the first refusal stands. Assumes nothing.
+use Prim.Native.Nat.{ℕ, _+_, _^_, _<_, _≤_}
+use mathlib.Core.Path.{_≡_, sym, ap, _∙_}
+use denote.Ref.{now}
+use lib.ListN.{length, take, drop}
+use lib.Dec.{ltb}
+use borrow.Author.Tests.{lt-ltb, le-ltb, not-true, not-false}
+use Rattle.octets.specs.Numbers.{beValue}
+use Rattle.octets.specs.Numbers.Width.{two}
+use Rattle.header.proofs.RefusalLaws.{stays}
+use Rattle.directory_entry.specs.Properties.{sizeOctets, pathAt, propertyRefusal}
+use Rattle.directory_entry.specs.Path.{pathRefusal}
+use Rattle.directory_entry.specs.Entry.{propertiesOf, sizeOf, afterTimes, entryRefusal}
+use Rattle.directory_entry.proofs.PropertyLaws.{size-le, properties-fine}
+use Rattle.directory_entry.proofs.EntryLaws.{rest-part}
+use borrow.Author.Needs.{needs}
+use native.Mathlib.Omega.{arith}
+use Rattle.directory_entry.proofs.entry_refusal.Statement.{statement}
+use Rattle.directory_entry.proofs.entry_refusal.Tie as tie
+
+returns : tie.Need-returns
+unfolding entryRefusal
+returns c = rw (lt-ltb (length (now (c .before .before .args .e))) 2 (omega arith))
+
+read-number-requires : tie.Need-read-number-requires
+read-number-requires c κs = (two, omega arith)
+
+property-refusal-requires : tie.Need-property-refusal-requires
+property-refusal-requires c κs = search needs
+
+property : (c : tie.After-property-refusal) → c .property-refusal .result ≡ propertyRefusal (propertiesOf (now (c .before .before .before .before .args .e)))
+property c = c .property-refusal .ensures ∙ ap propertyRefusal (c .before .read-number .ensures)
+
+returns-2 : tie.Need-returns-2
+unfolding entryRefusal
+returns-2 c =
+    let e = now (c .before .before .before .before .before .args .e) in
+    let p = property (c .before) in
+    rw (le-ltb (length e) 2 (omega arith)) (p ∙ sym (stays (propertyRefusal (propertiesOf e)) _ (omega arith)))
+
+size-octets-requires : tie.Need-size-octets-requires
+size-octets-requires c κs = search needs
+
+known : (c : tie.After-size-octets)
+    → (c .size-octets .result ≡ sizeOctets (propertiesOf (now (c .before .before .before .before .before .before .args .e)))) × (c .size-octets .result ≤ 16) × (propertyRefusal (propertiesOf (now (c .before .before .before .before .before .before .args .e))) ≡ 0)
+known c =
+    let k : c .size-octets .result ≡ sizeOctets (propertiesOf (now (c .before .before .before .before .before .before .args .e))) = c .size-octets .ensures ∙ ap (λ (x : ℕ). sizeOctets x) (c .before .before .before .read-number .ensures) in
+    (k, omega (arith, size-le (propertiesOf (now (c .before .before .before .before .before .before .args .e)))), omega (arith, property (c .before .before)))
+
+add-at : tie.Need-add-at
+add-at c = omega (arith, known c)
+
+returns-3 : tie.Need-returns-3
+unfolding entryRefusal
+returns-3 c =
+    let e = now (c .before .before .before .before .before .before .before .args .e) in
+    let k = known (c .before) in
+    rw (le-ltb (length e) 2 (omega arith), k .2, lt-ltb (length e) (pathAt (propertiesOf e)) (omega arith))
+
+sub-path-refusal : tie.Need-sub-path-refusal
+sub-path-refusal c = search needs
+
+part-path-refusal-start : tie.Need-part-path-refusal-start
+part-path-refusal-start c = search needs
+
+part-path-refusal-end : tie.Need-part-path-refusal-end
+part-path-refusal-end c = search needs
+
+path-refusal-requires : tie.Need-path-refusal-requires
+path-refusal-requires c κs = search needs
+
+path : (c : tie.After-path-refusal) → c .path-refusal .result ≡ pathRefusal (afterTimes (now (c .before .before .before .before .before .before .before .before .before .args .e)))
+path c =
+    let e = now (c .before .before .before .before .before .before .before .before .before .args .e) in
+    c .path-refusal .ensures ∙ ap pathRefusal (rest-part e (10 + c .before .before .before .size-octets .result) ∙ ap (λ (n : ℕ). drop (10 + n) e) (known (c .before .before .before) .0))
+
+returns-4 : tie.Need-returns-4
+unfolding entryRefusal
+returns-4 c =
+    let e = now (c .before .before .before .before .before .before .before .before .before .before .args .e) in
+    let k = known (c .before .before .before .before) in
+    let p = path (c .before) in
+    rw (le-ltb (length e) 2 (omega arith), k .2, le-ltb (length e) (pathAt (propertiesOf e)) (omega arith))
+    (p ∙ sym (stays (pathRefusal (afterTimes e)) _ (omega arith)))
+
+read-number-requires-2 : tie.Need-read-number-requires-2
+read-number-requires-2 c κs =
+    let k = known (c .before .before .before .before) in
+    let f = properties-fine (propertiesOf (now (c .before .before .before .before .before .before .before .before .before .before .args .e))) (k .2) in
+    (rw (k .0) (f .octets), omega arith)
+
+fits-requires : tie.Need-fits-requires
+fits-requires c κs = search needs
+
+size : (c : tie.After-fits2) → ltb (sizeOf (now (c .before .before .before .before .before .before .before .before .before .before .before .before .args .e))) (256 ^ c .before .before .before .before .before .before .before .before .before .before .before .before .args .d) ≡ c .fits2 .result
+size c =
+    let e = now (c .before .before .before .before .before .before .before .before .before .before .before .before .args .e) in
+    sym (c .fits2 .ensures ∙ ap (λ (n : ℕ). ltb n (256 ^ c .before .before .before .before .before .before .before .before .before .before .before .before .args .d)) (c .before .read-number2 .ensures ∙ ap (λ (n : ℕ). beValue (take n (drop 2 e))) (known (c .before .before .before .before .before .before) .0)))
+
+passed : (c : tie.After-fits2) → pathRefusal (afterTimes (now (c .before .before .before .before .before .before .before .before .before .before .before .before .args .e))) ≡ 0
+passed c = omega (arith, path (c .before .before .before))
+
+returns-5 : tie.Need-returns-5
+unfolding entryRefusal
+returns-5 c =
+    let e = now (c .before .before .before .before .before .before .before .before .before .before .before .before .before .args .e) in
+    let k = known (c .before .before .before .before .before .before .before) in
+    rw (le-ltb (length e) 2 (omega arith), k .2, le-ltb (length e) (pathAt (propertiesOf e)) (omega arith), passed (c .before), size (c .before), not-true (c .before .fits2 .result) (c .if5 .taken))
+
+returns-6 : tie.Need-returns-6
+unfolding entryRefusal
+returns-6 c =
+    let e = now (c .before .before .before .before .before .before .before .before .before .before .before .before .before .args .e) in
+    let k = known (c .before .before .before .before .before .before .before) in
+    rw (le-ltb (length e) 2 (omega arith), k .2, le-ltb (length e) (pathAt (propertiesOf e)) (omega arith), passed (c .before), size (c .before), not-false (c .before .fits2 .result) (c .if5 .left))
+
+pub entry-refusal-spec : {M : Type 1} → statement M
+entry-refusal-spec =
+    tie.close
+    (tie.spec
+    returns
+    read-number-requires
+    property-refusal-requires
+    returns-2
+    size-octets-requires
+    add-at
+    returns-3
+    sub-path-refusal
+    part-path-refusal-start
+    part-path-refusal-end
+    path-refusal-requires
+    returns-4
+    read-number-requires-2
+    fits-requires
+    returns-5
+    returns-6)

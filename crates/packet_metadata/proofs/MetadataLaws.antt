@@ -1,0 +1,44 @@
+-- What is known of METADATA that is not refused, and the answer where it is.
+-- Assumes nothing.
+use Prim.Native.Nat.{ℕ, zero, suc, _≤_}
+use mathlib.Core.Path.{_≡_, refl}
+use mathlib.Core.List.{List}
+use lib.ListN.{length, drop}
+use lib.Dec.{ltb}
+use borrow.Author.Tests.{ltb-false}
+use Rattle.header.specs.Refusals.{_▹_, when, refusalOf}
+use Rattle.header.specs.Word.{descriptorOctets}
+use Rattle.header.specs.Start.{wordOf, typeRefusal, fileRefusal}
+use Rattle.header.proofs.RefusalLaws.{first-none, rest-none, failed}
+use Rattle.header.proofs.StartLaws.{TypeFine, type-fine}
+use Rattle.directory_entry.specs.Entry.{entryRefusal}
+use Rattle.packet_metadata.specs.Checksum.{pairRefusal}
+use Rattle.packet_metadata.specs.Metadata.{entryAt, metadataRefusal, metadataAnswer}
+use Rattle.packet_metadata.specs.declared.Metadata.{Metadata}
+use Rattle.packet_metadata.specs.declared.MetadataRead.the-variants.{Refused}
+
+pub record MetadataFine (s : List ℕ) : Type 0 where
+  pub start : TypeFine 2 s
+  pub file : fileRefusal (wordOf s) ≡ 0
+  pub pair : pairRefusal (wordOf s) ≡ 0
+  pub room : entryAt (wordOf s) ≤ length s
+  pub entry : entryRefusal (descriptorOctets (wordOf s)) (drop (entryAt (wordOf s)) s) ≡ 0
+
+pub metadata-fine : (s : List ℕ) → metadataRefusal s ≡ 0 → MetadataFine s
+unfolding metadataRefusal
+metadata-fine s e =
+    let w = wordOf s in
+    let r1 = rest-none (typeRefusal 2 s) _ e in
+    let r2 = rest-none (fileRefusal w) _ r1 in
+    let r3 = rest-none (pairRefusal w) _ r2 in
+    record {
+      start = type-fine 2 s (first-none _ _ e);
+      file = first-none _ _ r1;
+      pair = first-none _ _ r2;
+      room = ltb-false _ _ (failed (ltb (length s) (entryAt w)) 0 (first-none _ _ r3));
+      entry = rest-none (when (ltb (length s) (entryAt w)) 1) _ r3;
+    }
+
+pub answer-refused : (n : ℕ) (m : Metadata) → (n ≡ 0 → ⊥) → Refused (refusalOf n) ≡ metadataAnswer n m
+answer-refused zero m h = absurd (h refl)
+answer-refused (suc n) m h = refl

@@ -1,0 +1,56 @@
+-- `packet_metadata::checksum_refusal` meets its contract: the first refusal stands. Assumes nothing.
+use mathlib.Core.Path.{_≡_, sym, _∙_}
+use borrow.Author.Tests.{lt-ltb, le-ltb}
+use Rattle.header.specs.Start.{fileRefusal}
+use Rattle.header.proofs.RefusalLaws.{stays}
+use Rattle.packet_metadata.specs.Checksum.{pairRefusal, checksumOctets}
+use Rattle.packet_metadata.specs.WriteMetadata.{checksumRefusal}
+use borrow.Author.Needs.{needs}
+use native.Mathlib.Omega.{arith}
+use Rattle.packet_metadata.proofs.checksum_refusal.Statement.{statement}
+use Rattle.packet_metadata.proofs.checksum_refusal.Tie as tie
+
+file-refusal-requires : tie.Need-file-refusal-requires
+file-refusal-requires c κs = search needs
+
+returns : tie.Need-returns
+unfolding checksumRefusal
+returns c = c .before .file-refusal .ensures ∙ sym (stays (fileRefusal (c .before .before .args .flags)) _ (omega arith))
+
+pair-refusal-requires : tie.Need-pair-refusal-requires
+pair-refusal-requires c κs = search needs
+
+returns-2 : tie.Need-returns-2
+unfolding checksumRefusal
+returns-2 c =
+    let y : fileRefusal (c .before .before .before .before .args .flags) ≡ 0 = omega arith in
+    rw y (c .before .pair-refusal .ensures ∙ sym (stays (pairRefusal (c .before .before .before .before .args .flags)) _ (omega arith)))
+
+checksum-octets-requires : tie.Need-checksum-octets-requires
+checksum-octets-requires c κs = search needs
+
+returns-3 : tie.Need-returns-3
+unfolding checksumRefusal
+returns-3 c =
+    let y : fileRefusal (c .before .before .before .before .before .before .args .flags) ≡ 0 = omega arith in
+    let z : pairRefusal (c .before .before .before .before .before .before .args .flags) ≡ 0 = omega arith in
+    rw (y, z, lt-ltb (c .before .before .before .before .before .before .args .checksum) (checksumOctets (c .before .before .before .before .before .before .args .flags)) (omega arith))
+
+returns-4 : tie.Need-returns-4
+unfolding checksumRefusal
+returns-4 c =
+    let y : fileRefusal (c .before .before .before .before .before .before .args .flags) ≡ 0 = omega arith in
+    let z : pairRefusal (c .before .before .before .before .before .before .args .flags) ≡ 0 = omega arith in
+    rw (y, z, le-ltb (c .before .before .before .before .before .before .args .checksum) (checksumOctets (c .before .before .before .before .before .before .args .flags)) (omega arith))
+
+pub checksum-refusal-spec : {M : Type 1} → statement M
+checksum-refusal-spec =
+    tie.close
+    (tie.spec
+    file-refusal-requires
+    returns
+    pair-refusal-requires
+    returns-2
+    checksum-octets-requires
+    returns-3
+    returns-4)

@@ -1,0 +1,122 @@
+-- `packet_metadata::metadata_refusal` meets its contract: the first refusal stands. Assumes nothing.
+use Prim.Native.Nat.{ℕ, _+_, _<_, _≤_}
+use mathlib.Core.Path.{_≡_, sym, ap, _∙_}
+use denote.Ref.{now}
+use lib.ListN.{length, drop}
+use borrow.Author.Tests.{lt-ltb, le-ltb}
+use Rattle.header.specs.Word.{descriptorOctets}
+use Rattle.header.specs.Start.{wordOf, typeRefusal, fileRefusal}
+use Rattle.header.proofs.RefusalLaws.{stays}
+use Rattle.header.proofs.StartLaws.{type-fine}
+use Rattle.directory_entry.specs.Entry.{entryRefusal}
+use Rattle.directory_entry.proofs.EntryLaws.{rest-part}
+use Rattle.packet_metadata.specs.Checksum.{pairRefusal, checksumOctets}
+use Rattle.packet_metadata.specs.Metadata.{entryAt, metadataRefusal}
+use borrow.Author.Needs.{needs}
+use native.Mathlib.Omega.{arith}
+use Rattle.packet_metadata.proofs.metadata_refusal.Statement.{statement}
+use Rattle.packet_metadata.proofs.metadata_refusal.Tie as tie
+
+type-refusal-requires : tie.Need-type-refusal-requires
+type-refusal-requires c κs = search needs
+
+returns : tie.Need-returns
+unfolding metadataRefusal
+returns c = c .before .type-refusal .ensures ∙ sym (stays (typeRefusal 2 (now (c .before .before .before .args .p))) _ (omega arith))
+
+word-requires : tie.Need-word-requires
+word-requires c κs = type-fine 2 (now (c .before .before .before .args .p)) (omega arith) .start .long
+
+file-refusal-requires : tie.Need-file-refusal-requires
+file-refusal-requires c κs = search needs
+
+file : (c : tie.After-file-refusal) → (typeRefusal 2 (now (c .before .before .before .before .before .args .p)) ≡ 0) × (c .file-refusal .result ≡ fileRefusal (wordOf (now (c .before .before .before .before .before .args .p))))
+file c = (omega arith, c .file-refusal .ensures ∙ ap fileRefusal (c .before .word .ensures))
+
+returns-2 : tie.Need-returns-2
+unfolding metadataRefusal
+returns-2 c =
+    let f = file (c .before) in
+    rw (f .0) (f .1 ∙ sym (stays (fileRefusal (wordOf (now (c .before .before .before .before .before .before .args .p)))) _ (omega arith)))
+
+pair-refusal-requires : tie.Need-pair-refusal-requires
+pair-refusal-requires c κs = search needs
+
+pair : (c : tie.After-pair-refusal)
+    → (typeRefusal 2 (now (c .before .before .before .before .before .before .before .args .p)) ≡ 0) × (fileRefusal (wordOf (now (c .before .before .before .before .before .before .before .args .p))) ≡ 0) × (c .pair-refusal .result ≡ pairRefusal (wordOf (now (c .before .before .before .before .before .before .before .args .p))))
+pair c =
+    let f = file (c .before .before) in
+    (f .0, omega arith, c .pair-refusal .ensures ∙ ap pairRefusal (c .before .before .before .word .ensures))
+
+returns-3 : tie.Need-returns-3
+unfolding metadataRefusal
+returns-3 c =
+    let g = pair (c .before) in
+    rw (g .0, g .1) (g .2 ∙ sym (stays (pairRefusal (wordOf (now (c .before .before .before .before .before .before .before .before .args .p)))) _ (omega arith)))
+
+checksum-octets-requires : tie.Need-checksum-octets-requires
+checksum-octets-requires c κs = search needs
+
+add-at : tie.Need-add-at
+add-at c = search needs
+
+known : (c : tie.After-checksum-octets)
+    → (typeRefusal 2 (now (c .before .before .before .before .before .before .before .before .before .args .p)) ≡ 0) × (fileRefusal (wordOf (now (c .before .before .before .before .before .before .before .before .before .args .p))) ≡ 0) × (pairRefusal (wordOf (now (c .before .before .before .before .before .before .before .before .before .args .p))) ≡ 0)
+    × (c .checksum-octets .result ≡ checksumOctets (wordOf (now (c .before .before .before .before .before .before .before .before .before .args .p))))
+known c =
+    let g = pair (c .before .before) in
+    (g .0, g .1, omega arith, c .checksum-octets .ensures ∙ ap (λ (x : ℕ). checksumOctets x) (c .before .before .before .before .before .word .ensures))
+
+returns-4 : tie.Need-returns-4
+unfolding metadataRefusal
+returns-4 c =
+    let s = now (c .before .before .before .before .before .before .before .before .before .before .args .p) in
+    let k = known (c .before) in
+    rw (k .0, k .1, k .2, lt-ltb (length s) (entryAt (wordOf s)) (omega arith))
+
+sub-entry-refusal : tie.Need-sub-entry-refusal
+sub-entry-refusal c = search needs
+
+part-entry-refusal-start : tie.Need-part-entry-refusal-start
+part-entry-refusal-start c = search needs
+
+part-entry-refusal-end : tie.Need-part-entry-refusal-end
+part-entry-refusal-end c = search needs
+
+descriptor-octets-requires : tie.Need-descriptor-octets-requires
+descriptor-octets-requires c κs = search needs
+
+entry-refusal-requires : tie.Need-entry-refusal-requires
+entry-refusal-requires c κs = search needs
+
+returns-5 : tie.Need-returns-5
+unfolding metadataRefusal
+returns-5 c =
+    let s = now (c .before .before .before .before .before .before .before .before .before .before .before .before .before .args .p) in
+    let k = known (c .before .before .before .before) in
+    let n = c .before .before .before .before .checksum-octets .result in
+    rw (k .0, k .1, k .2, le-ltb (length s) (entryAt (wordOf s)) (omega arith))
+    (c .entry-refusal .ensures
+    ∙ ap (entryRefusal (c .before .descriptor-octets .result)) (rest-part s (8 + n))
+    ∙ rw (c .before .descriptor-octets .ensures, k .3, c .before .before .before .before .before .before .before .before .before .word .ensures))
+
+pub metadata-refusal-spec : {M : Type 1} → statement M
+metadata-refusal-spec =
+    tie.close
+    (tie.spec
+    type-refusal-requires
+    returns
+    word-requires
+    file-refusal-requires
+    returns-2
+    pair-refusal-requires
+    returns-3
+    checksum-octets-requires
+    add-at
+    returns-4
+    sub-entry-refusal
+    part-entry-refusal-start
+    part-entry-refusal-end
+    descriptor-octets-requires
+    entry-refusal-requires
+    returns-5)

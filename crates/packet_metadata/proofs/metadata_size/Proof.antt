@@ -1,0 +1,43 @@
+-- `packet_metadata::metadata_size` meets its contract. Assumes nothing.
+use Rattle.directory_entry.proofs.PropertyLaws.{size-le}
+use borrow.Author.Needs.{needs}
+use native.Mathlib.Omega.{arith}
+use Rattle.packet_metadata.proofs.metadata_size.Statement.{statement}
+use Rattle.packet_metadata.proofs.metadata_size.Tie as tie
+
+checksum-octets-requires : tie.Need-checksum-octets-requires
+checksum-octets-requires c κs = search needs
+
+add-result : tie.Need-add-result
+add-result c = search needs
+
+size-octets-requires : tie.Need-size-octets-requires
+size-octets-requires c κs = search needs
+
+add-result-2 : tie.Need-add-result-2
+add-result-2 c = omega (arith, size-le (c .before .before .args .properties))
+
+add-result-3 : tie.Need-add-result-3
+add-result-3 c = omega (arith, size-le (c .before .before .args .properties))
+
+add-result-4 : tie.Need-add-result-4
+add-result-4 c = omega (arith, size-le (c .before .before .args .properties))
+
+add-result-5 : tie.Need-add-result-5
+add-result-5 c = omega (arith, size-le (c .before .before .args .properties))
+
+returns : tie.Need-returns
+returns c = search needs
+
+pub metadata-size-spec : {M : Type 1} → statement M
+metadata-size-spec =
+    tie.close
+    (tie.spec
+    checksum-octets-requires
+    add-result
+    size-octets-requires
+    add-result-2
+    add-result-3
+    add-result-4
+    add-result-5
+    returns)

@@ -1,0 +1,102 @@
+-- `packet_metadata::metadata_write_refusal` meets its contract: the first refusal stands. Assumes nothing.
+use Prim.Native.Nat.{ℕ, _≤_}
+use mathlib.Core.Path.{_≡_, sym, ap, _∙_}
+use denote.Ref.{now}
+use lib.ListN.{length}
+use Rattle.header.specs.Word.{descriptorOctets}
+use Rattle.header.specs.Writing.{roomRefusal}
+use Rattle.header.proofs.RefusalLaws.{stays}
+use Rattle.directory_entry.specs.WriteEntry.{entryExcess, entryWriteRefusal}
+use Rattle.packet_metadata.specs.WriteMetadata.{metadataExcess, checksumRefusal, metadataWriteRefusal}
+use borrow.Author.Needs.{needs}
+use native.Mathlib.Omega.{arith}
+use Rattle.packet_metadata.proofs.metadata_write_refusal.Statement.{statement}
+use Rattle.packet_metadata.proofs.metadata_write_refusal.Tie as tie
+
+metadata-excess-requires : tie.Need-metadata-excess-requires
+metadata-excess-requires c κs = search needs
+
+returns : tie.Need-returns
+unfolding metadataWriteRefusal
+returns c =
+    let a = c .before .before .before .before .args in
+    c .before .metadata-excess .ensures ∙ sym (stays (metadataExcess (a .flags) (a .id) (length (now (a .checksum)))) _ (omega arith))
+
+entry-excess-requires : tie.Need-entry-excess-requires
+entry-excess-requires c κs = search needs
+
+returns-2 : tie.Need-returns-2
+unfolding metadataWriteRefusal
+returns-2 c =
+    let a = c .before .before .before .before .before .before .args in
+    let x : metadataExcess (a .flags) (a .id) (length (now (a .checksum))) ≡ 0 = omega arith in
+    rw x (c .before .entry-excess .ensures ∙ sym (stays (entryExcess (a .properties) (a .size) (a .mtime) (a .ctime)) _ (omega arith)))
+
+checksum-refusal-requires : tie.Need-checksum-refusal-requires
+checksum-refusal-requires c κs = search needs
+
+returns-3 : tie.Need-returns-3
+unfolding metadataWriteRefusal
+returns-3 c =
+    let a = c .before .before .before .before .before .before .before .before .args in
+    let x : metadataExcess (a .flags) (a .id) (length (now (a .checksum))) ≡ 0 = omega arith in
+    let y : entryExcess (a .properties) (a .size) (a .mtime) (a .ctime) ≡ 0 = omega arith in
+    rw (x, y) (c .before .checksum-refusal .ensures ∙ sym (stays (checksumRefusal (a .flags) (length (now (a .checksum)))) _ (omega arith)))
+
+descriptor-octets-requires : tie.Need-descriptor-octets-requires
+descriptor-octets-requires c κs = search needs
+
+entry-write-refusal-requires : tie.Need-entry-write-refusal-requires
+entry-write-refusal-requires c κs = search needs
+
+-- what comes before the entry is none, and what the entry's refusal is
+known : (c : tie.After-entry-write-refusal)
+    → (metadataExcess (c .before .before .before .before .before .before .before .before .before .before .args .flags) (c .before .before .before .before .before .before .before .before .before .before .args .id) (length (now (c .before .before .before .before .before .before .before .before .before .before .args .checksum))) ≡ 0)
+    × (entryExcess (c .before .before .before .before .before .before .before .before .before .before .args .properties) (c .before .before .before .before .before .before .before .before .before .before .args .size) (c .before .before .before .before .before .before .before .before .before .before .args .mtime) (c .before .before .before .before .before .before .before .before .before .before .args .ctime) ≡ 0)
+    × (checksumRefusal (c .before .before .before .before .before .before .before .before .before .before .args .flags) (length (now (c .before .before .before .before .before .before .before .before .before .before .args .checksum))) ≡ 0)
+    × (c .entry-write-refusal .result ≡ entryWriteRefusal (descriptorOctets (c .before .before .before .before .before .before .before .before .before .before .args .flags)) (c .before .before .before .before .before .before .before .before .before .before .args .properties) (c .before .before .before .before .before .before .before .before .before .before .args .size) (now (c .before .before .before .before .before .before .before .before .before .before .args .path)))
+known c =
+    let a = c .before .before .before .before .before .before .before .before .before .before .args in (
+      omega arith,
+      omega arith,
+      omega arith,
+      c .entry-write-refusal .ensures ∙ ap (λ (d : ℕ). entryWriteRefusal d (a .properties) (a .size) (now (a .path))) (c .before .descriptor-octets .ensures),
+    )
+
+returns-4 : tie.Need-returns-4
+unfolding metadataWriteRefusal
+returns-4 c =
+    let a = c .before .before .before .before .before .before .before .before .before .before .before .args in
+    let k = known (c .before) in
+    rw (k .0, k .1, k .2) (k .3 ∙ sym (stays (entryWriteRefusal (descriptorOctets (a .flags)) (a .properties) (a .size) (now (a .path))) _ (omega arith)))
+
+metadata-size-requires : tie.Need-metadata-size-requires
+metadata-size-requires c κs = search needs
+
+room-refusal-requires : tie.Need-room-refusal-requires
+room-refusal-requires c κs = search needs
+
+returns-5 : tie.Need-returns-5
+unfolding metadataWriteRefusal
+returns-5 c =
+    let a = c .before .before .before .before .before .before .before .before .before .before .before .before .before .args in
+    let k = known (c .before .before .before) in
+    let z : entryWriteRefusal (descriptorOctets (a .flags)) (a .properties) (a .size) (now (a .path)) ≡ 0 = omega arith in
+    rw (k .0, k .1, k .2, z) (c .room-refusal .ensures ∙ ap (λ (n : ℕ). roomRefusal n (a .room)) (c .before .metadata-size .ensures))
+
+pub metadata-write-refusal-spec : {M : Type 1} → statement M
+metadata-write-refusal-spec =
+    tie.close
+    (tie.spec
+    metadata-excess-requires
+    returns
+    entry-excess-requires
+    returns-2
+    checksum-refusal-requires
+    returns-3
+    descriptor-octets-requires
+    entry-write-refusal-requires
+    returns-4
+    metadata-size-requires
+    room-refusal-requires
+    returns-5)

@@ -1,0 +1,60 @@
+-- `packet_metadata::put_metadata` meets its contract: the parts stand one after the other. Assumes nothing.
+use Prim.Native.Nat.{_+_}
+use mathlib.Core.Path.{_≡_, refl}
+use denote.Ref.{now}
+use lib.ListN.{length}
+use Rattle.octets.specs.Numbers.{beDigits}
+use Rattle.header.specs.Word.{wordFor}
+use Rattle.directory_entry.specs.WriteEntry.{entryOctets, entrySize}
+use Rattle.directory_entry.proofs.EntryLaws.{length-entry}
+use Rattle.packet_metadata.specs.WriteMetadata.{metadataOctets}
+use Rattle.packet_metadata.proofs.WriteLaws.{puts}
+use borrow.Author.Needs.{needs}
+use native.Mathlib.Omega.{arith}
+use Rattle.packet_metadata.proofs.put_metadata.Statement.{statement}
+use Rattle.packet_metadata.proofs.put_metadata.Tie as tie
+
+join-requires : tie.Need-join-requires
+join-requires c κs = search needs
+
+write-number-requires : tie.Need-write-number-requires
+write-number-requires c κs = search needs
+
+write-number-requires-2 : tie.Need-write-number-requires-2
+write-number-requires-2 c κs = search needs
+
+copy-into-requires : tie.Need-copy-into-requires
+copy-into-requires c κs = search needs
+
+add-put-entry : tie.Need-add-put-entry
+add-put-entry c = search needs
+
+put-entry-requires : tie.Need-put-entry-requires
+put-entry-requires c κs = search needs
+
+same-length : tie.Need-same-length
+same-length c = search needs
+
+returns : tie.Need-returns
+unfolding metadataOctets
+returns c =
+    let a = c .before .before .before .before .before .before .before .before .before .before .before .before .before .before .before .before .before .before .before .before .args in
+    let k = now (a .checksum) in
+    let p = now (a .path) in
+    let f = c .before .before .before .before .before .before .before .before .before .before .before .before .before .before .before .before .before .before .before .before .pre in
+    let l : length (entryOctets (a .properties) (a .size) (a .mtime) (a .ctime) p) ≡ entrySize (a .properties) (length p) = length-entry (a .properties) (a .size) (a .mtime) (a .ctime) p in
+    rw (c .before .before .put-entry .ensures, c .before .before .before .before .before .before .copy-into .ensures, c .before .before .before .before .before .before .before .before .before .before .write-number2 .ensures, c .before .before .before .before .before .before .before .before .before .before .before .before .before .before .write-number .ensures, c .before .before .before .before .before .before .before .before .before .before .before .before .before .before .before .join .ensures)
+    (puts (beDigits 4 (wordFor 2 (a .flags))) (beDigits 4 (a .id)) k (entryOctets (a .properties) (a .size) (a .mtime) (a .ctime) p) (now (a .out)) 4 8 (8 + length k) refl refl refl (omega arith))
+
+pub put-metadata-spec : {M : Type 1} → statement M
+put-metadata-spec =
+    tie.close
+    (tie.spec
+    join-requires
+    write-number-requires
+    write-number-requires-2
+    copy-into-requires
+    add-put-entry
+    put-entry-requires
+    same-length
+    returns)

@@ -1,0 +1,35 @@
+-- `packet_metadata::read_metadata` meets its contract. Assumes nothing.
+use mathlib.Core.Path.{_≡_}
+use denote.Ref.{now}
+use Rattle.packet_metadata.specs.Metadata.{metadataRefusal, metadataOf, readMetadata}
+use Rattle.packet_metadata.proofs.MetadataLaws.{answer-refused}
+use borrow.Author.Needs.{needs}
+use native.Mathlib.Omega.{arith}
+use Rattle.packet_metadata.proofs.read_metadata.Statement.{statement}
+use Rattle.packet_metadata.proofs.read_metadata.Tie as tie
+
+metadata-refusal-requires : tie.Need-metadata-refusal-requires
+metadata-refusal-requires c κs = search needs
+
+refuse-requires : tie.Need-refuse-requires
+refuse-requires c κs = search needs
+
+returns : tie.Need-returns
+unfolding readMetadata
+returns c =
+    let s = now (c .before .before .before .before .args .p) in
+    rw (c .refuse .ensures, c .before .before .metadata-refusal .ensures) (answer-refused (metadataRefusal s) (metadataOf s) (omega arith))
+
+metadata-fields-requires : tie.Need-metadata-fields-requires
+metadata-fields-requires c κs = search needs
+
+returns-2 : tie.Need-returns-2
+unfolding readMetadata
+returns-2 c =
+    let z : metadataRefusal (now (c .before .before .before .before .args .p)) ≡ 0 = omega arith in
+    rw (c .metadata-fields .ensures, z)
+
+pub read-metadata-spec : {M : Type 1} → statement M
+read-metadata-spec =
+    tie.close
+    (tie.spec metadata-refusal-requires refuse-requires returns metadata-fields-requires returns-2)

@@ -1,0 +1,59 @@
+-- `packet_metadata::write_metadata` meets its contract: a refusal leaves the buffer, and fields that are not refused fit.
+-- Assumes nothing.
+use mathlib.Core.Path.{_≡_, sym, _∙_}
+use denote.Ref.{now}
+use lib.ListN.{length}
+use Rattle.header.proofs.WritingLaws.{written-refused, buffer-refused}
+use Rattle.packet_metadata.specs.WriteMetadata.{metadataSize, metadataWriteRefusal, metadataOctets, metadataWritten, metadataBuffer}
+use Rattle.packet_metadata.proofs.WriteLaws.{write-fine}
+use borrow.Author.Needs.{needs}
+use native.Mathlib.Omega.{arith}
+use Rattle.packet_metadata.proofs.write_metadata.Statement.{statement}
+use Rattle.packet_metadata.proofs.write_metadata.Tie as tie
+
+metadata-write-refusal-requires : tie.Need-metadata-write-refusal-requires
+metadata-write-refusal-requires c κs = search needs
+
+refuse-requires : tie.Need-refuse-requires
+refuse-requires c κs = search needs
+
+returns : tie.Need-returns
+unfolding metadataWritten metadataBuffer
+returns c =
+    let a = c .before .before .before .before .before .before .args in
+    let k = now (a .checksum) in
+    let p = now (a .path) in
+    let n = metadataWriteRefusal (a .flags) (a .id) k (a .properties) (a .size) (a .mtime) (a .ctime) p (length (now (a .out))) in (
+      rw (c .refuse .ensures, c .before .before .metadata-write-refusal .ensures) (written-refused n _ (omega arith)),
+      buffer-refused n (metadataOctets (a .flags) (a .id) k (a .properties) (a .size) (a .mtime) (a .ctime) p) (now (a .out)) (omega arith),
+    )
+
+put-metadata-requires : tie.Need-put-metadata-requires
+put-metadata-requires c κs =
+    let a = c .before .before .before .before .before .before .args in
+    write-fine (a .flags) (a .id) (now (a .checksum)) (a .properties) (a .size) (a .mtime) (a .ctime) (now (a .path)) (length (now (a .out))) (omega arith) .fits
+
+metadata-size-requires : tie.Need-metadata-size-requires
+metadata-size-requires c κs = search needs
+
+same-length : tie.Need-same-length
+same-length c = search needs
+
+returns-2 : tie.Need-returns-2
+unfolding metadataWritten metadataBuffer
+returns-2 c =
+    let a = c .before .before .before .before .before .before .before .before .before .before .args in
+    let z : metadataWriteRefusal (a .flags) (a .id) (now (a .checksum)) (a .properties) (a .size) (a .mtime) (a .ctime) (now (a .path)) (length (now (a .out))) ≡ 0 = omega arith in
+    (rw (z, c .metadata-size .ensures), rw z (c .before .before .before .put-metadata .ensures))
+
+pub write-metadata-spec : {M : Type 1} → statement M
+write-metadata-spec =
+    tie.close
+    (tie.spec
+    metadata-write-refusal-requires
+    refuse-requires
+    returns
+    put-metadata-requires
+    metadata-size-requires
+    same-length
+    returns-2)

@@ -1,75 +1,80 @@
-use native.Mathlib.Omega.{arith}
+-- `packet_status::success_fields` meets its contract: the fields stand where the word says, and within the packet.
+-- Assumes nothing.
+use Prim.Native.Nat.{_≤_}
+use mathlib.Core.Path.{_≡_, ap, _∙_}
+use denote.Ref.{now}
+use lib.ListN.{length}
+use Rattle.octets.specs.Numbers.{Width}
+use Rattle.header.specs.Word.{descriptorOctets, timestampOctets}
+use Rattle.header.specs.Start.{wordOf}
+use Rattle.header.proofs.WordLaws.{octets-le}
+use Rattle.packet_status.specs.Status.{holesAt, successOf}
+use Rattle.packet_status.proofs.StatusLaws.{success-fine, width-some}
 use borrow.Author.Needs.{needs}
+use native.Mathlib.Omega.{arith}
 use Rattle.packet_status.proofs.success_fields.Statement.{statement}
 use Rattle.packet_status.proofs.success_fields.Tie as tie
-use Rattle.packet_status.proofs.success_fields.Reads as reads
-use Rattle.packet_status.proofs.success_fields.Lts as lts
-use Rattle.header.proofs.descriptor_octets.Reads as descriptor-octets-reads
-use Rattle.header.proofs.id.Reads as id-reads
-use Rattle.header.proofs.split.Reads as split-reads
-use Rattle.header.proofs.timestamp_octets.Reads as timestamp-octets-reads
-use Rattle.header.proofs.word.Reads as word-reads
-use Rattle.octets.proofs.read_number.Reads as read-number-reads
 
--- src/lib.rt:173:9
 word-requires : tie.Need-word-requires
 word-requires c κs = search needs
 
--- src/lib.rt:174:9
 split-requires : tie.Need-split-requires
 split-requires c κs = search needs
 
--- src/lib.rt:175:9
 descriptor-octets-requires : tie.Need-descriptor-octets-requires
 descriptor-octets-requires c κs = search needs
 
--- src/lib.rt:176:9
 timestamp-octets-requires : tie.Need-timestamp-octets-requires
 timestamp-octets-requires c κs = search needs
 
--- src/lib.rt:177:14
 add-at : tie.Need-add-at
 add-at c = search needs
 
--- src/lib.rt:178:22
+-- the word of the packet, and the octets that it gives
+known : (c : tie.After-timestamp-octets)
+    → (c .before .before .before .word .result ≡ wordOf (now (c .before .before .before .before .before .args .p)))
+      × (c .before .descriptor-octets .result ≡ descriptorOctets (wordOf (now (c .before .before .before .before .before .args .p))))
+      × (c .timestamp-octets .result ≡ timestampOctets (wordOf (now (c .before .before .before .before .before .args .p))))
+      × (holesAt (wordOf (now (c .before .before .before .before .before .args .p))) ≤ length (now (c .before .before .before .before .before .args .p)))
+      × Width (c .before .descriptor-octets .result)
+known c =
+    let w : c .before .before .before .word .result ≡ wordOf (now (c .before .before .before .before .before .args .p)) = c .before .before .before .word .ensures in
+    let f = success-fine (now (c .before .before .before .before .before .args .p)) (c .before .before .before .before .before .pre .1) in
+    let d : c .before .descriptor-octets .result ≡ descriptorOctets (wordOf (now (c .before .before .before .before .before .args .p))) = c .before .descriptor-octets .ensures ∙ ap descriptorOctets w in
+    (w, d, c .timestamp-octets .ensures ∙ ap timestampOctets w, f .long, rw d (f .octets))
+
 mul-holes : tie.Need-mul-holes
-mul-holes c = ?
+mul-holes c = omega (arith, octets-le (c .before .before .before .word .result))
 
--- src/lib.rt:178:17
 add-holes : tie.Need-add-holes
-add-holes c = ?
+add-holes c = omega (arith, octets-le (c .before .before .before .word .result))
 
--- src/lib.rt:181:13
 id-requires : tie.Need-id-requires
 id-requires c κs = search needs
 
--- src/lib.rt:184:19
 read-number-requires : tie.Need-read-number-requires
-read-number-requires c κs = ?
+read-number-requires c κs = let k = known (c .before) in (k .4, omega arith)
 
--- src/lib.rt:185:42
 add-read-number : tie.Need-add-read-number
-add-read-number c = ?
+add-read-number c = let k = known (c .before .before) in omega arith
 
--- src/lib.rt:185:19
 read-number-requires-2 : tie.Need-read-number-requires-2
-read-number-requires-2 c κs = ?
+read-number-requires-2 c κs = let k = known (c .before .before) in (k .4, omega arith)
 
--- src/lib.rt:187:17
 sub-t13 : tie.Need-sub-t13
-sub-t13 c = ?
+sub-t13 c = let k = known (c .before .before .before) in omega arith
 
--- src/lib.rt:187:37
 mul-t14 : tie.Need-mul-t14
-mul-t14 c = ?
+mul-t14 c = let k = known (c .before .before .before) in omega arith
 
--- src/lib.rt:187:16
 div-t15 : tie.Need-div-t15
-div-t15 c = ?
+div-t15 c = omega (arith, width-some (known (c .before .before .before) .4))
 
--- src/lib.rt:169:1
 returns : tie.Need-returns
-returns c = ?
+unfolding successOf
+returns c =
+    let k = known (c .before .before .before) in
+    rw (c .before .before .id .ensures, c .before .read-number .ensures, c .read-number2 .ensures, c .before .before .before .before .before .split .ensures .flags-is, k .0, k .1, k .2)
 
 pub success-fields-spec : {M : Type 1} → statement M
 success-fields-spec =

@@ -1,2 +1,3 @@
 pub mod HoleLaws
 pub mod StatusLaws
+pub mod FailureLaws

@@ -4,20 +4,20 @@ use Prim.Native.Nat.{ℕ, zero, suc, _+_, _*_, _/_, _%_, _<_, _≤_}
 use mathlib.Core.Path.{_≡_, refl, sym, _∙_}
 use mathlib.Core.Bool.{true, not}
 use mathlib.Core.List.{List}
-use native.Mathlib.Nat.{div-mul-le-self}
+use native.Mathlib.Nat.{div-mul-le-self, suc-mul, mul-le-mul-right}
 use native.Mathlib.Omega.{arith}
 use lib.ListN.{length}
 use lib.Dec.{ltb, eqb}
-use borrow.Author.Tests.{ltb-false, eqb-true, eqb-false, eq-eqb, not-false}
+use borrow.Author.Tests.{ltb-true, ltb-false, eqb-true, eqb-false, eq-eqb, not-false}
 use Rattle.octets.specs.Numbers.{Width}
 use Rattle.octets.specs.Numbers.Width.{two, four, eight}
 use Rattle.header.specs.Refusals.{_▹_, when, refusalOf}
 use Rattle.header.specs.Word.{widthOf, descriptorOctets, partialOf, statusOf}
 use Rattle.header.specs.Start.{wordOf, typeRefusal}
 use Rattle.header.proofs.RefusalLaws.{first-none, rest-none, failed}
-use Rattle.header.proofs.StartLaws.{TypeFine, type-fine, narrow-octets}
+use Rattle.header.proofs.StartLaws.{StartFine, TypeFine, type-fine, narrow-octets}
 use Rattle.packet_status.specs.Holes.{holesWell}
-use Rattle.packet_status.specs.Status.{holesAt, progressOf, responseOf, listOctets, holeCount, holeList, listRefusal, successRefusal, statusRefusal, failureOf, acceptedStatus, statusAnswer, holeAnswer}
+use Rattle.packet_status.specs.Status.{holesAt, progressOf, responseOf, listOctets, holeCount, holeList, listRefusal, successRefusal, statusRefusal, holeRefusal, failureOf, acceptedStatus, statusAnswer, holeAnswer}
 use Rattle.packet_status.specs.declared.Hole.{Hole}
 use Rattle.packet_status.specs.declared.HoleRead.the-variants as hole-read
 use Rattle.packet_status.specs.declared.StatusRead.the-variants.{Failure, Refused}
@@ -62,6 +62,32 @@ status-fine s e =
       typed = type-fine 4 s (first-none _ _ e);
       success = λ z. rw (eq-eqb (statusOf (wordOf s)) 0 z) at (rest-none (typeRefusal 4 s) _ e);
     }
+
+-- one hole with refusal 0: the STATUS is a success, and its list has the index
+pub record HoleFine (index : ℕ) (s : List ℕ) : Type 0 where
+  pub start : StartFine s
+  pub fine : SuccessFine s
+  pub below : index < holeCount s
+
+pub hole-fine : (index : ℕ) (s : List ℕ) → holeRefusal index s ≡ 0 → HoleFine index s
+unfolding holeRefusal
+hole-fine index s e =
+    let f = status-fine s (first-none (statusRefusal s) _ e) in
+    let r = rest-none (statusRefusal s) _ e in
+    let z = eqb-true _ _ (not-false _ (failed (not (eqb (statusOf (wordOf s)) 0)) 10 (first-none _ _ r))) in
+    record {
+      start = f .typed .start;
+      fine = success-fine s (f .success z);
+      below = ltb-true _ _ (not-false _ (failed _ 18 (rest-none (when (not (eqb (statusOf (wordOf s)) 0)) 11) _ r)));
+    }
+
+-- it lies within the packet
+pub hole-fits : (index : ℕ) (s : List ℕ) → HoleFine index s
+    → holesAt (wordOf s) + index * (2 * descriptorOctets (wordOf s)) + 2 * descriptorOctets (wordOf s) ≤ length s
+hole-fits index s f =
+    let e = 2 * descriptorOctets (wordOf s) in
+    let m : suc index * e ≤ holeCount s * e = mul-le-mul-right e (f .below) in
+    omega (arith, suc-mul index e, list-fits s (f .fine .long))
 
 -- the answers
 pub status-refused : (n : ℕ) (s : List ℕ) → (n ≡ 0 → ⊥) → Refused (refusalOf n) ≡ statusAnswer n s

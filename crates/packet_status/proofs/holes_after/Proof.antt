@@ -32,7 +32,7 @@ hole-at-requires c κs = (c .before .before .before .pre .0, omega (arith, room 
 -- the judgement, with the first of the holes that are left
 first : (c : tie.After-hole-at Inv-loop μ-loop)
     → holesAfter (c .before .before .before .before .args .prev) (c .before .before .before .before .args .top) (holesOf (c .before .before .before .before .args .d) (c .before .before .before .before .args .n) (c .before .before .before .before .args .from) (now (c .before .before .before .before .args .s)))
-      ≡ holesAfter (c .before .before .loop .last) (c .before .before .before .before .args .top) (c .hole-at .result ∷ holesOf (c .before .before .before .before .args .d) (c .before .before .loop .left - 1) (c .before .before .loop .at + 2 * c .before .before .before .before .args .d) (now (c .before .before .before .before .args .s)))
+    ≡ holesAfter (c .before .before .loop .last) (c .before .before .before .before .args .top) (c .hole-at .result ∷ holesOf (c .before .before .before .before .args .d) (c .before .before .loop .left - 1) (c .before .before .loop .at + 2 * c .before .before .before .before .args .d) (now (c .before .before .before .before .args .s)))
 first c = c .before .before .loop .inv .1 ∙ rw (holes-step (c .before .before .before .before .args .d) (c .before .before .loop .left) (c .before .before .loop .at) (now (c .before .before .before .before .args .s)) (omega arith), c .hole-at .ensures)
 
 returns : tie.Need-returns Inv-loop μ-loop
@@ -49,7 +49,7 @@ returns-3 : tie.Need-returns-3 Inv-loop μ-loop
 returns-3 c =
     let h = c .before .before .before .before .before .before .hole-at .result in
     sym
-    ( first (c .before .before .before .before .before .before)
+    (first (c .before .before .before .before .before .before)
     ∙ rw (lt-ltb (c .before .before .before .before .before .before .before .before .loop .last) (h .start) (omega arith), lt-ltb (h .start) (h .end) (omega arith), lt-leb (h .end) (c .before .before .before .before .before .before .before .before .before .before .args .top) (omega arith)))
 
 mul-at : tie.Need-mul-at Inv-loop μ-loop
@@ -66,10 +66,10 @@ loop-less c = omega arith
 
 loop-again : tie.Need-loop-again Inv-loop μ-loop
 loop-again c =
-    let h = c .before .before .before .before .before .before .hole-at .result in
-    ( room (c .before .before .before .before .before .before .before)
-    , first (c .before .before .before .before .before .before)
-      ∙ rw (lt-ltb (c .before .before .before .before .before .before .before .before .loop .last) (h .start) (omega arith), lt-ltb (h .start) (h .end) (omega arith), le-leb (h .end) (c .before .before .before .before .before .before .before .before .before .before .args .top) (omega arith))
+    let h = c .before .before .before .before .before .before .hole-at .result in (
+      room (c .before .before .before .before .before .before .before),
+      first (c .before .before .before .before .before .before)
+          ∙ rw (lt-ltb (c .before .before .before .before .before .before .before .before .loop .last) (h .start) (omega arith), lt-ltb (h .start) (h .end) (omega arith), le-leb (h .end) (c .before .before .before .before .before .before .before .before .before .before .args .top) (omega arith)),
     )
 
 returns-4 : tie.Need-returns-4 Inv-loop μ-loop

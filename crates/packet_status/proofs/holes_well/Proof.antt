@@ -34,7 +34,7 @@ starts-well-requires-2 c κs = search needs
 -- the judgement, with the first hole
 first : (c : tie.After-hole-at)
     → holesWell (c .before .before .before .args .partial) (c .before .before .before .args .progress) (c .before .before .before .args .top) (holesOf (c .before .before .before .args .d) (c .before .before .before .args .n) (c .before .before .before .args .at) (now (c .before .before .before .args .s)))
-      ≡ holesWell (c .before .before .before .args .partial) (c .before .before .before .args .progress) (c .before .before .before .args .top) (c .hole-at .result ∷ holesOf (c .before .before .before .args .d) (c .before .before .before .args .n - 1) (c .before .before .before .args .at + 2 * c .before .before .before .args .d) (now (c .before .before .before .args .s)))
+    ≡ holesWell (c .before .before .before .args .partial) (c .before .before .before .args .progress) (c .before .before .before .args .top) (c .hole-at .result ∷ holesOf (c .before .before .before .args .d) (c .before .before .before .args .n - 1) (c .before .before .before .args .at + 2 * c .before .before .before .args .d) (now (c .before .before .before .args .s)))
 first c = rw (holes-step (c .before .before .before .args .d) (c .before .before .before .args .n) (c .before .before .before .args .at) (now (c .before .before .before .args .s)) (omega arith), c .hole-at .ensures)
 
 returns-2 : tie.Need-returns-2

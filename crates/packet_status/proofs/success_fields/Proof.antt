@@ -33,10 +33,10 @@ add-at c = search needs
 -- the word of the packet, and the octets that it gives
 known : (c : tie.After-timestamp-octets)
     → (c .before .before .before .word .result ≡ wordOf (now (c .before .before .before .before .before .args .p)))
-      × (c .before .descriptor-octets .result ≡ descriptorOctets (wordOf (now (c .before .before .before .before .before .args .p))))
-      × (c .timestamp-octets .result ≡ timestampOctets (wordOf (now (c .before .before .before .before .before .args .p))))
-      × (holesAt (wordOf (now (c .before .before .before .before .before .args .p))) ≤ length (now (c .before .before .before .before .before .args .p)))
-      × Width (c .before .descriptor-octets .result)
+    × (c .before .descriptor-octets .result ≡ descriptorOctets (wordOf (now (c .before .before .before .before .before .args .p))))
+    × (c .timestamp-octets .result ≡ timestampOctets (wordOf (now (c .before .before .before .before .before .args .p))))
+    × (holesAt (wordOf (now (c .before .before .before .before .before .args .p))) ≤ length (now (c .before .before .before .before .before .args .p)))
+    × Width (c .before .descriptor-octets .result)
 known c =
     let w : c .before .before .before .word .result ≡ wordOf (now (c .before .before .before .before .before .args .p)) = c .before .before .before .word .ensures in
     let f = success-fine (now (c .before .before .before .before .before .args .p)) (c .before .before .before .before .before .pre .1) in

@@ -43,10 +43,10 @@ add-at c = search needs
 -- the word of the packet, and the octets that it gives
 known : (c : tie.After-timestamp-octets)
     → (c .before .before .before .before .before .word .result ≡ wordOf (now (c .before .before .before .before .before .before .before .args .p)))
-      × (c .before .descriptor-octets .result ≡ descriptorOctets (wordOf (now (c .before .before .before .before .before .before .before .args .p))))
-      × (c .timestamp-octets .result ≡ timestampOctets (wordOf (now (c .before .before .before .before .before .before .before .args .p))))
-      × (widthOf (wordOf (now (c .before .before .before .before .before .before .before .args .p))) ≡ 3 → ⊥)
-      × Width (c .before .descriptor-octets .result)
+    × (c .before .descriptor-octets .result ≡ descriptorOctets (wordOf (now (c .before .before .before .before .before .before .before .args .p))))
+    × (c .timestamp-octets .result ≡ timestampOctets (wordOf (now (c .before .before .before .before .before .before .before .args .p))))
+    × (widthOf (wordOf (now (c .before .before .before .before .before .before .before .args .p))) ≡ 3 → ⊥)
+    × Width (c .before .descriptor-octets .result)
 known c =
     let w : c .before .before .before .before .before .word .result ≡ wordOf (now (c .before .before .before .before .before .before .before .args .p)) = c .before .before .before .before .before .word .ensures in
     let n : widthOf (wordOf (now (c .before .before .before .before .before .before .before .args .p))) ≡ 3 → ⊥ = omega arith in
@@ -78,7 +78,7 @@ rem-if3 c = omega (arith, width-some (known (c .before) .4))
 -- the octets after In-Response-To, by the code's places and by the packet's
 rest : (c : tie.Else2)
     → (length (now (c .before .before .before .before .before .before .before .before .args .p)) - (8 + c .before .timestamp-octets .result + 2 * c .before .before .descriptor-octets .result)) % (2 * c .before .before .descriptor-octets .result)
-      ≡ listOctets (now (c .before .before .before .before .before .before .before .before .args .p)) % (2 * descriptorOctets (wordOf (now (c .before .before .before .before .before .before .before .before .args .p))))
+    ≡ listOctets (now (c .before .before .before .before .before .before .before .before .args .p)) % (2 * descriptorOctets (wordOf (now (c .before .before .before .before .before .before .before .before .args .p))))
 rest c = let k = known (c .before) in rw (k .1, k .2)
 
 returns-3 : tie.Need-returns-3
@@ -119,7 +119,7 @@ judged c =
     let s = now (c .before .before .before .before .before .before .before .before .before .before .before .before .before .args .p) in
     let k = known (c .before .before .before .before .before .before) in
     let q : c .holes-well .result ≡ holesWell (eqb (partialOf (wordOf s)) 1) (progressOf s) (responseOf s) (holeList s) =
-      c .holes-well .ensures ∙ rw (c .before .before .before .read-number .ensures, c .before .before .read-number2 .ensures, c .before .before .before .before .before .before .before .before .before .before .split .ensures .partial-is, k .0, k .1, k .2) in
+    c .holes-well .ensures ∙ rw (c .before .before .before .read-number .ensures, c .before .before .read-number2 .ensures, c .before .before .before .before .before .before .before .before .before .before .split .ensures .partial-is, k .0, k .1, k .2) in
     rw (
       ne-eqb (widthOf (wordOf s)) 3 (k .3),
       le-ltb (length s) (holesAt (wordOf s)) (omega arith),

@@ -1,0 +1,4 @@
+pub mod HoleLaws
+pub mod AcceptedLaws
+pub mod StatusLaws
+pub mod FailureLaws

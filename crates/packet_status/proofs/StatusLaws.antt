@@ -1,0 +1,103 @@
+-- What is known of a STATUS that is not refused.
+-- Assumes nothing.
+use Prim.Native.Nat.{ℕ, zero, suc, _+_, _*_, _/_, _%_, _<_, _≤_}
+use mathlib.Core.Path.{_≡_, refl, sym, _∙_}
+use mathlib.Core.Bool.{true, not}
+use mathlib.Core.List.{List}
+use native.Mathlib.Nat.{div-mul-le-self, suc-mul, mul-le-mul-right}
+use native.Mathlib.Omega.{arith}
+use lib.ListN.{length}
+use lib.Dec.{ltb, eqb}
+use borrow.Author.Tests.{ltb-true, ltb-false, eqb-true, eqb-false, eq-eqb, not-false}
+use Rattle.octets.specs.Numbers.{Width}
+use Rattle.octets.specs.Numbers.Width.{two, four, eight}
+use Rattle.header.specs.Refusals.{_▹_, when, refusalOf}
+use Rattle.header.specs.Word.{widthOf, descriptorOctets, partialOf, statusOf}
+use Rattle.header.specs.Start.{wordOf, typeRefusal}
+use Rattle.header.proofs.RefusalLaws.{first-none, rest-none, failed}
+use Rattle.header.proofs.StartLaws.{StartFine, TypeFine, type-fine, narrow-octets}
+use Rattle.packet_status.specs.Holes.{holesWell}
+use Rattle.packet_status.specs.Status.{holesAt, progressOf, responseOf, listOctets, holeCount, holeList, listRefusal, successRefusal, statusRefusal, holeRefusal, failureOf, acceptedStatus, statusAnswer, holeAnswer}
+use Rattle.packet_status.specs.declared.Hole.{Hole}
+use Rattle.packet_status.specs.declared.HoleRead.the-variants as hole-read
+use Rattle.packet_status.specs.declared.StatusRead.the-variants.{Failure, Refused}
+
+pub width-some : {d : ℕ} → Width d → 2 ≤ d
+width-some two = omega arith
+width-some four = omega arith
+width-some eight = omega arith
+
+-- a success STATUS with refusal 0
+pub record SuccessFine (s : List ℕ) : Type 0 where
+  pub octets : Width (descriptorOctets (wordOf s))
+  pub long : holesAt (wordOf s) ≤ length s
+  pub whole : listOctets s % (2 * descriptorOctets (wordOf s)) ≡ 0
+  pub well : holesWell (eqb (partialOf (wordOf s)) 1) (progressOf s) (responseOf s) (holeList s) ≡ true
+
+pub success-fine : (s : List ℕ) → successRefusal s ≡ 0 → SuccessFine s
+unfolding successRefusal listRefusal
+success-fine s e =
+    let r1 = rest-none (when (eqb (widthOf (wordOf s)) 3) 5) _ e in
+    let r2 = rest-none (when (ltb (length s) (holesAt (wordOf s))) 1) _ r1 in
+    record {
+      octets = narrow-octets (wordOf s) (eqb-false _ _ (failed _ 4 (first-none _ _ e)));
+      long = ltb-false _ _ (failed _ 0 (first-none _ _ r1));
+      whole = eqb-true _ _ (not-false _ (failed _ 10 (first-none _ _ r2)));
+      well = not-false _ (failed _ 10 (rest-none (when (not (eqb (listOctets s % (2 * descriptorOctets (wordOf s))) 0)) 11) _ r2));
+    }
+
+-- the holes that are counted lie within the packet
+pub list-fits : (s : List ℕ) → holesAt (wordOf s) ≤ length s → holesAt (wordOf s) + holeCount s * (2 * descriptorOctets (wordOf s)) ≤ length s
+list-fits s h = omega (arith, div-mul-le-self (listOctets s) (2 * descriptorOctets (wordOf s)))
+
+-- a STATUS with refusal 0
+pub record StatusFine (s : List ℕ) : Type 0 where
+  pub typed : TypeFine 4 s
+  pub success : statusOf (wordOf s) ≡ 0 → successRefusal s ≡ 0
+
+pub status-fine : (s : List ℕ) → statusRefusal s ≡ 0 → StatusFine s
+unfolding statusRefusal
+status-fine s e =
+    record {
+      typed = type-fine 4 s (first-none _ _ e);
+      success = λ z. rw (eq-eqb (statusOf (wordOf s)) 0 z) at (rest-none (typeRefusal 4 s) _ e);
+    }
+
+-- one hole with refusal 0: the STATUS is a success, and its list has the index
+pub record HoleFine (index : ℕ) (s : List ℕ) : Type 0 where
+  pub start : StartFine s
+  pub fine : SuccessFine s
+  pub below : index < holeCount s
+
+pub hole-fine : (index : ℕ) (s : List ℕ) → holeRefusal index s ≡ 0 → HoleFine index s
+unfolding holeRefusal
+hole-fine index s e =
+    let f = status-fine s (first-none (statusRefusal s) _ e) in
+    let r = rest-none (statusRefusal s) _ e in
+    let z = eqb-true _ _ (not-false _ (failed (not (eqb (statusOf (wordOf s)) 0)) 10 (first-none _ _ r))) in
+    record {
+      start = f .typed .start;
+      fine = success-fine s (f .success z);
+      below = ltb-true _ _ (not-false _ (failed _ 18 (rest-none (when (not (eqb (statusOf (wordOf s)) 0)) 11) _ r)));
+    }
+
+-- it lies within the packet
+pub hole-fits : (index : ℕ) (s : List ℕ) → HoleFine index s
+    → holesAt (wordOf s) + index * (2 * descriptorOctets (wordOf s)) + 2 * descriptorOctets (wordOf s) ≤ length s
+hole-fits index s f =
+    let e = 2 * descriptorOctets (wordOf s) in
+    let m : suc index * e ≤ holeCount s * e = mul-le-mul-right e (f .below) in
+    omega (arith, suc-mul index e, list-fits s (f .fine .long))
+
+-- the answers
+pub status-refused : (n : ℕ) (s : List ℕ) → (n ≡ 0 → ⊥) → Refused (refusalOf n) ≡ statusAnswer n s
+status-refused zero s h = absurd (h refl)
+status-refused (suc n) s h = refl
+
+pub failure-accepted : (code : ℕ) (s : List ℕ) → (code ≡ 0 → ⊥) → Failure (failureOf s) ≡ acceptedStatus code s
+failure-accepted zero s h = absurd (h refl)
+failure-accepted (suc code) s h = refl
+
+pub hole-refused : (n : ℕ) (h : Hole) → (n ≡ 0 → ⊥) → hole-read.Refused (refusalOf n) ≡ holeAnswer n h
+hole-refused zero h ne = absurd (ne refl)
+hole-refused (suc n) h ne = refl

@@ -1,0 +1,30 @@
+-- `packet_status::failure_write_refusal` meets its contract: a return for each test. Assumes nothing.
+use Prim.Native.Nat.{_^_}
+use borrow.Author.Tests.{lt-ltb, le-ltb, eq-eqb, ne-eqb}
+use Rattle.packet_status.specs.WriteFailure.{failureWriteRefusal}
+use native.Mathlib.Omega.{arith}
+use Rattle.packet_status.proofs.failure_write_refusal.Statement.{statement}
+use Rattle.packet_status.proofs.failure_write_refusal.Tie as tie
+
+returns : tie.Need-returns
+unfolding failureWriteRefusal
+returns c = rw (le-ltb (c .before .args .id) (2 ^ 32) (omega arith))
+
+returns-2 : tie.Need-returns-2
+unfolding failureWriteRefusal
+returns-2 c = rw (lt-ltb (c .before .before .args .id) (2 ^ 32) (omega arith), eq-eqb (c .before .before .args .status) 0 (omega arith))
+
+returns-3 : tie.Need-returns-3
+unfolding failureWriteRefusal
+returns-3 c = rw (lt-ltb (c .before .before .before .args .id) (2 ^ 32) (omega arith), ne-eqb (c .before .before .before .args .status) 0 (omega arith), lt-ltb 255 (c .before .before .before .args .status) (omega arith))
+
+returns-4 : tie.Need-returns-4
+unfolding failureWriteRefusal
+returns-4 c = rw (lt-ltb (c .before .before .before .before .args .id) (2 ^ 32) (omega arith), ne-eqb (c .before .before .before .before .args .status) 0 (omega arith), le-ltb 255 (c .before .before .before .before .args .status) (omega arith), lt-ltb (c .before .before .before .before .args .room) 8 (omega arith))
+
+returns-5 : tie.Need-returns-5
+unfolding failureWriteRefusal
+returns-5 c = rw (lt-ltb (c .before .before .before .before .args .id) (2 ^ 32) (omega arith), ne-eqb (c .before .before .before .before .args .status) 0 (omega arith), le-ltb 255 (c .before .before .before .before .args .status) (omega arith), le-ltb (c .before .before .before .before .args .room) 8 (omega arith))
+
+pub failure-write-refusal-spec : {M : Type 1} → statement M
+failure-write-refusal-spec = tie.close (tie.spec returns returns-2 returns-3 returns-4 returns-5)

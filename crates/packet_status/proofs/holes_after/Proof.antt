@@ -1,0 +1,96 @@
+-- `packet_status::holes_after` meets its contract: the holes that are left, judged after the last one, always give the whole judgement.
+-- Assumes nothing.
+use Prim.Native.Nat.{_+_, _*_, _-_, _≤_}
+use mathlib.Core.Path.{_≡_, refl, sym, _∙_}
+use mathlib.Core.List.{_∷_}
+use borrow.Author.Tests.{le-ltb, lt-ltb, le-leb, lt-leb}
+use denote.Ref.{now}
+use lib.ListN.{length}
+use Rattle.packet_status.specs.Holes.{holesOf, holesAfter}
+use Rattle.packet_status.proofs.HoleLaws.{less-one, holes-step}
+use native.Mathlib.Omega.{arith}
+use Rattle.packet_status.proofs.holes_after.Statement.{statement}
+use Rattle.packet_status.proofs.holes_after.Tie as tie
+
+abbrev Inv-loop : tie.InvT-loop
+Inv-loop s from d n prev top at₀ left₀ last₀ at left last =
+    (at + left * (2 * d) ≤ length s) × (holesAfter prev top (holesOf d n from s) ≡ holesAfter last top (holesOf d left at s))
+
+abbrev μ-loop : tie.MeasureT-loop
+μ-loop s from d n prev top at₀ left₀ last₀ at left last = left
+
+loop-holds : tie.Need-loop-holds Inv-loop μ-loop
+loop-holds c = (c .before .pre .1, refl)
+
+-- there is room for one hole and those after it
+room : (c : tie.In-loop Inv-loop μ-loop) → c .before .loop .at + 2 * c .before .before .before .args .d + (c .before .loop .left - 1) * (2 * c .before .before .before .args .d) ≤ length (now (c .before .before .before .args .s))
+room c = omega (arith, less-one (c .before .loop .left) (2 * c .before .before .before .args .d) (omega arith))
+
+hole-at-requires : tie.Need-hole-at-requires Inv-loop μ-loop
+hole-at-requires c κs = (c .before .before .before .pre .0, omega (arith, room c))
+
+-- the judgement, with the first of the holes that are left
+first : (c : tie.After-hole-at Inv-loop μ-loop)
+    → holesAfter (c .before .before .before .before .args .prev) (c .before .before .before .before .args .top) (holesOf (c .before .before .before .before .args .d) (c .before .before .before .before .args .n) (c .before .before .before .before .args .from) (now (c .before .before .before .before .args .s)))
+    ≡ holesAfter (c .before .before .loop .last) (c .before .before .before .before .args .top) (c .hole-at .result ∷ holesOf (c .before .before .before .before .args .d) (c .before .before .loop .left - 1) (c .before .before .loop .at + 2 * c .before .before .before .before .args .d) (now (c .before .before .before .before .args .s)))
+first c = c .before .before .loop .inv .1 ∙ rw (holes-step (c .before .before .before .before .args .d) (c .before .before .loop .left) (c .before .before .loop .at) (now (c .before .before .before .before .args .s)) (omega arith), c .hole-at .ensures)
+
+returns : tie.Need-returns Inv-loop μ-loop
+returns c =
+    let h = c .before .before .hole-at .result in
+    sym (first (c .before .before) ∙ rw (le-ltb (c .before .before .before .before .loop .last) (h .start) (omega arith)))
+
+returns-2 : tie.Need-returns-2 Inv-loop μ-loop
+returns-2 c =
+    let h = c .before .before .before .before .hole-at .result in
+    sym (first (c .before .before .before .before) ∙ rw (lt-ltb (c .before .before .before .before .before .before .loop .last) (h .start) (omega arith), le-ltb (h .start) (h .end) (omega arith)))
+
+returns-3 : tie.Need-returns-3 Inv-loop μ-loop
+returns-3 c =
+    let h = c .before .before .before .before .before .before .hole-at .result in
+    sym
+    (first (c .before .before .before .before .before .before)
+    ∙ rw (lt-ltb (c .before .before .before .before .before .before .before .before .loop .last) (h .start) (omega arith), lt-ltb (h .start) (h .end) (omega arith), lt-leb (h .end) (c .before .before .before .before .before .before .before .before .before .before .args .top) (omega arith)))
+
+mul-at : tie.Need-mul-at Inv-loop μ-loop
+mul-at c = omega (arith, room (c .before .before .before .before .before .before .before))
+
+add-at : tie.Need-add-at Inv-loop μ-loop
+add-at c = omega (arith, room (c .before .before .before .before .before .before .before))
+
+sub-left : tie.Need-sub-left Inv-loop μ-loop
+sub-left c = omega arith
+
+loop-less : tie.Need-loop-less Inv-loop μ-loop
+loop-less c = omega arith
+
+loop-again : tie.Need-loop-again Inv-loop μ-loop
+loop-again c =
+    let h = c .before .before .before .before .before .before .hole-at .result in (
+      room (c .before .before .before .before .before .before .before),
+      first (c .before .before .before .before .before .before)
+          ∙ rw (lt-ltb (c .before .before .before .before .before .before .before .before .loop .last) (h .start) (omega arith), lt-ltb (h .start) (h .end) (omega arith), le-leb (h .end) (c .before .before .before .before .before .before .before .before .before .before .args .top) (omega arith)),
+    )
+
+returns-4 : tie.Need-returns-4 Inv-loop μ-loop
+returns-4 c =
+    let z : c .before .loop .left ≡ 0 = omega arith in
+    sym (c .before .loop .inv .1 ∙ rw z)
+
+pub holes-after-spec : {M : Type 1} → statement M
+holes-after-spec =
+    tie.close
+    (tie.spec
+    Inv-loop
+    μ-loop
+    loop-holds
+    hole-at-requires
+    returns
+    returns-2
+    returns-3
+    mul-at
+    add-at
+    sub-left
+    loop-less
+    loop-again
+    returns-4)

@@ -1,0 +1,96 @@
+-- `packet_status::holes_well` meets its contract: the first hole is judged here, those after it by `holes_after`.
+-- Assumes nothing.
+use Prim.Native.Nat.{_+_, _*_, _-_, _≤_}
+use mathlib.Core.Path.{_≡_, sym, _∙_}
+use mathlib.Core.Bool.{true, false}
+use mathlib.Core.List.{_∷_}
+use borrow.Author.Tests.{le-ltb, lt-ltb, le-leb, lt-leb, not-true, not-false}
+use denote.Ref.{now}
+use lib.ListN.{length}
+use Rattle.packet_status.specs.Holes.{holesOf, startsWell, holesWell}
+use Rattle.packet_status.proofs.HoleLaws.{less-one, holes-step}
+use borrow.Author.Needs.{needs}
+use native.Mathlib.Omega.{arith}
+use Rattle.packet_status.proofs.holes_well.Statement.{statement}
+use Rattle.packet_status.proofs.holes_well.Tie as tie
+
+starts-well-requires : tie.Need-starts-well-requires
+starts-well-requires c κs = search needs
+
+returns : tie.Need-returns
+unfolding holesWell
+returns c = rw (c .before .if1 .taken) (c .starts-well .ensures)
+
+-- there is room for one hole and those after it
+room : (c : tie.Else1) → c .before .before .args .at + 2 * c .before .before .args .d + (c .before .before .args .n - 1) * (2 * c .before .before .args .d) ≤ length (now (c .before .before .args .s))
+room c = omega (arith, less-one (c .before .before .args .n) (2 * c .before .before .args .d) (omega arith))
+
+hole-at-requires : tie.Need-hole-at-requires
+hole-at-requires c κs = (c .before .before .pre .0, omega (arith, room c))
+
+starts-well-requires-2 : tie.Need-starts-well-requires-2
+starts-well-requires-2 c κs = search needs
+
+-- the judgement, with the first hole
+first : (c : tie.After-hole-at)
+    → holesWell (c .before .before .before .args .partial) (c .before .before .before .args .progress) (c .before .before .before .args .top) (holesOf (c .before .before .before .args .d) (c .before .before .before .args .n) (c .before .before .before .args .at) (now (c .before .before .before .args .s)))
+    ≡ holesWell (c .before .before .before .args .partial) (c .before .before .before .args .progress) (c .before .before .before .args .top) (c .hole-at .result ∷ holesOf (c .before .before .before .args .d) (c .before .before .before .args .n - 1) (c .before .before .before .args .at + 2 * c .before .before .before .args .d) (now (c .before .before .before .args .s)))
+first c = rw (holes-step (c .before .before .before .args .d) (c .before .before .before .args .n) (c .before .before .before .args .at) (now (c .before .before .before .args .s)) (omega arith), c .hole-at .ensures)
+
+returns-2 : tie.Need-returns-2
+unfolding holesWell
+returns-2 c =
+    let a = c .before .before .before .before .before .args in
+    let v : startsWell (a .partial) (a .progress) (c .before .before .hole-at .result .start) ≡ false = sym (c .before .starts-well2 .ensures) ∙ not-true _ (c .if2 .taken) in
+    sym (first (c .before .before) ∙ rw v)
+
+started : (c : tie.Else2) → startsWell (c .before .before .before .before .before .args .partial) (c .before .before .before .before .before .args .progress) (c .before .before .hole-at .result .start) ≡ true
+started c = sym (c .before .starts-well2 .ensures) ∙ not-false _ (c .if2 .left)
+
+returns-3 : tie.Need-returns-3
+unfolding holesWell
+returns-3 c =
+    let h = c .before .before .before .before .hole-at .result in
+    sym (first (c .before .before .before .before) ∙ rw (started (c .before .before), le-ltb (h .start) (h .end) (omega arith)))
+
+returns-4 : tie.Need-returns-4
+unfolding holesWell
+returns-4 c =
+    let h = c .before .before .before .before .before .before .hole-at .result in
+    sym (first (c .before .before .before .before .before .before) ∙ rw (started (c .before .before .before .before), lt-ltb (h .start) (h .end) (omega arith), lt-leb (h .end) (c .before .before .before .before .before .before .before .before .before .args .top) (omega arith)))
+
+mul-holes-after : tie.Need-mul-holes-after
+mul-holes-after c = omega (arith, room (c .before .before .before .before .before .before .before))
+
+add-holes-after : tie.Need-add-holes-after
+add-holes-after c = omega (arith, room (c .before .before .before .before .before .before .before))
+
+sub-holes-after : tie.Need-sub-holes-after
+sub-holes-after c = search needs
+
+holes-after-requires : tie.Need-holes-after-requires
+holes-after-requires c κs = (c .before .before .before .before .before .before .before .before .before .pre .0, room (c .before .before .before .before .before .before .before))
+
+returns-5 : tie.Need-returns-5
+unfolding holesWell
+returns-5 c =
+    let h = c .before .before .before .before .before .before .before .hole-at .result in
+    c .holes-after .ensures
+    ∙ sym (first (c .before .before .before .before .before .before .before) ∙ rw (started (c .before .before .before .before .before), lt-ltb (h .start) (h .end) (omega arith), le-leb (h .end) (c .before .before .before .before .before .before .before .before .before .before .args .top) (omega arith)))
+
+pub holes-well-spec : {M : Type 1} → statement M
+holes-well-spec =
+    tie.close
+    (tie.spec
+    starts-well-requires
+    returns
+    hole-at-requires
+    starts-well-requires-2
+    returns-2
+    returns-3
+    returns-4
+    mul-holes-after
+    add-holes-after
+    sub-holes-after
+    holes-after-requires
+    returns-5)

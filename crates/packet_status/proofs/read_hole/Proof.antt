@@ -1,0 +1,98 @@
+-- `packet_status::read_hole` meets its contract: the hole lies within the packet.
+-- Assumes nothing.
+use Prim.Native.Nat.{_+_, _*_, _≤_}
+use mathlib.Core.Path.{_≡_, ap, _∙_}
+use denote.Ref.{now}
+use lib.ListN.{length}
+use Rattle.octets.specs.Numbers.{Width}
+use Rattle.octets.proofs.NumberLaws.{width-le}
+use Rattle.header.specs.Word.{descriptorOctets, timestampOctets}
+use Rattle.header.specs.Start.{wordOf}
+use Rattle.packet_status.specs.Status.{holeRefusal, indexedHole, readHole}
+use Rattle.packet_status.proofs.StatusLaws.{hole-fine, hole-fits, hole-refused}
+use borrow.Author.Needs.{needs}
+use native.Mathlib.Omega.{arith}
+use Rattle.packet_status.proofs.read_hole.Statement.{statement}
+use Rattle.packet_status.proofs.read_hole.Tie as tie
+
+hole-refusal-requires : tie.Need-hole-refusal-requires
+hole-refusal-requires c κs = search needs
+
+refuse-requires : tie.Need-refuse-requires
+refuse-requires c κs = search needs
+
+returns : tie.Need-returns
+unfolding readHole
+returns c =
+    let a = c .before .before .before .before .args in
+    let n = holeRefusal (a .index) (now (a .p)) in
+    let e : c .before .before .hole-refusal .result ≡ n = c .before .before .hole-refusal .ensures in
+    rw (c .refuse .ensures, e) (hole-refused n (indexedHole (a .index) (now (a .p))) (omega arith))
+
+word-requires : tie.Need-word-requires
+word-requires c κs = hole-fine (c .before .before .before .args .index) (now (c .before .before .before .args .p)) (omega arith) .start .long
+
+descriptor-octets-requires : tie.Need-descriptor-octets-requires
+descriptor-octets-requires c κs = search needs
+
+timestamp-octets-requires : tie.Need-timestamp-octets-requires
+timestamp-octets-requires c κs = search needs
+
+add-holes : tie.Need-add-holes
+add-holes c = search needs
+
+-- the octets that the word gives, and the place of the hole
+known : (c : tie.After-timestamp-octets)
+    → (c .before .descriptor-octets .result ≡ descriptorOctets (wordOf (now (c .before .before .before .before .before .before .args .p))))
+    × (c .timestamp-octets .result ≡ timestampOctets (wordOf (now (c .before .before .before .before .before .before .args .p))))
+    × Width (c .before .descriptor-octets .result)
+    × (8 + c .timestamp-octets .result + 2 * c .before .descriptor-octets .result + c .before .before .before .before .before .before .args .index * (2 * c .before .descriptor-octets .result) + 2 * c .before .descriptor-octets .result ≤ length (now (c .before .before .before .before .before .before .args .p)))
+known c =
+    let f = hole-fine (c .before .before .before .before .before .before .args .index) (now (c .before .before .before .before .before .before .args .p)) (omega arith) in
+    let d : c .before .descriptor-octets .result ≡ descriptorOctets (wordOf (now (c .before .before .before .before .before .before .args .p))) = c .before .descriptor-octets .ensures ∙ ap descriptorOctets (c .before .before .word .ensures) in
+    let t : c .timestamp-octets .result ≡ timestampOctets (wordOf (now (c .before .before .before .before .before .before .args .p))) = c .timestamp-octets .ensures ∙ ap timestampOctets (c .before .before .word .ensures) in
+    (d, t, rw d (f .fine .octets), rw (d, t) (hole-fits (c .before .before .before .before .before .before .args .index) (now (c .before .before .before .before .before .before .args .p)) f))
+
+mul-holes : tie.Need-mul-holes
+mul-holes c = let k = known c in omega arith
+
+add-holes-2 : tie.Need-add-holes-2
+add-holes-2 c = let k = known c in omega arith
+
+mul-hole-at : tie.Need-mul-hole-at
+mul-hole-at c = let k = known c in omega arith
+
+mul-hole-at-2 : tie.Need-mul-hole-at-2
+mul-hole-at-2 c = let k = known c in omega arith
+
+add-hole-at : tie.Need-add-hole-at
+add-hole-at c = let k = known c in omega arith
+
+hole-at-requires : tie.Need-hole-at-requires
+hole-at-requires c κs = let k = known c in (k .2, k .3)
+
+returns-2 : tie.Need-returns-2
+unfolding readHole indexedHole
+returns-2 c =
+    let k = known (c .before) in
+    let z : holeRefusal (c .before .before .before .before .before .before .before .args .index) (now (c .before .before .before .before .before .before .before .args .p)) ≡ 0 = omega arith in
+    rw (z, c .hole-at .ensures, k .0, k .1)
+
+pub read-hole-spec : {M : Type 1} → statement M
+read-hole-spec =
+    tie.close
+    (tie.spec
+    hole-refusal-requires
+    refuse-requires
+    returns
+    word-requires
+    descriptor-octets-requires
+    timestamp-octets-requires
+    add-holes
+    mul-holes
+    add-holes-2
+    mul-hole-at
+    mul-hole-at-2
+    add-hole-at
+    hole-at-requires
+    returns-2)

@@ -1,0 +1,70 @@
+-- `packet_status::read_status` meets its contract: an answer for each of refused, success and failure.
+-- Assumes nothing.
+use mathlib.Core.Path.{_≡_, sym, ap, _∙_}
+use denote.Ref.{now}
+use Rattle.header.specs.Word.{statusOf, flagsOf}
+use Rattle.header.specs.Start.{wordOf}
+use Rattle.packet_status.specs.Status.{statusRefusal, failureOf, readStatus}
+use Rattle.packet_status.proofs.StatusLaws.{status-fine, status-refused, failure-accepted}
+use borrow.Author.Needs.{needs}
+use native.Mathlib.Omega.{arith}
+use Rattle.packet_status.proofs.read_status.Statement.{statement}
+use Rattle.packet_status.proofs.read_status.Tie as tie
+
+status-refusal-requires : tie.Need-status-refusal-requires
+status-refusal-requires c κs = search needs
+
+refuse-requires : tie.Need-refuse-requires
+refuse-requires c κs = search needs
+
+returns : tie.Need-returns
+unfolding readStatus
+returns c =
+    let s = now (c .before .before .before .before .args .p) in
+    let e : c .before .before .status-refusal .result ≡ statusRefusal s = c .before .before .status-refusal .ensures in
+    rw (c .refuse .ensures, e) (status-refused (statusRefusal s) s (omega arith))
+
+word-requires : tie.Need-word-requires
+word-requires c κs = status-fine (now (c .before .before .before .args .p)) (omega arith) .typed .start .long
+
+split-requires : tie.Need-split-requires
+split-requires c κs = search needs
+
+success-fields-requires : tie.Need-success-fields-requires
+success-fields-requires c κs =
+    let y : statusOf (wordOf (now (c .before .before .before .before .before .before .args .p))) ≡ 0 = omega arith in
+    let f = status-fine (now (c .before .before .before .before .before .before .args .p)) (omega arith) in
+    (f .typed .start .long, f .success y)
+
+returns-2 : tie.Need-returns-2
+unfolding readStatus
+returns-2 c =
+    let s = now (c .before .before .before .before .before .before .before .args .p) in
+    let z : statusRefusal s ≡ 0 = omega arith in
+    let y : statusOf (wordOf s) ≡ 0 = omega arith in
+    rw (z, y, c .success-fields .ensures)
+
+id-requires : tie.Need-id-requires
+id-requires c κs = status-fine (now (c .before .before .before .before .before .before .args .p)) (omega arith) .typed .start .long
+
+returns-3 : tie.Need-returns-3
+unfolding readStatus failureOf
+returns-3 c =
+    let s = now (c .before .before .before .before .before .before .before .args .p) in
+    let z : statusRefusal s ≡ 0 = omega arith in
+    let f = c .before .before .split .ensures in
+    rw (z, c .id .ensures, f .flags-is, f .status-is, c .before .before .before .word .ensures) (failure-accepted (statusOf (wordOf s)) s (omega arith))
+
+pub read-status-spec : {M : Type 1} → statement M
+read-status-spec =
+    tie.close
+    (tie.spec
+    status-refusal-requires
+    refuse-requires
+    returns
+    word-requires
+    split-requires
+    success-fields-requires
+    returns-2
+    id-requires
+    returns-3)

@@ -1,0 +1,15 @@
+-- `packet_status::starts_well` meets its contract. Assumes nothing.
+use Rattle.packet_status.specs.Holes.{startsWell}
+use Rattle.packet_status.proofs.starts_well.Statement.{statement}
+use Rattle.packet_status.proofs.starts_well.Tie as tie
+
+returns : tie.Need-returns
+unfolding startsWell
+returns c = rw (c .if1 .taken)
+
+returns-2 : tie.Need-returns-2
+unfolding startsWell
+returns-2 c = rw (c .if1 .left)
+
+pub starts-well-spec : {M : Type 1} → statement M
+starts-well-spec = tie.close (tie.spec returns returns-2)

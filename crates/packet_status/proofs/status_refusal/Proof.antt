@@ -1,0 +1,56 @@
+-- `packet_status::status_refusal` meets its contract: what the type refuses stands, a failure is accepted, and else the success is judged.
+-- Assumes nothing.
+use mathlib.Core.Path.{_≡_, sym, _∙_}
+use borrow.Author.Tests.{eq-eqb, ne-eqb}
+use denote.Ref.{now}
+use Rattle.header.specs.Word.{statusOf}
+use Rattle.header.specs.Start.{wordOf, typeRefusal}
+use Rattle.header.proofs.RefusalLaws.{stays}
+use Rattle.header.proofs.StartLaws.{type-fine}
+use Rattle.packet_status.specs.Status.{statusRefusal}
+use borrow.Author.Needs.{needs}
+use native.Mathlib.Omega.{arith}
+use Rattle.packet_status.proofs.status_refusal.Statement.{statement}
+use Rattle.packet_status.proofs.status_refusal.Tie as tie
+
+type-refusal-requires : tie.Need-type-refusal-requires
+type-refusal-requires c κs = search needs
+
+returns : tie.Need-returns
+unfolding statusRefusal
+returns c = let s = now (c .before .before .before .args .p) in c .before .type-refusal .ensures ∙ sym (stays (typeRefusal 4 s) _ (omega arith))
+
+word-requires : tie.Need-word-requires
+word-requires c κs = type-fine 4 (now (c .before .before .before .args .p)) (omega arith) .start .long
+
+split-requires : tie.Need-split-requires
+split-requires c κs = search needs
+
+returns-2 : tie.Need-returns-2
+unfolding statusRefusal
+returns-2 c =
+    let s = now (c .before .before .before .before .before .before .before .args .p) in
+    let z : typeRefusal 4 s ≡ 0 = omega arith in
+    rw (z, ne-eqb (statusOf (wordOf s)) 0 (omega arith))
+
+success-refusal-requires : tie.Need-success-refusal-requires
+success-refusal-requires c κs = type-fine 4 (now (c .before .before .before .before .before .before .before .args .p)) (omega arith) .start .long
+
+returns-3 : tie.Need-returns-3
+unfolding statusRefusal
+returns-3 c =
+    let s = now (c .before .before .before .before .before .before .before .before .args .p) in
+    let z : typeRefusal 4 s ≡ 0 = omega arith in
+    rw (z, eq-eqb (statusOf (wordOf s)) 0 (omega arith)) (c .success-refusal .ensures)
+
+pub status-refusal-spec : {M : Type 1} → statement M
+status-refusal-spec =
+    tie.close
+    (tie.spec
+    type-refusal-requires
+    returns
+    word-requires
+    split-requires
+    returns-2
+    success-refusal-requires
+    returns-3)

@@ -1,0 +1,97 @@
+-- `packet_status::success_fields` meets its contract: the fields stand where the word says, and within the packet.
+-- Assumes nothing.
+use Prim.Native.Nat.{_≤_}
+use mathlib.Core.Path.{_≡_, ap, _∙_}
+use denote.Ref.{now}
+use lib.ListN.{length}
+use Rattle.octets.specs.Numbers.{Width}
+use Rattle.header.specs.Word.{descriptorOctets, timestampOctets}
+use Rattle.header.specs.Start.{wordOf}
+use Rattle.header.proofs.WordLaws.{octets-le}
+use Rattle.packet_status.specs.Status.{holesAt, successOf}
+use Rattle.packet_status.proofs.StatusLaws.{success-fine, width-some}
+use borrow.Author.Needs.{needs}
+use native.Mathlib.Omega.{arith}
+use Rattle.packet_status.proofs.success_fields.Statement.{statement}
+use Rattle.packet_status.proofs.success_fields.Tie as tie
+
+word-requires : tie.Need-word-requires
+word-requires c κs = search needs
+
+split-requires : tie.Need-split-requires
+split-requires c κs = search needs
+
+descriptor-octets-requires : tie.Need-descriptor-octets-requires
+descriptor-octets-requires c κs = search needs
+
+timestamp-octets-requires : tie.Need-timestamp-octets-requires
+timestamp-octets-requires c κs = search needs
+
+add-at : tie.Need-add-at
+add-at c = search needs
+
+-- the word of the packet, and the octets that it gives
+known : (c : tie.After-timestamp-octets)
+    → (c .before .before .before .word .result ≡ wordOf (now (c .before .before .before .before .before .args .p)))
+    × (c .before .descriptor-octets .result ≡ descriptorOctets (wordOf (now (c .before .before .before .before .before .args .p))))
+    × (c .timestamp-octets .result ≡ timestampOctets (wordOf (now (c .before .before .before .before .before .args .p))))
+    × (holesAt (wordOf (now (c .before .before .before .before .before .args .p))) ≤ length (now (c .before .before .before .before .before .args .p)))
+    × Width (c .before .descriptor-octets .result)
+known c =
+    let w : c .before .before .before .word .result ≡ wordOf (now (c .before .before .before .before .before .args .p)) = c .before .before .before .word .ensures in
+    let f = success-fine (now (c .before .before .before .before .before .args .p)) (c .before .before .before .before .before .pre .1) in
+    let d : c .before .descriptor-octets .result ≡ descriptorOctets (wordOf (now (c .before .before .before .before .before .args .p))) = c .before .descriptor-octets .ensures ∙ ap descriptorOctets w in
+    (w, d, c .timestamp-octets .ensures ∙ ap timestampOctets w, f .long, rw d (f .octets))
+
+mul-holes : tie.Need-mul-holes
+mul-holes c = omega (arith, octets-le (c .before .before .before .word .result))
+
+add-holes : tie.Need-add-holes
+add-holes c = omega (arith, octets-le (c .before .before .before .word .result))
+
+id-requires : tie.Need-id-requires
+id-requires c κs = search needs
+
+read-number-requires : tie.Need-read-number-requires
+read-number-requires c κs = let k = known (c .before) in (k .4, omega arith)
+
+add-read-number : tie.Need-add-read-number
+add-read-number c = let k = known (c .before .before) in omega arith
+
+read-number-requires-2 : tie.Need-read-number-requires-2
+read-number-requires-2 c κs = let k = known (c .before .before) in (k .4, omega arith)
+
+sub-t13 : tie.Need-sub-t13
+sub-t13 c = let k = known (c .before .before .before) in omega arith
+
+mul-t14 : tie.Need-mul-t14
+mul-t14 c = let k = known (c .before .before .before) in omega arith
+
+div-t15 : tie.Need-div-t15
+div-t15 c = omega (arith, width-some (known (c .before .before .before) .4))
+
+returns : tie.Need-returns
+unfolding successOf
+returns c =
+    let k = known (c .before .before .before) in
+    rw (c .before .before .id .ensures, c .before .read-number .ensures, c .read-number2 .ensures, c .before .before .before .before .before .split .ensures .flags-is, k .0, k .1, k .2)
+
+pub success-fields-spec : {M : Type 1} → statement M
+success-fields-spec =
+    tie.close
+    (tie.spec
+    word-requires
+    split-requires
+    descriptor-octets-requires
+    timestamp-octets-requires
+    add-at
+    mul-holes
+    add-holes
+    id-requires
+    read-number-requires
+    add-read-number
+    read-number-requires-2
+    sub-t13
+    mul-t14
+    div-t15
+    returns)

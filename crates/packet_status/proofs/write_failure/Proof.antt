@@ -1,0 +1,58 @@
+-- `packet_status::write_failure` meets its contract: a refusal leaves the buffer, and else the word and the Id are put into it.
+-- Assumes nothing.
+use mathlib.Core.Path.{_≡_}
+use denote.Ref.{now}
+use lib.ListN.{length}
+use Rattle.header.proofs.WritingLaws.{written-refused, buffer-refused}
+use Rattle.packet_status.specs.WriteFailure.{failureWriteRefusal, failureOctets, failureWritten, failureBuffer}
+use Rattle.packet_status.proofs.FailureLaws.{failure-fine, failure-put}
+use borrow.Author.Needs.{needs}
+use native.Mathlib.Omega.{arith}
+use Rattle.packet_status.proofs.write_failure.Statement.{statement}
+use Rattle.packet_status.proofs.write_failure.Tie as tie
+
+failure-write-refusal-requires : tie.Need-failure-write-refusal-requires
+failure-write-refusal-requires c κs = search needs
+
+refuse-requires : tie.Need-refuse-requires
+refuse-requires c κs = search needs
+
+returns : tie.Need-returns
+unfolding failureWritten failureBuffer
+returns c =
+    let a = c .before .before .before .before .args in
+    let n = failureWriteRefusal (a .id) (a .status) (length (now (a .out))) in
+    let e : c .before .before .failure-write-refusal .result ≡ n = c .before .before .failure-write-refusal .ensures in
+    (rw (c .refuse .ensures, e) (written-refused n 8 (omega arith)), buffer-refused n (failureOctets (a .id) (a .status)) (now (a .out)) (omega arith))
+
+join-requires : tie.Need-join-requires
+join-requires c κs = let a = c .before .before .before .before .args in let f = failure-fine (a .id) (a .status) (length (now (a .out))) (omega arith) in omega arith
+
+write-number-requires : tie.Need-write-number-requires
+write-number-requires c κs = let a = c .before .before .before .before .before .args in let f = failure-fine (a .id) (a .status) (length (now (a .out))) (omega arith) in omega arith
+
+write-number-requires-2 : tie.Need-write-number-requires-2
+write-number-requires-2 c κs = let a = c .before .before .before .before .before .before .before .before .before .args in let f = failure-fine (a .id) (a .status) (length (now (a .out))) (omega arith) in omega arith
+
+same-length : tie.Need-same-length
+same-length c = search needs
+
+returns-2 : tie.Need-returns-2
+unfolding failureWritten failureBuffer
+returns-2 c =
+    let a = c .before .before .before .before .before .before .before .before .before .before .before .before .args in
+    let z : failureWriteRefusal (a .id) (a .status) (length (now (a .out))) ≡ 0 = omega arith in
+    (rw z, rw (z, c .before .before .write-number2 .ensures, c .before .before .before .before .before .before .write-number .ensures, c .before .before .before .before .before .before .before .join .ensures) (failure-put (a .id) (a .status) (now (a .out)) (failure-fine _ _ _ z .fits)))
+
+pub write-failure-spec : {M : Type 1} → statement M
+write-failure-spec =
+    tie.close
+    (tie.spec
+    failure-write-refusal-requires
+    refuse-requires
+    returns
+    join-requires
+    write-number-requires
+    write-number-requires-2
+    same-length
+    returns-2)

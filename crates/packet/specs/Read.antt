@@ -1,7 +1,9 @@
 -- A packet of any type, read: "It reads METADATA, DATA and STATUS".
 -- Assumes nothing.
 use Prim.Native.Nat.{ℕ, zero, suc}
+use mathlib.Core.Bool.{cond}
 use mathlib.Core.List.{List}
+use lib.Dec.{eqb}
 use Rattle.header.specs.Refusals.{refusalOf}
 use Rattle.header.specs.Word.{typeOf}
 use Rattle.header.specs.Start.{wordOf, startRefusal}
@@ -33,10 +35,10 @@ ofStatus (status-read.Refused r) = Refused r
 
 -- "METADATA 2, DATA 3, STATUS 4"; 4: "type not 2, 3 or 4"
 unfoldable pub readType : ℕ → List ℕ → Read
-readType (suc (suc zero)) s = ofMetadata (readMetadata s)
-readType (suc (suc (suc zero))) s = ofData (readData s)
-readType (suc (suc (suc (suc zero)))) s = ofStatus (readStatus s)
-readType _ s = Refused (refusalOf 4)
+readType t s =
+    cond (eqb t 2) (ofMetadata (readMetadata s))
+    (cond (eqb t 3) (ofData (readData s))
+    (cond (eqb t 4) (ofStatus (readStatus s)) (Refused (refusalOf 4))))
 
 -- "Order in reading: 2, 1 (first 8 octets), 3, 4"
 unfoldable pub readAfter : ℕ → List ℕ → Read

@@ -1,0 +1,111 @@
+-- `packet::read_packet` meets its contract: what the start refuses stands, and then the type picks the reader.
+-- Assumes nothing.
+use mathlib.Core.Path.{_≡_, ap, _∙_}
+use denote.Ref.{now}
+use borrow.Author.Tests.{ne-eqb}
+use Rattle.header.specs.Word.{typeOf}
+use Rattle.header.specs.Start.{wordOf, startRefusal}
+use Rattle.header.proofs.StartLaws.{start-fine}
+use Rattle.packet.specs.Read.{ofMetadata, ofData, ofStatus, readType}
+use Rattle.packet.proofs.ReadLaws.{read-refused, read-by-type}
+use borrow.Author.Needs.{needs}
+use native.Mathlib.Omega.{arith}
+use Rattle.packet.proofs.read_packet.Statement.{statement}
+use Rattle.packet.proofs.read_packet.Tie as tie
+
+start-refusal-requires : tie.Need-start-refusal-requires
+start-refusal-requires c κs = search needs
+
+refuse-requires : tie.Need-refuse-requires
+refuse-requires c κs = search needs
+
+returns : tie.Need-returns
+returns c =
+    let s = now (c .before .before .before .before .args .p) in
+    rw (c .refuse .ensures, c .before .before .start-refusal .ensures) (read-refused s (omega arith))
+
+word-requires : tie.Need-word-requires
+word-requires c κs = start-fine (now (c .before .before .before .args .p)) (omega arith) .long
+
+split-requires : tie.Need-split-requires
+split-requires c κs = search needs
+
+read-metadata-requires : tie.Need-read-metadata-requires
+read-metadata-requires c κs = search needs
+
+of-metadata-requires : tie.Need-of-metadata-requires
+of-metadata-requires c κs = search needs
+
+-- the type is at hand, and the start is fine
+known : (c : tie.After-split)
+    → let s = now (c .before .before .before .before .before .args .p) in (startRefusal s ≡ 0) × (c .split .result .ptype ≡ typeOf (wordOf s))
+known c = (omega arith, c .split .ensures .ptype-is ∙ ap typeOf (c .before .word .ensures))
+
+returns-2 : tie.Need-returns-2
+unfolding readType
+returns-2 c =
+    let s = now (c .before .before .before .before .before .before .before .before .before .args .p) in
+    let k = known (c .before .before .before .before) in
+    let t : typeOf (wordOf s) ≡ 2 = omega arith in
+    c .of-metadata .ensures ∙ ap ofMetadata (c .before .read-metadata .ensures) ∙ read-by-type s (k .0) (rw (t, readType))
+
+read-data-requires : tie.Need-read-data-requires
+read-data-requires c κs = search needs
+
+of-data-requires : tie.Need-of-data-requires
+of-data-requires c κs = search needs
+
+returns-3 : tie.Need-returns-3
+unfolding readType
+returns-3 c =
+    let s = now (c .before .before .before .before .before .before .before .before .before .before .before .args .p) in
+    let k = known (c .before .before .before .before .before .before) in
+    let t : typeOf (wordOf s) ≡ 3 = omega arith in
+    c .of-data .ensures ∙ ap ofData (c .before .read-data .ensures) ∙ read-by-type s (k .0) (rw (t, readType))
+
+read-status-requires : tie.Need-read-status-requires
+read-status-requires c κs = search needs
+
+of-status-requires : tie.Need-of-status-requires
+of-status-requires c κs = search needs
+
+returns-4 : tie.Need-returns-4
+unfolding readType
+returns-4 c =
+    let s = now (c .before .before .before .before .before .before .before .before .before .before .before .before .before .args .p) in
+    let k = known (c .before .before .before .before .before .before .before .before) in
+    let t : typeOf (wordOf s) ≡ 4 = omega arith in
+    c .of-status .ensures ∙ ap ofStatus (c .before .read-status .ensures) ∙ read-by-type s (k .0) (rw (t, readType))
+
+refuse-requires-2 : tie.Need-refuse-requires-2
+refuse-requires-2 c κs = search needs
+
+returns-5 : tie.Need-returns-5
+unfolding readType
+returns-5 c =
+    let s = now (c .before .before .before .before .before .before .before .before .before .before .before .before .args .p) in
+    let k = known (c .before .before .before .before .before .before .before) in
+    let t = typeOf (wordOf s) in
+    rw (c .refuse2 .ensures)
+    (read-by-type s (k .0) (rw (ne-eqb t 2 (omega arith), ne-eqb t 3 (omega arith), ne-eqb t 4 (omega arith))))
+
+pub read-packet-spec : {M : Type 1} → statement M
+read-packet-spec =
+    tie.close
+    (tie.spec
+    start-refusal-requires
+    refuse-requires
+    returns
+    word-requires
+    split-requires
+    read-metadata-requires
+    of-metadata-requires
+    returns-2
+    read-data-requires
+    of-data-requires
+    returns-3
+    read-status-requires
+    of-status-requires
+    returns-4
+    refuse-requires-2
+    returns-5)

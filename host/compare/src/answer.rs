@@ -1,0 +1,144 @@
+//! The answers as include/saratoga.h lays them out. On refusal all but `number` and `code` is 0.
+
+use paper::read;
+use paper::refusal::Refusal;
+
+/// `struct saratoga_written`
+#[repr(C)]
+#[derive(Clone, Copy, Debug, Default, PartialEq, Eq)]
+pub struct Written {
+    pub number: u64,
+    pub code: u64,
+    pub size: u64,
+}
+
+/// `struct saratoga_hole`
+#[repr(C)]
+#[derive(Clone, Copy, Debug, Default, PartialEq, Eq)]
+pub struct Hole {
+    pub number: u64,
+    pub code: u64,
+    pub start: u64,
+    pub end: u64,
+}
+
+/// `struct saratoga_packet`
+#[repr(C)]
+#[derive(Clone, Copy, Debug, Default, PartialEq, Eq)]
+pub struct Packet {
+    pub number: u64,
+    pub code: u64,
+    pub kind: u64,
+    pub flags: u64,
+    pub id: u64,
+    pub width: u64,
+    pub timestamp_at: u64,
+    pub timestamp_len: u64,
+    pub checksum_at: u64,
+    pub checksum_len: u64,
+    pub properties: u64,
+    pub size: u64,
+    pub mtime: u64,
+    pub ctime: u64,
+    pub path_at: u64,
+    pub path_len: u64,
+    pub offset: u64,
+    pub payload_at: u64,
+    pub payload_len: u64,
+    pub status: u64,
+    pub progress: u64,
+    pub in_response_to: u64,
+    pub holes_at: u64,
+    pub hole_count: u64,
+}
+
+impl From<Result<usize, Refusal>> for Written {
+    fn from(answer: Result<usize, Refusal>) -> Written {
+        match answer {
+            Ok(size) => Written { size: size as u64, ..Written::default() },
+            Err(refusal) => Written { number: refusal.number(), code: refusal.code(), ..Written::default() },
+        }
+    }
+}
+
+impl From<Result<read::Hole, Refusal>> for Hole {
+    fn from(answer: Result<read::Hole, Refusal>) -> Hole {
+        match answer {
+            Ok(hole) => Hole { start: hole.start, end: hole.end, ..Hole::default() },
+            Err(refusal) => Hole { number: refusal.number(), code: refusal.code(), ..Hole::default() },
+        }
+    }
+}
+
+impl From<Result<read::Packet, Refusal>> for Packet {
+    fn from(answer: Result<read::Packet, Refusal>) -> Packet {
+        match answer {
+            Ok(read::Packet::Metadata(packet)) => packet.into(),
+            Ok(read::Packet::Data(packet)) => packet.into(),
+            Ok(read::Packet::Success(packet)) => packet.into(),
+            Ok(read::Packet::Failure(packet)) => packet.into(),
+            Err(refusal) => Packet { number: refusal.number(), code: refusal.code(), ..Packet::default() },
+        }
+    }
+}
+
+impl From<read::Metadata> for Packet {
+    fn from(packet: read::Metadata) -> Packet {
+        Packet {
+            kind: 2,
+            flags: packet.header.flags,
+            id: packet.header.id,
+            width: packet.width as u64,
+            checksum_at: packet.checksum.start as u64,
+            checksum_len: packet.checksum.len() as u64,
+            properties: packet.properties,
+            size: packet.size,
+            mtime: packet.mtime,
+            ctime: packet.ctime,
+            path_at: packet.path.start as u64,
+            path_len: packet.path.len() as u64,
+            ..Packet::default()
+        }
+    }
+}
+
+impl From<read::Data> for Packet {
+    fn from(packet: read::Data) -> Packet {
+        Packet {
+            kind: 3,
+            flags: packet.header.flags,
+            id: packet.header.id,
+            width: packet.width as u64,
+            timestamp_at: packet.timestamp.start as u64,
+            timestamp_len: packet.timestamp.len() as u64,
+            offset: packet.offset,
+            payload_at: packet.payload.start as u64,
+            payload_len: packet.payload.len() as u64,
+            ..Packet::default()
+        }
+    }
+}
+
+impl From<read::Success> for Packet {
+    fn from(packet: read::Success) -> Packet {
+        Packet {
+            kind: 4,
+            flags: packet.header.flags,
+            id: packet.header.id,
+            width: packet.width as u64,
+            timestamp_at: packet.timestamp.start as u64,
+            timestamp_len: packet.timestamp.len() as u64,
+            progress: packet.progress,
+            in_response_to: packet.in_response_to,
+            holes_at: packet.holes_at as u64,
+            hole_count: packet.holes.len() as u64,
+            ..Packet::default()
+        }
+    }
+}
+
+impl From<read::Failure> for Packet {
+    fn from(packet: read::Failure) -> Packet {
+        Packet { kind: 4, flags: packet.header.flags, id: packet.header.id, status: packet.status, ..Packet::default() }
+    }
+}

@@ -1,0 +1,195 @@
+//! Faults to put into valid packets, each with the refusal that it brings when it is the only one. Several in one
+//! packet try the order of the refusals.
+
+use crate::packets::*;
+use crate::rng::Rng;
+
+/// The refusal's number, and what spoils the packet.
+pub type Fault<T> = (u64, fn(&mut T, &mut Rng));
+
+fn version(start: &mut Start, rng: &mut Rng) {
+    start.first = (start.first & 0x3F) | rng.pick(&[0x00, 0x80, 0xC0]);
+}
+
+fn other_type(start: &mut Start, rng: &mut Rng) {
+    let kind = match rng.below(3) {
+        0 => rng.below(2),
+        _ => rng.between(5, 63),
+    };
+    start.first = (start.first & 0xC0) | kind as u8;
+}
+
+fn refused_width(start: &mut Start) {
+    start.flags = with_width(start.flags, 3);
+}
+
+fn other_kind(start: &mut Start, rng: &mut Rng) {
+    start.flags = (start.flags & !KIND) | (rng.between(1, 3) as u32) << (31 - 11);
+}
+
+fn cut(rng: &mut Rng, first: usize, last: usize) -> Ending {
+    Ending::Cut(rng.place(first, last))
+}
+
+fn too_long(rng: &mut Rng) -> Ending {
+    Ending::Filled(rng.pick(&[65_536, 65_536, 65_537, 70_000]))
+}
+
+/// Where the path starts.
+pub fn path_at(packet: &Metadata) -> usize {
+    8 + packet.checksum.len() + 2 + entry_width(packet.properties) + 8
+}
+
+pub const METADATA: &[Fault<Metadata>] = &[
+    (9, |p, rng| {
+        // The entry is wider than the packet's own width.
+        let code = rng.below(2) as u32;
+        p.start.flags = with_width(p.start.flags, code);
+        p.properties = with_entry_width(p.properties, rng.between(u64::from(code) + 1, 2) as u32);
+        let (own, entry) = (last(width(p.start.flags)), last(entry_width(p.properties)));
+        p.size = rng.pick(&[own + 1, entry]);
+    }),
+    (3, |p, rng| version(&mut p.start, rng)),
+    (4, |p, rng| other_type(&mut p.start, rng)),
+    (5, |p, _| refused_width(&mut p.start)),
+    (6, |p, rng| other_kind(&mut p.start, rng)),
+    (7, |p, rng| {
+        let pair = refused_pair(rng);
+        p.start.flags = (p.start.flags & 0x00FF_FF00) | pair;
+        if rng.one_in(2) {
+            p.checksum = rng.octets(4 * (pair as usize / 16));
+        }
+    }),
+    (6, |p, rng| p.properties |= rng.pick(&NOT_A_FILE)),
+    (5, |p, _| p.properties = with_entry_width(p.properties, 3)),
+    (1, |p, _| p.close.clear()),
+    (8, |p, _| p.path.clear()),
+    (8, |p, rng| {
+        let len = rng.pick(&[1_024, 1_024, 1_025, 1_100, 3_000]);
+        p.path = path(rng, len);
+    }),
+    (8, |p, rng| {
+        let len = rng.pick(&[1_024, 1_024, 1_025, 1_100, 3_000]);
+        p.path = path(rng, len);
+        p.close.clear();
+    }),
+    (8, |p, rng| {
+        let at = rng.place(0, p.path.len());
+        p.path.insert(at, 0);
+    }),
+    (8, |p, rng| {
+        let len = rng.pick(&[1, 1, 2, 4, 50]);
+        p.close = vec![0];
+        p.close.extend(rng.octets(len));
+    }),
+    (1, |p, rng| p.ending = cut(rng, 0, 7)),
+    (1, |p, rng| p.ending = cut(rng, 8, 8 + p.checksum.len() + 1)),
+    (1, |p, rng| p.ending = cut(rng, 8 + p.checksum.len() + 2, path_at(p) - 1)),
+    (1, |p, rng| p.ending = cut(rng, path_at(p), path_at(p) + p.path.len())),
+    (2, |p, rng| p.ending = too_long(rng)),
+];
+
+pub const DATA: &[Fault<Data>] = &[
+    (3, |p, rng| version(&mut p.start, rng)),
+    (4, |p, rng| other_type(&mut p.start, rng)),
+    (5, |p, _| refused_width(&mut p.start)),
+    (6, |p, rng| other_kind(&mut p.start, rng)),
+    (10, |p, _| p.payload.clear()),
+    (1, |p, rng| p.ending = cut(rng, 0, 7)),
+    (1, |p, rng| p.ending = cut(rng, 8, 8 + p.timestamp.len() + width(p.start.flags) - 1)),
+    (2, |p, rng| p.ending = too_long(rng)),
+];
+
+pub const STATUS: &[Fault<Status>] = &[
+    (11, |p, rng| {
+        let (_, fault) = rng.pick(HOLES);
+        fault(p, rng)
+    }),
+    (3, |p, rng| version(&mut p.start, rng)),
+    (4, |p, rng| other_type(&mut p.start, rng)),
+    (5, |p, _| refused_width(&mut p.start)),
+    (1, |p, rng| p.ending = cut(rng, 0, 7)),
+    (1, |p, rng| p.ending = cut(rng, 8, 8 + p.timestamp.len() + 2 * width(p.start.flags) - 1)),
+    (2, |p, rng| p.ending = too_long(rng)),
+];
+
+/// Each way in which a hole list can be wrong.
+pub const HOLES: &[Fault<Status>] = &[
+    // Not whole pairs.
+    (11, |p, rng| {
+        let len = rng.place(1, 2 * width(p.start.flags) - 1);
+        p.extra = rng.octets(len);
+    }),
+    // A start without an end.
+    (11, |p, rng| p.extra = rng.octets(width(p.start.flags))),
+    // Two holes touch.
+    (11, |p, rng| {
+        let at = two_holes(p, rng);
+        p.holes[at].0 = p.holes[at - 1].1;
+    }),
+    // Two holes overlap.
+    (11, |p, rng| {
+        let at = two_holes(p, rng);
+        p.holes[at].0 = p.holes[at - 1].1.saturating_sub(1);
+    }),
+    // A hole twice.
+    (11, |p, rng| {
+        let at = two_holes(p, rng);
+        p.holes[at] = p.holes[at - 1];
+    }),
+    // The higher hole first.
+    (11, |p, rng| {
+        let at = two_holes(p, rng);
+        p.holes.swap(at - 1, at);
+    }),
+    // A start that is its end.
+    (11, |p, rng| {
+        let at = two_holes(p, rng);
+        p.holes[at].1 = p.holes[at].0;
+    }),
+    // A start above its end.
+    (11, |p, rng| {
+        let at = two_holes(p, rng);
+        p.holes[at] = (p.holes[at].1, p.holes[at].0);
+    }),
+    // The first hole starts below Progress.
+    (11, |p, rng| {
+        two_holes(p, rng);
+        p.progress = p.holes[0].0.saturating_add(1);
+    }),
+    // The last hole ends above In-Response-To.
+    (11, |p, rng| {
+        two_holes(p, rng);
+        p.in_response_to = p.holes[p.holes.len() - 1].1.saturating_sub(1);
+    }),
+    // The first hole starts above Progress, bit 14 clear.
+    (11, |p, rng| {
+        two_holes(p, rng);
+        p.holes[0].0 = p.holes[0].0.max(1);
+        p.holes[0].1 = p.holes[0].1.max(2);
+        p.progress = p.holes[0].0 - 1;
+        p.start.flags &= !INCOMPLETE;
+    }),
+    // No hole and Progress below In-Response-To, bit 14 clear.
+    (11, |p, rng| {
+        p.holes.clear();
+        p.in_response_to = rng.between(1, last(width(p.start.flags)));
+        p.progress = rng.pick(&[0, p.in_response_to - 1, p.in_response_to / 2]);
+        p.start.flags &= !INCOMPLETE;
+    }),
+    // No hole and Progress above In-Response-To.
+    (11, |p, rng| {
+        p.holes.clear();
+        p.progress = rng.between(1, last(width(p.start.flags)));
+        p.in_response_to = rng.pick(&[0, p.progress - 1, p.progress / 2]);
+    }),
+];
+
+/// Makes the list one of two holes or more, and picks one that isn't the first.
+fn two_holes(p: &mut Status, rng: &mut Rng) -> usize {
+    if p.holes.len() < 2 {
+        let count = rng.place(2, 6);
+        *p = Status::with_holes(rng, p.start.clone(), count);
+    }
+    rng.place(1, p.holes.len() - 1)
+}

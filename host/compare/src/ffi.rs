@@ -1,0 +1,108 @@
+//! The archive's functions: the declarations of include/saratoga.h, and a codec that calls them. Nothing checks
+//! these against the header but host/ctest, which compiles it.
+
+use std::ptr::NonNull;
+
+use paper::write::{DataFields, MetadataFields};
+
+use crate::answer::{Hole, Packet, Written};
+use crate::codec::Codec;
+
+extern "C" {
+    fn saratoga_read(packet: *const u8, packet_len: usize) -> Packet;
+    fn saratoga_read_hole(packet: *const u8, packet_len: usize, index: u64) -> Hole;
+    fn saratoga_write_metadata(
+        flags: u64,
+        id: u64,
+        checksum: *const u8,
+        checksum_len: usize,
+        properties: u64,
+        size: u64,
+        mtime: u64,
+        ctime: u64,
+        path: *const u8,
+        path_len: usize,
+        out: *mut u8,
+        out_len: usize,
+    ) -> Written;
+    fn saratoga_write_data(
+        flags: u64,
+        id: u64,
+        timestamp: *const u8,
+        timestamp_len: usize,
+        offset: u64,
+        payload: *const u8,
+        payload_len: usize,
+        out: *mut u8,
+        out_len: usize,
+    ) -> Written;
+    fn saratoga_write_failure(id: u64, status: u64, out: *mut u8, out_len: usize) -> Written;
+}
+
+/// The slice's start. An empty slice gets an address that nothing may be read from.
+fn start(octets: &[u8]) -> *const u8 {
+    match octets {
+        [] => NonNull::dangling().as_ptr(),
+        _ => octets.as_ptr(),
+    }
+}
+
+fn start_mut(octets: &mut [u8]) -> *mut u8 {
+    match octets {
+        [] => NonNull::dangling().as_ptr(),
+        _ => octets.as_mut_ptr(),
+    }
+}
+
+/// The codec in the archive.
+pub struct Archive;
+
+// Each call is sound: a slice is valid for its length, and `out` is borrowed alone, so overlaps nothing.
+impl Codec for Archive {
+    fn read(&self, packet: &[u8]) -> Packet {
+        unsafe { saratoga_read(start(packet), packet.len()) }
+    }
+
+    fn read_hole(&self, packet: &[u8], index: u64) -> Hole {
+        unsafe { saratoga_read_hole(start(packet), packet.len(), index) }
+    }
+
+    fn write_metadata(&self, fields: &MetadataFields, out: &mut [u8]) -> Written {
+        unsafe {
+            saratoga_write_metadata(
+                fields.flags,
+                fields.id,
+                start(fields.checksum),
+                fields.checksum.len(),
+                fields.properties,
+                fields.size,
+                fields.mtime,
+                fields.ctime,
+                start(fields.path),
+                fields.path.len(),
+                start_mut(out),
+                out.len(),
+            )
+        }
+    }
+
+    fn write_data(&self, fields: &DataFields, out: &mut [u8]) -> Written {
+        unsafe {
+            saratoga_write_data(
+                fields.flags,
+                fields.id,
+                start(fields.timestamp),
+                fields.timestamp.len(),
+                fields.offset,
+                start(fields.payload),
+                fields.payload.len(),
+                start_mut(out),
+                out.len(),
+            )
+        }
+    }
+
+    fn write_failure(&self, id: u64, status: u64, out: &mut [u8]) -> Written {
+        unsafe { saratoga_write_failure(id, status, start_mut(out), out.len()) }
+    }
+}

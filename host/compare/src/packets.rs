@@ -1,0 +1,352 @@
+//! Packets to be read: made valid field by field, laid out here (not by either codec), and open to be spoiled.
+
+use crate::rng::Rng;
+
+/// How a packet ends: as laid out, cut to a length, or filled up to one.
+#[derive(Clone, Copy)]
+pub enum Ending {
+    Whole,
+    Cut(usize),
+    Filled(usize),
+}
+
+/// The first word and the Id. Every field is as wide as in the packet.
+#[derive(Clone)]
+pub struct Start {
+    /// Bits 0 to 7: the version and the type.
+    pub first: u8,
+    /// Bits 8 to 31.
+    pub flags: u32,
+    pub id: u32,
+}
+
+#[derive(Clone)]
+pub struct Metadata {
+    pub start: Start,
+    pub checksum: Vec<u8>,
+    pub properties: u16,
+    pub size: u64,
+    pub mtime: u32,
+    pub ctime: u32,
+    pub path: Vec<u8>,
+    /// What follows the path: one zero octet.
+    pub close: Vec<u8>,
+    pub ending: Ending,
+}
+
+#[derive(Clone)]
+pub struct Data {
+    pub start: Start,
+    pub timestamp: Vec<u8>,
+    pub offset: u64,
+    pub payload: Vec<u8>,
+    pub ending: Ending,
+}
+
+#[derive(Clone)]
+pub struct Status {
+    pub start: Start,
+    pub timestamp: Vec<u8>,
+    pub progress: u64,
+    pub in_response_to: u64,
+    pub holes: Vec<(u64, u64)>,
+    /// What follows the holes: nothing.
+    pub extra: Vec<u8>,
+    pub ending: Ending,
+}
+
+pub const TIMESTAMP: u32 = 1 << (31 - 12);
+pub const INCOMPLETE: u32 = 1 << (31 - 14);
+pub const KIND: u32 = 3 << (31 - 11);
+pub const WIDTH: u32 = 3 << (31 - 9);
+pub const ENTRY_WIDTH: u16 = 3 << (15 - 9);
+/// Property bits 6, 7 and 10.
+pub const NOT_A_FILE: [u16; 3] = [1 << (15 - 6), 1 << (15 - 7), 1 << (15 - 10)];
+
+/// `flags` with width bits `code`: 0, 1, 2 or the refused 3.
+pub fn with_width(flags: u32, code: u32) -> u32 {
+    (flags & !WIDTH) | (code << (31 - 9))
+}
+
+/// `properties` with width bits `code`.
+pub fn with_entry_width(properties: u16, code: u32) -> u16 {
+    (properties & !ENTRY_WIDTH) | ((code as u16) << (15 - 9))
+}
+
+/// Octets of the packet's descriptors.
+pub fn width(flags: u32) -> usize {
+    2 << ((flags & WIDTH) >> (31 - 9))
+}
+
+/// Octets of the entry's size.
+pub fn entry_width(properties: u16) -> usize {
+    2 << ((properties & ENTRY_WIDTH) >> (15 - 9))
+}
+
+/// The largest number in `octets` octets, of those that the codec can hold.
+pub fn last(octets: usize) -> u64 {
+    match octets {
+        2 => 0xFFFF,
+        4 => 0xFFFF_FFFF,
+        _ => u64::MAX,
+    }
+}
+
+/// Any pair of checksum type and words that is allowed, as bits 24 to 31.
+pub fn allowed_pair(rng: &mut Rng) -> u32 {
+    match rng.below(3) {
+        0 => rng.pick(&[0x00, 0x11, 0x42, 0x53]),
+        1 => 0x00,
+        _ => (rng.between(1, 15) * 16 + rng.between(4, 15)) as u32,
+    }
+}
+
+/// Any pair that isn't.
+pub fn refused_pair(rng: &mut Rng) -> u32 {
+    loop {
+        let pair = match rng.below(2) {
+            0 => rng.below(256) as u32,
+            _ => (rng.below(16) * 16 + rng.below(5)) as u32,
+        };
+        let (words, kind) = (pair / 16, pair % 16);
+        let allowed = [0x00, 0x11, 0x42, 0x53].contains(&pair) || (kind > 3 && words > 0);
+        if !allowed {
+            return pair;
+        }
+    }
+}
+
+/// Octets that aren't zero.
+pub fn path(rng: &mut Rng, len: usize) -> Vec<u8> {
+    (0..len).map(|_| rng.between(1, 255) as u8).collect()
+}
+
+/// A length for a path that is allowed.
+pub fn path_len(rng: &mut Rng) -> usize {
+    match rng.below(40) {
+        0 => 1_023,
+        1 => 1_022,
+        2 => rng.place(1, 1_023),
+        3..=7 => 1,
+        _ => rng.place(1, 30),
+    }
+}
+
+/// A length for a payload of a packet whose other fields take `taken` octets.
+pub fn payload_len(rng: &mut Rng, taken: usize) -> usize {
+    match rng.below(200) {
+        0 => 65_535 - taken - rng.place(0, 2),
+        1 => rng.place(1, 9_000),
+        2..=30 => 1,
+        _ => rng.place(1, 60),
+    }
+}
+
+/// Width bits and flags without a rule at random, kind 00, and bits 24 to 31 as given.
+fn start(rng: &mut Rng, kind: u8, low: u32) -> Start {
+    let flags = rng.any() as u32 & 0x00FF_FF00 & !KIND | low;
+    let code = rng.below(3) as u32;
+    Start { first: 0x40 | kind, flags: with_width(flags, code), id: rng.number(32) as u32 }
+}
+
+impl Metadata {
+    pub fn valid(rng: &mut Rng) -> Metadata {
+        let pair = allowed_pair(rng);
+        let start = start(rng, 2, pair);
+        let bits = rng.any() as u16 & !NOT_A_FILE[0] & !NOT_A_FILE[1] & !NOT_A_FILE[2];
+        let properties = with_entry_width(bits, rng.below(3) as u32);
+        let size_octets = width(start.flags).min(entry_width(properties));
+        let len = path_len(rng);
+        Metadata {
+            start,
+            checksum: rng.octets(4 * (pair as usize / 16)),
+            properties,
+            size: rng.number(8 * size_octets as u32),
+            mtime: rng.number(32) as u32,
+            ctime: rng.number(32) as u32,
+            path: path(rng, len),
+            close: vec![0],
+            ending: Ending::Whole,
+        }
+    }
+
+    pub fn octets(&self, rng: &mut Rng) -> Vec<u8> {
+        let mut octets = self.start.octets();
+        octets.extend(&self.checksum);
+        put(&mut octets, u64::from(self.properties), 2);
+        put(&mut octets, self.size, entry_width(self.properties));
+        put(&mut octets, u64::from(self.mtime), 4);
+        put(&mut octets, u64::from(self.ctime), 4);
+        octets.extend(&self.path);
+        octets.extend(&self.close);
+        end(octets, self.ending, rng)
+    }
+}
+
+impl Data {
+    pub fn valid(rng: &mut Rng) -> Data {
+        let low = rng.below(256) as u32;
+        let start = start(rng, 3, low);
+        let stamp = stamp_len(start.flags);
+        let taken = 8 + stamp + width(start.flags);
+        let len = payload_len(rng, taken);
+        Data {
+            timestamp: rng.octets(stamp),
+            offset: rng.number(8 * width(start.flags) as u32),
+            payload: rng.octets(len),
+            start,
+            ending: Ending::Whole,
+        }
+    }
+
+    pub fn octets(&self, rng: &mut Rng) -> Vec<u8> {
+        let mut octets = self.start.octets();
+        octets.extend(&self.timestamp);
+        put(&mut octets, self.offset, width(self.start.flags));
+        octets.extend(&self.payload);
+        end(octets, self.ending, rng)
+    }
+}
+
+impl Status {
+    /// A success STATUS with some holes or none.
+    pub fn valid(rng: &mut Rng) -> Status {
+        let start = start(rng, 4, 0);
+        let most = (65_535 - 24 - 16) / (2 * width(start.flags));
+        let count = match rng.below(400) {
+            0 => most,
+            1 => rng.place(0, most),
+            2..=100 => 0,
+            _ => rng.place(1, 9),
+        };
+        Status::with_holes(rng, start, count)
+    }
+
+    pub fn with_holes(rng: &mut Rng, start: Start, count: usize) -> Status {
+        let octets = width(start.flags);
+        let mut status = Status {
+            timestamp: rng.octets(stamp_len(start.flags)),
+            progress: 0,
+            in_response_to: 0,
+            holes: rising_holes(rng, octets, count),
+            extra: vec![],
+            ending: Ending::Whole,
+            start,
+        };
+        status.set_bounds(rng);
+        status
+    }
+
+    /// Progress and In-Response-To that allow the holes.
+    fn set_bounds(&mut self, rng: &mut Rng) {
+        let last = last(width(self.start.flags));
+        let incomplete = self.start.flags & INCOMPLETE != 0;
+        let (low, high) = match (self.holes.first(), self.holes.last()) {
+            (Some(&(low, _)), Some(&(_, high))) => (low, high),
+            _ => {
+                let low = rng.number(8 * width(self.start.flags).min(8) as u32);
+                (low, low)
+            }
+        };
+        let free = incomplete || !self.holes.is_empty();
+        self.in_response_to = match rng.below(3) {
+            0 if free => last,
+            1 if free => rng.between(high, last),
+            _ => high,
+        };
+        self.progress = match rng.below(3) {
+            0 if incomplete => 0,
+            1 if incomplete => rng.between(0, low),
+            _ => low,
+        };
+    }
+
+    /// A failure STATUS: any flags, a code that isn't 0, and anything after the Id.
+    pub fn failure(rng: &mut Rng) -> Vec<u8> {
+        let mut start = start(rng, 4, 0);
+        start.flags = (rng.any() as u32 & 0x00FF_FF00) | rng.between(1, 255) as u32;
+        let len = rng.pick(&[0, 0, 1, 2, 4, 7, 12, 16, 24, 33]);
+        let mut octets = start.octets();
+        octets.extend(rng.octets(len));
+        octets
+    }
+
+    pub fn octets(&self, rng: &mut Rng) -> Vec<u8> {
+        let octets_each = width(self.start.flags);
+        let mut octets = self.start.octets();
+        octets.extend(&self.timestamp);
+        put(&mut octets, self.progress, octets_each);
+        put(&mut octets, self.in_response_to, octets_each);
+        for &(start, end) in &self.holes {
+            put(&mut octets, start, octets_each);
+            put(&mut octets, end, octets_each);
+        }
+        octets.extend(&self.extra);
+        end(octets, self.ending, rng)
+    }
+}
+
+impl Start {
+    pub fn octets(&self) -> Vec<u8> {
+        let mut octets = vec![self.first];
+        put(&mut octets, u64::from(self.flags), 3);
+        put(&mut octets, u64::from(self.id), 4);
+        octets
+    }
+}
+
+pub fn stamp_len(flags: u32) -> usize {
+    match flags & TIMESTAMP {
+        0 => 0,
+        _ => 16,
+    }
+}
+
+/// Holes apart from one another, often by a single offset, up to the last offset now and then.
+fn rising_holes(rng: &mut Rng, octets: usize, count: usize) -> Vec<(u64, u64)> {
+    if count == 0 {
+        return vec![];
+    }
+    let last = last(octets);
+    let step = last / (2 * count as u64);
+    let mut at = match rng.below(3) {
+        0 => 0,
+        _ => rng.below(step),
+    };
+    let mut holes = vec![];
+    for _ in 0..count {
+        let start = at;
+        let end = start + gap(rng, step);
+        holes.push((start, end));
+        at = end.saturating_add(gap(rng, step));
+    }
+    if rng.one_in(4) {
+        holes[count - 1].1 = last;
+    }
+    holes
+}
+
+fn gap(rng: &mut Rng, step: u64) -> u64 {
+    match rng.below(2) {
+        0 => 1,
+        _ => rng.between(1, step),
+    }
+}
+
+/// `value` in `octets` octets, big-endian; what doesn't fit is lost, and zeros fill more than 8.
+fn put(octets: &mut Vec<u8>, value: u64, count: usize) {
+    let all = u128::from(value).to_be_bytes();
+    octets.extend(&all[16 - count..]);
+}
+
+fn end(mut octets: Vec<u8>, ending: Ending, rng: &mut Rng) -> Vec<u8> {
+    match ending {
+        Ending::Whole => {}
+        Ending::Cut(len) => octets.truncate(len),
+        Ending::Filled(len) => {
+            let missing = len.saturating_sub(octets.len());
+            octets.extend(rng.octets(missing));
+        }
+    }
+    octets
+}

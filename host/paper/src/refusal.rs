@@ -1,0 +1,62 @@
+//! "The numbers of a refusal": every refusal that the codec can give, with "the status code to send (0: nothing to
+//! send)".
+
+/// One row of the table. The value of each is its number.
+#[derive(Clone, Copy, Debug, PartialEq, Eq)]
+pub enum Refusal {
+    /// "packet ends inside a field (not in the hole list: 11), or a path has no zero octet in fewer than 1,024 octets"
+    Truncated = 1,
+    /// "packet over 65,535 octets, read or to be written"
+    TooLong = 2,
+    /// "bits 0 and 1 are not 0 1"
+    Version = 3,
+    /// "type not 2, 3 or 4, or not the one the operation takes"
+    Type = 4,
+    /// "width bits 11"
+    Width = 5,
+    /// "kind or property bits not those of a file"
+    Kind = 6,
+    /// "checksum pair not allowed"
+    ChecksumPair = 7,
+    /// "path empty, over 1,023 octets, or followed by octets"
+    Path = 8,
+    /// "L above 2^w - 1"
+    Size = 9,
+    /// "DATA with no payload"
+    NoPayload = 10,
+    /// "hole list not as above"
+    HoleList = 11,
+    /// "k not allowed": here, no hole has the index asked for.
+    Index = 19,
+    /// "buffer too small"
+    Buffer = 20,
+    /// "a field to be written exceeds its bits (128 where width bits are 11), or failure code 0"
+    Field = 21,
+}
+
+impl Refusal {
+    /// The column "No."
+    pub fn number(self) -> u64 {
+        self as u64
+    }
+
+    /// The column "Code".
+    pub fn code(self) -> u64 {
+        match self {
+            Refusal::Truncated => 0,
+            Refusal::TooLong => 0,
+            Refusal::Version => 0,
+            Refusal::Type => 0x0A,
+            Refusal::Width => 0x09,
+            Refusal::Kind => 0x01,
+            Refusal::ChecksumPair => 0x01,
+            Refusal::Path => 0x01,
+            Refusal::Size => 0x09,
+            Refusal::NoPayload => 0x01,
+            Refusal::HoleList => 0,
+            Refusal::Index => 0,
+            Refusal::Buffer => 0,
+            Refusal::Field => 0,
+        }
+    }
+}

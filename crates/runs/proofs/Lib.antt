@@ -3,3 +3,7 @@ pub mod InsertLaws
 pub mod CanonicalLaws
 pub mod CountLaws
 pub mod RisingLaws
+pub mod EdgeLaws
+pub mod HoleLaws
+pub mod ProgressLaws
+pub mod HolePlaces

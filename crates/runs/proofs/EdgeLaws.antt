@@ -35,11 +35,10 @@ edge-member rs x h e = ⊎-elim (λ (p : 0 ≡ suc x). absurd (omega arith)) (λ
 
 -- the edge is one more than x exactly when x is the highest member
 pub edge-highest : (rs : List Run) (x : ℕ) → Canonical rs → (edge rs ≡ suc x) ↔ (Member rs x × ((y : ℕ) → Member rs y → y ≤ x))
-edge-highest rs x h =
-    (
-      (λ e. (edge-member rs x h e, λ y m. omega (arith, edge-above rs y h m))),
-      (λ p. highest (edge rs) (edge-above rs x h (p .0)) (λ y e. p .1 y (edge-member rs y h e))),
-    )
+edge-highest rs x h = (
+  (λ e. (edge-member rs x h e, λ y m. omega (arith, edge-above rs y h m))),
+  (λ p. highest (edge rs) (edge-above rs x h (p .0)) (λ y e. p .1 y (edge-member rs y h e))),
+)
   where
     highest : (n : ℕ) → x < n → ((y : ℕ) → n ≡ suc y → y ≤ x) → n ≡ suc x
     highest n p f = let q : n - 1 ≤ x = f (n - 1) (omega arith) in omega arith

@@ -6,4 +6,6 @@ pub mod RisingLaws
 pub mod EdgeLaws
 pub mod HoleLaws
 pub mod ProgressLaws
+pub mod CompleteLaws
 pub mod HolePlaces
+pub mod Examples

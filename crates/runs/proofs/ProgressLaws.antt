@@ -1,21 +1,17 @@
--- The progress is the lowest offset that is no member, and the edge where there are no holes. A transfer of length L is complete
--- exactly when every offset below L is a member.
+-- The progress is the lowest offset that is no member, where the first hole starts, and the edge where there are no holes.
 -- Assumes nothing.
 use Prim.Native.Nat.{ℕ, zero, suc, _≤_, _<_}
-use mathlib.Core.Path.{_≡_, refl, sym, ap, _∙_}
-use mathlib.Core.Bool.{Bool, true, false, cond}
+use mathlib.Core.Path.{_≡_, refl, sym, ap}
 use mathlib.Core.List.{List, [], _∷_}
 use mathlib.Core.Logic.{_⊎_, inl, inr, ⊎-elim, _↔_}
-use native.Mathlib.Nat.{le-refl}
 use native.Mathlib.Omega.{arith}
-use lib.Dec.{leb, eqb}
-use borrow.Author.Tests.{eq-eqb, ne-eqb, le-leb, leb-true}
+use borrow.Author.Tests.{eq-eqb, ne-eqb}
 use Rattle.runs.specs.Runs.{Run, Member, CanonicalFrom, Canonical, StopsTo}
-use Rattle.runs.specs.Holes.{edgeFrom, edge, hole, holesFrom, holes, progress, complete, HolesApart}
+use Rattle.runs.specs.Holes.{edgeFrom, edge, hole, holesFrom, holes, progress, HolesApart}
 use Rattle.runs.specs.declared.Hole.{Hole}
 use Rattle.runs.proofs.NumberLaws.{le-or-lt}
 use Rattle.runs.proofs.CanonicalLaws.{member-from}
-use Rattle.runs.proofs.EdgeLaws.{edge-grows, edge-above, edge-member, edge-stops}
+use Rattle.runs.proofs.EdgeLaws.{edge-grows, edge-stops}
 use Rattle.runs.proofs.HoleLaws.{holes-before, holes-after, holes-apart-from}
 use Rattle.runs.proofs.InsertLaws.{canonical-weaken}
 
@@ -116,34 +112,3 @@ progress-first-hole (r ∷ rs) x xs h e =
     (λ (p : r .start ≤ 0). rw (progress-low r rs (omega arith)) (first-from (r .stop) rs x xs (h .2) (rw (holes-after 0 r rs p) at e)))
     (λ (p : 0 < r .start). rw (progress-high r rs p) (first-from 0 (r ∷ rs) x xs (p, h .1, h .2) e))
     (le-or-lt (r .start) 0)
-
--- ---- complete
-
--- complete exactly when every offset below L is a member
-pub complete-iff : (L : ℕ) (rs : List Run) → Canonical rs → (complete L rs ≡ true) ↔ ((x : ℕ) → x < L → Member rs x)
-unfolding complete
-complete-iff L rs h = ((λ e x p. progress-below rs x (omega (arith, leb-true L (progress rs) e))), (λ f. le-leb L (progress rs) (all f)))
-  where
-    all : ((x : ℕ) → x < L → Member rs x) → L ≤ progress rs
-    all f = ⊎-elim (λ (p : L ≤ progress rs). p) (λ (p : progress rs < L). absurd (progress-missing rs h (f (progress rs) p))) (le-or-lt L (progress rs))
-
--- "L = 0 is complete at once"
-pub complete-zero : (rs : List Run) → complete 0 rs ≡ true
-unfolding complete
-complete-zero rs = le-leb 0 (progress rs) (omega arith)
-
--- with nothing received at or above L: complete exactly when the progress is L
-pub complete-progress : (L : ℕ) (rs : List Run) → Canonical rs → StopsTo L rs → (complete L rs ≡ true) ↔ (progress rs ≡ L)
-unfolding complete
-complete-progress L rs h s =
-    let p : progress rs ≤ L = progress-stops L rs h s in
-    ((λ e. omega (arith, leb-true L (progress rs) e)), (λ e. le-leb L (progress rs) (omega arith)))
-
--- and then the edge is L too, and there are no holes
-pub complete-edge : (L : ℕ) (rs : List Run) → Canonical rs → StopsTo L rs → complete L rs ≡ true → edge rs ≡ L
-complete-edge L rs h s c =
-    omega (arith, complete-progress L rs h s .0 c, progress-edge rs h, edge-stops L rs s)
-
-pub complete-no-holes : (L : ℕ) (rs : List Run) → Canonical rs → StopsTo L rs → complete L rs ≡ true → holes rs ≡ []
-complete-no-holes L rs h s c =
-    progress-no-holes rs h .1 (complete-progress L rs h s .0 c ∙ sym (complete-edge L rs h s c))

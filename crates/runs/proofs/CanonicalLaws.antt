@@ -1,5 +1,4 @@
--- A canonical list and its set are the same thing: canonical lists with equal members are equal, so the order of
--- insertions and their repeats leave no trace.
+-- A canonical list and its set are the same thing: canonical lists with equal members are equal.
 -- Assumes nothing.
 use Prim.Native.Nat.{ℕ, zero, suc, _-_, _≤_, _<_}
 use mathlib.Core.Path.{_≡_, refl, sym}
@@ -9,9 +8,16 @@ use mathlib.Core.Logic.{_⊎_, inl, inr, ⊎-elim, _↔_}
 use native.Mathlib.Omega.{arith}
 use lib.Dec.{leb, ltb}
 use borrow.Author.Tests.{le-leb, lt-leb, lt-ltb, le-ltb}
-use Rattle.runs.specs.Runs.{Run, run, Within, Member, contains, CanonicalFrom, Canonical, StopsTo, insert}
+use Rattle.runs.specs.Runs.{Run, run, Within, Member, contains, CanonicalFrom, Canonical, StopsTo}
 use Rattle.runs.proofs.NumberLaws.{le-or-lt}
-use Rattle.runs.proofs.InsertLaws.{insert-canonical, insert-only, insert-holds}
+
+-- "touching stretches are one run": at least one offset lies between neighbours
+pub canonical-apart : (k : ℕ) (r s : Run) (rs : List Run) → CanonicalFrom k (r ∷ s ∷ rs) → r .stop < s .start
+canonical-apart k r s rs h = omega arith
+
+pub canonical-weaken : (j k : ℕ) (rs : List Run) → j ≤ k → CanonicalFrom k rs → CanonicalFrom j rs
+canonical-weaken j k [] le h = tt
+canonical-weaken j k (r ∷ rs) le h = (omega arith, h .1, h .2)
 
 -- the members of a canonical list from k on are k or higher
 pub member-from : (k : ℕ) (rs : List Run) (x : ℕ) → CanonicalFrom k rs → Member rs x → k ≤ x
@@ -57,32 +63,6 @@ unique-from j k (r ∷ rs) (s ∷ ss) h g f b =
 pub canonical-unique : (rs ss : List Run) → Canonical rs → Canonical ss
     → ((x : ℕ) → Member rs x → Member ss x) → ((x : ℕ) → Member ss x → Member rs x) → rs ≡ ss
 canonical-unique rs ss h g f b = unique-from 0 0 rs ss h g f b
-
--- ---- the order of insertions, and repeats
-
-insert-swap : (a b c d : ℕ) (rs : List Run) (x : ℕ) → Member (insert a b (insert c d rs)) x → Member (insert c d (insert a b rs)) x
-insert-swap a b c d rs x m =
-    insert-holds c d (insert a b rs) x
-    (⊎-elim (λ w. inr (insert-holds a b rs x (inl w)))
-    (λ n. ⊎-elim inl (λ n. inr (insert-holds a b rs x (inr n))) (insert-only c d rs x n)) (insert-only a b (insert c d rs) x m))
-
--- two insertions may change places
-pub insert-commutes : (a b c d : ℕ) (rs : List Run) → a < b → c < d → Canonical rs → insert a b (insert c d rs) ≡ insert c d (insert a b rs)
-insert-commutes a b c d rs p q h =
-    canonical-unique (insert a b (insert c d rs)) (insert c d (insert a b rs))
-    (insert-canonical a b (insert c d rs) p (insert-canonical c d rs q h)) (insert-canonical c d (insert a b rs) q (insert-canonical a b rs p h))
-    (insert-swap a b c d rs) (insert-swap c d a b rs)
-
--- "A repeat adds nothing": offsets that were received already change nothing
-pub insert-known : (a b : ℕ) (rs : List Run) → a < b → Canonical rs → ((x : ℕ) → a ≤ x → x < b → Member rs x) → insert a b rs ≡ rs
-insert-known a b rs p h f =
-    canonical-unique (insert a b rs) rs (insert-canonical a b rs p h) h
-    (λ x m. ⊎-elim (λ w. f x (w .0) (w .1)) (λ n. n) (insert-only a b rs x m)) (λ x m. insert-holds a b rs x (inr m))
-
--- a second time changes nothing
-pub insert-idempotent : (a b : ℕ) (rs : List Run) → a < b → Canonical rs → insert a b (insert a b rs) ≡ insert a b rs
-insert-idempotent a b rs p h =
-    insert-known a b (insert a b rs) p (insert-canonical a b rs p h) (λ x u v. insert-holds a b rs x (inl (u, v)))
 
 -- ---- `Member` as a test, and the bound on the stops as one on the members
 

@@ -8,6 +8,16 @@ use native.Mathlib.Omega.{arith}
 use Rattle.runs.specs.Runs.{Run, Member, CanonicalFrom, Canonical, StopsTo}
 use Rattle.runs.specs.Holes.{edgeFrom, edge}
 
+-- the offset just below the edge is a member, or there is no run
+edge-last : (j k : ℕ) (rs : List Run) (x : ℕ) → CanonicalFrom k rs → edgeFrom j rs ≡ suc x → (j ≡ suc x) ⊎ Member rs x
+unfolding edgeFrom
+edge-last j k [] x h e = inl e
+edge-last j k (r ∷ rs) x h e =
+    ⊎-elim (λ (p : r .stop ≡ suc x). inr (inl (omega arith))) (λ m. inr (inr m)) (edge-last (r .stop) (suc (r .stop)) rs x (h .2) e)
+
+pub edge-member : (rs : List Run) (x : ℕ) → Canonical rs → edge rs ≡ suc x → Member rs x
+edge-member rs x h e = ⊎-elim (λ (p : 0 ≡ suc x). absurd (omega arith)) (λ m. m) (edge-last 0 0 rs x h e)
+
 pub edge-grows : (k : ℕ) (rs : List Run) → CanonicalFrom (suc k) rs → k ≤ edgeFrom k rs
 unfolding edgeFrom
 edge-grows k [] h = omega arith
@@ -22,16 +32,6 @@ edge-above-from j k (r ∷ rs) x h (inr m) = edge-above-from (r .stop) (suc (r .
 -- every member is below the edge
 pub edge-above : (rs : List Run) (x : ℕ) → Canonical rs → Member rs x → x < edge rs
 edge-above rs x h m = edge-above-from 0 0 rs x h m
-
--- the offset just below the edge is a member, or there is no run
-edge-last : (j k : ℕ) (rs : List Run) (x : ℕ) → CanonicalFrom k rs → edgeFrom j rs ≡ suc x → (j ≡ suc x) ⊎ Member rs x
-unfolding edgeFrom
-edge-last j k [] x h e = inl e
-edge-last j k (r ∷ rs) x h e =
-    ⊎-elim (λ (p : r .stop ≡ suc x). inr (inl (omega arith))) (λ m. inr (inr m)) (edge-last (r .stop) (suc (r .stop)) rs x (h .2) e)
-
-pub edge-member : (rs : List Run) (x : ℕ) → Canonical rs → edge rs ≡ suc x → Member rs x
-edge-member rs x h e = ⊎-elim (λ (p : 0 ≡ suc x). absurd (omega arith)) (λ m. m) (edge-last 0 0 rs x h e)
 
 -- the edge is one more than x exactly when x is the highest member
 pub edge-highest : (rs : List Run) (x : ℕ) → Canonical rs → (edge rs ≡ suc x) ↔ (Member rs x × ((y : ℕ) → Member rs y → y ≤ x))

@@ -4,8 +4,9 @@ use Prim.Native.Nat.{ℕ, zero, suc, _+_, _*_}
 use mathlib.Core.Path.{_≡_, refl}
 use mathlib.Core.Bool.{true, false}
 use mathlib.Core.List.{List, [], _∷_}
+use native.Mathlib.Omega.{arith}
 use lib.ListN.{length}
-use Rattle.runs.specs.Runs.{Run, run, contains, insert, absorbed}
+use Rattle.runs.specs.Runs.{Run, run, contains, Canonical, insert, absorbed}
 use Rattle.runs.specs.Holes.{edgeFrom, edge, hole, holesFrom, holes, progress, complete}
 
 -- ---- nothing received
@@ -64,6 +65,10 @@ touching-complete = refl
 touching-incomplete : complete 21 touching ≡ false
 unfolding insert progress complete
 touching-incomplete = refl
+
+-- two touching runs are no canonical list
+touching-apart : Canonical (run 0 10 ∷ run 10 20 ∷ []) → ⊥
+touching-apart h = omega arith
 
 -- the other way round
 touching-below : insert 0 10 (insert 10 20 []) ≡ run 0 20 ∷ []

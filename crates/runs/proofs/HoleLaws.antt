@@ -13,8 +13,7 @@ use Rattle.runs.specs.Runs.{Run, Member, CanonicalFrom, Canonical}
 use Rattle.runs.specs.Holes.{edgeFrom, edge, hole, holesFrom, holes, InHole, HolesApart}
 use Rattle.runs.specs.declared.Hole.{Hole}
 use Rattle.runs.proofs.NumberLaws.{le-or-lt}
-use Rattle.runs.proofs.InsertLaws.{canonical-weaken}
-use Rattle.runs.proofs.CanonicalLaws.{member-from}
+use Rattle.runs.proofs.CanonicalLaws.{canonical-weaken, member-from}
 use Rattle.runs.proofs.EdgeLaws.{edge-grows}
 
 -- the holes at the head of a list, by whether there is one before the first run

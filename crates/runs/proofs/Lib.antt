@@ -1,6 +1,7 @@
 pub mod NumberLaws
-pub mod InsertLaws
 pub mod CanonicalLaws
+pub mod InsertLaws
+pub mod RepeatLaws
 pub mod CountLaws
 pub mod RisingLaws
 pub mod EdgeLaws

@@ -10,19 +10,18 @@ use Rattle.runs.specs.Runs.{Run, Member, CanonicalFrom, Canonical, Stops
 use Rattle.runs.specs.Holes.{edgeFrom, edge, hole, holesFrom, holes, progress, HolesApart}
 use Rattle.runs.specs.declared.Hole.{Hole}
 use Rattle.runs.proofs.NumberLaws.{le-or-lt}
-use Rattle.runs.proofs.CanonicalLaws.{member-from}
+use Rattle.runs.proofs.CanonicalLaws.{canonical-weaken, member-from}
 use Rattle.runs.proofs.EdgeLaws.{edge-grows, edge-stops}
 use Rattle.runs.proofs.HoleLaws.{holes-before, holes-after, holes-apart-from}
-use Rattle.runs.proofs.InsertLaws.{canonical-weaken}
 
 -- the progress by whether offset 0 is received
-pub progress-low : (r : Run) (rs : List Run) → r .start ≡ 0 → progress (r ∷ rs) ≡ r .stop
-unfolding progress
-progress-low r rs z = simp (eq-eqb _ _ z)
-
 pub progress-high : (r : Run) (rs : List Run) → 0 < r .start → progress (r ∷ rs) ≡ 0
 unfolding progress
 progress-high r rs p = simp (ne-eqb (r .start) 0 (omega arith))
+
+pub progress-low : (r : Run) (rs : List Run) → r .start ≡ 0 → progress (r ∷ rs) ≡ r .stop
+unfolding progress
+progress-low r rs z = simp (eq-eqb _ _ z)
 
 progress-cases : (P : ℕ → Type 0) (r : Run) (rs : List Run) → (r .start ≡ 0 → P (r .stop)) → (0 < r .start → P 0) → P (progress (r ∷ rs))
 progress-cases P r rs f g =

@@ -1,14 +1,12 @@
 -- The holes are exactly the offsets below the edge that are no members, in longest stretches, rising and apart.
 -- Assumes nothing.
-use Prim.Native.Nat.{ℕ, zero, suc, _+_, _-_, _≤_, _<_}
-use mathlib.Core.Path.{_≡_, refl, sym, ap, _∙_}
-use mathlib.Core.Bool.{cond}
+use Prim.Native.Nat.{ℕ, zero, suc, _≤_, _<_}
+use mathlib.Core.Path.{_≡_, ap, _∙_}
 use mathlib.Core.List.{List, [], _∷_, List·Memᴰ, List·Memᴰ·cases-cons, List·Memᴰ·not-nil}
 use mathlib.Core.Logic.{_⊎_, inl, inr, ⊎-elim, _↔_}
 use native.Mathlib.Omega.{arith}
-use lib.ListN.{length}
-use lib.Dec.{eqb}
-use borrow.Author.Tests.{lt-ltb, le-ltb, eq-eqb, ne-eqb}
+use lib.ListN.{take, drop}
+use borrow.Author.Tests.{lt-ltb, le-ltb}
 use Rattle.runs.specs.Runs.{Run, Member, CanonicalFrom, Canonical}
 use Rattle.runs.specs.Holes.{edgeFrom, edge, hole, holesFrom, holes, InHole, HolesApart}
 use Rattle.runs.specs.declared.Hole.{Hole}
@@ -74,6 +72,18 @@ hole-iff rs x h = ((λ m. let i = hole-only 0 rs x h m in (i .1, i .2)), (λ p. 
 pub apart-weaken : (j k top : ℕ) (hs : List Hole) → j ≤ k → HolesApart k top hs → HolesApart j top hs
 apart-weaken j k top [] p h = tt
 apart-weaken j k top (x ∷ hs) p h = (omega arith, h .1, h .2, h .3)
+
+-- what is left after the first n holes, and the first n
+pub apart-drop : (n k top : ℕ) (hs : List Hole) → HolesApart k top hs → HolesApart k top (drop n hs)
+apart-drop zero k top hs h = h
+apart-drop (suc n) k top [] h = tt
+apart-drop (suc n) k top (x ∷ hs) h =
+    apart-weaken k (suc (x .end)) top (drop n hs) (omega arith) (apart-drop n (suc (x .end)) top hs (h .3))
+
+pub apart-take : (n k top : ℕ) (hs : List Hole) → HolesApart k top hs → HolesApart k top (take n hs)
+apart-take zero k top hs h = tt
+apart-take (suc n) k top [] h = tt
+apart-take (suc n) k top (x ∷ hs) h = (h .0, h .1, h .2, apart-take n (suc (x .end)) top hs (h .3))
 
 pub holes-apart-from : (k : ℕ) (rs : List Run) → CanonicalFrom k rs → HolesApart k (edgeFrom k rs) (holesFrom k rs)
 unfolding holesFrom edgeFrom

@@ -1,14 +1,12 @@
 -- Insertions by rising offset: where no run starts above a, only the last run can be touched, so the runs never become fewer.
 -- Assumes nothing.
-use Prim.Native.Nat.{ℕ, zero, suc, _+_, _≤_, _<_, min, max}
+use Prim.Native.Nat.{ℕ, suc, _+_, _≤_, _<_, min, max}
 use mathlib.Core.Path.{_≡_, refl, ap, _∙_}
 use mathlib.Core.List.{List, [], _∷_, _++_}
-use mathlib.Core.Logic.{_⊎_, inl, inr, ⊎-elim}
 use native.Mathlib.Nat.{le-refl}
 use native.Mathlib.Omega.{arith}
 use lib.ListN.{length}
 use Rattle.runs.specs.Runs.{Run, run, CanonicalFrom, Canonical, insert, absorbed}
-use Rattle.runs.proofs.NumberLaws.{le-or-lt}
 use Rattle.runs.proofs.InsertLaws.{insert-after, insert-join, insert-cases}
 use Rattle.runs.proofs.CountLaws.{insert-count}
 

@@ -1,7 +1,7 @@
 -- What a canonical list of runs says of its transfer: the edge, the holes, the progress, and whether the transfer is complete.
 -- Assumes nothing.
 use Prim.Native.Nat.{ℕ, zero, suc, _≤_, _<_}
-use mathlib.Core.Bool.{Bool, true, false, cond}
+use mathlib.Core.Bool.{Bool, cond}
 use mathlib.Core.List.{List, [], _∷_}
 use mathlib.Core.Logic.{_⊎_}
 use lib.Dec.{ltb, leb, eqb}
@@ -30,7 +30,8 @@ holesFrom k (r ∷ rs) =
 abbrev pub holes : List Run → List Hole
 holes rs = holesFrom 0 rs
 
--- "Progress is the lowest offset not received (the edge if there are no holes)": where the run that holds offset 0 stops
+-- "Progress is the lowest offset not received (the edge if there are no holes)": where the run that holds offset 0 stops,
+-- and 0 where no run does
 unfoldable pub progress : List Run → ℕ
 progress [] = 0
 progress (r ∷ rs) = cond (eqb (r .start) 0) (r .stop) 0

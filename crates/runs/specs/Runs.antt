@@ -1,7 +1,7 @@
 -- The set of received offsets of one transfer, kept as its one canonical list of runs, lowest first.
 -- Assumes nothing.
-use Prim.Native.Nat.{ℕ, zero, suc, _≤_, _<_, min, max}
-use mathlib.Core.Bool.{Bool, true, false, cond, _&&_, _||_}
+use Prim.Native.Nat.{ℕ, suc, _≤_, _<_, min, max}
+use mathlib.Core.Bool.{Bool, false, cond, _&&_, _||_}
 use mathlib.Core.List.{List, [], _∷_}
 use mathlib.Core.Logic.{_⊎_}
 use lib.Dec.{ltb, leb}
@@ -52,7 +52,7 @@ insert a b (r ∷ rs) =
     let joined = insert (min a (r .start)) (max b (r .stop)) rs in
     cond (ltb (r .stop) a) after (cond (ltb b (r .start)) (run a b ∷ r ∷ rs) joined)
 
--- how many stored runs an insertion takes up: "those that overlap or touch it"
+-- how many stored runs an insertion takes up (document 02 calls them swallowed): "those that overlap or touch it"
 unfoldable pub absorbed : ℕ → ℕ → List Run → ℕ
 absorbed a b [] = 0
 absorbed a b (r ∷ rs) =

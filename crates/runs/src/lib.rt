@@ -1,5 +1,4 @@
-// The set of received offsets of one file transfer, kept as its one canonical list of runs.
-// For now this crate holds definitions and laws alone: `specs/` says what insert, edge, holes, progress and complete are.
+// The set of received offsets of one file transfer, kept as its one canonical list of runs: definitions and laws.
 
 // A hole: its first offset, and the first offset after it.
 pub struct Hole {

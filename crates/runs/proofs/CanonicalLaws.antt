@@ -2,7 +2,7 @@
 -- Assumes nothing.
 use Prim.Native.Nat.{ℕ, suc, _-_, _≤_, _<_}
 use mathlib.Core.Path.{_≡_, refl, sym}
-use mathlib.Core.Bool.{Bool, true, false, _&&_, _||_}
+use mathlib.Core.Bool.{true, _&&_, or-true}
 use mathlib.Core.List.{List, [], _∷_}
 use mathlib.Core.Logic.{inl, inr, ⊎-elim, _↔_}
 use native.Mathlib.Omega.{arith}
@@ -82,10 +82,6 @@ unfolding contains
 contains-holds [] x m = absurd m
 contains-holds (r ∷ rs) x (inl w) = simp (le-leb _ _ (w .0), lt-ltb _ _ (w .1))
 contains-holds (r ∷ rs) x (inr m) = rw (contains-holds rs x m) (or-true (leb (r .start) x && ltb x (r .stop)))
-  where
-    or-true : (b : Bool) → (b || true) ≡ true
-    or-true true = refl
-    or-true false = refl
 
 pub contains-iff : (rs : List Run) (x : ℕ) → (contains rs x ≡ true) ↔ Member rs x
 contains-iff rs x = (contains-sound rs x, contains-holds rs x)

@@ -1,0 +1,12 @@
+pub mod NumberLaws
+pub mod CanonicalLaws
+pub mod InsertLaws
+pub mod RepeatLaws
+pub mod CountLaws
+pub mod RisingLaws
+pub mod EdgeLaws
+pub mod HoleLaws
+pub mod ProgressLaws
+pub mod CompleteLaws
+pub mod HolePlaces
+pub mod Examples

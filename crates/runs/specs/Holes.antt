@@ -1,0 +1,51 @@
+-- What a canonical list of runs says of its transfer: the edge, the holes, the progress, and whether the transfer is complete.
+-- Assumes nothing.
+use Prim.Native.Nat.{ℕ, zero, suc, _≤_, _<_}
+use mathlib.Core.Bool.{Bool, cond}
+use mathlib.Core.List.{List, [], _∷_}
+use mathlib.Core.Logic.{_⊎_}
+use lib.Dec.{ltb, leb, eqb}
+use Rattle.runs.specs.Runs.{Run}
+use Rattle.runs.specs.declared.Hole.{Hole}
+
+-- "The edge is one more than the highest received offset, 0 if there is none": where the last run stops
+unfoldable pub edgeFrom : ℕ → List Run → ℕ
+edgeFrom k [] = k
+edgeFrom k (r ∷ rs) = edgeFrom (r .stop) rs
+
+abbrev pub edge : List Run → ℕ
+edge rs = edgeFrom 0 rs
+
+-- "A hole's end ... is the first offset after what it closes."
+abbrev pub hole : ℕ → ℕ → Hole
+hole start end = record { start = start; end = end }
+
+-- "Holes are the longest unbroken stretches of unreceived offsets below the edge": those from k on, lowest first
+unfoldable pub holesFrom : ℕ → List Run → List Hole
+holesFrom k [] = []
+holesFrom k (r ∷ rs) =
+    let rest = holesFrom (r .stop) rs in
+    cond (ltb k (r .start)) (hole k (r .start) ∷ rest) rest
+
+abbrev pub holes : List Run → List Hole
+holes rs = holesFrom 0 rs
+
+-- "Progress is the lowest offset not received (the edge if there are no holes)": where the run that holds offset 0 stops,
+-- and 0 where no run does
+unfoldable pub progress : List Run → ℕ
+progress [] = 0
+progress (r ∷ rs) = cond (eqb (r .start) 0) (r .stop) 0
+
+-- "Complete holds exactly when all offsets below L were received. L = 0 is complete at once."
+unfoldable pub complete : ℕ → List Run → Bool
+complete L rs = leb L (progress rs)
+
+-- offset x lies in some hole of the list
+abbrev pub InHole : List Hole → ℕ → Type 0
+InHole [] x = ⊥
+InHole (h ∷ hs) x = ((h .start ≤ x) × (x < h .end)) ⊎ InHole hs x
+
+-- no hole is empty, the first starts at k or later, each ends before the next starts, and none ends above top
+abbrev pub HolesApart : ℕ → ℕ → List Hole → Type 0
+HolesApart k top [] = Unit
+HolesApart k top (h ∷ hs) = (k ≤ h .start) × (h .start < h .end) × (h .end ≤ top) × HolesApart (suc (h .end)) top hs

@@ -4,14 +4,13 @@ use Prim.Native.Nat.{ℕ, _^_, _<_, _≤_}
 use mathlib.Core.Path.{_≡_, refl}
 use mathlib.Core.Bool.{not}
 use mathlib.Core.List.{List}
-use native.Mathlib.Omega.{arith}
 use lib.ListN.{length}
 use lib.Dec.{ltb, eqb}
 use borrow.Author.Tests.{ltb-true, ltb-false, eqb-false, not-false}
 use Rattle.octets.specs.Numbers.{beDigits}
 use Rattle.octets.specs.Put.{put}
 use Rattle.octets.proofs.PutLaws.{put-next}
-use Rattle.header.specs.Refusals.{_▹_, when}
+use Rattle.header.specs.Refusals.{when}
 use Rattle.header.specs.Word.{wordFor}
 use Rattle.header.proofs.RefusalLaws.{first-none, rest-none, failed}
 use Rattle.packet_status.specs.WriteFailure.{failureWriteRefusal, failureOctets}

@@ -2,3 +2,5 @@ pub mod HoleLaws
 pub mod AcceptedLaws
 pub mod StatusLaws
 pub mod FailureLaws
+pub mod RoundTrip
+pub mod Vectors

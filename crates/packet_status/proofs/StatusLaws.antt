@@ -1,26 +1,27 @@
--- What is known of a STATUS that is not refused.
+-- What is known of a STATUS that is not refused, and of its holes.
 -- Assumes nothing.
-use Prim.Native.Nat.{ℕ, zero, suc, _+_, _*_, _/_, _%_, _<_, _≤_}
-use mathlib.Core.Path.{_≡_, refl, sym, _∙_}
-use mathlib.Core.Bool.{true, not}
+use Prim.Native.Nat.{ℕ, zero, suc, _+_, _*_, _%_, _<_, _≤_}
+use mathlib.Core.Path.{_≡_, refl}
+use mathlib.Core.Bool.{not}
 use mathlib.Core.List.{List}
 use native.Mathlib.Nat.{div-mul-le-self, suc-mul, mul-le-mul-right}
 use native.Mathlib.Omega.{arith}
-use lib.ListN.{length}
+use lib.ListN.{length, getD}
 use lib.Dec.{ltb, eqb}
-use borrow.Author.Tests.{ltb-true, ltb-false, eqb-true, eqb-false, eq-eqb, not-false}
+use borrow.Author.Tests.{ltb-true, ltb-false, eqb-true, eqb-false, lt-ltb, le-ltb, eq-eqb, ne-eqb, not-false}
 use Rattle.octets.specs.Numbers.{Width}
 use Rattle.octets.specs.Numbers.Width.{two, four, eight}
-use Rattle.header.specs.Refusals.{_▹_, when, refusalOf}
+use Rattle.header.specs.Refusals.{when, refusalOf}
 use Rattle.header.specs.Word.{widthOf, descriptorOctets, partialOf, statusOf}
 use Rattle.header.specs.Start.{wordOf, typeRefusal}
 use Rattle.header.proofs.RefusalLaws.{first-none, rest-none, failed}
 use Rattle.header.proofs.StartLaws.{StartFine, TypeFine, type-fine, narrow-octets}
-use Rattle.packet_status.specs.Holes.{holesWell}
-use Rattle.packet_status.specs.Status.{holesAt, progressOf, responseOf, listOctets, holeCount, holeList, listRefusal, successRefusal, statusRefusal, holeRefusal, failureOf, acceptedStatus, statusAnswer, holeAnswer}
+use Rattle.packet_status.specs.Status.{holesAt, progressOf, responseOf, listOctets, holeCount, holeList, listRefusal, successRefusal, statusRefusal, holeRefusal, indexedHole, readHole, failureOf, acceptedStatus, statusAnswer, holeAnswer}
 use Rattle.packet_status.specs.declared.Hole.{Hole}
 use Rattle.packet_status.specs.declared.HoleRead.the-variants as hole-read
 use Rattle.packet_status.specs.declared.StatusRead.the-variants.{Failure, Refused}
+use Rattle.packet_status.proofs.HoleLaws.{length-holes, hole-of-list}
+use Rattle.packet_status.proofs.AcceptedLaws.{HoleListAccepted, holes-well-means, means-holes-well}
 
 pub width-some : {d : ℕ} → Width d → 2 ≤ d
 width-some two = omega arith
@@ -29,22 +30,38 @@ width-some eight = omega arith
 
 -- a success STATUS with refusal 0
 pub record SuccessFine (s : List ℕ) : Type 0 where
-  pub octets : Width (descriptorOctets (wordOf s))
+  pub narrow : widthOf (wordOf s) ≡ 3 → ⊥
   pub long : holesAt (wordOf s) ≤ length s
   pub whole : listOctets s % (2 * descriptorOctets (wordOf s)) ≡ 0
-  pub well : holesWell (eqb (partialOf (wordOf s)) 1) (progressOf s) (responseOf s) (holeList s) ≡ true
+  pub list : HoleListAccepted (eqb (partialOf (wordOf s)) 1) (progressOf s) (responseOf s) (holeList s)
 
 pub success-fine : (s : List ℕ) → successRefusal s ≡ 0 → SuccessFine s
 unfolding successRefusal listRefusal
 success-fine s e =
     let r1 = rest-none (when (eqb (widthOf (wordOf s)) 3) 5) _ e in
     let r2 = rest-none (when (ltb (length s) (holesAt (wordOf s))) 1) _ r1 in
+    let r3 = rest-none (when (not (eqb (listOctets s % (2 * descriptorOctets (wordOf s))) 0)) 11) _ r2 in
     record {
-      octets = narrow-octets (wordOf s) (eqb-false _ _ (failed _ 4 (first-none _ _ e)));
+      narrow = eqb-false _ _ (failed _ 4 (first-none _ _ e));
       long = ltb-false _ _ (failed _ 0 (first-none _ _ r1));
       whole = eqb-true _ _ (not-false _ (failed _ 10 (first-none _ _ r2)));
-      well = not-false _ (failed _ 10 (rest-none (when (not (eqb (listOctets s % (2 * descriptorOctets (wordOf s))) 0)) 11) _ r2));
+      list = holes-well-means _ _ _ _ (not-false _ (failed _ 10 r3));
     }
+
+-- and every STATUS of which that holds has refusal 0
+pub success-none : (s : List ℕ) → SuccessFine s → successRefusal s ≡ 0
+unfolding successRefusal listRefusal
+success-none s f =
+    let well = means-holes-well (eqb (partialOf (wordOf s)) 1) (progressOf s) (responseOf s) (holeList s) (f .list) in
+    rw (
+      ne-eqb (widthOf (wordOf s)) 3 (f .narrow),
+      le-ltb (length s) (holesAt (wordOf s)) (f .long),
+      eq-eqb (listOctets s % (2 * descriptorOctets (wordOf s))) 0 (f .whole),
+      well,
+    )
+
+pub success-octets : (s : List ℕ) → SuccessFine s → Width (descriptorOctets (wordOf s))
+success-octets s f = narrow-octets (wordOf s) (f .narrow)
 
 -- the holes that are counted lie within the packet
 pub list-fits : (s : List ℕ) → holesAt (wordOf s) ≤ length s → holesAt (wordOf s) + holeCount s * (2 * descriptorOctets (wordOf s)) ≤ length s
@@ -88,6 +105,29 @@ hole-fits index s f =
     let e = 2 * descriptorOctets (wordOf s) in
     let m : suc index * e ≤ holeCount s * e = mul-le-mul-right e (f .below) in
     omega (arith, suc-mul index e, list-fits s (f .fine .long))
+
+-- the hole that is read by its index is the one of the list that is judged
+pub listed-hole : (index : ℕ) (s : List ℕ) (default : Hole) → index < holeCount s → getD (holeList s) index default ≡ indexedHole index s
+unfolding holeList indexedHole
+listed-hole index s default h = hole-of-list (descriptorOctets (wordOf s)) (holeCount s) (holesAt (wordOf s)) s default index h
+
+pub length-list : (s : List ℕ) → length (holeList s) ≡ holeCount s
+unfolding holeList
+length-list s = length-holes (descriptorOctets (wordOf s)) (holeCount s) (holesAt (wordOf s)) s
+
+-- of a success STATUS that is not refused each hole of the list is read, and no other
+module _ (s : List ℕ) (e : statusRefusal s ≡ 0) (z : statusOf (wordOf s) ≡ 0) (index : ℕ) where
+  pub hole-read-listed : (default : Hole) → index < length (holeList s) → readHole index s ≡ hole-read.Accepted (getD (holeList s) index default)
+  unfolding readHole holeRefusal
+  hole-read-listed default h =
+      let l : index < holeCount s = rw length-list at h in
+      rw (e, eq-eqb (statusOf (wordOf s)) 0 z, lt-ltb index (holeCount s) l, listed-hole index s default l)
+
+  pub hole-past-list : length (holeList s) ≤ index → readHole index s ≡ hole-read.Refused (refusalOf 19)
+  unfolding readHole holeRefusal
+  hole-past-list h =
+      let l : holeCount s ≤ index = rw length-list at h in
+      rw (e, eq-eqb (statusOf (wordOf s)) 0 z, le-ltb index (holeCount s) l)
 
 -- the answers
 pub status-refused : (n : ℕ) (s : List ℕ) → (n ≡ 0 → ⊥) → Refused (refusalOf n) ≡ statusAnswer n s

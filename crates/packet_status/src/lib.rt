@@ -197,14 +197,14 @@ pub fn read_status(p: &[u8]) -> StatusRead
         return StatusRead::Refused(header::refuse(n));
     }
     let h = header::split(header::word(p));
-    let status = h.status;
-    if status == 0 {
+    let code = h.status;
+    if code == 0 {
         return StatusRead::Success(success_fields(p));
     }
     StatusRead::Failure(FailureStatus {
         flags: h.flags,
         id: header::id(p),
-        status,
+        status: code,
     })
 }
 
@@ -216,8 +216,8 @@ fn hole_refusal(p: &[u8], index: u64) -> u64
     if n != 0 {
         return n;
     }
-    let h = header::split(header::word(p));
-    if h.status != 0 {
+    let head = header::split(header::word(p));
+    if head.status != 0 {
         return 11;
     }
     let fields = success_fields(p);

@@ -5,11 +5,10 @@ use mathlib.Core.Path.{_≡_, ap, _∙_}
 use denote.Ref.{now}
 use lib.ListN.{length}
 use Rattle.octets.specs.Numbers.{Width}
-use Rattle.octets.proofs.NumberLaws.{width-le}
 use Rattle.header.specs.Word.{descriptorOctets, timestampOctets}
 use Rattle.header.specs.Start.{wordOf}
 use Rattle.packet_status.specs.Status.{holeRefusal, indexedHole, readHole}
-use Rattle.packet_status.proofs.StatusLaws.{hole-fine, hole-fits, hole-refused}
+use Rattle.packet_status.proofs.StatusLaws.{success-octets, hole-fine, hole-fits, hole-refused}
 use borrow.Author.Needs.{needs}
 use native.Mathlib.Omega.{arith}
 use Rattle.packet_status.proofs.read_hole.Statement.{statement}
@@ -51,7 +50,7 @@ known c =
     let f = hole-fine (c .before .before .before .before .before .before .args .index) (now (c .before .before .before .before .before .before .args .p)) (omega arith) in
     let d : c .before .descriptor-octets .result ≡ descriptorOctets (wordOf (now (c .before .before .before .before .before .before .args .p))) = c .before .descriptor-octets .ensures ∙ ap descriptorOctets (c .before .before .word .ensures) in
     let t : c .timestamp-octets .result ≡ timestampOctets (wordOf (now (c .before .before .before .before .before .before .args .p))) = c .timestamp-octets .ensures ∙ ap timestampOctets (c .before .before .word .ensures) in
-    (d, t, rw d (f .fine .octets), rw (d, t) (hole-fits (c .before .before .before .before .before .before .args .index) (now (c .before .before .before .before .before .before .args .p)) f))
+    (d, t, rw d (success-octets (now (c .before .before .before .before .before .before .args .p)) (f .fine)), rw (d, t) (hole-fits (c .before .before .before .before .before .before .args .index) (now (c .before .before .before .before .before .before .args .p)) f))
 
 mul-holes : tie.Need-mul-holes
 mul-holes c = let k = known c in omega arith

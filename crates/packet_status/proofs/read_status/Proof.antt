@@ -1,8 +1,8 @@
 -- `packet_status::read_status` meets its contract: an answer for each of refused, success and failure.
 -- Assumes nothing.
-use mathlib.Core.Path.{_≡_, sym, ap, _∙_}
+use mathlib.Core.Path.{_≡_}
 use denote.Ref.{now}
-use Rattle.header.specs.Word.{statusOf, flagsOf}
+use Rattle.header.specs.Word.{statusOf}
 use Rattle.header.specs.Start.{wordOf}
 use Rattle.packet_status.specs.Status.{statusRefusal, failureOf, readStatus}
 use Rattle.packet_status.proofs.StatusLaws.{status-fine, status-refused, failure-accepted}

@@ -9,7 +9,7 @@ use Rattle.header.specs.Word.{descriptorOctets, timestampOctets}
 use Rattle.header.specs.Start.{wordOf}
 use Rattle.header.proofs.WordLaws.{octets-le}
 use Rattle.packet_status.specs.Status.{holesAt, successOf}
-use Rattle.packet_status.proofs.StatusLaws.{success-fine, width-some}
+use Rattle.packet_status.proofs.StatusLaws.{success-fine, success-octets, width-some}
 use borrow.Author.Needs.{needs}
 use native.Mathlib.Omega.{arith}
 use Rattle.packet_status.proofs.success_fields.Statement.{statement}
@@ -41,7 +41,7 @@ known c =
     let w : c .before .before .before .word .result ≡ wordOf (now (c .before .before .before .before .before .args .p)) = c .before .before .before .word .ensures in
     let f = success-fine (now (c .before .before .before .before .before .args .p)) (c .before .before .before .before .before .pre .1) in
     let d : c .before .descriptor-octets .result ≡ descriptorOctets (wordOf (now (c .before .before .before .before .before .args .p))) = c .before .descriptor-octets .ensures ∙ ap descriptorOctets w in
-    (w, d, c .timestamp-octets .ensures ∙ ap timestampOctets w, f .long, rw d (f .octets))
+    (w, d, c .timestamp-octets .ensures ∙ ap timestampOctets w, f .long, rw d (success-octets (now (c .before .before .before .before .before .args .p)) f))
 
 mul-holes : tie.Need-mul-holes
 mul-holes c = omega (arith, octets-le (c .before .before .before .word .result))

@@ -1,6 +1,6 @@
 -- `packet_status::success_refusal` meets its contract: a return for each test, and the judgement of the hole list.
 -- Assumes nothing.
-use Prim.Native.Nat.{_+_, _*_, _-_, _%_, _≤_}
+use Prim.Native.Nat.{_+_, _*_, _-_, _%_}
 use mathlib.Core.Bool.{Bool, not}
 use mathlib.Core.Path.{_≡_, sym, ap, _∙_}
 use borrow.Author.Tests.{lt-ltb, le-ltb, eq-eqb, ne-eqb}

@@ -1,0 +1,93 @@
+-- A failure STATUS reads back as it was written, and nothing after its Id matters.
+-- Assumes nothing.
+use Prim.Native.Nat.{ℕ, _^_, _<_, _≤_}
+use mathlib.Core.Path.{_≡_, refl, sym, ap, _∙_}
+use mathlib.Core.List.{List}
+use native.Mathlib.Omega.{arith}
+use lib.ListN.{length, take, drop}
+use lib.Seq.{length-take-le, take-take, take-add, drop-at}
+use borrow.Author.Tests.{le-ltb, eq-eqb, ne-eqb}
+use Rattle.octets.specs.Numbers.{beValue}
+use Rattle.octets.proofs.NumberLaws.{value-digits}
+use Rattle.header.specs.Word.{markOf, typeOf, statusOf, wordFor}
+use Rattle.header.specs.Start.{wordOf, idOf, startRefusal, typeRefusal}
+use Rattle.header.proofs.WordLaws.{mark-for, type-for, flags-for}
+use Rattle.header.proofs.StartLaws.{TypeFine, type-fine}
+use Rattle.packet_status.specs.Status.{statusRefusal, failureOf, readStatus}
+use Rattle.packet_status.specs.WriteFailure.{failureWriteRefusal, failureOctets}
+use Rattle.packet_status.specs.declared.StatusRead.the-variants.{Failure}
+use Rattle.packet_status.proofs.StatusLaws.{failure-accepted}
+use Rattle.packet_status.proofs.FailureLaws.{FailureFine, failure-fine}
+
+-- what is known of a packet whose first refusals are none is enough for them to be none
+type-none : (t : ℕ) (s : List ℕ) → TypeFine t s → typeRefusal t s ≡ 0
+unfolding typeRefusal startRefusal
+type-none t s f =
+    rw (
+      le-ltb 65535 (length s) (f .start .short),
+      le-ltb (length s) 8 (f .start .long),
+      eq-eqb (markOf (wordOf s)) 1 (f .start .mark),
+      eq-eqb (typeOf (wordOf s)) t (f .ptype),
+    )
+
+-- "If the code isn't 0, reading stops after the Id and the rest is ignored"
+pub failure-ignores-rest : (s : List ℕ) → typeRefusal 4 s ≡ 0 → (statusOf (wordOf s) ≡ 0 → ⊥) → readStatus s ≡ Failure (failureOf s)
+unfolding readStatus statusRefusal
+failure-ignores-rest s e n = rw (e, ne-eqb (statusOf (wordOf s)) 0 n) (sym (failure-accepted (statusOf (wordOf s)) s n))
+
+-- so the first 8 octets alone read the same
+pub failure-first-eight : (s : List ℕ) → typeRefusal 4 s ≡ 0 → (statusOf (wordOf s) ≡ 0 → ⊥) → readStatus (take 8 s) ≡ readStatus s
+unfolding failureOf
+failure-first-eight s e n =
+    let f = type-fine 4 s e in
+    let l : length (take 8 s) ≡ 8 = length-take-le 8 s (f .start .long) in
+    let w : wordOf (take 8 s) ≡ wordOf s = ap beValue (take-take 4 8 s (omega arith)) in
+    let i : idOf (take 8 s) ≡ idOf s = ap beValue (first-id s (omega (arith, f .start .long))) in
+    let t : typeRefusal 4 (take 8 s) ≡ 0 =
+    type-none 4 (take 8 s)
+    (record { start = record { short = omega arith; long = omega arith; mark = rw w (f .start .mark) }; ptype = rw w (f .ptype) }) in
+    failure-ignores-rest (take 8 s) t (rw w n) ∙ rw (w, i) (sym (failure-ignores-rest s e n))
+  where
+    first-id : (s : List ℕ) → 4 ≤ length s → take 4 (drop 4 (take 8 s)) ≡ take 4 (drop 4 s)
+    first-id s h =
+        ap (λ (l : List ℕ). take 4 (drop 4 l)) (take-add 4 4 s)
+        ∙ ap (take 4) (drop-at (take 4 s) (take 4 (drop 4 s)) 4 (length-take-le 4 s h))
+        ∙ take-take 4 4 (drop 4 s) (omega arith)
+
+-- what was written
+module _ (id status room : ℕ) (e : failureWriteRefusal id status room ≡ 0) where
+  fine : FailureFine id status room
+  fine = failure-fine id status room e
+
+  pub failure-length : length (failureOctets id status) ≡ 8
+  unfolding failureOctets
+  failure-length = refl
+
+  word : wordOf (failureOctets id status) ≡ wordFor 4 status
+  unfolding failureOctets
+  word = value-digits 4 (wordFor 4 status) (omega (arith, fine))
+
+  ident : idOf (failureOctets id status) ≡ id
+  unfolding failureOctets
+  ident = value-digits 4 id (fine .id-fits)
+
+  typed : TypeFine 4 (failureOctets id status)
+  typed =
+      let s : status < 2 ^ 24 = omega (arith, fine) in
+      record {
+        start = record {
+          short = rw failure-length (omega arith);
+          long = rw failure-length (omega arith);
+          mark = rw word (mark-for 4 status (omega arith) s);
+        };
+        ptype = rw word (type-for 4 status (omega arith) s);
+      }
+
+  pub failure-read-written : readStatus (failureOctets id status) ≡ Failure (record { flags = status; id = id; status = status })
+  unfolding failureOf
+  failure-read-written =
+      let h : status ≤ 255 = fine .status-fits in
+      let c : statusOf (wordFor 4 status) ≡ status = omega arith in
+      let n : statusOf (wordOf (failureOctets id status)) ≡ 0 → ⊥ = λ q. fine .some (sym c ∙ ap statusOf (sym word) ∙ q) in
+      failure-ignores-rest (failureOctets id status) (type-none 4 _ typed) n
+      ∙ rw (word, ident, c, flags-for 4 status (omega arith) (omega arith))

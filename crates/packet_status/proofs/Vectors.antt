@@ -1,0 +1,71 @@
+-- STATUS packets of document 01, "Passes to be tried", and others next to them, computed.
+-- Assumes nothing.
+use Prim.Native.Nat.{ℕ}
+use mathlib.Core.Path.{_≡_, refl}
+use mathlib.Core.List.{List, [], _∷_}
+use lib.ListN.{take}
+use Rattle.octets.specs.Put.{put}
+use Rattle.header.specs.Refusals.{refusalOf}
+use Rattle.header.specs.Start.{startRefusal, typeRefusal}
+use Rattle.packet_status.specs.Holes.{startsWell, holesWell}
+use Rattle.packet_status.specs.Status.{holeList, listRefusal, successRefusal, statusRefusal, successOf, failureOf, readStatus, holeRefusal, indexedHole, readHole}
+use Rattle.packet_status.specs.WriteFailure.{failureWriteRefusal, failureOctets, failureBuffer}
+use Rattle.packet_status.specs.declared.HoleRead.the-variants as hole-read
+use Rattle.packet_status.specs.declared.StatusRead.the-variants.{Success, Failure, Refused}
+
+-- 44 00 00 00 00 00 00 07 03 E8 0B B8 03 E8 07 D0
+abbrev oneHole : List ℕ
+oneHole = 68 ∷ 0 ∷ 0 ∷ 0 ∷ 0 ∷ 0 ∷ 0 ∷ 7 ∷ 3 ∷ 232 ∷ 11 ∷ 184 ∷ 3 ∷ 232 ∷ 7 ∷ 208 ∷ []
+
+-- 44 01 00 00 00 00 00 07 0B B8 0B B8
+abbrev complete : List ℕ
+complete = 68 ∷ 1 ∷ 0 ∷ 0 ∷ 0 ∷ 0 ∷ 0 ∷ 7 ∷ 11 ∷ 184 ∷ 11 ∷ 184 ∷ []
+
+-- the hole from 1,000 to 2,000, with Progress 1,000 and In-Response-To 3,000
+one-hole :
+    (readStatus oneHole ≡ Success (record { flags = 0; id = 7; width = 2; timestamp = 0; progress = 1000; response = 3000; holes = 12; count = 1 }))
+    × (readHole 0 oneHole ≡ hole-read.Accepted (record { start = 1000; end = 2000 }))
+    × (readHole 1 oneHole ≡ hole-read.Refused (refusalOf 19))
+unfolding readStatus statusRefusal typeRefusal startRefusal successRefusal listRefusal holeList holesWell startsWell successOf readHole holeRefusal indexedHole
+one-hole = (refl, refl, refl)
+
+-- with the last octet gone
+cut-short : readStatus (take 15 oneHole) ≡ Refused (refusalOf 11)
+unfolding readStatus statusRefusal typeRefusal startRefusal successRefusal listRefusal
+cut-short = refl
+
+-- complete: Progress is In-Response-To, and there is no hole
+completed : (readStatus complete ≡ Success (record { flags = 65536; id = 7; width = 2; timestamp = 0; progress = 3000; response = 3000; holes = 12; count = 0 }))
+    × (readHole 0 complete ≡ hole-read.Refused (refusalOf 19))
+unfolding readStatus statusRefusal typeRefusal startRefusal successRefusal listRefusal holeList holesWell startsWell successOf readHole holeRefusal
+completed = (refl, refl)
+
+-- 44 00 or 44 02 00 00 00 00 00 07, then Progress 1,000, In-Response-To 3,000 and the holes from 1,000 to 1,002 and from `second` to 2,000
+abbrev twoHoles : ℕ → ℕ → List ℕ
+twoHoles flags second =
+    68 ∷ flags ∷ 0 ∷ 0 ∷ 0 ∷ 0 ∷ 0 ∷ 7 ∷ 3 ∷ 232 ∷ 11 ∷ 184 ∷ 3 ∷ 232 ∷ 3 ∷ 234 ∷ 3 ∷ second ∷ 7 ∷ 208 ∷ []
+
+-- the second hole may not touch the first
+touching : (statusRefusal (twoHoles 0 234) ≡ 11) × (statusRefusal (twoHoles 0 235) ≡ 0) × (readHole 1 (twoHoles 0 235) ≡ hole-read.Accepted (record { start = 1003; end = 2000 }))
+unfolding statusRefusal typeRefusal startRefusal successRefusal listRefusal holeList holesWell startsWell readHole holeRefusal indexedHole
+touching = (refl, refl, refl)
+
+-- a list from above Progress on, and no hole though Progress is below In-Response-To, want bit 14; it is worth 2 in the second octet
+bit-fourteen : (statusRefusal (68 ∷ 0 ∷ 0 ∷ 0 ∷ 0 ∷ 0 ∷ 0 ∷ 7 ∷ 0 ∷ 5 ∷ 0 ∷ 9 ∷ []) ≡ 11) × (statusRefusal (68 ∷ 2 ∷ 0 ∷ 0 ∷ 0 ∷ 0 ∷ 0 ∷ 7 ∷ 0 ∷ 5 ∷ 0 ∷ 9 ∷ []) ≡ 0)
+    × (statusRefusal (68 ∷ 0 ∷ 0 ∷ 0 ∷ 0 ∷ 0 ∷ 0 ∷ 7 ∷ 0 ∷ 5 ∷ 0 ∷ 9 ∷ 0 ∷ 6 ∷ 0 ∷ 9 ∷ []) ≡ 11)
+    × (statusRefusal (68 ∷ 2 ∷ 0 ∷ 0 ∷ 0 ∷ 0 ∷ 0 ∷ 7 ∷ 0 ∷ 5 ∷ 0 ∷ 9 ∷ 0 ∷ 6 ∷ 0 ∷ 9 ∷ []) ≡ 0)
+    × (statusRefusal (68 ∷ 2 ∷ 0 ∷ 0 ∷ 0 ∷ 0 ∷ 0 ∷ 7 ∷ 0 ∷ 9 ∷ 0 ∷ 5 ∷ []) ≡ 11)
+unfolding statusRefusal typeRefusal startRefusal successRefusal listRefusal holeList holesWell startsWell
+bit-fourteen = (refl, refl, refl, refl, refl)
+
+-- a failure with code 6, width bits 11 and garbage after its Id is accepted, and has no holes to read
+failed : (readStatus (68 ∷ 192 ∷ 0 ∷ 6 ∷ 0 ∷ 0 ∷ 0 ∷ 7 ∷ 1 ∷ 2 ∷ 3 ∷ []) ≡ Failure (record { flags = 12582918; id = 7; status = 6 }))
+    × (readHole 0 (68 ∷ 192 ∷ 0 ∷ 6 ∷ 0 ∷ 0 ∷ 0 ∷ 7 ∷ 1 ∷ 2 ∷ 3 ∷ []) ≡ hole-read.Refused (refusalOf 11))
+unfolding readStatus statusRefusal typeRefusal startRefusal failureOf readHole holeRefusal
+failed = (refl, refl)
+
+-- a failure written into 9 octets, the last of which stays; a code of 0, and too little room
+written : (failureBuffer 7 6 (1 ∷ 1 ∷ 1 ∷ 1 ∷ 1 ∷ 1 ∷ 1 ∷ 1 ∷ 1 ∷ []) ≡ 68 ∷ 0 ∷ 0 ∷ 6 ∷ 0 ∷ 0 ∷ 0 ∷ 7 ∷ 1 ∷ [])
+    × (failureWriteRefusal 7 0 7 ≡ 21) × (failureWriteRefusal 7 6 7 ≡ 20)
+unfolding failureBuffer failureWriteRefusal failureOctets put
+written = (refl, refl, refl)

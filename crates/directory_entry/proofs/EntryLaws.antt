@@ -1,20 +1,19 @@
 -- What is known of an entry that is not refused, read or to be written.
 -- Assumes nothing.
 use Prim.Native.Nat.{ℕ, _+_, _-_, _^_, _<_, _≤_}
-use mathlib.Core.Path.{_≡_, _∙_}
-use mathlib.Core.Bool.{not}
+use mathlib.Core.Path.{_≡_}
 use mathlib.Core.List.{List, _++_, append-assoc}
 use native.Mathlib.Omega.{arith}
 use lib.ListN.{length, take, drop, length-append, length-drop}
 use lib.Seq.{take-all}
 use lib.Dec.{ltb}
-use borrow.Author.Tests.{ltb-true, ltb-false, not-false}
+use borrow.Author.Tests.{ltb-true, not-false}
 use Rattle.octets.specs.Put.{put}
 use Rattle.octets.proofs.NumberLaws.{length-digits}
 use Rattle.octets.proofs.PutLaws.{put-next}
-use Rattle.header.specs.Refusals.{_▹_, when}
+use Rattle.header.specs.Refusals.{when}
 use Rattle.header.proofs.RefusalLaws.{first-none, rest-none, failed}
-use Rattle.directory_entry.specs.Properties.{sizeOctets, pathAt, propertyRefusal}
+use Rattle.directory_entry.specs.Properties.{pathAt, propertyRefusal}
 use Rattle.directory_entry.specs.Path.{zeroAt, pathRefusal}
 use Rattle.directory_entry.specs.Entry.{propertiesOf, sizeOf, afterTimes, entryRefusal}
 use Rattle.directory_entry.specs.WriteEntry.{entryOctets, entrySize}

@@ -1,6 +1,6 @@
 -- What is known of properties that are not refused.
 -- Assumes nothing.
-use Prim.Native.Nat.{ℕ, _^_, _<_, _≤_}
+use Prim.Native.Nat.{ℕ, _≤_}
 use mathlib.Core.Path.{_≡_}
 use mathlib.Core.Bool.{not}
 use native.Mathlib.Nat.{pow-le-pow-right}
@@ -9,7 +9,7 @@ use lib.Dec.{eqb}
 use borrow.Author.Tests.{eqb-false}
 use Rattle.octets.specs.Numbers.{Width}
 use Rattle.octets.proofs.NumberLaws.{width-of}
-use Rattle.header.specs.Refusals.{_▹_, when}
+use Rattle.header.specs.Refusals.{when}
 use Rattle.header.proofs.RefusalLaws.{rest-none, failed}
 use Rattle.directory_entry.specs.Properties.{specialOf, bundleOf, sizeWidth, sizeOctets, propertyRefusal}
 

@@ -1,6 +1,6 @@
 -- Reading an entry that was written gives the same fields, and writing an entry that was read the same octets.
 -- Assumes nothing.
-use Prim.Native.Nat.{ℕ, _+_, _-_, _^_, _<_, _≤_}
+use Prim.Native.Nat.{ℕ, _+_, _-_, _^_, _<_}
 use mathlib.Core.Path.{_≡_, refl, sym, ap, _∙_}
 use mathlib.Core.Bool.{not}
 use mathlib.Core.List.{List, [], _∷_, _++_}
@@ -11,7 +11,7 @@ use lib.Dec.{ltb}
 use borrow.Author.Tests.{ltb-true, not-false, lt-ltb, le-ltb}
 use Rattle.octets.specs.Numbers.{beValue, beDigits, Octets}
 use Rattle.octets.proofs.NumberLaws.{value-digits, length-digits, part-digits, part-lt}
-use Rattle.header.specs.Refusals.{_▹_, when}
+use Rattle.header.specs.Refusals.{when}
 use Rattle.header.proofs.RefusalLaws.{first-none, rest-none, failed}
 use Rattle.directory_entry.specs.Properties.{sizeOctets, pathAt, propertyRefusal}
 use Rattle.directory_entry.specs.Path.{zeroAt, pathWriteRefusal}

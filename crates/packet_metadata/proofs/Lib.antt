@@ -1,3 +1,4 @@
 pub mod ChecksumLaws
 pub mod MetadataLaws
 pub mod WriteLaws
+pub mod RoundTrip

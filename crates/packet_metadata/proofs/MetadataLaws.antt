@@ -6,7 +6,7 @@ use mathlib.Core.List.{List}
 use lib.ListN.{length, drop}
 use lib.Dec.{ltb}
 use borrow.Author.Tests.{ltb-false}
-use Rattle.header.specs.Refusals.{_▹_, when, refusalOf}
+use Rattle.header.specs.Refusals.{when, refusalOf}
 use Rattle.header.specs.Word.{descriptorOctets}
 use Rattle.header.specs.Start.{wordOf, typeRefusal, fileRefusal}
 use Rattle.header.proofs.RefusalLaws.{first-none, rest-none, failed}

@@ -10,15 +10,15 @@ use lib.Dec.{ltb}
 use borrow.Author.Tests.{ltb-true, ltb-false, not-false}
 use Rattle.octets.specs.Put.{put}
 use Rattle.octets.proofs.PutLaws.{put-next}
-use Rattle.header.specs.Refusals.{_▹_, when}
+use Rattle.header.specs.Refusals.{when}
 use Rattle.header.specs.Word.{descriptorOctets}
 use Rattle.header.specs.Start.{fileRefusal}
-use Rattle.header.specs.Writing.{roomRefusal}
 use Rattle.header.proofs.RefusalLaws.{first-none, rest-none, failed}
-use Rattle.header.proofs.WritingLaws.{RoomFine, room-fine}
-use Rattle.directory_entry.specs.WriteEntry.{entryExcess, entryWriteRefusal}
+use Rattle.header.proofs.WritingLaws.{room-fine}
+use Rattle.directory_entry.specs.WriteEntry.{entryExcess, entryWriteRefusal, entrySize}
+use Rattle.directory_entry.proofs.EntryLaws.{length-entry}
 use Rattle.packet_metadata.specs.Checksum.{pairRefusal, checksumOctets}
-use Rattle.packet_metadata.specs.WriteMetadata.{metadataExcess, checksumRefusal, metadataSize, metadataWriteRefusal, MetadataFits}
+use Rattle.packet_metadata.specs.WriteMetadata.{metadataExcess, checksumRefusal, metadataSize, metadataWriteRefusal, metadataOctets, MetadataFits}
 
 record ExcessFine (flags id checksum : ℕ) : Type 0 where
   flags-fit : flags < 2 ^ 24
@@ -84,6 +84,11 @@ module _ (flags id : ℕ) (checksum : List ℕ) (properties size mtime ctime : �
         entry = first-none _ _ r3;
         short = r .short;
       }
+
+pub length-metadata : (flags id : ℕ) (checksum : List ℕ) (properties size mtime ctime : ℕ) (path : List ℕ)
+    → length (metadataOctets flags id checksum properties size mtime ctime path) ≡ 8 + length checksum + entrySize properties (length path)
+unfolding metadataOctets
+length-metadata flags id checksum properties size mtime ctime path = simp (length-append, length-entry) (omega arith)
 
 -- four parts, put one after the other
 pub puts : (a b c d old : List ℕ) (k l m : ℕ) → length a ≡ k → k + length b ≡ l → l + length c ≡ m → m + length d ≤ length old

@@ -1,12 +1,12 @@
 -- `directory_entry::entry_fields` meets its contract: an entry that is not refused is long enough for its fields.
 -- Assumes nothing.
-use Prim.Native.Nat.{ℕ, _*_, _+_, _^_, _<_, _≤_}
+use Prim.Native.Nat.{ℕ, _+_, _<_, _≤_}
 use mathlib.Core.Path.{_≡_, ap, _∙_}
 use denote.Ref.{now}
 use lib.ListN.{length}
 use Rattle.octets.specs.Numbers.{Width}
 use Rattle.octets.specs.Numbers.Width.{two, four}
-use Rattle.directory_entry.specs.Properties.{sizeOctets, pathAt}
+use Rattle.directory_entry.specs.Properties.{sizeOctets}
 use Rattle.directory_entry.specs.Entry.{propertiesOf, entryOf}
 use Rattle.directory_entry.proofs.EntryLaws.{entry-fine}
 use borrow.Author.Needs.{needs}

@@ -1,12 +1,12 @@
 -- `packet_metadata::metadata_fields` meets its contract: the entry is read where the checksum ends.
 -- Assumes nothing.
-use Prim.Native.Nat.{ℕ, _+_, _<_, _≤_}
+use Prim.Native.Nat.{ℕ, _+_, _≤_}
 use mathlib.Core.Path.{_≡_, ap, _∙_}
 use denote.Ref.{now}
 use lib.ListN.{length, drop}
 use Rattle.header.specs.Word.{flagsOf, descriptorOctets}
 use Rattle.header.specs.Start.{wordOf}
-use Rattle.directory_entry.specs.Entry.{entryRefusal, entryOf}
+use Rattle.directory_entry.specs.Entry.{entryOf}
 use Rattle.directory_entry.proofs.EntryLaws.{rest-part}
 use Rattle.packet_metadata.specs.Checksum.{checksumOctets}
 use Rattle.packet_metadata.specs.Metadata.{entryAt, metadataOf}

@@ -1,10 +1,9 @@
 -- `packet_metadata::metadata_refusal` meets its contract: the first refusal stands. Assumes nothing.
-use Prim.Native.Nat.{ℕ, _+_, _<_, _≤_}
+use Prim.Native.Nat.{ℕ, _+_}
 use mathlib.Core.Path.{_≡_, sym, ap, _∙_}
 use denote.Ref.{now}
-use lib.ListN.{length, drop}
+use lib.ListN.{length}
 use borrow.Author.Tests.{lt-ltb, le-ltb}
-use Rattle.header.specs.Word.{descriptorOctets}
 use Rattle.header.specs.Start.{wordOf, typeRefusal, fileRefusal}
 use Rattle.header.proofs.RefusalLaws.{stays}
 use Rattle.header.proofs.StartLaws.{type-fine}

@@ -1,5 +1,5 @@
 -- `packet_metadata::metadata_write_refusal` meets its contract: the first refusal stands. Assumes nothing.
-use Prim.Native.Nat.{ℕ, _≤_}
+use Prim.Native.Nat.{ℕ}
 use mathlib.Core.Path.{_≡_, sym, ap, _∙_}
 use denote.Ref.{now}
 use lib.ListN.{length}

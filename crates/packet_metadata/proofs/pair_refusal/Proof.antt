@@ -1,5 +1,5 @@
 -- `packet_metadata::pair_refusal` meets its contract. Assumes nothing.
-use mathlib.Core.Path.{_≡_, sym, ap, _∙_}
+use mathlib.Core.Path.{_≡_, sym, _∙_}
 use Rattle.header.specs.Word.{sumType, sumWords}
 use Rattle.packet_metadata.specs.Checksum.{pairAllowed, pairRefusal}
 use borrow.Author.Needs.{needs}

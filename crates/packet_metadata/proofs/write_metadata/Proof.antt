@@ -1,10 +1,10 @@
 -- `packet_metadata::write_metadata` meets its contract: a refusal leaves the buffer, and fields that are not refused fit.
 -- Assumes nothing.
-use mathlib.Core.Path.{_≡_, sym, _∙_}
+use mathlib.Core.Path.{_≡_}
 use denote.Ref.{now}
 use lib.ListN.{length}
 use Rattle.header.proofs.WritingLaws.{written-refused, buffer-refused}
-use Rattle.packet_metadata.specs.WriteMetadata.{metadataSize, metadataWriteRefusal, metadataOctets, metadataWritten, metadataBuffer}
+use Rattle.packet_metadata.specs.WriteMetadata.{metadataWriteRefusal, metadataOctets, metadataWritten, metadataBuffer}
 use Rattle.packet_metadata.proofs.WriteLaws.{write-fine}
 use borrow.Author.Needs.{needs}
 use native.Mathlib.Omega.{arith}

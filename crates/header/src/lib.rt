@@ -19,6 +19,12 @@ pub enum Written {
     Refused(Refusal),
 }
 
+// A hole of the received octets: its first offset, and the first offset after it.
+pub struct Hole {
+    pub start: u64,
+    pub end: u64,
+}
+
 // The fields of a packet's first word. What some of them mean depends on the packet's type.
 pub struct Head {
     pub mark: u64,

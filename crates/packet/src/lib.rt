@@ -2,9 +2,13 @@
 ghost use mathlib.Core.Path.{_≡_};
 ghost use Rattle.packet.specs.Read.{ofMetadata, ofData, ofStatus, readPacket};
 use header::Refusal;
-use packet_data::{Data, DataRead};
-use packet_metadata::{Metadata, MetadataRead};
-use packet_status::{FailureStatus, StatusRead, SuccessStatus};
+use packet_data::Data;
+use packet_data::DataRead;
+use packet_metadata::Metadata;
+use packet_metadata::MetadataRead;
+use packet_status::FailureStatus;
+use packet_status::StatusRead;
+use packet_status::SuccessStatus;
 
 // What a packet holds, by its type, or why it is refused.
 pub enum Read {

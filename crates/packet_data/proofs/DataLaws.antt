@@ -34,12 +34,12 @@ data-fine s e =
     let r3 = rest-none (when (ltb (length s) (payloadAt w)) 1) _ r2 in
     let le : payloadAt w ≤ length s = ltb-false _ _ (failed (ltb (length s) (payloadAt w)) 0 (first-none _ _ r2)) in
     let ne : length s ≡ payloadAt w → ⊥ = eqb-false _ _ (failed (eqb (length s) (payloadAt w)) 9 r3) in
-    record
-      { head = type-fine 3 s (first-none _ _ e)
-      ; file = file-fine w (first-none _ _ r1)
-      ; file-none = first-none _ _ r1
-      ; more = omega arith
-      }
+    record {
+      head = type-fine 3 s (first-none _ _ e);
+      file = file-fine w (first-none _ _ r1);
+      file-none = first-none _ _ r1;
+      more = omega arith;
+    }
 
 -- the answers of a refused read
 pub answer-refused : (n : ℕ) (d : Data) → (n ≡ 0 → ⊥) → Refused (refusalOf n) ≡ dataAnswer n d

@@ -71,17 +71,31 @@ module _ (f i : ℕ) (t : List ℕ) (o : ℕ) (p : List ℕ) (room : ℕ) (ok : 
   unfolding dataRefusal typeRefusal startRefusal
   accepted =
       let n = payloadAt f + length p in
-      rw (word, data-octets-length, file-for 3 f (omega arith) flags-fit, payload-at, fine .file,
-          le-ltb 65535 n (fine .short),
-          le-ltb n 8 (omega arith),
-          eq-eqb (markOf (wordFor 3 f)) 1 (mark-for 3 f (omega arith) flags-fit),
-          eq-eqb (typeOf (wordFor 3 f)) 3 (type-for 3 f (omega arith) flags-fit),
-          le-ltb n (payloadAt f) (omega arith),
-          ne-eqb n (payloadAt f) (omega (arith, fine .some)))
+      rw (
+        word,
+        data-octets-length,
+        file-for 3 f (omega arith) flags-fit,
+        payload-at,
+        fine .file,
+        le-ltb 65535 n (fine .short),
+        le-ltb n 8 (omega arith),
+        eq-eqb (markOf (wordFor 3 f)) 1 (mark-for 3 f (omega arith) flags-fit),
+        eq-eqb (typeOf (wordFor 3 f)) 3 (type-for 3 f (omega arith) flags-fit),
+        le-ltb n (payloadAt f) (omega arith),
+        ne-eqb n (payloadAt f) (omega (arith, fine .some)),
+      )
 
-  pub data-read-written : readData (dataOctets f i t o p) ≡ Accepted (record
-    { flags = f; id = i; width = descriptorOctets f; timestamp = timestampOctets f; wanted = wantedOf f; eod = eodOf f
-    ; offset = o; start = payloadAt f; length = length p })
+  pub data-read-written : readData (dataOctets f i t o p) ≡ Accepted (record {
+    flags = f;
+    id = i;
+    width = descriptorOctets f;
+    timestamp = timestampOctets f;
+    wanted = wantedOf f;
+    eod = eodOf f;
+    offset = o;
+    start = payloadAt f;
+    length = length p;
+  })
   unfolding readData dataOf
   data-read-written =
       let h : f < 2 ^ 24 = flags-fit in
@@ -128,10 +142,10 @@ module _ (s : List ℕ) (os : Octets s) (ok : dataRefusal s ≡ 0) where
       let m : payloadAt w < length s = read .more in
       let again = word-again w 3 (part-lt s 0 4 os (omega arith)) (read .head .start .mark) (read .head .ptype) in
       rejoin s (beDigits 4 (wordFor 3 (flagsOf w))) (beDigits 4 (idOf s)) (beDigits (descriptorOctets (flagsOf w)) offsetRead)
-        (timestampOctets w) (descriptorOctets w)
-        (ap (beDigits 4) again ∙ part-digits s 0 4 os (omega arith))
-        (part-digits s 4 4 os (omega arith))
-        (rw octets-flags (part-digits s (offsetAt w) (descriptorOctets w) os (omega arith)))
+      (timestampOctets w) (descriptorOctets w)
+      (ap (beDigits 4) again ∙ part-digits s 0 4 os (omega arith))
+      (part-digits s 4 4 os (omega arith))
+      (rw octets-flags (part-digits s (offsetAt w) (descriptorOctets w) os (omega arith)))
 
   timestamp-length : length timestampRead ≡ timestampOctets w
   timestamp-length =
@@ -143,11 +157,14 @@ module _ (s : List ℕ) (os : Octets s) (ok : dataRefusal s ≡ 0) where
   not-excess =
       let l : 8 ≤ length s = read .head .start .long in
       let m : payloadAt w < length s = read .more in
-      rw (octets-flags, timestamp-flags,
-          lt-ltb (flagsOf w) (2 ^ 24) (flags-lt w),
-          lt-ltb (idOf s) (2 ^ 32) (part-lt s 4 4 os (omega arith)),
-          le-ltb (timestampOctets w) (timestampOctets w) (omega arith),
-          lt-ltb offsetRead (256 ^ descriptorOctets w) (part-lt s (offsetAt w) (descriptorOctets w) os (omega arith)))
+      rw (
+        octets-flags,
+        timestamp-flags,
+        lt-ltb (flagsOf w) (2 ^ 24) (flags-lt w),
+        lt-ltb (idOf s) (2 ^ 32) (part-lt s 4 4 os (omega arith)),
+        le-ltb (timestampOctets w) (timestampOctets w) (omega arith),
+        lt-ltb offsetRead (256 ^ descriptorOctets w) (part-lt s (offsetAt w) (descriptorOctets w) os (omega arith)),
+      )
 
   not-refused : (room : ℕ) → length s ≤ room
       → dataWriteRefusal (flagsOf w) (idOf s) (length timestampRead) offsetRead (length payloadRead) room ≡ 0
@@ -156,11 +173,19 @@ module _ (s : List ℕ) (os : Octets s) (ok : dataRefusal s ≡ 0) where
       let sh : length s ≤ 65535 = read .head .start .short in
       let m : payloadAt w < length s = read .more in
       let n = payloadAt w + (length s - payloadAt w) in
-      rw (timestamp-length, not-excess, file-flags, read .file-none, length-drop, octets-flags, timestamp-flags,
-          le-ltb (timestampOctets w) (timestampOctets w) (omega arith),
-          ne-eqb (length s - payloadAt w) 0 (omega arith),
-          le-ltb 65535 n (omega arith),
-          le-ltb room n (omega arith))
+      rw (
+        timestamp-length,
+        not-excess,
+        file-flags,
+        read .file-none,
+        length-drop,
+        octets-flags,
+        timestamp-flags,
+        le-ltb (timestampOctets w) (timestampOctets w) (omega arith),
+        ne-eqb (length s - payloadAt w) 0 (omega arith),
+        le-ltb 65535 n (omega arith),
+        le-ltb room n (omega arith),
+      )
 
   -- the fields as they were read, written into a buffer with room for the packet: its size, and the very packet
   module _ (old : List ℕ) (room : length s ≤ length old) where

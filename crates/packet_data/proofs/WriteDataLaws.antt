@@ -31,12 +31,12 @@ no-excess flags id timestamp offset e =
     let r1 = rest-none (when (not (ltb flags (2 ^ 24))) 21) _ e in
     let r2 = rest-none (when (not (ltb id (2 ^ 32))) 21) _ r1 in
     let r3 = rest-none (when (ltb (timestampOctets flags) timestamp) 21) _ r2 in
-    record
-      { flags-fit = ltb-true _ _ (not-false _ (failed _ 20 (first-none _ _ e)))
-      ; id-fits = ltb-true _ _ (not-false _ (failed _ 20 (first-none _ _ r1)))
-      ; timestamp-le = ltb-false _ _ (failed _ 20 (first-none _ _ r2))
-      ; offset-fits = ltb-true _ _ (not-false _ (failed _ 20 r3))
-      }
+    record {
+      flags-fit = ltb-true _ _ (not-false _ (failed _ 20 (first-none _ _ e)));
+      id-fits = ltb-true _ _ (not-false _ (failed _ 20 (first-none _ _ r1)));
+      timestamp-le = ltb-false _ _ (failed _ 20 (first-none _ _ r2));
+      offset-fits = ltb-true _ _ (not-false _ (failed _ 20 r3));
+    }
 
 pub record Writable (flags id timestamp offset payload room : ℕ) : Type 0 where
   pub fine : DataFits flags timestamp payload room
@@ -58,14 +58,14 @@ writable flags id timestamp offset payload room e =
     let ge : timestampOctets flags ≤ timestamp = ltb-false _ _ (failed _ 0 (first-none _ _ r2)) in
     let ne : payload ≡ 0 → ⊥ = eqb-false _ _ (failed _ 9 (first-none _ _ r3)) in
     let room-ok : RoomFine (payloadAt flags + payload) room = room-fine _ _ r4 in
-    record
-      { fine = record { flags-fit = n .flags-fit; timestamp-is = omega arith; fits = room-ok .fits }
-      ; id-fits = n .id-fits
-      ; offset-fits = n .offset-fits
-      ; file = first-none _ _ r1
-      ; some = omega arith
-      ; short = room-ok .short
-      }
+    record {
+      fine = record { flags-fit = n .flags-fit; timestamp-is = omega arith; fits = room-ok .fits };
+      id-fits = n .id-fits;
+      offset-fits = n .offset-fits;
+      file = first-none _ _ r1;
+      some = omega arith;
+      short = room-ok .short;
+    }
 
 -- word, Id, timestamp, offset and payload, put one after the other
 pub puts : (w i t o p old : List ℕ) (a b c d : ℕ)
@@ -75,8 +75,10 @@ puts w i t o p old a b c d ha hb hc hd h =
     let e2 : length (w ++ i) ≡ b = length-append w i ∙ omega arith in
     let e3 : length (w ++ i ++ t) ≡ c = length-append (w ++ i) t ∙ omega arith in
     let e4 : length (w ++ i ++ t ++ o) ≡ d = length-append (w ++ i ++ t) o ∙ omega arith in
-    rw (put-next 0 a w i old (omega arith) (omega arith),
-        put-next 0 b (w ++ i) t old (omega arith) (omega arith),
-        put-next 0 c (w ++ i ++ t) o old (omega arith) (omega arith),
-        put-next 0 d (w ++ i ++ t ++ o) p old (omega arith) (omega arith))
+    rw (
+      put-next 0 a w i old (omega arith) (omega arith),
+      put-next 0 b (w ++ i) t old (omega arith) (omega arith),
+      put-next 0 c (w ++ i ++ t) o old (omega arith) (omega arith),
+      put-next 0 d (w ++ i ++ t ++ o) p old (omega arith) (omega arith),
+    )
     (simp append-assoc)

@@ -172,7 +172,12 @@ fn put_data(
     octets::write_number(out, 0, 4, header::join(3, flags));
     octets::write_number(out, 4, 4, id);
     octets::copy_into(out, 8, timestamp);
-    octets::write_number(out, offset_at(flags), header::descriptor_octets(flags), offset);
+    octets::write_number(
+        out,
+        offset_at(flags),
+        header::descriptor_octets(flags),
+        offset,
+    );
     octets::copy_into(out, start, payload);
     start + payload.len()
 }

@@ -17,7 +17,7 @@ use Rattle.header.specs.Start.{wordOf, typeRefusal}
 use Rattle.header.proofs.RefusalLaws.{first-none, rest-none, failed}
 use Rattle.header.proofs.StartLaws.{StartFine, TypeFine, type-fine, narrow-octets}
 use Rattle.packet_status.specs.Status.{holesAt, progressOf, responseOf, listOctets, holeCount, holeList, listRefusal, successRefusal, statusRefusal, holeRefusal, indexedHole, readHole, failureOf, acceptedStatus, statusAnswer, holeAnswer}
-use Rattle.packet_status.specs.declared.Hole.{Hole}
+use Rattle.header.specs.declared.Hole.{Hole}
 use Rattle.packet_status.specs.declared.HoleRead.the-variants as hole-read
 use Rattle.packet_status.specs.declared.StatusRead.the-variants.{Failure, Refused}
 use Rattle.packet_status.proofs.HoleLaws.{length-holes, hole-of-list}

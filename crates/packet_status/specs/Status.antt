@@ -10,7 +10,7 @@ use Rattle.header.specs.Refusals.{_▹_, when, refusalOf}
 use Rattle.header.specs.Word.{flagsOf, widthOf, descriptorOctets, timestampOctets, partialOf, statusOf}
 use Rattle.header.specs.Start.{wordOf, idOf, typeRefusal}
 use Rattle.packet_status.specs.Holes.{holeAt, holesOf, holesWell}
-use Rattle.packet_status.specs.declared.Hole.{Hole}
+use Rattle.header.specs.declared.Hole.{Hole}
 use Rattle.packet_status.specs.declared.HoleRead.{HoleRead}
 use Rattle.packet_status.specs.declared.HoleRead.the-variants as hole-read
 use Rattle.packet_status.specs.declared.SuccessStatus.{SuccessStatus}

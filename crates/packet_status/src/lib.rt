@@ -6,14 +6,9 @@ ghost use Rattle.octets.specs.Numbers.{Width};
 ghost use Rattle.packet_status.specs.Holes.{holeAt, holesOf, holesAfter, startsWell, holesWell};
 ghost use Rattle.packet_status.specs.Status.{successRefusal, statusRefusal, successOf, failureOf, readStatus, holeRefusal, readHole};
 ghost use Rattle.packet_status.specs.WriteFailure.{failureWriteRefusal, failureWritten, failureBuffer};
+use header::Hole;
 use header::Refusal;
 use header::Written;
-
-// A hole: its first offset, and the first offset after it.
-pub struct Hole {
-    pub start: u64,
-    pub end: u64,
-}
 
 // The fields of a success STATUS. `width` and `timestamp` count octets; `count` holes stand from the place `holes` on.
 pub struct SuccessStatus {

@@ -13,152 +13,152 @@ use Rattle.saratoga.specs.declared.PacketAnswer.{PacketAnswer}
 -- what C gets for METADATA
 abbrev pub metadataPacket : Metadata → PacketAnswer
 metadataPacket m =
-    record
-      { number = 0
-      ; code = 0
-      ; ptype = 2
-      ; flags = m .flags
-      ; id = m .id
-      ; width = m .width
-      ; «timestamp_at» = 0
-      ; «timestamp_len» = 0
-      ; «checksum_at» = 8
-      ; «checksum_len» = m .checksum
-      ; properties = m .entry .properties
-      ; size = m .entry .size
-      ; mtime = m .entry .mtime
-      ; ctime = m .entry .ctime
-      ; «path_at» = m .entry .path
-      ; «path_len» = m .entry .length
-      ; offset = 0
-      ; «payload_at» = 0
-      ; «payload_len» = 0
-      ; status = 0
-      ; progress = 0
-      ; «in_response_to» = 0
-      ; «holes_at» = 0
-      ; «hole_count» = 0
-      }
+    record {
+      number = 0;
+      code = 0;
+      ptype = 2;
+      flags = m .flags;
+      id = m .id;
+      width = m .width;
+      «timestamp_at» = 0;
+      «timestamp_len» = 0;
+      «checksum_at» = 8;
+      «checksum_len» = m .checksum;
+      properties = m .entry .properties;
+      size = m .entry .size;
+      mtime = m .entry .mtime;
+      ctime = m .entry .ctime;
+      «path_at» = m .entry .path;
+      «path_len» = m .entry .length;
+      offset = 0;
+      «payload_at» = 0;
+      «payload_len» = 0;
+      status = 0;
+      progress = 0;
+      «in_response_to» = 0;
+      «holes_at» = 0;
+      «hole_count» = 0;
+    }
 
 -- what C gets for DATA
 abbrev pub dataPacket : Data → PacketAnswer
 dataPacket d =
-    record
-      { number = 0
-      ; code = 0
-      ; ptype = 3
-      ; flags = d .flags
-      ; id = d .id
-      ; width = d .width
-      ; «timestamp_at» = 8
-      ; «timestamp_len» = d .timestamp
-      ; «checksum_at» = 0
-      ; «checksum_len» = 0
-      ; properties = 0
-      ; size = 0
-      ; mtime = 0
-      ; ctime = 0
-      ; «path_at» = 0
-      ; «path_len» = 0
-      ; offset = d .offset
-      ; «payload_at» = d .start
-      ; «payload_len» = d .length
-      ; status = 0
-      ; progress = 0
-      ; «in_response_to» = 0
-      ; «holes_at» = 0
-      ; «hole_count» = 0
-      }
+    record {
+      number = 0;
+      code = 0;
+      ptype = 3;
+      flags = d .flags;
+      id = d .id;
+      width = d .width;
+      «timestamp_at» = 8;
+      «timestamp_len» = d .timestamp;
+      «checksum_at» = 0;
+      «checksum_len» = 0;
+      properties = 0;
+      size = 0;
+      mtime = 0;
+      ctime = 0;
+      «path_at» = 0;
+      «path_len» = 0;
+      offset = d .offset;
+      «payload_at» = d .start;
+      «payload_len» = d .length;
+      status = 0;
+      progress = 0;
+      «in_response_to» = 0;
+      «holes_at» = 0;
+      «hole_count» = 0;
+    }
 
 -- what C gets for a success STATUS
 abbrev pub successPacket : SuccessStatus → PacketAnswer
 successPacket s =
-    record
-      { number = 0
-      ; code = 0
-      ; ptype = 4
-      ; flags = s .flags
-      ; id = s .id
-      ; width = s .width
-      ; «timestamp_at» = 8
-      ; «timestamp_len» = s .timestamp
-      ; «checksum_at» = 0
-      ; «checksum_len» = 0
-      ; properties = 0
-      ; size = 0
-      ; mtime = 0
-      ; ctime = 0
-      ; «path_at» = 0
-      ; «path_len» = 0
-      ; offset = 0
-      ; «payload_at» = 0
-      ; «payload_len» = 0
-      ; status = 0
-      ; progress = s .progress
-      ; «in_response_to» = s .response
-      ; «holes_at» = s .holes
-      ; «hole_count» = s .count
-      }
+    record {
+      number = 0;
+      code = 0;
+      ptype = 4;
+      flags = s .flags;
+      id = s .id;
+      width = s .width;
+      «timestamp_at» = 8;
+      «timestamp_len» = s .timestamp;
+      «checksum_at» = 0;
+      «checksum_len» = 0;
+      properties = 0;
+      size = 0;
+      mtime = 0;
+      ctime = 0;
+      «path_at» = 0;
+      «path_len» = 0;
+      offset = 0;
+      «payload_at» = 0;
+      «payload_len» = 0;
+      status = 0;
+      progress = s .progress;
+      «in_response_to» = s .response;
+      «holes_at» = s .holes;
+      «hole_count» = s .count;
+    }
 
 -- what C gets for a failure STATUS
 abbrev pub failurePacket : FailureStatus → PacketAnswer
 failurePacket f =
-    record
-      { number = 0
-      ; code = 0
-      ; ptype = 4
-      ; flags = f .flags
-      ; id = f .id
-      ; width = 0
-      ; «timestamp_at» = 0
-      ; «timestamp_len» = 0
-      ; «checksum_at» = 0
-      ; «checksum_len» = 0
-      ; properties = 0
-      ; size = 0
-      ; mtime = 0
-      ; ctime = 0
-      ; «path_at» = 0
-      ; «path_len» = 0
-      ; offset = 0
-      ; «payload_at» = 0
-      ; «payload_len» = 0
-      ; status = f .status
-      ; progress = 0
-      ; «in_response_to» = 0
-      ; «holes_at» = 0
-      ; «hole_count» = 0
-      }
+    record {
+      number = 0;
+      code = 0;
+      ptype = 4;
+      flags = f .flags;
+      id = f .id;
+      width = 0;
+      «timestamp_at» = 0;
+      «timestamp_len» = 0;
+      «checksum_at» = 0;
+      «checksum_len» = 0;
+      properties = 0;
+      size = 0;
+      mtime = 0;
+      ctime = 0;
+      «path_at» = 0;
+      «path_len» = 0;
+      offset = 0;
+      «payload_at» = 0;
+      «payload_len» = 0;
+      status = f .status;
+      progress = 0;
+      «in_response_to» = 0;
+      «holes_at» = 0;
+      «hole_count» = 0;
+    }
 
 -- what C gets for a refusal: "its other results are 0 or empty"
 abbrev pub refusedPacket : Refusal → PacketAnswer
 refusedPacket r =
-    record
-      { number = r .number
-      ; code = r .code
-      ; ptype = 0
-      ; flags = 0
-      ; id = 0
-      ; width = 0
-      ; «timestamp_at» = 0
-      ; «timestamp_len» = 0
-      ; «checksum_at» = 0
-      ; «checksum_len» = 0
-      ; properties = 0
-      ; size = 0
-      ; mtime = 0
-      ; ctime = 0
-      ; «path_at» = 0
-      ; «path_len» = 0
-      ; offset = 0
-      ; «payload_at» = 0
-      ; «payload_len» = 0
-      ; status = 0
-      ; progress = 0
-      ; «in_response_to» = 0
-      ; «holes_at» = 0
-      ; «hole_count» = 0
-      }
+    record {
+      number = r .number;
+      code = r .code;
+      ptype = 0;
+      flags = 0;
+      id = 0;
+      width = 0;
+      «timestamp_at» = 0;
+      «timestamp_len» = 0;
+      «checksum_at» = 0;
+      «checksum_len» = 0;
+      properties = 0;
+      size = 0;
+      mtime = 0;
+      ctime = 0;
+      «path_at» = 0;
+      «path_len» = 0;
+      offset = 0;
+      «payload_at» = 0;
+      «payload_len» = 0;
+      status = 0;
+      progress = 0;
+      «in_response_to» = 0;
+      «holes_at» = 0;
+      «hole_count» = 0;
+    }
 
 -- by the case of the answer
 abbrev pub packetAnswer : Read → PacketAnswer

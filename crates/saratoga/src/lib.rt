@@ -8,11 +8,14 @@ ghost use Rattle.packet_status.specs.Status.{readHole};
 ghost use Rattle.packet_status.specs.WriteFailure.{failureWritten, failureBuffer};
 ghost use Rattle.saratoga.specs.PacketAnswers.{metadataPacket, dataPacket, successPacket, failurePacket, refusedPacket, packetAnswer};
 ghost use Rattle.saratoga.specs.Answers.{holeAnswer, writtenAnswer};
-use header::{Refusal, Written};
+use header::Refusal;
+use header::Written;
 use packet::Read;
 use packet_data::Data;
 use packet_metadata::Metadata;
-use packet_status::{FailureStatus, HoleRead, SuccessStatus};
+use packet_status::FailureStatus;
+use packet_status::HoleRead;
+use packet_status::SuccessStatus;
 
 // struct saratoga_packet; `ptype` is its field `type`.
 #[repr(C)]
@@ -282,7 +285,17 @@ pub extern "C" fn saratoga_write_metadata(
     ensures { λ r. ⌜ (r ≡ writtenAnswer (metadataWritten flags id (now (checksum .entry)) properties size mtime ctime (now (path .entry)) (now (out .entry))))
         × (now (out .exit) ≡ metadataBuffer flags id (now (checksum .entry)) properties size mtime ctime (now (path .entry)) (now (out .entry))) ⌝ }
 {
-    written_answer(packet_metadata::write_metadata(out, flags, id, checksum, properties, size, mtime, ctime, path))
+    written_answer(packet_metadata::write_metadata(
+        out,
+        flags,
+        id,
+        checksum,
+        properties,
+        size,
+        mtime,
+        ctime,
+        path,
+    ))
 }
 
 #[no_mangle]

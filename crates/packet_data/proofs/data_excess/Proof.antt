@@ -26,8 +26,11 @@ returns-3 : tie.Need-returns-3
 unfolding dataExcess
 returns-3 c =
     let a = c .before .before .before .before .args in
-    rw (lt-ltb (a .flags) (2 ^ 24) (c .before .before .before .if1 .left), lt-ltb (a .id) (2 ^ 32) (c .before .before .if2 .left),
-        lt-ltb (timestampOctets (a .flags)) (a .timestamp) (omega arith))
+    rw (
+      lt-ltb (a .flags) (2 ^ 24) (c .before .before .before .if1 .left),
+      lt-ltb (a .id) (2 ^ 32) (c .before .before .if2 .left),
+      lt-ltb (timestampOctets (a .flags)) (a .timestamp) (omega arith),
+    )
 
 descriptor-octets-requires : tie.Need-descriptor-octets-requires
 descriptor-octets-requires c κs = search needs
@@ -44,16 +47,24 @@ unfolding dataExcess
 returns-4 c =
     let a = c .before .before .before .before .before .before .before .args in
     let v : ltb (a .offset) (256 ^ descriptorOctets (a .flags)) ≡ false = sym (offset-fits (c .before)) ∙ not-true _ (c .if4 .taken) in
-    rw (lt-ltb (a .flags) (2 ^ 24) (c .before .before .before .before .before .before .if1 .left), lt-ltb (a .id) (2 ^ 32) (c .before .before .before .before .before .if2 .left),
-        le-ltb (timestampOctets (a .flags)) (a .timestamp) (omega arith), v)
+    rw (
+      lt-ltb (a .flags) (2 ^ 24) (c .before .before .before .before .before .before .if1 .left),
+      lt-ltb (a .id) (2 ^ 32) (c .before .before .before .before .before .if2 .left),
+      le-ltb (timestampOctets (a .flags)) (a .timestamp) (omega arith),
+      v,
+    )
 
 returns-5 : tie.Need-returns-5
 unfolding dataExcess
 returns-5 c =
     let a = c .before .before .before .before .before .before .before .args in
     let v : ltb (a .offset) (256 ^ descriptorOctets (a .flags)) ≡ true = sym (offset-fits (c .before)) ∙ not-false _ (c .if4 .left) in
-    rw (lt-ltb (a .flags) (2 ^ 24) (c .before .before .before .before .before .before .if1 .left), lt-ltb (a .id) (2 ^ 32) (c .before .before .before .before .before .if2 .left),
-        le-ltb (timestampOctets (a .flags)) (a .timestamp) (omega arith), v)
+    rw (
+      lt-ltb (a .flags) (2 ^ 24) (c .before .before .before .before .before .before .if1 .left),
+      lt-ltb (a .id) (2 ^ 32) (c .before .before .before .before .before .if2 .left),
+      le-ltb (timestampOctets (a .flags)) (a .timestamp) (omega arith),
+      v,
+    )
 
 pub data-excess-spec : {M : Type 1} → statement M
 data-excess-spec =

@@ -40,7 +40,7 @@ payload-at-requires c κs = search needs
 -- what is known where the start of the payload is at hand
 known : (c : tie.After-payload-at)
     → let s = now (c .before .before .before .before .before .before .before .args .p) in
-      (typeRefusal 3 s ≡ 0) × (fileRefusal (wordOf s) ≡ 0) × (c .payload-at .result ≡ payloadAt (wordOf s))
+    (typeRefusal 3 s ≡ 0) × (fileRefusal (wordOf s) ≡ 0) × (c .payload-at .result ≡ payloadAt (wordOf s))
 known c =
     let s = now (c .before .before .before .before .before .before .before .args .p) in
     let f : c .before .before .file-refusal .result ≡ fileRefusal (wordOf s) = c .before .before .file-refusal .ensures ∙ ap fileRefusal (c .before .before .before .word .ensures) in

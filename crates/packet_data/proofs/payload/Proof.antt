@@ -31,7 +31,7 @@ payload-at-requires c κs = search needs
 
 starts : (c : tie.After-payload-at)
     → let s = now (c .before .before .before .before .before .args .p) in
-      (dataRefusal s ≡ 0) × (c .payload-at .result ≡ payloadAt (wordOf s)) × (payloadAt (wordOf s) ≤ length s)
+    (dataRefusal s ≡ 0) × (c .payload-at .result ≡ payloadAt (wordOf s)) × (payloadAt (wordOf s) ≤ length s)
 starts c =
     let s = now (c .before .before .before .before .before .args .p) in
     let z : dataRefusal s ≡ 0 = omega arith in

@@ -57,12 +57,22 @@ returns c =
     let p = now (a .payload) in
     let s : length t ≡ timestampOctets f = c .before .before .before .before .before .before .before .before .before .before .before .before .before .before .before .before .before .before .before .before .before .before .before .before .before .before .before .pre .timestamp-is in
     let h : payloadAt f + length p ≤ length (now (a .out)) = c .before .before .before .before .before .before .before .before .before .before .before .before .before .before .before .before .before .before .before .before .before .before .before .before .before .before .before .pre .fits in
-    let l : length (beDigits (descriptorOctets f) (a .offset)) ≡ descriptorOctets f = length-digits (descriptorOctets f) (a .offset) in
-    ( omega arith
-    , rw (c .before .before .copy-into2 .ensures, c .before .before .before .before .before .before .write-number3 .ensures, c .before .before .before .before .before .before .before .before .before .before .before .before .copy-into .ensures, c .before .before .before .before .before .before .before .before .before .before .before .before .before .before .before .before .write-number2 .ensures, c .before .before .before .before .before .before .before .before .before .before .before .before .before .before .before .before .before .before .before .before .write-number .ensures,
-          c .before .before .before .before .before .before .before .before .before .before .before .before .before .before .before .before .before .before .before .before .before .join .ensures, c .before .before .before .before .before .before .before .before .offset-at .ensures, c .before .before .before .before .before .before .before .before .before .before .before .before .before .before .before .before .before .before .before .before .before .before .before .payload-at .ensures, c .before .before .before .before .before .before .before .descriptor-octets .ensures)
-      (puts (beDigits 4 (wordFor 3 f)) (beDigits 4 (a .id)) t (beDigits (descriptorOctets f) (a .offset)) p (now (a .out))
-        4 8 (offsetAt f) (payloadAt f) refl refl (omega arith) (omega arith) h))
+    let l : length (beDigits (descriptorOctets f) (a .offset)) ≡ descriptorOctets f = length-digits (descriptorOctets f) (a .offset) in (
+      omega arith,
+      rw (
+        c .before .before .copy-into2 .ensures,
+        c .before .before .before .before .before .before .write-number3 .ensures,
+        c .before .before .before .before .before .before .before .before .before .before .before .before .copy-into .ensures,
+        c .before .before .before .before .before .before .before .before .before .before .before .before .before .before .before .before .write-number2 .ensures,
+        c .before .before .before .before .before .before .before .before .before .before .before .before .before .before .before .before .before .before .before .before .write-number .ensures,
+        c .before .before .before .before .before .before .before .before .before .before .before .before .before .before .before .before .before .before .before .before .before .join .ensures,
+        c .before .before .before .before .before .before .before .before .offset-at .ensures,
+        c .before .before .before .before .before .before .before .before .before .before .before .before .before .before .before .before .before .before .before .before .before .before .before .payload-at .ensures,
+        c .before .before .before .before .before .before .before .descriptor-octets .ensures,
+      )
+          (puts (beDigits 4 (wordFor 3 f)) (beDigits 4 (a .id)) t (beDigits (descriptorOctets f) (a .offset)) p (now (a .out))
+          4 8 (offsetAt f) (payloadAt f) refl refl (omega arith) (omega arith) h),
+    )
 
 pub put-data-spec : {M : Type 1} → statement M
 put-data-spec =

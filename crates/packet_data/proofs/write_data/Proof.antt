@@ -22,9 +22,10 @@ unfolding dataWritten dataBuffer
 returns c =
     let a = c .before .before .before .before .before .before .args in
     let n = dataRefused (a .flags) (a .id) (now (a .timestamp)) (a .offset) (now (a .payload)) (now (a .out)) in
-    let e : c .before .before .data-write-refusal .result ≡ n = c .before .before .data-write-refusal .ensures in
-    ( rw (c .refuse .ensures, e) (written-refused n _ (omega arith))
-    , buffer-refused n _ (now (a .out)) (omega arith))
+    let e : c .before .before .data-write-refusal .result ≡ n = c .before .before .data-write-refusal .ensures in (
+      rw (c .refuse .ensures, e) (written-refused n _ (omega arith)),
+      buffer-refused n _ (now (a .out)) (omega arith),
+    )
 
 put-data-requires : tie.Need-put-data-requires
 put-data-requires c κs =
@@ -39,9 +40,10 @@ unfolding dataWritten dataBuffer
 returns-2 c =
     let a = c .before .before .before .before .before .before .before .before .before .args in
     let n = dataRefused (a .flags) (a .id) (now (a .timestamp)) (a .offset) (now (a .payload)) (now (a .out)) in
-    let z : n ≡ 0 = omega arith in
-    ( rw (z, c .before .before .put-data .ensures .0)
-    , rw z (c .before .before .put-data .ensures .1))
+    let z : n ≡ 0 = omega arith in (
+      rw (z, c .before .before .put-data .ensures .0),
+      rw z (c .before .before .put-data .ensures .1),
+    )
 
 pub write-data-spec : {M : Type 1} → statement M
 write-data-spec =

@@ -1,0 +1,21 @@
+-- Closing: "removes an Id; its place is used again". "Closing: 12".
+-- Assumes nothing.
+use Prim.Native.Nat.{ℕ}
+use mathlib.Core.List.{List}
+use mathlib.Core.Option.{Option, none, some}
+use Rattle.header.specs.Refusals.{refusalOf}
+use Rattle.table.specs.Transfers.{Key, Transfer}
+use Rattle.table.specs.Tables.{keys, find, remove}
+use Rattle.table.specs.declared.Closed.{Closed}
+use Rattle.table.specs.declared.Closed.the-variants.{Done, Refused}
+
+pub record CloseOutcome : Type 0 where
+  pub answer : Closed
+  pub table : List Transfer
+
+unfoldable pub closeFound : Option Key → List Transfer → ℕ → CloseOutcome
+closeFound none t id = record { answer = Refused (refusalOf 12); table = t }
+closeFound (some k) t id = record { answer = Done; table = remove id t }
+
+unfoldable pub closeId : List Transfer → ℕ → CloseOutcome
+closeId t id = closeFound (find id (keys t)) t id

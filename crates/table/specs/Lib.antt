@@ -1,0 +1,6 @@
+pub mod Transfers
+pub mod Tables
+pub mod Open
+pub mod Record
+pub mod Close
+pub mod Status

@@ -1,0 +1,62 @@
+-- Opening by METADATA.
+-- Assumes nothing.
+use Prim.Native.Nat.{ℕ}
+use mathlib.Core.Bool.{Bool, true, false, cond, _&&_}
+use mathlib.Core.List.{List, []}
+use mathlib.Core.Option.{Option, none, some}
+use lib.ListN.{length}
+use lib.Dec.{ltb, eqb}
+use Rattle.header.specs.Refusals.{refusalOf}
+use Rattle.header.specs.declared.Refusal.{Refusal}
+use Rattle.packet_metadata.specs.Metadata.{readMetadata}
+use Rattle.packet_metadata.specs.declared.Metadata.{Metadata}
+use Rattle.packet_metadata.specs.declared.MetadataRead.{MetadataRead}
+use Rattle.packet_metadata.specs.declared.MetadataRead.the-variants as metadata-read
+use Rattle.table.specs.Transfers.{Key, Transfer}
+use Rattle.table.specs.Tables.{keys, find, runsOf, add, reached}
+use Rattle.table.specs.declared.Opened.{Opened}
+use Rattle.table.specs.declared.Opened.the-variants.{New, AlreadyOpen, Refused}
+
+-- the answer, and the table after it
+pub record OpenOutcome : Type 0 where
+  pub answer : Opened
+  pub table : List Transfer
+
+-- "The size is the transfer's length L", "at width w"
+abbrev pub keyOf : Metadata → Key
+keyOf m = record { id = m .id; width = m .width; length = m .entry .size }
+
+pub data Verdict : Type 0 where
+  new : Verdict
+  already : Verdict
+  refuse : ℕ → Verdict
+
+-- an open Id: "equal width and L answers already open", else 18. A new one: 17 where 16 are open.
+-- It is judged by what is open alone, and not by what was received
+unfoldable pub judgeFound : Option Key → ℕ → Key → Verdict
+judgeFound none count k = cond (ltb count 16) new (refuse 17)
+judgeFound (some j) count k = cond (eqb (j .width) (k .width) && eqb (j .length) (k .length)) already (refuse 18)
+
+unfoldable pub judgeOpen : List Key → Key → Verdict
+judgeOpen ks k = judgeFound (find (k .id) ks) (length ks) k
+
+unfoldable pub openAs : Verdict → List Transfer → Key → OpenOutcome
+openAs new t k = record { answer = New (reached k []); table = add k t }
+openAs already t k = record { answer = AlreadyOpen (reached k (runsOf t (k .id))); table = t }
+openAs (refuse n) t k = record { answer = Refused (refusalOf n); table = t }
+
+unfoldable pub openKey : List Transfer → Key → OpenOutcome
+openKey t k = openAs (judgeOpen (keys t) k) t k
+
+-- "Opening: the reader's, then 18, 17"
+unfoldable pub openRead : List Transfer → MetadataRead → OpenOutcome
+openRead t (metadata-read.Accepted m) = openKey t (keyOf m)
+openRead t (metadata-read.Refused r) = record { answer = Refused r; table = t }
+
+unfoldable pub openPacket : List Transfer → List ℕ → OpenOutcome
+openPacket t packet = openRead t (readMetadata packet)
+
+abbrev pub openAccepted : Opened → Bool
+openAccepted (New r) = true
+openAccepted (AlreadyOpen r) = true
+openAccepted (Refused r) = false

@@ -1,0 +1,27 @@
+// The transfer table: open transfers by Id. What opening, recording, closing and STATUS answer; specs/ says what each means.
+use header::Refusal;
+
+// How far a transfer has come: its edge, and whether every octet of its length was received.
+pub struct Reached {
+    pub edge: u64,
+    pub complete: bool,
+}
+
+// What opening answers.
+pub enum Opened {
+    New(Reached),
+    AlreadyOpen(Reached),
+    Refused(Refusal),
+}
+
+// What recording answers.
+pub enum Recorded {
+    Accepted(Reached),
+    Refused(Refusal),
+}
+
+// What closing answers.
+pub enum Closed {
+    Done,
+    Refused(Refusal),
+}

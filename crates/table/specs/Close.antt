@@ -6,11 +6,11 @@ use mathlib.Core.Option.{Option, none, some}
 use Rattle.header.specs.Refusals.{refusalOf}
 use Rattle.table.specs.Transfers.{Key, Transfer}
 use Rattle.table.specs.Tables.{keys, find, remove}
-use Rattle.table.specs.declared.Closed.{Closed}
-use Rattle.table.specs.declared.Closed.the-variants.{Done, Refused}
+use Rattle.table.specs.declared.Finished.{Finished}
+use Rattle.table.specs.declared.Finished.the-variants.{Done, Refused}
 
 pub record CloseOutcome : Type 0 where
-  pub answer : Closed
+  pub answer : Finished
   pub table : List Transfer
 
 unfoldable pub closeFound : Option Key → List Transfer → ℕ → CloseOutcome

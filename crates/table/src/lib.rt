@@ -20,8 +20,8 @@ pub enum Recorded {
     Refused(Refusal),
 }
 
-// What closing answers.
-pub enum Closed {
+// What closing, and making a table fresh, answer.
+pub enum Finished {
     Done,
     Refused(Refusal),
 }

@@ -142,6 +142,11 @@ module _ (s : List ℕ) (o : Octets s) (ok : metadataRefusal s ≡ 0) where
   known : MetadataFine s
   known = metadata-fine s ok
 
+  -- the fields are those that reading gives
+  pub metadata-accepted : readMetadata s ≡ Accepted m
+  unfolding readMetadata
+  metadata-accepted = rw ok
+
   rest-octets : Octets rest
   rest-octets = octets-drop (entryAt w) s o
 

@@ -238,7 +238,7 @@ pub fn write_metadata(
     ensures { λ r. ⌜ (r ≡ metadataWritten flags id (now (checksum .entry)) properties size mtime ctime (now (path .entry)) (now (out .entry)))
         × (now (out .exit) ≡ metadataBuffer flags id (now (checksum .entry)) properties size mtime ctime (now (path .entry)) (now (out .entry))) ⌝ }
 {
-    let n = metadata_write_refusal(
+    let refusal = metadata_write_refusal(
         flags,
         id,
         checksum,
@@ -249,8 +249,8 @@ pub fn write_metadata(
         path,
         out.len(),
     );
-    if n != 0 {
-        return Written::Refused(header::refuse(n));
+    if refusal != 0 {
+        return Written::Refused(header::refuse(refusal));
     }
     put_metadata(
         out,

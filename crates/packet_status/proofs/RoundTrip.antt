@@ -5,16 +5,17 @@ use mathlib.Core.Path.{_≡_, refl, sym, ap, _∙_}
 use mathlib.Core.List.{List}
 use native.Mathlib.Omega.{arith}
 use lib.ListN.{length, take, drop}
-use lib.Seq.{length-take-le, take-take, take-add, drop-at}
+use lib.Seq.{length-take-le, take-at, take-take, take-add, drop-at}
 use borrow.Author.Tests.{le-ltb, eq-eqb, ne-eqb}
 use Rattle.octets.specs.Numbers.{beValue}
+use Rattle.octets.specs.Put.{put}
 use Rattle.octets.proofs.NumberLaws.{value-digits}
 use Rattle.header.specs.Word.{markOf, typeOf, statusOf, wordFor}
 use Rattle.header.specs.Start.{wordOf, idOf, startRefusal, typeRefusal}
 use Rattle.header.proofs.WordLaws.{mark-for, type-for, flags-for}
 use Rattle.header.proofs.StartLaws.{TypeFine, type-fine}
 use Rattle.packet_status.specs.Status.{statusRefusal, failureOf, readStatus}
-use Rattle.packet_status.specs.WriteFailure.{failureWriteRefusal, failureOctets}
+use Rattle.packet_status.specs.WriteFailure.{failureWriteRefusal, failureOctets, failureBuffer}
 use Rattle.packet_status.specs.declared.StatusRead.the-variants.{Failure}
 use Rattle.packet_status.proofs.StatusLaws.{failure-accepted}
 use Rattle.packet_status.proofs.FailureLaws.{FailureFine, failure-fine}
@@ -91,3 +92,11 @@ module _ (id status room : ℕ) (e : failureWriteRefusal id status room ≡ 0) w
       let n : statusOf (wordOf (failureOctets id status)) ≡ 0 → ⊥ = λ q. fine .some (sym c ∙ ap statusOf (sym word) ∙ q) in
       failure-ignores-rest (failureOctets id status) (type-none 4 _ typed) n
       ∙ rw (word, ident, c, flags-for 4 status (omega arith) (omega arith))
+
+  -- and so from the buffer that the writer leaves
+  pub failure-read-buffer : (old : List ℕ) → length old ≡ room
+      → readStatus (take 8 (failureBuffer id status old)) ≡ Failure (record { flags = status; id = id; status = status })
+  unfolding failureBuffer put
+  failure-read-buffer old h =
+      let z : failureWriteRefusal id status (length old) ≡ 0 = rw h e in
+      rw (z, take-at (failureOctets id status) _ 8 failure-length) failure-read-written

@@ -36,8 +36,9 @@ returns-2 c =
 
 success-fields-requires : tie.Need-success-fields-requires
 success-fields-requires c κs =
-    let y : statusOf (wordOf (now (c .before .before .before .before .before .before .before .args .p))) ≡ 0 = omega arith in
-    let f = status-fine (now (c .before .before .before .before .before .before .before .args .p)) (omega arith) in
+    let s = now (c .before .before .before .before .before .before .before .args .p) in
+    let y : statusOf (wordOf s) ≡ 0 = omega arith in
+    let f = status-fine s (omega arith) in
     (f .typed .start .long, f .success y)
 
 counted : (c : tie.After-success-fields) → c .success-fields .result .count ≡ holeCount (now (c .before .before .before .before .before .before .before .before .args .p))

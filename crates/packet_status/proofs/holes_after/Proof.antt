@@ -23,7 +23,10 @@ loop-holds : tie.Need-loop-holds Inv-loop μ-loop
 loop-holds c = (c .before .pre .1, refl)
 
 -- there is room for one hole and those after it
-room : (c : tie.In-loop Inv-loop μ-loop) → c .before .loop .at + 2 * c .before .before .before .args .d + (c .before .loop .left - 1) * (2 * c .before .before .before .args .d) ≤ length (now (c .before .before .before .args .s))
+room : (c : tie.In-loop Inv-loop μ-loop)
+    → let a = c .before .before .before .args in
+    let l = c .before .loop in
+    l .at + 2 * a .d + (l .left - 1) * (2 * a .d) ≤ length (now (a .s))
 room c = omega (arith, less-one (c .before .loop .left) (2 * c .before .before .before .args .d) (omega arith))
 
 hole-at-requires : tie.Need-hole-at-requires Inv-loop μ-loop
@@ -31,9 +34,14 @@ hole-at-requires c κs = (c .before .before .before .pre .0, omega (arith, room 
 
 -- the judgement, with the first of the holes that are left
 first : (c : tie.After-hole-at Inv-loop μ-loop)
-    → holesAfter (c .before .before .before .before .args .prev) (c .before .before .before .before .args .top) (holesOf (c .before .before .before .before .args .d) (c .before .before .before .before .args .n) (c .before .before .before .before .args .from) (now (c .before .before .before .before .args .s)))
-    ≡ holesAfter (c .before .before .loop .last) (c .before .before .before .before .args .top) (c .hole-at .result ∷ holesOf (c .before .before .before .before .args .d) (c .before .before .loop .left - 1) (c .before .before .loop .at + 2 * c .before .before .before .before .args .d) (now (c .before .before .before .before .args .s)))
-first c = c .before .before .loop .inv .1 ∙ rw (holes-step (c .before .before .before .before .args .d) (c .before .before .loop .left) (c .before .before .loop .at) (now (c .before .before .before .before .args .s)) (omega arith), c .hole-at .ensures)
+    → let a = c .before .before .before .before .args in
+    let l = c .before .before .loop in
+    holesAfter (a .prev) (a .top) (holesOf (a .d) (a .n) (a .from) (now (a .s)))
+    ≡ holesAfter (l .last) (a .top) (c .hole-at .result ∷ holesOf (a .d) (l .left - 1) (l .at + 2 * a .d) (now (a .s)))
+first c =
+    let a = c .before .before .before .before .args in
+    let l = c .before .before .loop in
+    l .inv .1 ∙ rw (holes-step (a .d) (l .left) (l .at) (now (a .s)) (omega arith), c .hole-at .ensures)
 
 returns : tie.Need-returns Inv-loop μ-loop
 returns c =

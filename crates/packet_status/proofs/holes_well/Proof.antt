@@ -22,7 +22,7 @@ unfolding holesWell
 returns c = rw (c .before .if1 .taken) (c .starts-well .ensures)
 
 -- there is room for one hole and those after it
-room : (c : tie.Else1) → c .before .before .args .at + 2 * c .before .before .args .d + (c .before .before .args .n - 1) * (2 * c .before .before .args .d) ≤ length (now (c .before .before .args .s))
+room : (c : tie.Else1) → let a = c .before .before .args in a .at + 2 * a .d + (a .n - 1) * (2 * a .d) ≤ length (now (a .s))
 room c = omega (arith, less-one (c .before .before .args .n) (2 * c .before .before .args .d) (omega arith))
 
 hole-at-requires : tie.Need-hole-at-requires
@@ -33,9 +33,10 @@ starts-well-requires-2 c κs = search needs
 
 -- the judgement, with the first hole
 first : (c : tie.After-hole-at)
-    → holesWell (c .before .before .before .args .partial) (c .before .before .before .args .progress) (c .before .before .before .args .top) (holesOf (c .before .before .before .args .d) (c .before .before .before .args .n) (c .before .before .before .args .at) (now (c .before .before .before .args .s)))
-    ≡ holesWell (c .before .before .before .args .partial) (c .before .before .before .args .progress) (c .before .before .before .args .top) (c .hole-at .result ∷ holesOf (c .before .before .before .args .d) (c .before .before .before .args .n - 1) (c .before .before .before .args .at + 2 * c .before .before .before .args .d) (now (c .before .before .before .args .s)))
-first c = rw (holes-step (c .before .before .before .args .d) (c .before .before .before .args .n) (c .before .before .before .args .at) (now (c .before .before .before .args .s)) (omega arith), c .hole-at .ensures)
+    → let a = c .before .before .before .args in
+    holesWell (a .partial) (a .progress) (a .top) (holesOf (a .d) (a .n) (a .at) (now (a .s)))
+    ≡ holesWell (a .partial) (a .progress) (a .top) (c .hole-at .result ∷ holesOf (a .d) (a .n - 1) (a .at + 2 * a .d) (now (a .s)))
+first c = let a = c .before .before .before .args in rw (holes-step (a .d) (a .n) (a .at) (now (a .s)) (omega arith), c .hole-at .ensures)
 
 returns-2 : tie.Need-returns-2
 unfolding holesWell
@@ -44,6 +45,7 @@ returns-2 c =
     let v : startsWell (a .partial) (a .progress) (c .before .before .hole-at .result .start) ≡ false = sym (c .before .starts-well2 .ensures) ∙ not-true _ (c .if2 .taken) in
     sym (first (c .before .before) ∙ rw v)
 
+-- and it starts well
 started : (c : tie.Else2) → startsWell (c .before .before .before .before .before .args .partial) (c .before .before .before .before .before .args .progress) (c .before .before .hole-at .result .start) ≡ true
 started c = sym (c .before .starts-well2 .ensures) ∙ not-false _ (c .if2 .left)
 

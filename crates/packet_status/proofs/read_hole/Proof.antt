@@ -29,7 +29,7 @@ returns c =
     rw (c .refuse .ensures, e) (hole-refused n (indexedHole (a .index) (now (a .p))) (omega arith))
 
 word-requires : tie.Need-word-requires
-word-requires c κs = hole-fine (c .before .before .before .args .index) (now (c .before .before .before .args .p)) (omega arith) .start .long
+word-requires c κs = let a = c .before .before .before .args in hole-fine (a .index) (now (a .p)) (omega arith) .start .long
 
 descriptor-octets-requires : tie.Need-descriptor-octets-requires
 descriptor-octets-requires c κs = search needs
@@ -42,15 +42,19 @@ add-holes c = search needs
 
 -- the octets that the word gives, and the place of the hole
 known : (c : tie.After-timestamp-octets)
-    → (c .before .descriptor-octets .result ≡ descriptorOctets (wordOf (now (c .before .before .before .before .before .before .args .p))))
-    × (c .timestamp-octets .result ≡ timestampOctets (wordOf (now (c .before .before .before .before .before .before .args .p))))
-    × Width (c .before .descriptor-octets .result)
-    × (8 + c .timestamp-octets .result + 2 * c .before .descriptor-octets .result + c .before .before .before .before .before .before .args .index * (2 * c .before .descriptor-octets .result) + 2 * c .before .descriptor-octets .result ≤ length (now (c .before .before .before .before .before .before .args .p)))
+    → let s = now (c .before .before .before .before .before .before .args .p) in
+    let d = c .before .descriptor-octets .result in
+    (d ≡ descriptorOctets (wordOf s))
+    × (c .timestamp-octets .result ≡ timestampOctets (wordOf s))
+    × Width d
+    × (8 + c .timestamp-octets .result + 2 * d + c .before .before .before .before .before .before .args .index * (2 * d) + 2 * d ≤ length s)
 known c =
-    let f = hole-fine (c .before .before .before .before .before .before .args .index) (now (c .before .before .before .before .before .before .args .p)) (omega arith) in
-    let d : c .before .descriptor-octets .result ≡ descriptorOctets (wordOf (now (c .before .before .before .before .before .before .args .p))) = c .before .descriptor-octets .ensures ∙ ap descriptorOctets (c .before .before .word .ensures) in
-    let t : c .timestamp-octets .result ≡ timestampOctets (wordOf (now (c .before .before .before .before .before .before .args .p))) = c .timestamp-octets .ensures ∙ ap timestampOctets (c .before .before .word .ensures) in
-    (d, t, rw d (success-octets (now (c .before .before .before .before .before .before .args .p)) (f .fine)), rw (d, t) (hole-fits (c .before .before .before .before .before .before .args .index) (now (c .before .before .before .before .before .before .args .p)) f))
+    let s = now (c .before .before .before .before .before .before .args .p) in
+    let i = c .before .before .before .before .before .before .args .index in
+    let f = hole-fine i s (omega arith) in
+    let d : c .before .descriptor-octets .result ≡ descriptorOctets (wordOf s) = c .before .descriptor-octets .ensures ∙ ap descriptorOctets (c .before .before .word .ensures) in
+    let t : c .timestamp-octets .result ≡ timestampOctets (wordOf s) = c .timestamp-octets .ensures ∙ ap timestampOctets (c .before .before .word .ensures) in
+    (d, t, rw d (success-octets s (f .fine)), rw (d, t) (hole-fits i s f))
 
 mul-holes : tie.Need-mul-holes
 mul-holes c = let k = known c in omega arith
@@ -74,7 +78,8 @@ returns-2 : tie.Need-returns-2
 unfolding readHole indexedHole
 returns-2 c =
     let k = known (c .before) in
-    let z : holeRefusal (c .before .before .before .before .before .before .before .args .index) (now (c .before .before .before .before .before .before .before .args .p)) ≡ 0 = omega arith in
+    let a = c .before .before .before .before .before .before .before .args in
+    let z : holeRefusal (a .index) (now (a .p)) ≡ 0 = omega arith in
     rw (z, c .hole-at .ensures, k .0, k .1)
 
 pub read-hole-spec : {M : Type 1} → statement M

@@ -32,8 +32,9 @@ split-requires c κs = search needs
 
 success-fields-requires : tie.Need-success-fields-requires
 success-fields-requires c κs =
-    let y : statusOf (wordOf (now (c .before .before .before .before .before .before .args .p))) ≡ 0 = omega arith in
-    let f = status-fine (now (c .before .before .before .before .before .before .args .p)) (omega arith) in
+    let s = now (c .before .before .before .before .before .before .args .p) in
+    let y : statusOf (wordOf s) ≡ 0 = omega arith in
+    let f = status-fine s (omega arith) in
     (f .typed .start .long, f .success y)
 
 returns-2 : tie.Need-returns-2

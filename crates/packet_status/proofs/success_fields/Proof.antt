@@ -32,16 +32,18 @@ add-at c = search needs
 
 -- the word of the packet, and the octets that it gives
 known : (c : tie.After-timestamp-octets)
-    → (c .before .before .before .word .result ≡ wordOf (now (c .before .before .before .before .before .args .p)))
-    × (c .before .descriptor-octets .result ≡ descriptorOctets (wordOf (now (c .before .before .before .before .before .args .p))))
-    × (c .timestamp-octets .result ≡ timestampOctets (wordOf (now (c .before .before .before .before .before .args .p))))
-    × (holesAt (wordOf (now (c .before .before .before .before .before .args .p))) ≤ length (now (c .before .before .before .before .before .args .p)))
+    → let s = now (c .before .before .before .before .before .args .p) in
+    (c .before .before .before .word .result ≡ wordOf s)
+    × (c .before .descriptor-octets .result ≡ descriptorOctets (wordOf s))
+    × (c .timestamp-octets .result ≡ timestampOctets (wordOf s))
+    × (holesAt (wordOf s) ≤ length s)
     × Width (c .before .descriptor-octets .result)
 known c =
-    let w : c .before .before .before .word .result ≡ wordOf (now (c .before .before .before .before .before .args .p)) = c .before .before .before .word .ensures in
-    let f = success-fine (now (c .before .before .before .before .before .args .p)) (c .before .before .before .before .before .pre .1) in
-    let d : c .before .descriptor-octets .result ≡ descriptorOctets (wordOf (now (c .before .before .before .before .before .args .p))) = c .before .descriptor-octets .ensures ∙ ap descriptorOctets w in
-    (w, d, c .timestamp-octets .ensures ∙ ap timestampOctets w, f .long, rw d (success-octets (now (c .before .before .before .before .before .args .p)) f))
+    let s = now (c .before .before .before .before .before .args .p) in
+    let e : c .before .before .before .word .result ≡ wordOf s = c .before .before .before .word .ensures in
+    let f = success-fine s (c .before .before .before .before .before .pre .1) in
+    let d : c .before .descriptor-octets .result ≡ descriptorOctets (wordOf s) = c .before .descriptor-octets .ensures ∙ ap descriptorOctets e in
+    (e, d, c .timestamp-octets .ensures ∙ ap timestampOctets e, f .long, rw d (success-octets s f))
 
 mul-holes : tie.Need-mul-holes
 mul-holes c = omega (arith, octets-le (c .before .before .before .word .result))

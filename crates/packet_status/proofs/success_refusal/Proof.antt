@@ -42,16 +42,18 @@ add-at c = search needs
 
 -- the word of the packet, and the octets that it gives
 known : (c : tie.After-timestamp-octets)
-    → (c .before .before .before .before .before .word .result ≡ wordOf (now (c .before .before .before .before .before .before .before .args .p)))
-    × (c .before .descriptor-octets .result ≡ descriptorOctets (wordOf (now (c .before .before .before .before .before .before .before .args .p))))
-    × (c .timestamp-octets .result ≡ timestampOctets (wordOf (now (c .before .before .before .before .before .before .before .args .p))))
-    × (widthOf (wordOf (now (c .before .before .before .before .before .before .before .args .p))) ≡ 3 → ⊥)
+    → let w = wordOf (now (c .before .before .before .before .before .before .before .args .p)) in
+    (c .before .before .before .before .before .word .result ≡ w)
+    × (c .before .descriptor-octets .result ≡ descriptorOctets w)
+    × (c .timestamp-octets .result ≡ timestampOctets w)
+    × (widthOf w ≡ 3 → ⊥)
     × Width (c .before .descriptor-octets .result)
 known c =
-    let w : c .before .before .before .before .before .word .result ≡ wordOf (now (c .before .before .before .before .before .before .before .args .p)) = c .before .before .before .before .before .word .ensures in
-    let n : widthOf (wordOf (now (c .before .before .before .before .before .before .before .args .p))) ≡ 3 → ⊥ = omega arith in
-    let d : c .before .descriptor-octets .result ≡ descriptorOctets (wordOf (now (c .before .before .before .before .before .before .before .args .p))) = c .before .descriptor-octets .ensures ∙ ap descriptorOctets w in
-    (w, d, c .timestamp-octets .ensures ∙ ap timestampOctets w, n, rw d (narrow-octets (wordOf (now (c .before .before .before .before .before .before .before .args .p))) n))
+    let w = wordOf (now (c .before .before .before .before .before .before .before .args .p)) in
+    let e : c .before .before .before .before .before .word .result ≡ w = c .before .before .before .before .before .word .ensures in
+    let n : widthOf w ≡ 3 → ⊥ = omega arith in
+    let d : c .before .descriptor-octets .result ≡ descriptorOctets w = c .before .descriptor-octets .ensures ∙ ap descriptorOctets e in
+    (e, d, c .timestamp-octets .ensures ∙ ap timestampOctets e, n, rw d (narrow-octets w n))
 
 mul-holes : tie.Need-mul-holes
 mul-holes c = omega (arith, octets-le (c .before .before .before .before .before .word .result))
@@ -77,8 +79,9 @@ rem-if3 c = omega (arith, width-some (known (c .before) .4))
 
 -- the octets after In-Response-To, by the code's places and by the packet's
 rest : (c : tie.Else2)
-    → (length (now (c .before .before .before .before .before .before .before .before .args .p)) - (8 + c .before .timestamp-octets .result + 2 * c .before .before .descriptor-octets .result)) % (2 * c .before .before .descriptor-octets .result)
-    ≡ listOctets (now (c .before .before .before .before .before .before .before .before .args .p)) % (2 * descriptorOctets (wordOf (now (c .before .before .before .before .before .before .before .before .args .p))))
+    → let s = now (c .before .before .before .before .before .before .before .before .args .p) in
+    let d = c .before .before .descriptor-octets .result in
+    (length s - (8 + c .before .timestamp-octets .result + 2 * d)) % (2 * d) ≡ listOctets s % (2 * descriptorOctets (wordOf s))
 rest c = let k = known (c .before) in rw (k .1, k .2)
 
 returns-3 : tie.Need-returns-3

@@ -5,7 +5,7 @@ use mathlib.Core.Path.{_≡_, sym, _∙_}
 use mathlib.Core.List.{List, _++_, append-assoc}
 use native.Mathlib.Nat.{le-refl}
 use native.Mathlib.Omega.{arith}
-use lib.ListN.{length, take, drop, length-append}
+use lib.ListN.{length, take, drop, length-append, take-append-drop}
 use lib.Seq.{paste, take-length, length-paste, take-at, length-take-le, drop-append-add, drop-drop}
 use Rattle.octets.specs.Put.{put}
 
@@ -38,3 +38,12 @@ put-next at n done bs old e h =
   where
     drop-past : (a b : List ℕ) (n k : ℕ) → length a ≡ n → drop (n + k) (a ++ b) ≡ drop k b
     drop-past a b n k e = rw (← e) (drop-append-add a b k)
+
+-- two parts that follow each other are one, to the end
+pub refold : (s : List ℕ) (m d n : ℕ) → m + d ≡ n → take d (drop m s) ++ drop n s ≡ drop m s
+refold s m d n e = rw (← e, ← drop-drop) (take-append-drop d (drop m s))
+
+-- what was put at the start of a buffer, taken out again
+pub take-put : (n : ℕ) (bs old : List ℕ) → length bs ≡ n → take n (put 0 bs old) ≡ bs
+unfolding put
+take-put n bs old e = take-at bs (drop (0 + length bs) old) n e

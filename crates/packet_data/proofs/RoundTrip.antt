@@ -1,7 +1,7 @@
 -- "reading what was written gives the same fields", and "writing what was read gives the same octets": DATA.
 -- Assumes nothing.
 use Prim.Native.Nat.{ℕ, _+_, _*_, _-_, _^_, _<_, _≤_}
-use mathlib.Core.Path.{_≡_, sym, ap, _∙_}
+use mathlib.Core.Path.{_≡_, refl, sym, ap, _∙_}
 use mathlib.Core.List.{List, _++_}
 use native.Mathlib.Omega.{arith}
 use lib.ListN.{length, take, drop, length-append, length-drop, take-append-drop}
@@ -9,6 +9,7 @@ use lib.Seq.{take-at, drop-at, drop-drop, length-take-le}
 use borrow.Author.Tests.{le-ltb, lt-ltb, eq-eqb, ne-eqb}
 use Rattle.octets.specs.Numbers.{beValue, beDigits, Octets}
 use Rattle.octets.specs.Put.{put}
+use Rattle.octets.proofs.PutLaws.{refold}
 use Rattle.octets.proofs.NumberLaws.{value-digits, length-digits, part-digits, part-lt}
 use Rattle.header.specs.Word.{flagsOf, descriptorOctets, timestampOctets, wantedOf, eodOf, markOf, typeOf, wordFor}
 use Rattle.header.specs.Start.{wordOf, idOf, startRefusal, typeRefusal, fileRefusal}
@@ -111,12 +112,9 @@ module _ (f i : ℕ) (t : List ℕ) (o : ℕ) (p : List ℕ) (room : ℕ) (ok : 
   payload-read-written = rw (accepted, word, payload-at) payload
 
 -- the parts of a list, joined again
-refold : (m d : ℕ) (s : List ℕ) → take d (drop m s) ++ drop (m + d) s ≡ drop m s
-refold m d s = rw (← drop-drop) (take-append-drop d (drop m s))
-
 rejoin : (s a b o : List ℕ) (n d : ℕ) → a ≡ take 4 s → b ≡ take 4 (drop 4 s) → o ≡ take d (drop (8 + n) s)
     → a ++ (b ++ (take n (drop 8 s) ++ (o ++ drop (8 + n + d) s))) ≡ s
-rejoin s a b o n d ea eb eo = rw (ea, eb, eo, refold (8 + n) d s, refold 8 n s, refold 4 4 s) (take-append-drop 4 s)
+rejoin s a b o n d ea eb eo = rw (ea, eb, eo, refold s (8 + n) d (8 + n + d) refl, refold s 8 n (8 + n) refl, refold s 4 4 8 refl) (take-append-drop 4 s)
 
 -- a packet that is not refused
 module _ (s : List ℕ) (os : Octets s) (ok : dataRefusal s ≡ 0) where

@@ -54,16 +54,16 @@ module _ (flags id : ℕ) (checksum : List ℕ) (properties size mtime ctime : �
   length-is : length s ≡ metadataSize flags properties (length path)
   length-is = length-metadata flags id checksum properties size mtime ctime path ∙ omega (arith, fine .fits)
 
-  pub checksum-written : take (length checksum) (drop 8 s) ≡ checksum
+  pub checksum-read-written : take (length checksum) (drop 8 s) ≡ checksum
   unfolding metadataOctets
-  checksum-written = take-at checksum e (length checksum) refl
+  checksum-read-written = take-at checksum e (length checksum) refl
 
   entry-is : drop (entryAt flags) s ≡ e
   unfolding metadataOctets
   entry-is = sym (drop-drop (checksumOctets flags) 8 s) ∙ drop-at checksum e (checksumOctets flags) (fine .fits .checksum-is)
 
-  pub path-again : take (length path) (drop (entryAt flags + pathAt properties) s) ≡ path
-  path-again = rw (← drop-drop (pathAt properties) (entryAt flags) s, entry-is) (path-written (descriptorOctets flags) properties size mtime ctime path (fine .excess) (fine .entry))
+  pub path-read-written : take (length path) (drop (entryAt flags + pathAt properties) s) ≡ path
+  path-read-written = rw (← drop-drop (pathAt properties) (entryAt flags) s, entry-is) (path-written (descriptorOctets flags) properties size mtime ctime path (fine .excess) (fine .entry))
 
   taken : metadataRefusal s ≡ 0
   unfolding metadataRefusal typeRefusal startRefusal
@@ -158,11 +158,7 @@ module _ (s : List ℕ) (o : Octets s) (ok : metadataRefusal s ≡ 0) where
   unfolding metadataOf
   rest-is = rw path-is (entry-written-read (descriptorOctets w) (entryAt w) rest rest-octets (known .entry))
 
-  -- the packet that the fields give
-  abbrev pub again : List ℕ
-  again = metadataOctets (m .flags) (m .id) checksumPart (m .entry .properties) (m .entry .size) (m .entry .mtime) (m .entry .ctime) pathOctets
-
-  pub metadata-written-read : again ≡ s
+  pub metadata-written-read : metadataOctets (m .flags) (m .id) checksumPart (m .entry .properties) (m .entry .size) (m .entry .mtime) (m .entry .ctime) pathOctets ≡ s
   unfolding metadataOctets metadataOf
   metadata-written-read =
       let t = known .start in

@@ -5,7 +5,7 @@ use Prim.Native.Nat.{ℕ, zero, suc, _*_, _/_, _%_}
 use mathlib.Core.List.{List, [], _∷_}
 use lib.ListN.{length, getD, replicate}
 use Rattle.runs.specs.Runs.{Run, run}
-use Rattle.table.specs.Transfers.{Key, Transfer}
+use Rattle.table.specs.Transfers.{Transfer}
 use Rattle.area.specs.declared.Table.{Table}
 
 -- f i, f (i + 1), .., n of them

@@ -10,6 +10,7 @@ use lib.Seq.{take-at, drop-at, drop-drop}
 use lib.Dec.{ltb}
 use borrow.Author.Tests.{ltb-true, not-false, lt-ltb, le-ltb}
 use Rattle.octets.specs.Numbers.{beValue, beDigits, Octets}
+use Rattle.octets.proofs.PutLaws.{refold}
 use Rattle.octets.proofs.NumberLaws.{value-digits, length-digits, part-digits, part-lt}
 use Rattle.header.specs.Refusals.{when}
 use Rattle.header.proofs.RefusalLaws.{first-none, rest-none, failed}
@@ -132,9 +133,6 @@ module _ (d properties size mtime ctime : ℕ) (path : List ℕ) (ok : entryExce
   path-written = rw after-ctime (take-at path (0 ∷ []) (length path) refl)
 
 -- two parts of a list, joined again
-pub refold : (s : List ℕ) (m d n : ℕ) → m + d ≡ n → take d (drop m s) ++ drop n s ≡ drop m s
-refold s m d n e = rw (← e, ← drop-drop d m s) (take-append-drop d (drop m s))
-
 join : (e a b c d p : List ℕ) (k : ℕ) → a ≡ take 2 e → b ≡ take k (drop 2 e) → c ≡ take 4 (drop (2 + k) e) → d ≡ take 4 (drop (6 + k) e) → p ≡ drop (10 + k) e
     → a ++ (b ++ (c ++ (d ++ p))) ≡ e
 join e a b c d p k ea eb ec ed ep =

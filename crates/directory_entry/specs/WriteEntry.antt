@@ -3,7 +3,6 @@
 use Prim.Native.Nat.{ℕ, _+_, _^_}
 use mathlib.Core.Bool.{not}
 use mathlib.Core.List.{List, [], _∷_, _++_}
-use lib.ListN.{length}
 use lib.Dec.{ltb}
 use Rattle.octets.specs.Numbers.{beDigits}
 use Rattle.header.specs.Refusals.{_▹_, when}

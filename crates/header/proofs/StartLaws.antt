@@ -1,8 +1,7 @@
 -- What is known of a packet whose first refusals are none.
 -- Assumes nothing.
-use Prim.Native.Nat.{ℕ, _*_, _^_, _<_, _≤_}
+use Prim.Native.Nat.{ℕ, _<_, _≤_}
 use mathlib.Core.Path.{_≡_}
-use mathlib.Core.Bool.{not}
 use mathlib.Core.List.{List}
 use native.Mathlib.Nat.{pow-le-pow-right}
 use native.Mathlib.Omega.{arith}
@@ -11,7 +10,7 @@ use lib.Dec.{ltb, eqb}
 use borrow.Author.Tests.{ltb-false, eqb-true, eqb-false, not-false}
 use Rattle.octets.specs.Numbers.{Width}
 use Rattle.octets.proofs.NumberLaws.{width-of}
-use Rattle.header.specs.Refusals.{_▹_, when}
+use Rattle.header.specs.Refusals.{when}
 use Rattle.header.specs.Word.{markOf, typeOf, widthOf, kindOf, descriptorOctets}
 use Rattle.header.specs.Start.{wordOf, startRefusal, typeRefusal, fileRefusal}
 use Rattle.header.proofs.RefusalLaws.{first-none, rest-none, failed}

@@ -1,7 +1,7 @@
 -- The fields of a first word, of its flags, and of a word made from flags are the same.
 -- Assumes nothing.
-use Prim.Native.Nat.{ℕ, _+_, _*_, _/_, _%_, _^_, _<_, _≤_}
-use mathlib.Core.Path.{_≡_, ap, _∙_}
+use Prim.Native.Nat.{ℕ, _*_, _^_, _<_, _≤_}
+use mathlib.Core.Path.{_≡_, ap}
 use native.Mathlib.Nat.{pow-le-pow-right}
 use native.Mathlib.Omega.{arith}
 use Rattle.header.specs.Word.{markOf, typeOf, flagsOf, widthOf, kindOf, descriptorOctets, timestampOctets, wordFor}

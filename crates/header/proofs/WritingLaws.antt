@@ -5,7 +5,7 @@ use mathlib.Core.Path.{_≡_, refl}
 use mathlib.Core.List.{List}
 use lib.Dec.{ltb}
 use borrow.Author.Tests.{ltb-false}
-use Rattle.header.specs.Refusals.{_▹_, when, refusalOf}
+use Rattle.header.specs.Refusals.{when, refusalOf}
 use Rattle.header.specs.Writing.{roomRefusal, writtenOf, bufferAfter}
 use Rattle.header.specs.declared.Written.the-variants.{Refused}
 use Rattle.header.proofs.RefusalLaws.{first-none, rest-none, failed}

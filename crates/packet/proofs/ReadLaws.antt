@@ -1,7 +1,7 @@
 -- What reading any packet answers, where its start is refused and where it isn't.
 -- Assumes nothing.
 use Prim.Native.Nat.{ℕ, zero, suc}
-use mathlib.Core.Path.{_≡_, refl, sym, _∙_}
+use mathlib.Core.Path.{_≡_, refl, _∙_}
 use mathlib.Core.List.{List}
 use Rattle.header.specs.Refusals.{refusalOf}
 use Rattle.header.specs.Word.{typeOf}

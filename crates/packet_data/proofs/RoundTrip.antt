@@ -1,6 +1,6 @@
 -- "reading what was written gives the same fields", and "writing what was read gives the same octets": DATA.
 -- Assumes nothing.
-use Prim.Native.Nat.{ℕ, _+_, _*_, _-_, _^_, _<_, _≤_}
+use Prim.Native.Nat.{ℕ, _+_, _-_, _^_, _<_, _≤_}
 use mathlib.Core.Path.{_≡_, refl, sym, ap, _∙_}
 use mathlib.Core.List.{List, _++_}
 use native.Mathlib.Omega.{arith}
@@ -12,7 +12,7 @@ use Rattle.octets.specs.Put.{put}
 use Rattle.octets.proofs.PutLaws.{refold}
 use Rattle.octets.proofs.NumberLaws.{value-digits, length-digits, part-digits, part-lt}
 use Rattle.header.specs.Word.{flagsOf, descriptorOctets, timestampOctets, wantedOf, eodOf, markOf, typeOf, wordFor}
-use Rattle.header.specs.Start.{wordOf, idOf, startRefusal, typeRefusal, fileRefusal}
+use Rattle.header.specs.Start.{wordOf, idOf, startRefusal, typeRefusal}
 use Rattle.header.specs.Writing.{roomRefusal}
 use Rattle.header.specs.declared.Written.the-variants.{Size}
 use Rattle.header.proofs.WordLaws.{mark-for, type-for, flags-for, octets-for, timestamp-for, file-for, octets-flags, timestamp-flags, file-flags, flags-lt, word-again}

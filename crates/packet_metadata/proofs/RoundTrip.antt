@@ -9,6 +9,7 @@ use lib.Seq.{take-at, drop-at, drop-drop, length-take-le}
 use borrow.Author.Tests.{lt-ltb, le-ltb, eq-eqb}
 use Rattle.octets.specs.Numbers.{beDigits, Octets}
 use Rattle.octets.specs.Put.{put}
+use Rattle.octets.proofs.PutLaws.{refold}
 use Rattle.octets.proofs.NumberLaws.{value-digits, part-digits, part-lt, octets-drop}
 use Rattle.header.specs.Word.{markOf, typeOf, flagsOf, descriptorOctets, wordFor}
 use Rattle.header.specs.Start.{wordOf, idOf, startRefusal, typeRefusal, fileRefusal}
@@ -18,7 +19,7 @@ use Rattle.header.proofs.WordLaws.{mark-for, type-for, flags-for, octets-for, f
 use Rattle.directory_entry.specs.Properties.{pathAt}
 use Rattle.directory_entry.specs.Entry.{propertiesOf, entryOf}
 use Rattle.directory_entry.specs.WriteEntry.{entryOctets}
-use Rattle.directory_entry.proofs.RoundTrip.{entry-taken, entry-read-written, path-written, refold, pathPart, entry-written-read, entry-fits, entry-writable}
+use Rattle.directory_entry.proofs.RoundTrip.{entry-taken, entry-read-written, path-written, pathPart, entry-written-read, entry-fits, entry-writable}
 use Rattle.packet_metadata.specs.Checksum.{pairRefusal, checksumOctets}
 use Rattle.packet_metadata.specs.Metadata.{entryAt, metadataRefusal, metadataOf, readMetadata}
 use Rattle.packet_metadata.specs.WriteMetadata.{metadataExcess, checksumRefusal, metadataSize, metadataWriteRefusal, metadataOctets, metadataWritten, metadataBuffer}
@@ -51,8 +52,8 @@ module _ (flags id : ℕ) (checksum : List ℕ) (properties size mtime ctime : �
   unfolding metadataOctets
   id-is = value-digits 4 id (fine .id-fits)
 
-  length-is : length s ≡ metadataSize flags properties (length path)
-  length-is = length-metadata flags id checksum properties size mtime ctime path ∙ omega (arith, fine .fits)
+  pub metadata-octets-length : length s ≡ metadataSize flags properties (length path)
+  metadata-octets-length = length-metadata flags id checksum properties size mtime ctime path ∙ omega (arith, fine .fits)
 
   pub checksum-read-written : take (length checksum) (drop 8 s) ≡ checksum
   unfolding metadataOctets
@@ -71,7 +72,7 @@ module _ (flags id : ℕ) (checksum : List ℕ) (properties size mtime ctime : �
       let n = metadataSize flags properties (length path) in
       rw (
         word-is,
-        length-is,
+        metadata-octets-length,
         checksum-for 2 flags small,
         octets-for 2 flags (omega arith) small,
         entry-is,

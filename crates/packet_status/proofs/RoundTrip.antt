@@ -84,13 +84,16 @@ module _ (id status room : ℕ) (e : failureWriteRefusal id status room ≡ 0) w
         ptype = rw word (type-for 4 status (omega arith) s);
       }
 
+  pub failure-typed : typeRefusal 4 (failureOctets id status) ≡ 0
+  failure-typed = type-none 4 _ typed
+
   pub failure-read-written : readStatus (failureOctets id status) ≡ Failure (record { flags = status; id = id; status = status })
   unfolding failureOf
   failure-read-written =
       let h : status ≤ 255 = fine .status-fits in
       let c : statusOf (wordFor 4 status) ≡ status = omega arith in
       let n : statusOf (wordOf (failureOctets id status)) ≡ 0 → ⊥ = λ q. fine .some (sym c ∙ ap statusOf (sym word) ∙ q) in
-      failure-ignores-rest (failureOctets id status) (type-none 4 _ typed) n
+      failure-ignores-rest (failureOctets id status) failure-typed n
       ∙ rw (word, ident, c, flags-for 4 status (omega arith) (omega arith))
 
   -- and so from the buffer that the writer leaves

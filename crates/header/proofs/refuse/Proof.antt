@@ -1,6 +1,5 @@
 -- `header::refuse` meets its contract: past the table's end the code is 0.
 -- Assumes nothing.
-use mathlib.Core.Path.{sym}
 use lib.ListN.{List·getD-eq-default}
 use Rattle.header.specs.Refusals.{codes}
 use borrow.Author.Needs.{needs}

@@ -1,18 +1,15 @@
 -- `octets::copy_into` meets its contract: before each turn, out is what it was with the first j octets of src pasted in.
 -- Assumes nothing.
-use Prim.Native.Nat.{_+_, _-_, _≤_}
-use mathlib.Core.Path.{_≡_, refl, sym, _∙_}
+use Prim.Native.Nat.{_-_, _≤_}
+use mathlib.Core.Path.{_≡_, refl, _∙_}
 use native.Mathlib.Numerals.{add-one}
 use denote.Ref.{now}
 use lib.ListN.{length, length-set}
 use lib.Seq.{paste, paste-zero, paste-suc}
 use Rattle.octets.proofs.PutLaws.{paste-put}
-use borrow.Author.Needs.{needs}
 use native.Mathlib.Omega.{arith}
 use Rattle.octets.proofs.copy_into.Statement.{statement}
 use Rattle.octets.proofs.copy_into.Tie as tie
-use Rattle.octets.proofs.copy_into.Reads as reads
-use Rattle.octets.proofs.copy_into.Lts as lts
 
 abbrev Inv-loop : tie.InvT-loop
 Inv-loop out₀ at src j₀ out j = (j ≤ length src) × (length out ≡ length out₀) × (out ≡ paste out₀ at src j)

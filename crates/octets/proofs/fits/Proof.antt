@@ -4,8 +4,8 @@ use borrow.Author.Needs.{needs}
 use borrow.Author.Tests.{lt-ltb}
 use native.Mathlib.Nat.{pow-le-pow-right, lt-of-lt-of-le}
 use native.Mathlib.Omega.{arith}
-use mathlib.Core.Path.{_≡_, sym}
-use Prim.Native.Nat.{_^_, _<_}
+use mathlib.Core.Path.{sym}
+use Prim.Native.Nat.{_^_}
 use Rattle.octets.proofs.NumberLaws.{shifted-out}
 use Rattle.octets.proofs.fits.Statement.{statement}
 use Rattle.octets.proofs.fits.Tie as tie

@@ -1,7 +1,7 @@
 -- `octets::read_number` meets its contract: the number so far, and the octets that are left, always give the whole number.
 -- Assumes nothing.
 use Prim.Native.Nat.{_+_, _-_, _^_, _≤_, _<_}
-use mathlib.Core.Path.{_≡_, refl, sym, _∙_}
+use mathlib.Core.Path.{_≡_, sym, _∙_}
 use native.Mathlib.Nat.{add-zero, sub-zero}
 use native.Mathlib.Numerals.{add-one}
 use native.Mathlib.Omega.{arith}
@@ -11,8 +11,6 @@ use Rattle.octets.specs.Numbers.{beFrom, beValue}
 use Rattle.octets.proofs.NumberLaws.{read-step, fits-step, value-step, width-le}
 use Rattle.octets.proofs.read_number.Statement.{statement}
 use Rattle.octets.proofs.read_number.Tie as tie
-use Rattle.octets.proofs.read_number.Reads as reads
-use Rattle.octets.proofs.read_number.Lts as lts
 
 abbrev Inv-loop : tie.InvT-loop
 Inv-loop s at d v₀ i₀ v i = (i ≤ d) × (v < 256 ^ i) × (beFrom v (take (d - i) (drop (at + i) s)) ≡ beValue (take d (drop at s)))

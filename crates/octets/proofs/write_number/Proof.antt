@@ -1,9 +1,8 @@
 -- `octets::write_number` meets its contract: the octets that are still to be written, in front of what stands after them, always give the whole.
 -- Assumes nothing.
-use Prim.Native.Nat.{_+_, _-_, _^_, _≤_, _<_}
+use Prim.Native.Nat.{_+_, _-_, _≤_}
 use mathlib.Core.Path.{_≡_, refl, sym, _∙_}
 use mathlib.Core.List.{_++_}
-use native.Mathlib.Nat.{add-zero, sub-zero}
 use native.Mathlib.Omega.{arith}
 use denote.Ref.{now}
 use lib.Seq.{take-set-le}
@@ -13,8 +12,6 @@ use Rattle.octets.specs.Put.{put}
 use Rattle.octets.proofs.NumberLaws.{write-step, write-end, onto-append, length-digits}
 use Rattle.octets.proofs.write_number.Statement.{statement}
 use Rattle.octets.proofs.write_number.Tie as tie
-use Rattle.octets.proofs.write_number.Reads as reads
-use Rattle.octets.proofs.write_number.Lts as lts
 
 abbrev Inv-loop : tie.InvT-loop
 Inv-loop out₀ at d v k₀ w₀ out k w =

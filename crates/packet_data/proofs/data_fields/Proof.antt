@@ -1,10 +1,7 @@
 -- `packet_data::data_fields` meets its contract: what a packet that is not refused holds, field by field.
 -- Assumes nothing.
 use mathlib.Core.Path.{_≡_, ap, _∙_}
-use Prim.Native.Nat.{_+_, _<_, _≤_}
 use denote.Ref.{now}
-use lib.ListN.{length}
-use Rattle.octets.specs.Numbers.{Width}
 use Rattle.header.specs.Word.{flagsOf, descriptorOctets, timestampOctets, wantedOf, eodOf}
 use Rattle.header.specs.Start.{wordOf}
 use Rattle.packet_data.specs.Data.{offsetAt, payloadAt, dataOf}

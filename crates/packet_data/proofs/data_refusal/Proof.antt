@@ -50,19 +50,24 @@ returns-3 : tie.Need-returns-3
 unfolding dataRefusal
 returns-3 c =
     let k = known (c .before) in
-    rw (k .0, k .1, lt-ltb _ _ (rw (k .2) at (c .if3 .taken)))
+    let s = now (c .before .before .before .before .before .before .before .before .args .p) in
+    rw (k .0, k .1, lt-ltb (length s) (payloadAt (wordOf s)) (omega (arith, k)))
 
 returns-4 : tie.Need-returns-4
 unfolding dataRefusal
 returns-4 c =
     let k = known (c .before .before) in
-    rw (k .0, k .1, le-ltb _ _ (rw (k .2) at (c .before .if3 .left)), eq-eqb _ _ (rw (k .2) at (c .if4 .taken)))
+    let s = now (c .before .before .before .before .before .before .before .before .before .args .p) in
+    let at = payloadAt (wordOf s) in
+    rw (k .0, k .1, le-ltb (length s) at (omega (arith, k)), eq-eqb (length s) at (omega (arith, k)))
 
 returns-5 : tie.Need-returns-5
 unfolding dataRefusal
 returns-5 c =
     let k = known (c .before .before) in
-    rw (k .0, k .1, le-ltb _ _ (rw (k .2) at (c .before .if3 .left)), ne-eqb _ _ (rw (k .2) at (c .if4 .left)))
+    let s = now (c .before .before .before .before .before .before .before .before .before .args .p) in
+    let at = payloadAt (wordOf s) in
+    rw (k .0, k .1, le-ltb (length s) at (omega (arith, k)), ne-eqb (length s) at (omega (arith, k)))
 
 pub data-refusal-spec : {M : Type 1} → statement M
 data-refusal-spec =

@@ -7,7 +7,6 @@ use Rattle.header.specs.Word.{timestampOctets}
 use Rattle.header.specs.Start.{fileRefusal}
 use Rattle.header.specs.Writing.{roomRefusal}
 use Rattle.header.proofs.RefusalLaws.{stays}
-use Rattle.packet_data.specs.Data.{payloadAt}
 use Rattle.packet_data.specs.WriteData.{dataExcess, dataWriteRefusal}
 use Rattle.packet_data.proofs.DataLaws.{payload-at-le}
 use borrow.Author.Needs.{needs}

@@ -1,8 +1,8 @@
 -- `packet_data::read_data` meets its contract: the refusal, or the fields. Assumes nothing.
-use mathlib.Core.Path.{_≡_, ap, _∙_}
+use mathlib.Core.Path.{_≡_, ap}
 use denote.Ref.{now}
 use Rattle.packet_data.specs.Data.{dataRefusal, dataOf, readData}
-use Rattle.packet_data.specs.declared.DataRead.the-variants.{Accepted, Refused}
+use Rattle.packet_data.specs.declared.DataRead.the-variants.{Accepted}
 use Rattle.packet_data.proofs.DataLaws.{answer-refused}
 use borrow.Author.Needs.{needs}
 use native.Mathlib.Omega.{arith}

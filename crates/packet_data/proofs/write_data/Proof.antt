@@ -1,6 +1,6 @@
 -- `packet_data::write_data` meets its contract: a refusal leaves the buffer, and else the packet stands in it.
 -- Assumes nothing.
-use mathlib.Core.Path.{_≡_, sym}
+use mathlib.Core.Path.{_≡_}
 use denote.Ref.{now}
 use lib.ListN.{length}
 use Rattle.header.proofs.WritingLaws.{written-refused, buffer-refused}

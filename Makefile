@@ -1,0 +1,29 @@
+# make test     the gate: proofs, must-fail edits, host tests
+# make lib      proves the library and builds target/staticlib/libsaratoga.a
+# make compare  compares the archive with the codec written from the papers; SEED=N and CALLS=N are optional
+# make install  header and archive below PREFIX (default /usr/local)
+PREFIX ?= /usr/local
+ARCHIVE = target/staticlib/libsaratoga.a
+
+.PHONY: test lib compare install clean help
+
+help:
+	@sed -n 's/^# //p' Makefile | head -n 4
+
+test:
+	bash .ci/run
+
+lib:
+	rt staticlib saratoga
+
+compare: lib
+	cd host && CARGO_TARGET_DIR=../target/host cargo build --offline --locked --release --quiet
+	target/host/release/compare $(if $(SEED),--seed $(SEED)) $(if $(CALLS),--calls $(CALLS))
+
+install: lib
+	install -d $(DESTDIR)$(PREFIX)/include $(DESTDIR)$(PREFIX)/lib
+	install -m 644 include/saratoga.h $(DESTDIR)$(PREFIX)/include/saratoga.h
+	install -m 644 $(ARCHIVE) $(DESTDIR)$(PREFIX)/lib/libsaratoga.a
+
+clean:
+	rm -rf target

@@ -1,0 +1,123 @@
+-- Reading any packet gives the case that the reader of its type gives, and each case comes from that reader alone.
+-- Assumes nothing.
+use Prim.Native.Nat.{ℕ, zero, suc, _<_}
+use mathlib.Core.Path.{_≡_, refl, sym, ap, _∙_}
+use mathlib.Core.Bool.{Bool, true, false, cond}
+use mathlib.Core.List.{List}
+use native.Mathlib.Omega.{arith}
+use lib.Dec.{eqb}
+use Rattle.header.specs.Refusals.{refusalOf}
+use Rattle.header.specs.declared.Refusal.{Refusal}
+use Rattle.header.specs.Word.{typeOf}
+use Rattle.header.specs.Start.{wordOf, startRefusal, typeRefusal}
+use Rattle.header.proofs.RefusalLaws.{first-none}
+use Rattle.header.proofs.StartLaws.{type-fine}
+use Rattle.packet_metadata.specs.Metadata.{metadataRefusal, metadataOf, readMetadata, metadataAnswer}
+use Rattle.packet_metadata.specs.declared.Metadata.{Metadata}
+use Rattle.packet_metadata.specs.declared.MetadataRead.{MetadataRead}
+use Rattle.packet_metadata.specs.declared.MetadataRead.the-variants as metadata-read
+use Rattle.packet_data.specs.Data.{dataRefusal, dataOf, readData, dataAnswer}
+use Rattle.packet_data.specs.declared.Data.{Data}
+use Rattle.packet_data.specs.declared.DataRead.{DataRead}
+use Rattle.packet_data.specs.declared.DataRead.the-variants as data-read
+use Rattle.packet_status.specs.declared.StatusRead.{StatusRead}
+use Rattle.packet_status.specs.declared.StatusRead.the-variants as status-read
+use Rattle.packet_status.specs.Status.{readStatus}
+use Rattle.packet.specs.Read.{ofMetadata, ofData, ofStatus, readType, readAfter, readPacket}
+use Rattle.packet.specs.declared.Read.{Read}
+use Rattle.packet.specs.declared.Read.the-variants as read
+use Rattle.packet.proofs.ReadLaws.{read-by-type}
+
+-- a packet of type t whose first refusals are none is read as one of that type
+pub read-typed : (t : ℕ) (s : List ℕ) → typeRefusal t s ≡ 0 → readPacket s ≡ readType t s
+unfolding typeRefusal
+read-typed t s e =
+    sym (read-by-type s (first-none _ _ e) (ap (λ (n : ℕ). readType n s) (sym (type-fine t s e .ptype))))
+
+-- an accepted answer was not refused
+pub metadata-none : (s : List ℕ) (m : Metadata) → readMetadata s ≡ metadata-read.Accepted m → (metadataRefusal s ≡ 0) × (metadataOf s ≡ m)
+unfolding readMetadata
+metadata-none s m e = go (metadataRefusal s) e
+  where
+    go : (n : ℕ) → metadataAnswer n (metadataOf s) ≡ metadata-read.Accepted m → (n ≡ 0) × (metadataOf s ≡ m)
+    go zero q = (refl, cc)
+    go (suc n) q = absurd (let z : _≡_ {A = ℕ} 0 1 = cc in omega arith)
+
+pub data-none : (s : List ℕ) (d : Data) → readData s ≡ data-read.Accepted d → (dataRefusal s ≡ 0) × (dataOf s ≡ d)
+unfolding readData
+data-none s d e = go (dataRefusal s) e
+  where
+    go : (n : ℕ) → dataAnswer n (dataOf s) ≡ data-read.Accepted d → (n ≡ 0) × (dataOf s ≡ d)
+    go zero q = (refl, cc)
+    go (suc n) q = absurd (let z : _≡_ {A = ℕ} 0 1 = cc in omega arith)
+
+-- where the answer comes from: one of the three readers, or a refusal before them
+data ReadFrom (s : List ℕ) : Type 0 where
+  from-metadata : readPacket s ≡ ofMetadata (readMetadata s) → ReadFrom s
+  from-data : readPacket s ≡ ofData (readData s) → ReadFrom s
+  from-status : readPacket s ≡ ofStatus (readStatus s) → ReadFrom s
+  from-none : (r : Refusal) → readPacket s ≡ read.Refused r → ReadFrom s
+
+read-from : (s : List ℕ) → ReadFrom s
+unfolding readPacket readAfter readType
+read-from s = go (startRefusal s) refl
+  where
+    pick : (x y z : Bool)
+        → readPacket s ≡ cond x (ofMetadata (readMetadata s)) (cond y (ofData (readData s)) (cond z (ofStatus (readStatus s)) (read.Refused (refusalOf 4))))
+        → ReadFrom s
+    pick true y z e = from-metadata e
+    pick false true z e = from-data e
+    pick false false true e = from-status e
+    pick false false false e = from-none (refusalOf 4) e
+
+    go : (n : ℕ) → readPacket s ≡ readAfter n s → ReadFrom s
+    go zero e = let t = typeOf (wordOf s) in pick (eqb t 2) (eqb t 3) (eqb t 4) e
+    go (suc n) e = from-none (refusalOf (suc n)) e
+
+-- each case of the answer, by a number that tells it from the others
+abbrev caseOf : Read → ℕ
+caseOf (read.Metadata m) = 2
+caseOf (read.Data d) = 3
+caseOf (read.Success s) = 4
+caseOf (read.Failure f) = 5
+caseOf (read.Refused r) = 0
+
+metadata-case : (a : MetadataRead) → caseOf (ofMetadata a) ≡ 3 → ⊥
+metadata-case (metadata-read.Accepted m) e = omega arith
+metadata-case (metadata-read.Refused r) e = omega arith
+
+data-case : (a : DataRead) → caseOf (ofData a) ≡ 2 → ⊥
+data-case (data-read.Accepted d) e = omega arith
+data-case (data-read.Refused r) e = omega arith
+
+status-case : (a : StatusRead) (n : ℕ) → 0 < n → n < 4 → caseOf (ofStatus a) ≡ n → ⊥
+status-case (status-read.Success x) n h k e = omega arith
+status-case (status-read.Failure x) n h k e = omega arith
+status-case (status-read.Refused r) n h k e = omega arith
+
+-- METADATA and DATA come from their own readers alone
+pub packet-metadata : (s : List ℕ) (m : Metadata) → readPacket s ≡ read.Metadata m → readMetadata s ≡ metadata-read.Accepted m
+packet-metadata s m e = go (read-from s)
+  where
+    own : (a : MetadataRead) → ofMetadata a ≡ read.Metadata m → a ≡ metadata-read.Accepted m
+    own (metadata-read.Accepted x) q = cc
+    own (metadata-read.Refused r) q = absurd (let z : _≡_ {A = ℕ} 0 2 = ap caseOf q in omega arith)
+
+    go : ReadFrom s → readMetadata s ≡ metadata-read.Accepted m
+    go (from-metadata q) = own (readMetadata s) (sym q ∙ e)
+    go (from-data q) = absurd (data-case (readData s) (ap caseOf (sym q ∙ e)))
+    go (from-status q) = absurd (status-case (readStatus s) 2 (omega arith) (omega arith) (ap caseOf (sym q ∙ e)))
+    go (from-none r q) = absurd (let z : _≡_ {A = ℕ} 0 2 = ap caseOf (sym q ∙ e) in omega arith)
+
+pub packet-data : (s : List ℕ) (d : Data) → readPacket s ≡ read.Data d → readData s ≡ data-read.Accepted d
+packet-data s d e = go (read-from s)
+  where
+    own : (a : DataRead) → ofData a ≡ read.Data d → a ≡ data-read.Accepted d
+    own (data-read.Accepted x) q = cc
+    own (data-read.Refused r) q = absurd (let z : _≡_ {A = ℕ} 0 3 = ap caseOf q in omega arith)
+
+    go : ReadFrom s → readData s ≡ data-read.Accepted d
+    go (from-metadata q) = absurd (metadata-case (readMetadata s) (ap caseOf (sym q ∙ e)))
+    go (from-data q) = own (readData s) (sym q ∙ e)
+    go (from-status q) = absurd (status-case (readStatus s) 3 (omega arith) (omega arith) (ap caseOf (sym q ∙ e)))
+    go (from-none r q) = absurd (let z : _≡_ {A = ℕ} 0 3 = ap caseOf (sym q ∙ e) in omega arith)

@@ -37,23 +37,29 @@ unfolding readStatus statusRefusal
 failure-ignores-rest s e n = rw (e, ne-eqb (statusOf (wordOf s)) 0 n) (sym (failure-accepted (statusOf (wordOf s)) s n))
 
 -- so the first 8 octets alone read the same
+eight-word : (s : List ℕ) → wordOf (take 8 s) ≡ wordOf s
+eight-word s = ap beValue (take-take 4 8 s (omega arith))
+
+eight-id : (s : List ℕ) → 8 ≤ length s → idOf (take 8 s) ≡ idOf s
+eight-id s h =
+    ap (λ (l : List ℕ). beValue (take 4 (drop 4 l))) (take-add 4 4 s)
+    ∙ ap (λ (l : List ℕ). beValue (take 4 l)) (drop-at (take 4 s) (take 4 (drop 4 s)) 4 (length-take-le 4 s (omega arith)))
+    ∙ ap beValue (take-take 4 4 (drop 4 s) (omega arith))
+
+eight-fine : (s : List ℕ) → TypeFine 4 s → TypeFine 4 (take 8 s)
+eight-fine s f =
+    let l : length (take 8 s) ≡ 8 = length-take-le 8 s (f .start .long) in
+    record {
+      start = record { short = omega arith; long = omega arith; mark = rw eight-word (f .start .mark) };
+      ptype = rw eight-word (f .ptype);
+    }
+
 pub failure-first-eight : (s : List ℕ) → typeRefusal 4 s ≡ 0 → (statusOf (wordOf s) ≡ 0 → ⊥) → readStatus (take 8 s) ≡ readStatus s
 unfolding failureOf
 failure-first-eight s e n =
     let f = type-fine 4 s e in
-    let l : length (take 8 s) ≡ 8 = length-take-le 8 s (f .start .long) in
-    let w : wordOf (take 8 s) ≡ wordOf s = ap beValue (take-take 4 8 s (omega arith)) in
-    let i : idOf (take 8 s) ≡ idOf s = ap beValue (first-id s (omega (arith, f .start .long))) in
-    let t : typeRefusal 4 (take 8 s) ≡ 0 =
-    type-none 4 (take 8 s)
-    (record { start = record { short = omega arith; long = omega arith; mark = rw w (f .start .mark) }; ptype = rw w (f .ptype) }) in
-    failure-ignores-rest (take 8 s) t (rw w n) ∙ rw (w, i) (sym (failure-ignores-rest s e n))
-  where
-    first-id : (s : List ℕ) → 4 ≤ length s → take 4 (drop 4 (take 8 s)) ≡ take 4 (drop 4 s)
-    first-id s h =
-        ap (λ (l : List ℕ). take 4 (drop 4 l)) (take-add 4 4 s)
-        ∙ ap (take 4) (drop-at (take 4 s) (take 4 (drop 4 s)) 4 (length-take-le 4 s h))
-        ∙ take-take 4 4 (drop 4 s) (omega arith)
+    failure-ignores-rest (take 8 s) (type-none 4 (take 8 s) (eight-fine s f)) (rw eight-word n)
+    ∙ rw (eight-word, eight-id s (f .start .long)) (sym (failure-ignores-rest s e n))
 
 -- what was written
 module _ (id status room : ℕ) (e : failureWriteRefusal id status room ≡ 0) where

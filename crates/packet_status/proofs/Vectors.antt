@@ -40,13 +40,13 @@ completed : (readStatus complete ≡ Success (record { flags = 65536; id = 7; wi
 unfolding readStatus statusRefusal typeRefusal startRefusal successRefusal listRefusal holeList holesWell startsWell successOf readHole holeRefusal
 completed = (refl, refl)
 
--- 44 00 or 44 02 00 00 00 00 00 07, then Progress 1,000, In-Response-To 3,000 and the holes from 1,000 to 1,002 and from `second` to 2,000
-abbrev twoHoles : ℕ → ℕ → List ℕ
-twoHoles flags second =
-    68 ∷ flags ∷ 0 ∷ 0 ∷ 0 ∷ 0 ∷ 0 ∷ 7 ∷ 3 ∷ 232 ∷ 11 ∷ 184 ∷ 3 ∷ 232 ∷ 3 ∷ 234 ∷ 3 ∷ second ∷ 7 ∷ 208 ∷ []
+-- 44 00 00 00 00 00 00 07, then Progress 1,000, In-Response-To 3,000 and the holes from 1,000 to 1,002 and from `second` to 2,000
+abbrev twoHoles : ℕ → List ℕ
+twoHoles second =
+    68 ∷ 0 ∷ 0 ∷ 0 ∷ 0 ∷ 0 ∷ 0 ∷ 7 ∷ 3 ∷ 232 ∷ 11 ∷ 184 ∷ 3 ∷ 232 ∷ 3 ∷ 234 ∷ 3 ∷ second ∷ 7 ∷ 208 ∷ []
 
 -- the second hole may not touch the first
-touching : (statusRefusal (twoHoles 0 234) ≡ 11) × (statusRefusal (twoHoles 0 235) ≡ 0) × (readHole 1 (twoHoles 0 235) ≡ hole-read.Accepted (record { start = 1003; end = 2000 }))
+touching : (statusRefusal (twoHoles 234) ≡ 11) × (statusRefusal (twoHoles 235) ≡ 0) × (readHole 1 (twoHoles 235) ≡ hole-read.Accepted (record { start = 1003; end = 2000 }))
 unfolding statusRefusal typeRefusal startRefusal successRefusal listRefusal holeList holesWell startsWell readHole holeRefusal indexedHole
 touching = (refl, refl, refl)
 

@@ -46,7 +46,7 @@ returns-2 c =
     sym (first (c .before .before) ∙ rw v)
 
 -- and it starts well
-started : (c : tie.Else2) → startsWell (c .before .before .before .before .before .args .partial) (c .before .before .before .before .before .args .progress) (c .before .before .hole-at .result .start) ≡ true
+started : (c : tie.Else2) → let a = c .before .before .before .before .before .args in startsWell (a .partial) (a .progress) (c .before .before .hole-at .result .start) ≡ true
 started c = sym (c .before .starts-well2 .ensures) ∙ not-false _ (c .if2 .left)
 
 returns-3 : tie.Need-returns-3

@@ -115,20 +115,27 @@ holes-well-requires c κs =
     let k = known (c .before .before .before .before .before) in
     (k .4, rw (k .1, k .2) (list-fits (now (c .before .before .before .before .before .before .before .before .before .before .before .before .args .p)) (omega arith)))
 
--- the refusal, by the judgement of the list
+-- the judgement is that of the packet's list
+list : (c : tie.After-holes-well)
+    → let s = now (c .before .before .before .before .before .before .before .before .before .before .before .before .before .args .p) in
+    c .holes-well .result ≡ holesWell (eqb (partialOf (wordOf s)) 1) (progressOf s) (responseOf s) (holeList s)
+unfolding holeList
+list c =
+    let k = known (c .before .before .before .before .before .before) in
+    c .holes-well .ensures ∙ rw (c .before .before .before .read-number .ensures, c .before .before .read-number2 .ensures, c .before .before .before .before .before .before .before .before .before .before .split .ensures .partial-is, k .0, k .1, k .2)
+
+-- and it gives the refusal
 judged : (c : tie.After-holes-well) → successRefusal (now (c .before .before .before .before .before .before .before .before .before .before .before .before .before .args .p)) ≡ when (not (c .holes-well .result)) 11
-unfolding successRefusal listRefusal holeList
+unfolding successRefusal listRefusal
 judged c =
     let s = now (c .before .before .before .before .before .before .before .before .before .before .before .before .before .args .p) in
     let k = known (c .before .before .before .before .before .before) in
-    let q : c .holes-well .result ≡ holesWell (eqb (partialOf (wordOf s)) 1) (progressOf s) (responseOf s) (holeList s) =
-    c .holes-well .ensures ∙ rw (c .before .before .before .read-number .ensures, c .before .before .read-number2 .ensures, c .before .before .before .before .before .before .before .before .before .before .split .ensures .partial-is, k .0, k .1, k .2) in
     rw (
       ne-eqb (widthOf (wordOf s)) 3 (k .3),
       le-ltb (length s) (holesAt (wordOf s)) (omega arith),
       eq-eqb (listOctets s % (2 * descriptorOctets (wordOf s))) 0 (sym (rest (c .before .before .before .before .before)) ∙ c .before .before .before .before .if3 .left),
     )
-    (ap (λ (b : Bool). when (not b) 11) (sym q))
+    (ap (λ (b : Bool). when (not b) 11) (sym (list c)))
 
 returns-4 : tie.Need-returns-4
 returns-4 c = sym (judged (c .before) ∙ rw (c .if4 .taken))

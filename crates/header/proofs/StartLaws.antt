@@ -7,7 +7,7 @@ use native.Mathlib.Nat.{pow-le-pow-right}
 use native.Mathlib.Omega.{arith}
 use lib.ListN.{length}
 use lib.Dec.{ltb, eqb}
-use borrow.Author.Tests.{ltb-false, eqb-true, eqb-false, not-false}
+use borrow.Author.Tests.{le-ltb, eq-eqb, ltb-false, eqb-true, eqb-false, not-false}
 use Rattle.octets.specs.Numbers.{Width}
 use Rattle.octets.proofs.NumberLaws.{width-of}
 use Rattle.header.specs.Refusals.{when}
@@ -42,6 +42,17 @@ type-fine t s e =
       start = start-fine s (first-none _ _ e);
       ptype = eqb-true _ _ (not-false _ (failed _ 3 (rest-none (startRefusal s) _ e)));
     }
+
+-- what is known of a packet whose first refusals are none is enough for them to be none
+pub type-none : (t : ℕ) (s : List ℕ) → TypeFine t s → typeRefusal t s ≡ 0
+unfolding typeRefusal startRefusal
+type-none t s f =
+    rw (
+      le-ltb 65535 (length s) (f .start .short),
+      le-ltb (length s) 8 (f .start .long),
+      eq-eqb (markOf (wordOf s)) 1 (f .start .mark),
+      eq-eqb (typeOf (wordOf s)) t (f .ptype),
+    )
 
 -- descriptors that are not of 128 bits
 pub narrow-octets : (w : ℕ) → (widthOf w ≡ 3 → ⊥) → Width (descriptorOctets w)

@@ -20,6 +20,11 @@ width-le two = omega arith
 width-le four = omega arith
 width-le eight = omega arith
 
+pub width-some : {d : ℕ} → Width d → 2 ≤ d
+width-some two = omega arith
+width-some four = omega arith
+width-some eight = omega arith
+
 -- descriptors with the width bits 0, 1 and 2 have 2, 4 and 8 octets
 pub width-of : (c : ℕ) → c < 3 → Width (2 * 2 ^ c)
 width-of zero h = two

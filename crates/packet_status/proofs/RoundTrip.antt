@@ -13,23 +13,12 @@ use Rattle.octets.proofs.NumberLaws.{value-digits}
 use Rattle.header.specs.Word.{markOf, typeOf, statusOf, wordFor}
 use Rattle.header.specs.Start.{wordOf, idOf, startRefusal, typeRefusal}
 use Rattle.header.proofs.WordLaws.{mark-for, type-for, flags-for}
-use Rattle.header.proofs.StartLaws.{TypeFine, type-fine}
+use Rattle.header.proofs.StartLaws.{TypeFine, type-fine, type-none}
 use Rattle.packet_status.specs.Status.{statusRefusal, failureOf, readStatus}
 use Rattle.packet_status.specs.WriteFailure.{failureWriteRefusal, failureOctets, failureBuffer}
 use Rattle.packet_status.specs.declared.StatusRead.the-variants.{Failure}
 use Rattle.packet_status.proofs.StatusLaws.{failure-accepted}
 use Rattle.packet_status.proofs.FailureLaws.{FailureFine, failure-fine}
-
--- what is known of a packet whose first refusals are none is enough for them to be none
-type-none : (t : ℕ) (s : List ℕ) → TypeFine t s → typeRefusal t s ≡ 0
-unfolding typeRefusal startRefusal
-type-none t s f =
-    rw (
-      le-ltb 65535 (length s) (f .start .short),
-      le-ltb (length s) 8 (f .start .long),
-      eq-eqb (markOf (wordOf s)) 1 (f .start .mark),
-      eq-eqb (typeOf (wordOf s)) t (f .ptype),
-    )
 
 -- "If the code isn't 0, reading stops after the Id and the rest is ignored"
 pub failure-ignores-rest : (s : List ℕ) → typeRefusal 4 s ≡ 0 → (statusOf (wordOf s) ≡ 0 → ⊥) → readStatus s ≡ Failure (failureOf s)

@@ -23,11 +23,6 @@ use Rattle.packet_status.specs.declared.StatusRead.the-variants.{Failure
 use Rattle.packet_status.proofs.HoleLaws.{length-holes, hole-of-list}
 use Rattle.packet_status.proofs.AcceptedLaws.{HoleListAccepted, holes-well-means, means-holes-well}
 
-pub width-some : {d : ℕ} → Width d → 2 ≤ d
-width-some two = omega arith
-width-some four = omega arith
-width-some eight = omega arith
-
 -- a success STATUS with refusal 0
 pub record SuccessFine (s : List ℕ) : Type 0 where
   pub narrow : widthOf (wordOf s) ≡ 3 → ⊥

@@ -9,7 +9,8 @@ use Rattle.header.specs.Word.{descriptorOctets, timestampOctets}
 use Rattle.header.specs.Start.{wordOf}
 use Rattle.header.proofs.WordLaws.{octets-le}
 use Rattle.packet_status.specs.Status.{holesAt, successOf}
-use Rattle.packet_status.proofs.StatusLaws.{success-fine, success-octets, width-some}
+use Rattle.packet_status.proofs.StatusLaws.{success-fine, success-octets}
+use Rattle.octets.proofs.NumberLaws.{width-some}
 use borrow.Author.Needs.{needs}
 use native.Mathlib.Omega.{arith}
 use Rattle.packet_status.proofs.success_fields.Statement.{statement}

@@ -15,7 +15,8 @@ use Rattle.header.proofs.WordLaws.{octets-le}
 use Rattle.header.proofs.StartLaws.{narrow-octets}
 use Rattle.packet_status.specs.Holes.{holesWell}
 use Rattle.packet_status.specs.Status.{holesAt, progressOf, responseOf, listOctets, holeList, listRefusal, successRefusal}
-use Rattle.packet_status.proofs.StatusLaws.{width-some, list-fits}
+use Rattle.packet_status.proofs.StatusLaws.{list-fits}
+use Rattle.octets.proofs.NumberLaws.{width-some}
 use borrow.Author.Needs.{needs}
 use native.Mathlib.Omega.{arith}
 use Rattle.packet_status.proofs.success_refusal.Statement.{statement}

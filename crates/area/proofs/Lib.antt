@@ -1,2 +1,6 @@
 pub mod WordLaws
 pub mod WordLoops
+pub mod PlaceLaws
+pub mod LayoutLaws
+pub mod TestLaws
+pub mod NumberLaws

@@ -4,3 +4,5 @@ pub mod PlaceLaws
 pub mod LayoutLaws
 pub mod TestLaws
 pub mod NumberLaws
+pub mod AreaLaws
+pub mod OperationLaws

@@ -1,13 +1,13 @@
 -- Words of 8 octets and their octets: each gives the other back, and a part of the words is the words of a part.
 -- Assumes nothing.
-use Prim.Native.Nat.{ℕ, zero, suc, _+_, _*_, _^_, _<_, _≤_}
+use Prim.Native.Nat.{ℕ, zero, suc, _+_, _*_, _/_, _%_, _^_, _<_, _≤_}
 use mathlib.Core.Path.{_≡_, refl, sym, ap, ap₂, _∙_}
 use mathlib.Core.List.{List, [], _∷_, _++_}
 use native.Mathlib.Omega.{arith}
 use native.Mathlib.Nat.{zero-add}
 use lib.ListN.{length, getD, take, drop, length-drop}
 use lib.Seq.{take-at, drop-at, take-add, drop-drop, length-take-le}
-use Rattle.octets.specs.Numbers.{beValue, beDigits, Octets}
+use Rattle.octets.specs.Numbers.{beValue, beOnto, beDigits, Octets}
 use Rattle.octets.proofs.NumberLaws.{length-digits, value-digits, digits-value, octets-take, octets-drop, part-lt}
 use Rattle.area.specs.Words.{words, wordOctets, Below, wordAt, wordsAt}
 
@@ -50,7 +50,28 @@ octets-words (suc n) a o h =
     (octets-words n (drop 8 a) (octets-drop 8 a o) (omega (arith, length-drop 8 a)))
     ∙ sym (rw e (take-add 8 (n * 8) a))
 
--- words of octets fit 8 octets, and octets of words that fit are octets
+-- the octets of words are octets, and the words of octets fit 8 octets
+octets-onto : (d v : ℕ) (r : List ℕ) → Octets r → Octets (beOnto d v r)
+octets-onto zero v r o = o
+octets-onto (suc d) v r o = octets-onto d (v / 256) (v % 256 ∷ r) (λ i. cons i)
+  where
+    cons : Octets (v % 256 ∷ r)
+    cons zero = omega arith
+    cons (suc i) = o i
+
+pub append-octets : (xs ys : List ℕ) → Octets xs → Octets ys → Octets (xs ++ ys)
+append-octets [] ys o p i = p i
+append-octets (x ∷ xs) ys o p zero = o 0
+append-octets (x ∷ xs) ys o p (suc i) = append-octets xs ys (λ j. o (suc j)) p i
+
+digits-octets : (d v : ℕ) → Octets (beDigits d v)
+digits-octets d v = octets-onto d v [] (λ i. omega arith)
+
+pub words-octets-fit : (ws : List ℕ) → Octets (wordOctets ws)
+unfolding wordOctets
+words-octets-fit [] i = omega arith
+words-octets-fit (w ∷ ws) i = append-octets (beDigits 8 w) (wordOctets ws) (digits-octets 8 w) (words-octets-fit ws) i
+
 pub words-below : (n : ℕ) (a : List ℕ) → Octets a → n * 8 ≤ length a → Below (words n a)
 unfolding words
 words-below zero a o h i = omega arith

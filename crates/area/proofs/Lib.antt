@@ -3,6 +3,7 @@ pub mod WordLoops
 pub mod PlaceLaws
 pub mod LayoutLaws
 pub mod TestLaws
+pub mod JudgeLaws
 pub mod NumberLaws
 pub mod AreaLaws
 pub mod OperationLaws

@@ -6,6 +6,7 @@ use mathlib.Core.Path.{_≡_, refl, sym, ap, _∙_}
 use mathlib.Core.List.{List, []}
 use mathlib.Core.Bool.{Bool, true, false, cond}
 use mathlib.Core.Option.{Option, none, some}
+use mathlib.Core.Logic.{⊎-elim}
 use native.Mathlib.Omega.{arith}
 use lib.ListN.{length, drop}
 use lib.Dec.{ltb}
@@ -21,6 +22,7 @@ use Rattle.packet_data.specs.declared.Data.{Data}
 use Rattle.packet_data.specs.declared.DataRead.{DataRead}
 use Rattle.packet_data.specs.declared.DataRead.the-variants as data-read
 use Rattle.runs.specs.Runs.{Run}
+use Rattle.runs.proofs.NumberLaws.{le-or-lt}
 use Rattle.table.specs.Transfers.{Key, Transfer, Valid}
 use Rattle.table.specs.Tables.{keys, find}
 use Rattle.table.specs.Open.{Verdict, judgeOpen, openAs, openKey, keyOf, openRead, openPacket}
@@ -32,9 +34,9 @@ use Rattle.table.specs.declared.Recorded.the-variants as recorded
 use Rattle.table.specs.declared.Finished.the-variants as finished
 use Rattle.area.specs.Image.{areaOctets, storedIn}
 use Rattle.area.specs.Judge.{tableOf}
-use Rattle.area.specs.Operations.{freshArea, openFound, openArea, recordFound, recordArea, closeFoundIn, closeArea}
+use Rattle.area.specs.Operations.{AreaFinished, freshArea, openFound, openArea, recordFound, recordArea, closeFoundIn, closeArea}
 use Rattle.area.proofs.NumberLaws.{fresh-valid}
-use Rattle.area.proofs.AreaLaws.{decode-only, length-stored, stored-past, stored-holds, held-long}
+use Rattle.area.proofs.AreaLaws.{decode-only, length-stored, stored-past, stored-octets, stored-holds, held-long}
 
 -- ---- a refused call leaves the table
 open-as-refused : (v : Verdict) (t : List Transfer) (k : Key) (r : Refusal) → openAs v t k .answer ≡ opened.Refused r → openAs v t k .table ≡ t
@@ -111,3 +113,74 @@ module _ (a : List ℕ) (o : Octets a) where
       go : (x : Option (List Transfer)) → tableOf a ≡ x → closeFoundIn x a id .answer ≡ finished.Refused r → closeFoundIn x a id .area ≡ a
       go none h e = refl
       go (some t) h e = stored-same t (closeId t id .table) h (close-id-refused t id r e)
+
+-- ---- what any call leaves: an area of the same length, the same past the layout
+pub record Kept (a b : List ℕ) : Type 0 where
+  pub same-length : length b ≡ length a
+  pub same-past : drop areaOctets b ≡ drop areaOctets a
+  pub octets : Octets b
+
+module _ (a : List ℕ) (o : Octets a) where
+  kept-same : Kept a a
+  kept-same = record { same-length = refl; same-past = refl; octets = o }
+
+  kept-stored : (t : List Transfer) → areaOctets ≤ length a → Kept a (storedIn a t)
+  kept-stored t h = record { same-length = length-stored a t h; same-past = stored-past a t; octets = stored-octets a t o }
+
+  pub fresh-keeps : Kept a (freshArea a .area)
+  unfolding freshArea
+  fresh-keeps =
+      ⊎-elim
+      (λ (h : areaOctets ≤ length a). rw (le-ltb (length a) areaOctets h) (kept-stored [] h))
+      (λ (h : length a < areaOctets). rw (lt-ltb (length a) areaOctets h) kept-same)
+      (le-or-lt areaOctets (length a))
+
+  pub open-keeps : (packet : List ℕ) → Kept a (openArea a packet .area)
+  unfolding openArea openFound
+  open-keeps packet = go (tableOf a) refl
+    where
+      go : (x : Option (List Transfer)) → tableOf a ≡ x → Kept a (openFound x a packet .area)
+      go none h = kept-same
+      go (some t) h = kept-stored (openPacket t packet .table) (held-long a t h)
+
+  pub record-keeps : (packet : List ℕ) → Kept a (recordArea a packet .area)
+  unfolding recordArea recordFound
+  record-keeps packet = go (tableOf a) refl
+    where
+      go : (x : Option (List Transfer)) → tableOf a ≡ x → Kept a (recordFound x a packet .area)
+      go none h = kept-same
+      go (some t) h = kept-stored (recordPacket t packet .table) (held-long a t h)
+
+  pub close-keeps : (id : ℕ) → Kept a (closeArea a id .area)
+  unfolding closeArea closeFoundIn
+  close-keeps id = go (tableOf a) refl
+    where
+      go : (x : Option (List Transfer)) → tableOf a ≡ x → Kept a (closeFoundIn x a id .area)
+      go none h = kept-same
+      go (some t) h = kept-stored (closeId t id .table) (held-long a t h)
+
+-- ---- "what making a fresh desk or any accepted call leaves is the image of the desk that its rule gives"
+pub fresh-refused : (a : List ℕ) → length a < areaOctets → freshArea a ≡ record { answer = finished.Refused (refusalOf 20); area = a }
+unfolding freshArea
+fresh-refused a h = rw (lt-ltb (length a) areaOctets h)
+
+pub fresh-done : (a : List ℕ) → areaOctets ≤ length a → freshArea a ≡ record { answer = finished.Done; area = storedIn a [] }
+unfolding freshArea
+fresh-done a h = rw (le-ltb (length a) areaOctets h)
+
+pub fresh-leaves : (a : List ℕ) → areaOctets ≤ length a → tableOf (freshArea a .area) ≡ some []
+fresh-leaves a h = ap (λ (f : AreaFinished). tableOf (f .area)) (fresh-done a h) ∙ stored-holds a [] fresh-valid
+
+module _ (a : List ℕ) (t : List Transfer) (h : tableOf a ≡ some t) where
+  pub open-leaves : (packet : List ℕ) → Valid (openPacket t packet .table) → tableOf (openArea a packet .area) ≡ some (openPacket t packet .table)
+  unfolding openArea openFound
+  open-leaves packet v = rw h (stored-holds a (openPacket t packet .table) v)
+
+  pub record-leaves : (packet : List ℕ) → Valid (recordPacket t packet .table)
+      → tableOf (recordArea a packet .area) ≡ some (recordPacket t packet .table)
+  unfolding recordArea recordFound
+  record-leaves packet v = rw h (stored-holds a (recordPacket t packet .table) v)
+
+  pub close-leaves : (id : ℕ) → Valid (closeId t id .table) → tableOf (closeArea a id .area) ≡ some (closeId t id .table)
+  unfolding closeArea closeFoundIn
+  close-leaves id v = rw h (stored-holds a (closeId t id .table) v)

@@ -7,7 +7,9 @@ use mathlib.Core.Option.{Option, none, some}
 use native.Mathlib.Nat.{le-refl}
 use native.Mathlib.Omega.{arith}
 use native.Mathlib.Decide.{ℕ-discrete}
-use Rattle.runs.specs.Runs.{Run}
+use mathlib.Core.Logic.{_↔_}
+use Rattle.runs.specs.Runs.{Run, Member, Canonical}
+use Rattle.runs.proofs.CanonicalLaws.{canonical-unique}
 use Rattle.table.specs.Transfers.{Key, Transfer, TransferFine, FineFrom, Valid}
 use Rattle.table.specs.Tables.{keys, find, runsOf, empty, add, setRuns, remove}
 use Rattle.demands.proofs.TableLaws.{find-head, find-tail, find-cases, runs-head, runs-tail, runs-none, add-cases, set-cases, remove-cases}
@@ -124,3 +126,17 @@ unique-from m n (x ∷ t) (y ∷ u) h g f r =
 pub table-unique : (t u : List Transfer) → Valid t → Valid u
     → ((i : ℕ) → find i (keys t) ≡ find i (keys u)) → ((i : ℕ) → runsOf t i ≡ runsOf u i) → t ≡ u
 table-unique t u h g f r = unique-from 0 0 t u (h .fine) (g .fine) f r
+
+pub runs-canonical : (i : ℕ) (t : List Transfer) → Valid t → Canonical (runsOf t i)
+runs-canonical i t h = go (find i (keys t)) refl
+  where
+    go : (o : Option Key) → find i (keys t) ≡ o → Canonical (runsOf t i)
+    go none e = rw (runs-none i t e) tt
+    go (some k) e = fine-found 0 i t k (h .fine) e .canonical
+
+-- the same with "a set of received offsets"
+pub table-map : (t u : List Transfer) → Valid t → Valid u
+    → ((i : ℕ) → find i (keys t) ≡ find i (keys u)) → ((i x : ℕ) → Member (runsOf t i) x ↔ Member (runsOf u i) x) → t ≡ u
+table-map t u h g f r =
+    table-unique t u h g f
+    (λ i. canonical-unique (runsOf t i) (runsOf u i) (runs-canonical i t h) (runs-canonical i u g) (λ x. r i x .0) (λ x. r i x .1))

@@ -1,2 +1,4 @@
 pub mod TableLaws
 pub mod FineLaws
+pub mod OpenLaws
+pub mod RecordLaws

@@ -5,3 +5,5 @@ pub mod RecordLaws
 pub mod OtherLaws
 pub mod ReadLaws
 pub mod ValidLaws
+pub mod FillLaws
+pub mod TableOrder

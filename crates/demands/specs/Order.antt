@@ -85,9 +85,13 @@ In x (y ∷ l) = (x ≡ y) ⊎ In x l
 abbrev pub Covered : ℕ → ℕ → List Packet → Type 0
 Covered i n ps = (p : Packet) × In p ps × (idIn p ≡ i) × (offsetIn p ≤ n) × (n < stopIn p)
 
--- "the open Ids, with w and L, are those of the accepted openings": some opening has this Id, w and L
+-- an opening brings an Id, a width w and a length L
+abbrev pub Brings : Packet → Key → Type 0
+Brings p k = (m : Metadata) × (readMetadata (p .octets) ≡ metadata-read.Accepted m) × (keyOf m ≡ k)
+
+-- "the open Ids, with w and L, are those of the accepted openings": some opening brings them
 abbrev pub Brought : Key → List Packet → Type 0
-Brought k ps = (p : Packet) × In p ps × (m : Metadata) × (readMetadata (p .octets) ≡ metadata-read.Accepted m) × (keyOf m ≡ k)
+Brought k ps = (p : Packet) × In p ps × Brings p k
 
 -- ---- the sorted order
 

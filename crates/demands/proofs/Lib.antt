@@ -7,3 +7,5 @@ pub mod ReadLaws
 pub mod ValidLaws
 pub mod FillLaws
 pub mod TableOrder
+pub mod Sorting
+pub mod AreaOrder

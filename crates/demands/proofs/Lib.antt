@@ -9,3 +9,4 @@ pub mod FillLaws
 pub mod TableOrder
 pub mod Sorting
 pub mod AreaOrder
+pub mod Example

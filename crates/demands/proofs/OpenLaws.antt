@@ -1,0 +1,76 @@
+-- What opening does, case by case, and that it is judged by what is open alone.
+-- Assumes nothing.
+use Prim.Native.Nat.{ℕ, _<_}
+use mathlib.Core.Path.{_≡_, refl, sym, ap, _∙_}
+use mathlib.Core.Bool.{Bool, true, false, cond, _&&_}
+use mathlib.Core.List.{List, []}
+use mathlib.Core.Option.{Option, none, some}
+use native.Mathlib.Omega.{arith}
+use lib.ListN.{length}
+use lib.Dec.{ltb, eqb}
+use borrow.Author.Tests.{eqb-true, ltb-true}
+use Rattle.header.specs.Refusals.{refusalOf}
+use Rattle.header.specs.declared.Refusal.{Refusal}
+use Rattle.packet_metadata.specs.Metadata.{readMetadata}
+use Rattle.packet_metadata.specs.declared.Metadata.{Metadata}
+use Rattle.packet_metadata.specs.declared.MetadataRead.{MetadataRead}
+use Rattle.packet_metadata.specs.declared.MetadataRead.the-variants as metadata-read
+use Rattle.table.specs.Transfers.{Key, Transfer}
+use Rattle.table.specs.Tables.{keys, find, runsOf, add, reached}
+use Rattle.table.specs.Open.{OpenOutcome, keyOf, Verdict, new, already, refuse, judgeFound, judgeOpen, openAs, openKey, openRead, openPacket, openAccepted}
+use Rattle.table.specs.declared.Opened.{Opened}
+use Rattle.table.specs.declared.Opened.the-variants.{New, AlreadyOpen, Refused}
+use Rattle.demands.proofs.TableLaws.{by-test, find-id, addKey, keys-add}
+
+both : (a b : Bool) → a && b ≡ true → (a ≡ true) × (b ≡ true)
+both true b e = (refl, e)
+both false b e = absurd (let z : _≡_ {A = ℕ} 0 1 = cc in omega arith)
+
+key-eq : (j k : Key) → j .id ≡ k .id → j .width ≡ k .width → j .length ≡ k .length → j ≡ k
+key-eq j k p q r = λ i. record { id = p i; width = q i; length = r i }
+
+-- refused, and the table stays; or the Id is open with the packet's width and length, and the table stays; or it is not open,
+-- there is room, and it is added
+pub open-cases : (P : OpenOutcome → Type 0) (t : List Transfer) (packet : List ℕ)
+    → ((r : Refusal) → P (record { answer = Refused r; table = t }))
+    → ((m : Metadata) → readMetadata packet ≡ metadata-read.Accepted m → find (m .id) (keys t) ≡ some (keyOf m)
+    → P (record { answer = AlreadyOpen (reached (keyOf m) (runsOf t (m .id))); table = t }))
+    → ((m : Metadata) → readMetadata packet ≡ metadata-read.Accepted m → find (m .id) (keys t) ≡ none → length (keys t) < 16
+    → P (record { answer = New (reached (keyOf m) []); table = add (keyOf m) t }))
+    → P (openPacket t packet)
+unfolding openPacket openRead openKey judgeOpen judgeFound openAs
+open-cases P t packet refused old fresh = go (readMetadata packet) refl
+  where
+    found : (m : Metadata) → readMetadata packet ≡ metadata-read.Accepted m → (o : Option Key) → find (m .id) (keys t) ≡ o
+        → P (openAs (judgeFound o (length (keys t)) (keyOf m)) t (keyOf m))
+    found m e none q =
+        by-test (λ (v : Verdict). P (openAs v t (keyOf m))) (ltb (length (keys t)) 16) new (refuse 17) (λ b. fresh m e q (ltb-true _ _ b))
+        (λ b. refused (refusalOf 17))
+    found m e (some j) q =
+        by-test (λ (v : Verdict). P (openAs v t (keyOf m))) (eqb (j .width) (m .width) && eqb (j .length) (m .entry .size)) already (refuse 18)
+        (λ b. let c = both (eqb (j .width) (m .width)) (eqb (j .length) (m .entry .size)) b in
+        old m e (q ∙ ap some (key-eq j (keyOf m) (find-id (m .id) (keys t) j q) (eqb-true _ _ (c .0)) (eqb-true _ _ (c .1)))))
+        (λ b. refused (refusalOf 18))
+
+    go : (r : MetadataRead) → readMetadata packet ≡ r → P (openRead t r)
+    go (metadata-read.Accepted m) e = found m e (find (m .id) (keys t)) refl
+    go (metadata-read.Refused r) e = refused r
+
+-- tables with the same keys accept the same openings, and then have the same keys
+pub open-alike : (t u : List Transfer) (packet : List ℕ) → keys t ≡ keys u
+    → (openAccepted (openPacket t packet .answer) ≡ openAccepted (openPacket u packet .answer))
+    × (keys (openPacket t packet .table) ≡ keys (openPacket u packet .table))
+unfolding openPacket openRead openKey openAs
+open-alike t u packet e = go (readMetadata packet)
+  where
+    verdict : (k : Key) (v w : Verdict) → v ≡ w
+        → (openAccepted (openAs v t k .answer) ≡ openAccepted (openAs w u k .answer)) × (keys (openAs v t k .table) ≡ keys (openAs w u k .table))
+    verdict k new w q = rw (← q) (refl, keys-add k t ∙ ap (addKey k) e ∙ sym (keys-add k u))
+    verdict k already w q = rw (← q) (refl, e)
+    verdict k (refuse n) w q = rw (← q) (refl, e)
+
+    go : (r : MetadataRead) → (openAccepted (openRead t r .answer) ≡ openAccepted (openRead u r .answer))
+        × (keys (openRead t r .table) ≡ keys (openRead u r .table))
+    go (metadata-read.Accepted m) =
+        verdict (keyOf m) (judgeOpen (keys t) (keyOf m)) (judgeOpen (keys u) (keyOf m)) (ap (λ (ks : List Key). judgeOpen ks (keyOf m)) e)
+    go (metadata-read.Refused r) = (refl, e)

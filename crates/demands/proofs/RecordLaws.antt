@@ -1,0 +1,64 @@
+-- What recording does, case by case, and when it is accepted.
+-- Assumes nothing.
+use Prim.Native.Nat.{ℕ, zero, suc, _+_, _≤_, _<_}
+use mathlib.Core.Path.{_≡_, refl, sym, ap, _∙_}
+use mathlib.Core.Bool.{Bool, true, false, not, _&&_}
+use mathlib.Core.List.{List, []}
+use mathlib.Core.Option.{Option, none, some}
+use native.Mathlib.Omega.{arith}
+use lib.ListN.{length}
+use lib.Dec.{ltb, eqb}
+use borrow.Author.Tests.{ltb-false, le-ltb}
+use Rattle.header.specs.Refusals.{_▹_, when, refusalOf}
+use Rattle.header.specs.declared.Refusal.{Refusal}
+use Rattle.header.proofs.RefusalLaws.{first-none, rest-none, failed}
+use Rattle.packet_data.specs.Data.{readData}
+use Rattle.packet_data.specs.declared.Data.{Data}
+use Rattle.packet_data.specs.declared.DataRead.{DataRead}
+use Rattle.packet_data.specs.declared.DataRead.the-variants as data-read
+use Rattle.runs.specs.Runs.{Run}
+use Rattle.table.specs.Transfers.{Key, Transfer}
+use Rattle.table.specs.Tables.{keys, find, setRuns, reached}
+use Rattle.table.specs.Record.{RecordOutcome, stopOf, dataJudged, recordRefusal, grown, recordAs, recordData, recordRead, recordPacket, recordAccepted}
+use Rattle.table.specs.declared.Recorded.the-variants.{Accepted, Refused}
+
+-- accepted, with the runs grown
+abbrev pub recordedAs : List Transfer → Data → Key → RecordOutcome
+recordedAs t d k = record { answer = Accepted (reached k (grown t d)); table = setRuns (d .id) (grown t d) t }
+
+-- refused, and the table stays; or the Id is open with k, nothing of 12 to 15 is given, and there is room
+pub record-cases : (P : RecordOutcome → Type 0) (t : List Transfer) (packet : List ℕ)
+    → ((r : Refusal) → P (record { answer = Refused r; table = t }))
+    → ((d : Data) (k : Key) → readData packet ≡ data-read.Accepted d → find (d .id) (keys t) ≡ some k → dataJudged (some k) d ≡ 0
+    → length (grown t d) ≤ 64 → P (recordedAs t d k))
+    → P (recordPacket t packet)
+unfolding recordPacket recordRead recordData recordAs recordRefusal
+record-cases P t packet refused taken = go (readData packet) refl
+  where
+    judged : (d : Data) (o : Option Key) (n : ℕ) → readData packet ≡ data-read.Accepted d → find (d .id) (keys t) ≡ o
+        → recordRefusal o (grown t d) d ≡ n → P (recordAs n o (grown t d) t d)
+    judged d none zero e q z = refused (refusalOf 12)
+    judged d (some k) zero e q z =
+        taken d k e q (first-none (dataJudged (some k) d) _ z)
+        (ltb-false _ _ (failed (ltb 64 (length (grown t d))) 15 (rest-none (dataJudged (some k) d) _ z)))
+    judged d o (suc n) e q z = refused (refusalOf (suc n))
+
+    go : (r : DataRead) → readData packet ≡ r → P (recordRead t r)
+    go (data-read.Accepted d) e = judged d (find (d .id) (keys t)) _ e refl refl
+    go (data-read.Refused r) e = refused r
+
+-- and then it is accepted
+pub record-taken : (t : List Transfer) (packet : List ℕ) (d : Data) (k : Key) → readData packet ≡ data-read.Accepted d
+    → find (d .id) (keys t) ≡ some k → dataJudged (some k) d ≡ 0 → length (grown t d) ≤ 64 → recordPacket t packet ≡ recordedAs t d k
+unfolding recordPacket recordRead recordData recordAs recordRefusal
+record-taken t packet d k e q j n =
+    ap (recordRead t) e
+    ∙ ap (λ (o : Option Key). recordAs (recordRefusal o (grown t d) d) o (grown t d) t d) q
+    ∙ ap (λ (x : ℕ). recordAs (x ▹ when (ltb 64 (length (grown t d))) 16) (some k) (grown t d) t d) j
+    ∙ ap (λ (b : Bool). recordAs (when b 16) (some k) (grown t d) t d) (le-ltb 64 (length (grown t d)) n)
+
+-- refusal 14 not given
+pub judged-stop : (k : Key) (d : Data) → dataJudged (some k) d ≡ 0 → stopOf d ≤ k .length
+unfolding dataJudged
+judged-stop k d e =
+    ltb-false (k .length) (stopOf d) (failed _ 13 (first-none _ _ (rest-none (when (not (eqb (d .width) (k .width))) 13) _ e)))

@@ -2,23 +2,20 @@
 -- Assumes the laws of `AreaLaws`, which say that an area gives back the table stored in it.
 use Prim.Native.Nat.{ℕ, _≤_}
 use mathlib.Core.Path.{_≡_, refl, sym, ap, subst, _∙_}
-use mathlib.Core.Bool.{Bool, true, false, cond}
+use mathlib.Core.Bool.{Bool, cond}
 use mathlib.Core.List.{List, [], _∷_}
-use mathlib.Core.Option.{Option, none, some}
+use mathlib.Core.Option.{Option, some}
 use native.Mathlib.Omega.{arith}
 use lib.ListN.{length}
-use lib.Dec.{ltb}
 use borrow.Author.Tests.{le-ltb}
 use Rattle.header.specs.Refusals.{refusalOf}
 use Rattle.table.specs.Transfers.{Transfer, Valid}
-use Rattle.table.specs.Open.{openPacket, openAccepted}
-use Rattle.table.specs.Record.{recordPacket, recordAccepted}
 use Rattle.table.specs.declared.Finished.the-variants.{Done, Refused}
 use Rattle.area.specs.Image.{areaOctets, storedIn}
 use Rattle.area.specs.Judge.{tableOf}
 use Rattle.area.specs.Operations.{AreaFinished, freshArea, openFound, openArea, recordFound, recordArea, statusAnswer, statusLeaves, areaStatusWritten, areaStatusBuffer}
-use Rattle.demands.specs.Order.{Call, opening, recording, taken, after, Sorted, sortCalls}
-use Rattle.demands.specs.Demand3.{callArea, SameEnd, Holds, OrderFree, made, Demand3, ByTransfer, Demand3ByTransfer}
+use Rattle.demands.specs.Order.{Call, opening, recording, taken, after, Sorted}
+use Rattle.demands.specs.Demand3.{callArea, Holds, OrderFree, made, Demand3, Demand3ByTransfer}
 use Rattle.demands.proofs.ValidLaws.{fresh-valid}
 use Rattle.demands.proofs.TableOrder.{callTable, call-valid, table-order}
 use Rattle.demands.proofs.Sorting.{sort-sorts}
@@ -83,9 +80,9 @@ module _ (L : AreaLaws) where
   area-order a b cs ka kb =
       let r = table-order cs in
       let e : taken callArea a cs ≡ taken callTable [] cs = same-taken callArea callTable Keeps call-keeps a [] cs ka in
-      let end : tableOf (after callArea a cs) ≡ some (after callTable [] cs) = same-after callArea callTable Keeps call-keeps a [] cs ka .held in
+      let kept : Keeps (after callArea a cs) (after callTable [] cs) = same-after callArea callTable Keeps call-keeps a [] cs ka in
       let same : (s : List Call) → Sorted (taken callArea a cs) s → tableOf (after callArea b s) ≡ tableOf (after callArea a cs) =
-      λ s σ. same-after callArea callTable Keeps call-keeps b [] s kb .held ∙ ap some (r .same-table s (rw e at σ)) ∙ sym end in
+      λ s σ. same-after callArea callTable Keeps call-keeps b [] s kb .held ∙ ap some (r .same-table s (rw e at σ)) ∙ sym (kept .held) in
       record {
         sorted = λ s σ.
             record {
@@ -95,7 +92,8 @@ module _ (L : AreaLaws) where
               same-buffer = λ id k unasked buffer. ap (λ (o : Option (List Transfer)). statusLeaves o id k unasked buffer) (same s σ);
             };
         table = after callTable [] cs;
-        held = end;
+        valid = kept .valid;
+        held = kept .held;
         brought = subst (Holds (after callTable [] cs)) (sym e) (r .brought);
       }
 

@@ -2,7 +2,7 @@
 -- Assumes nothing.
 use Prim.Native.Nat.{ℕ, _<_}
 use mathlib.Core.Path.{_≡_, refl, sym, ap, _∙_}
-use mathlib.Core.Bool.{Bool, true, false, cond, _&&_}
+use mathlib.Core.Bool.{Bool, true, false, _&&_}
 use mathlib.Core.List.{List, []}
 use mathlib.Core.Option.{Option, none, some}
 use native.Mathlib.Omega.{arith}
@@ -18,7 +18,6 @@ use Rattle.packet_metadata.specs.declared.MetadataRead.the-variants as metadata
 use Rattle.table.specs.Transfers.{Key, Transfer}
 use Rattle.table.specs.Tables.{keys, find, runsOf, add, reached}
 use Rattle.table.specs.Open.{OpenOutcome, keyOf, Verdict, new, already, refuse, judgeFound, judgeOpen, openAs, openKey, openRead, openPacket, openAccepted}
-use Rattle.table.specs.declared.Opened.{Opened}
 use Rattle.table.specs.declared.Opened.the-variants.{New, AlreadyOpen, Refused}
 use Rattle.demands.proofs.TableLaws.{by-test, find-id, addKey, keys-add}
 

@@ -1,14 +1,14 @@
 -- What the readers give of octets: the fields of an accepted METADATA or DATA, and what is known of them.
 -- Assumes nothing.
-use Prim.Native.Nat.{ℕ, zero, suc, _+_, _-_, _^_, _<_}
-use mathlib.Core.Path.{_≡_, refl, sym, ap, _∙_}
-use mathlib.Core.List.{List, []}
+use Prim.Native.Nat.{ℕ, zero, suc, _^_, _<_}
+use mathlib.Core.Path.{_≡_, refl}
+use mathlib.Core.List.{List}
 use native.Mathlib.Omega.{arith}
 use lib.ListN.{length, drop}
 use Rattle.octets.specs.Numbers.{Octets, Width}
 use Rattle.octets.proofs.NumberLaws.{part-lt}
 use Rattle.header.specs.Word.{descriptorOctets}
-use Rattle.header.specs.Start.{wordOf, idOf}
+use Rattle.header.specs.Start.{wordOf}
 use Rattle.header.proofs.StartLaws.{file-fine}
 use Rattle.directory_entry.specs.Entry.{entryOf}
 use Rattle.directory_entry.proofs.EntryLaws.{entry-fine}

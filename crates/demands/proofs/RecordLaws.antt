@@ -1,11 +1,10 @@
 -- What recording does, case by case, and when it is accepted.
 -- Assumes nothing.
-use Prim.Native.Nat.{ℕ, zero, suc, _+_, _≤_, _<_}
-use mathlib.Core.Path.{_≡_, refl, sym, ap, _∙_}
-use mathlib.Core.Bool.{Bool, true, false, not, _&&_}
-use mathlib.Core.List.{List, []}
+use Prim.Native.Nat.{ℕ, zero, suc, _≤_}
+use mathlib.Core.Path.{_≡_, refl, ap, _∙_}
+use mathlib.Core.Bool.{Bool, not}
+use mathlib.Core.List.{List}
 use mathlib.Core.Option.{Option, none, some}
-use native.Mathlib.Omega.{arith}
 use lib.ListN.{length}
 use lib.Dec.{ltb, eqb}
 use borrow.Author.Tests.{ltb-false, le-ltb}
@@ -16,10 +15,9 @@ use Rattle.packet_data.specs.Data.{readData}
 use Rattle.packet_data.specs.declared.Data.{Data}
 use Rattle.packet_data.specs.declared.DataRead.{DataRead}
 use Rattle.packet_data.specs.declared.DataRead.the-variants as data-read
-use Rattle.runs.specs.Runs.{Run}
 use Rattle.table.specs.Transfers.{Key, Transfer}
 use Rattle.table.specs.Tables.{keys, find, setRuns, reached}
-use Rattle.table.specs.Record.{RecordOutcome, stopOf, dataJudged, recordRefusal, grown, recordAs, recordData, recordRead, recordPacket, recordAccepted}
+use Rattle.table.specs.Record.{RecordOutcome, stopOf, dataJudged, recordRefusal, grown, recordAs, recordData, recordRead, recordPacket}
 use Rattle.table.specs.declared.Recorded.the-variants.{Accepted, Refused}
 
 -- accepted, with the runs grown

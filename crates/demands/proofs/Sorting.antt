@@ -2,14 +2,14 @@
 -- Assumes nothing.
 use Prim.Native.Nat.{ℕ, _≤_, _<_}
 use mathlib.Core.Path.{_≡_, refl, sym, ap, _∙_}
-use mathlib.Core.Bool.{Bool, true, false, cond}
+use mathlib.Core.Bool.{Bool, true, false}
 use mathlib.Core.List.{List, [], _∷_, List·Permᴰ, List·Permᴰ·nil, List·Permᴰ·cons, List·Permᴰ·swap, List·Permᴰ·trans, Permᴰ·refl}
 use mathlib.Core.Logic.{_⊎_, inl, inr}
 use native.Mathlib.Omega.{arith}
 use native.Mathlib.Decide.{ℕ-discrete}
-use lib.Dec.{eqb, ltb, leb}
+use lib.Dec.{eqb, ltb}
 use borrow.Author.Tests.{eqb-true, eqb-false, ltb-true, ltb-false, leb-true, leb-false}
-use Rattle.demands.specs.Order.{Packet, Call, recordings, idIn, offsetIn, In, Rising, Grouped, Sorted, TransferByTransfer, earlier, place, sort, sortCalls}
+use Rattle.demands.specs.Order.{Packet, Call, recordings, idIn, offsetIn, In, Rising, Grouped, TransferByTransfer, earlier, place, sort, sortCalls}
 use Rattle.demands.proofs.TableLaws.{by-test}
 use Rattle.demands.proofs.FillLaws.{in-perm}
 

@@ -1,18 +1,17 @@
 -- Looking an Id up in a table with one transfer more, changed or less.
 -- Assumes nothing.
 use Prim.Native.Nat.{ℕ, suc, _≤_, _<_}
-use mathlib.Core.Path.{_≡_, refl, sym, ap, ap₂, _∙_}
+use mathlib.Core.Path.{_≡_, refl, sym, ap, _∙_}
 use mathlib.Core.Bool.{Bool, true, false, cond}
 use mathlib.Core.List.{List, [], _∷_}
 use mathlib.Core.Option.{Option, none, some}
-use native.Mathlib.Nat.{le-refl}
 use native.Mathlib.Omega.{arith}
 use native.Mathlib.Decide.{ℕ-discrete}
 use lib.ListN.{length}
 use lib.Dec.{ltb, eqb}
 use borrow.Author.Tests.{eq-eqb, ne-eqb, eqb-true, eqb-false, ltb-true, ltb-false}
 use Rattle.runs.specs.Runs.{Run}
-use Rattle.table.specs.Transfers.{Key, Transfer, TransferFine, FineFrom}
+use Rattle.table.specs.Transfers.{Key, Transfer}
 use Rattle.table.specs.Tables.{keys, find, runsOf, empty, add, setRuns, remove}
 
 -- a test's two values

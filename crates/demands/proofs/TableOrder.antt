@@ -3,9 +3,9 @@
 use Prim.Native.Nat.{ℕ, _+_, _≤_, _<_}
 use mathlib.Core.Path.{_≡_, refl, sym, ap, ap₂, subst, _∙_}
 use mathlib.Core.Bool.{Bool, true, false, cond}
-use mathlib.Core.List.{List, [], _∷_, _++_, map, List·Permᴰ, Permᴰ·symm}
-use mathlib.Core.Logic.{_⊎_, inl, inr, _↔_}
-use mathlib.Core.Option.{Option, none, some}
+use mathlib.Core.List.{List, [], _∷_, _++_, map, Permᴰ·symm}
+use mathlib.Core.Logic.{_⊎_, inl, inr}
+use mathlib.Core.Option.{none, some}
 use native.Mathlib.Nat.{le-trans}
 use native.Mathlib.Omega.{arith}
 use native.Mathlib.Decide.{ℕ-discrete}
@@ -17,14 +17,14 @@ use Rattle.packet_data.specs.Data.{readData}
 use Rattle.packet_data.specs.declared.Data.{Data}
 use Rattle.packet_data.specs.declared.DataRead.{DataRead}
 use Rattle.packet_data.specs.declared.DataRead.the-variants as data-read
-use Rattle.runs.specs.Runs.{Run, Member, Canonical, insert}
+use Rattle.runs.specs.Runs.{Run, Canonical, insert}
 use Rattle.table.specs.Transfers.{Key, Transfer, Valid}
 use Rattle.table.specs.Tables.{keys, find, runsOf, add, setRuns}
 use Rattle.table.specs.Open.{OpenOutcome, openPacket, openAccepted, keyOf}
-use Rattle.table.specs.Record.{RecordOutcome, stopOf, dataJudged, grown, recordPacket, recordAccepted}
-use Rattle.demands.specs.Order.{Packet, Call, opening, recording, openings, recordings, taken, after, idRead, offsetRead, stopRead, idIn, offsetIn, stopIn, In, Covered, Brings, Brought, Rising, Sorted}
+use Rattle.table.specs.Record.{RecordOutcome, dataJudged, grown, recordPacket, recordAccepted}
+use Rattle.demands.specs.Order.{Packet, Call, opening, recording, openings, recordings, taken, after, idRead, offsetRead, stopRead, idIn, offsetIn, stopIn, In, Brings, Brought, Rising, Sorted}
 use Rattle.demands.specs.Demand3.{Holds}
-use Rattle.demands.proofs.TableLaws.{find-id, find-add-same, find-add-other, keys-set, runs-add, runs-set-same, runs-set-other}
+use Rattle.demands.proofs.TableLaws.{find-add-same, find-add-other, keys-set, runs-add, runs-set-same, runs-set-other}
 use Rattle.demands.proofs.FineLaws.{table-unique}
 use Rattle.demands.proofs.OpenLaws.{open-cases, open-alike}
 use Rattle.demands.proofs.RecordLaws.{record-cases, record-taken}

@@ -1,7 +1,7 @@
 -- Every call leaves a table "as described".
 -- Assumes nothing.
-use Prim.Native.Nat.{ℕ, _+_, _≤_, _<_}
-use mathlib.Core.Path.{_≡_, refl, sym, ap, _∙_}
+use Prim.Native.Nat.{ℕ, _≤_, _<_}
+use mathlib.Core.Path.{_≡_}
 use mathlib.Core.List.{List, []}
 use mathlib.Core.Option.{some}
 use native.Mathlib.Omega.{arith}
@@ -9,12 +9,11 @@ use lib.ListN.{length}
 use Rattle.octets.specs.Numbers.{Octets}
 use Rattle.packet_metadata.specs.declared.Metadata.{Metadata}
 use Rattle.packet_data.specs.declared.Data.{Data}
-use Rattle.runs.specs.Runs.{Run, insert}
 use Rattle.runs.proofs.InsertLaws.{insert-canonical, insert-stops}
-use Rattle.table.specs.Transfers.{Key, Transfer, TransferFine, FineFrom, Valid}
-use Rattle.table.specs.Tables.{keys, find, runsOf, empty, remove}
+use Rattle.table.specs.Transfers.{Key, Transfer, TransferFine, Valid}
+use Rattle.table.specs.Tables.{keys, find, runsOf, empty}
 use Rattle.table.specs.Open.{OpenOutcome, openPacket, keyOf}
-use Rattle.table.specs.Record.{RecordOutcome, stopOf, dataJudged, grown, recordPacket}
+use Rattle.table.specs.Record.{RecordOutcome, stopOf, grown, recordPacket}
 use Rattle.table.specs.Close.{CloseOutcome, closeId}
 use Rattle.demands.proofs.TableLaws.{length-keys, length-add, length-set, length-remove}
 use Rattle.demands.proofs.FineLaws.{fine-found, fine-add, fine-set, fine-remove}

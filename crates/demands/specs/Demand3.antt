@@ -8,7 +8,7 @@ use mathlib.Core.Logic.{_↔_}
 use mathlib.Core.Option.{some}
 use lib.ListN.{length}
 use Rattle.runs.specs.Runs.{Member}
-use Rattle.table.specs.Transfers.{Key, Transfer}
+use Rattle.table.specs.Transfers.{Key, Transfer, Valid}
 use Rattle.table.specs.Tables.{keys, find, runsOf}
 use Rattle.table.specs.Open.{openAccepted}
 use Rattle.table.specs.Record.{recordAccepted}
@@ -49,6 +49,7 @@ pub record OrderFree (a b : List ℕ) (cs : List Call) : Type 0 where
   pub sorted : (s : List Call) → Sorted (taken callArea a cs) s → SameEnd a b cs s
   -- the table that both end with
   pub table : List Transfer
+  pub valid : Valid table
   pub held : tableOf (after callArea a cs) ≡ some table
   pub brought : Holds table (taken callArea a cs)
 

@@ -1,0 +1,15 @@
+-- `run_set::is_complete` meets its contract: the progress compared with the length. Assumes nothing.
+use Rattle.runs.specs.Holes.{complete}
+use borrow.Author.Needs.{needs}
+use Rattle.run_set.proofs.is_complete.Statement.{statement}
+use Rattle.run_set.proofs.is_complete.Tie as tie
+
+progress-of-requires : tie.Need-progress-of-requires
+progress-of-requires c κs = search needs
+
+returns : tie.Need-returns
+unfolding complete
+returns c = rw (c .progress-of .ensures)
+
+pub is-complete-spec : {M : Type 1} → statement M
+is-complete-spec = tie.close (tie.spec progress-of-requires returns)

@@ -1,7 +1,8 @@
--- `run_set::edge_of` meets its contract: where the last run stops. Assumes nothing.
-use native.Mathlib.Omega.{arith}
+-- `run_set::edge_of` meets its contract: the edge is where the last run stops.
+-- Assumes nothing.
 use Rattle.run_set.proofs.HeldLaws.{edge-none, edge-some}
 use borrow.Author.Needs.{needs}
+use native.Mathlib.Omega.{arith}
 use Rattle.run_set.proofs.edge_of.Statement.{statement}
 use Rattle.run_set.proofs.edge_of.Tie as tie
 

@@ -1,17 +1,22 @@
--- `run_set::hole_at` meets its contract: the places of the runs before and after the hole. Assumes nothing.
-use native.Mathlib.Omega.{arith}
-use Prim.Native.Nat.{ℕ, _+_, _<_}
+-- `run_set::hole_at` meets its contract: the hole goes from where one run stops to where the next starts, or from 0 to the first.
+-- Assumes nothing.
+use Prim.Native.Nat.{_+_, _<_}
 use Rattle.run_set.proofs.HeldLaws.{hole-below, hole-within, hole-at-low, hole-at-first, hole-at-next}
 use borrow.Author.Needs.{needs}
+use native.Mathlib.Omega.{arith}
 use Rattle.run_set.proofs.hole_at.Statement.{statement}
 use Rattle.run_set.proofs.hole_at.Tie as tie
 
--- the hole's place, where offset 0 is received, and where it is not
+-- the hole's place has a run, where offset 0 is received and where it isn't
 low : (c : tie.Then1) → c .before .before .args .j + 1 < c .before .before .args .t1 .count
-low c = hole-below (c .before .before .args .t1) (c .before .before .args .j) (c .before .before .pre .1) (c .before .before .pre .2) (c .if1 .taken)
+low c =
+    let s = c .before .before in
+    hole-below (s .args .t1) (s .args .j) (s .pre .1) (s .pre .2) (c .if1 .taken)
 
 high : (c : tie.Else2) → c .before .before .before .args .j < c .before .before .before .args .t1 .count
-high c = hole-within (c .before .before .before .args .t1) (c .before .before .before .args .j) (c .before .before .before .pre .1) (c .before .before .before .pre .2) (c .before .if1 .left)
+high c =
+    let s = c .before .before .before in
+    hole-within (s .args .t1) (s .args .j) (s .pre .1) (s .pre .2) (c .before .if1 .left)
 
 element-copy-out-s : tie.Need-element-copy-out-s
 element-copy-out-s c = search needs
@@ -32,10 +37,14 @@ element-copy-out-to : tie.Need-element-copy-out-to
 element-copy-out-to c = omega (arith, low (c .before))
 
 returns : tie.Need-returns
-returns c = hole-at-low (c .before .before .before .before .args .t1) (c .before .before .before .before .args .j) (c .before .before .before .before .pre .1) (c .before .before .before .before .pre .2) (c .before .before .if1 .taken)
+returns c =
+    let s = c .before .before .before .before in
+    hole-at-low (s .args .t1) (s .args .j) (s .pre .1) (s .pre .2) (c .before .before .if1 .taken)
 
 returns-2 : tie.Need-returns-2
-returns-2 c = hole-at-first (c .before .before .before .args .t1) (c .before .before .before .args .j) (c .before .before .before .pre .1) (c .before .before .before .pre .2) (c .before .if1 .left) (c .if2 .taken)
+returns-2 c =
+    let s = c .before .before .before in
+    hole-at-first (s .args .t1) (s .args .j) (s .pre .1) (s .pre .2) (c .before .if1 .left) (c .if2 .taken)
 
 sub-at : tie.Need-sub-at
 sub-at c = search needs
@@ -53,7 +62,9 @@ element-copy-out-to-2 : tie.Need-element-copy-out-to-2
 element-copy-out-to-2 c = omega (arith, high (c .before))
 
 returns-3 : tie.Need-returns-3
-returns-3 c = hole-at-next (c .before .before .before .before .before .args .t1) (c .before .before .before .before .before .args .j) (c .before .before .before .before .before .pre .1) (c .before .before .before .before .before .pre .2) (c .before .before .before .if1 .left) (c .before .before .if2 .left)
+returns-3 c =
+    let s = c .before .before .before .before .before in
+    hole-at-next (s .args .t1) (s .args .j) (s .pre .1) (s .pre .2) (c .before .before .before .if1 .left) (c .before .before .if2 .left)
 
 pub hole-at-spec : {M : Type 1} → statement M
 hole-at-spec =

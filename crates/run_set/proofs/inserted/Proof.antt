@@ -1,22 +1,22 @@
--- `run_set::inserted` meets its contract. The loop's invariant: what is still to be inserted into the later runs, put after what is there,
--- gives the set in the end. Assumes nothing.
-use borrow.Author.Needs.{needs}
-use mathlib.Core.Path.{_≡_, refl, ap, _∙_}
+-- `run_set::inserted` meets its contract. The loop's invariant: what is still to be inserted among the later runs, put after the
+-- runs that are there, gives the set in the end. Assumes nothing.
+use Prim.Native.Nat.{_+_, _-_, _≤_}
+use mathlib.Core.Path.{_≡_, ap, _∙_}
 use mathlib.Core.Logic.{⊎-elim}
-use native.Mathlib.Omega.{arith}
 use native.Mathlib.Nat.{sub-zero}
-use Prim.Native.Nat.{ℕ, _+_, _-_, _≤_, _<_}
 use Rattle.runs.specs.Runs.{insert}
-use Rattle.run_set.specs.RunSets.{runsAt, pushAll, freshSet, finishedOf, insertedOf}
+use Rattle.run_set.specs.RunSets.{runsAt, pushAll, setOf}
 use Rattle.run_set.specs.declared.RunSet.{RunSet}
 use Rattle.run_set.proofs.InsertSteps.{step-after, step-join, step-before, step-end, finish}
+use borrow.Author.Needs.{needs}
+use native.Mathlib.Omega.{arith}
 use Rattle.run_set.proofs.inserted.Statement.{statement}
 use Rattle.run_set.proofs.inserted.Tie as tie
 
 abbrev Inv-loop : tie.InvT-loop
 Inv-loop a b all n out₀ lo₀ hi₀ i₀ out lo hi i =
     (i ≤ n) × (n ≤ 64) × (out .count ≤ i)
-    × (pushAll out (insert lo hi (runsAt (all .starts) (all .stops) i (n - i))) ≡ pushAll freshSet (insert a b (runsAt (all .starts) (all .stops) 0 n)))
+    × (pushAll out (insert lo hi (runsAt (all .starts) (all .stops) i (n - i))) ≡ setOf (insert a b (runsAt (all .starts) (all .stops) 0 n)))
 
 abbrev μ-loop : tie.MeasureT-loop
 μ-loop a b all n out₀ lo₀ hi₀ i₀ out lo hi i = n - i
@@ -49,8 +49,9 @@ finished-requires c κs = search needs
 
 returns : tie.Need-returns Inv-loop μ-loop
 returns c =
+    let at = c .before .before .before .before .before .before .loop in
     c .finished .ensures
-    ∙ finish _ _ _ _ _ _ _ (step-before _ _ _ _ _ _ _ _ (c .before .before .before .before .before .before .loop .inv .3) (omega arith) (c .before .before .if1 .left) (c .before .if2 .taken))
+    ∙ finish _ _ _ _ _ _ _ (step-before _ _ _ _ _ _ _ _ (at .inv .3) (omega arith) (omega arith) (omega arith))
 
 lesser-requires : tie.Need-lesser-requires Inv-loop μ-loop
 lesser-requires c κs = search needs
@@ -66,20 +67,21 @@ loop-less c = search needs
 
 loop-again : tie.Need-loop-again Inv-loop μ-loop
 loop-again c =
+    let at = c .before .before .before .before .loop in
     ⊎-elim
     (λ w.
-    let k : c .if1 .out .count ≡ c .before .before .before .before .loop .out .count + 1 = ap (λ (r : RunSet). r .count) (w .2 ∙ w .1 .ensures) in (
+    let k : c .if1 .out .count ≡ at .out .count + 1 = ap (λ (r : RunSet). r .count) (w .2 ∙ w .1 .ensures) in (
       omega arith,
       omega arith,
       omega arith,
-      step-after _ _ _ _ _ _ _ _ (c .before .before .before .before .loop .inv .3) _ _ _ (omega arith) (w .0 .taken) (w .2 ∙ w .1 .ensures) (w .3) (w .4),
+      step-after _ _ _ _ _ _ _ _ (at .inv .3) _ _ _ (omega arith) (omega arith) (w .2 ∙ w .1 .ensures) (w .3) (w .4),
     ))
     (λ w.
-    let k : c .if1 .out .count ≡ c .before .before .before .before .loop .out .count = ap (λ (r : RunSet). r .count) (w .4) in (
+    let k : c .if1 .out .count ≡ at .out .count = ap (λ (r : RunSet). r .count) (w .4) in (
       omega arith,
       omega arith,
       omega arith,
-      step-join _ _ _ _ _ _ _ _ (c .before .before .before .before .loop .inv .3) _ _ _ (omega arith) (w .0 .left) (w .1 .left) (w .4) (w .5 ∙ w .2 .ensures) (w .6 ∙ w .3 .ensures),
+      step-join _ _ _ _ _ _ _ _ (at .inv .3) _ _ _ (omega arith) (omega arith) (omega arith) (w .4) (w .5 ∙ w .2 .ensures) (w .6 ∙ w .3 .ensures),
     ))
     (c .if1 .came)
 

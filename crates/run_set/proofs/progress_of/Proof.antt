@@ -1,7 +1,8 @@
--- `run_set::progress_of` meets its contract: where the first run stops, if it starts at 0. Assumes nothing.
-use native.Mathlib.Omega.{arith}
+-- `run_set::progress_of` meets its contract: the progress is where the first run stops, if that starts at 0.
+-- Assumes nothing.
 use Rattle.run_set.proofs.HeldLaws.{progress-none, progress-low, progress-high}
 use borrow.Author.Needs.{needs}
+use native.Mathlib.Omega.{arith}
 use Rattle.run_set.proofs.progress_of.Statement.{statement}
 use Rattle.run_set.proofs.progress_of.Tie as tie
 

@@ -1,0 +1,5 @@
+pub mod StatusSize
+pub mod StatusPartial
+pub mod StatusFlags
+pub mod StatusReads
+pub mod StatusSays

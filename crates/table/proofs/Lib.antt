@@ -1,5 +1,7 @@
+pub mod FindLaws
 pub mod StatusSize
 pub mod StatusPartial
 pub mod StatusFlags
 pub mod StatusReads
 pub mod StatusSays
+pub mod StatusWritten

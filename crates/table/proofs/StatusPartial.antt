@@ -15,17 +15,13 @@ use Rattle.runs.proofs.NumberLaws.{le-or-lt}
 use Rattle.table.specs.Status.{holeRoom, holesSent, partialSent}
 use Rattle.table.proofs.StatusSize.{holes-sent-count}
 
-or-means : (a b : Bool) → a || b ≡ true → (a ≡ true) ⊎ (b ≡ true)
-or-means true b e = inl refl
-or-means false b e = inr e
+pub or-iff : (a b : Bool) → (a || b ≡ true) ↔ ((a ≡ true) ⊎ (b ≡ true))
+or-iff true b = ((λ e. inl refl), (λ m. refl))
+or-iff false b = ((λ e. inr e), (λ m. ⊎-elim (λ z. absurd (let o : _≡_ {A = ℕ} 0 1 = cc in omega arith)) (λ e. e) m))
 
 or-none : (a b : Bool) → a || b ≡ false → (a ≡ false) × (b ≡ false)
 or-none true b e = absurd (let z : _≡_ {A = ℕ} 0 1 = cc in omega arith)
 or-none false b e = (refl, e)
-
-or-right : (a b : Bool) → b ≡ true → a || b ≡ true
-or-right true b e = refl
-or-right false b e = e
 
 module _ (d k room : ℕ) (hs : List Hole) where
   -- "Bit 14 is set exactly when some hole was skipped or did not fit": the first k are skipped, and of the others those
@@ -33,9 +29,11 @@ module _ (d k room : ℕ) (hs : List Hole) where
   pub partial-means : (partialSent d k room hs ≡ true) ↔ ((0 < k) ⊎ (holeRoom d room < length hs - k))
   unfolding partialSent
   partial-means =
+      let o = or-iff (ltb 0 k) (ltb (holeRoom d room) (length (drop k hs))) in
+      let l = length-drop k hs in
       (
-      (λ e. ⊎-elim (λ p. inl (ltb-true 0 k p)) (λ p. inr (omega (arith, length-drop k hs, ltb-true (holeRoom d room) (length (drop k hs)) p))) (or-means _ _ e)),
-      (λ p. ⊎-elim (λ (q : 0 < k). rw (lt-ltb 0 k q)) (λ q. or-right (ltb 0 k) (ltb (holeRoom d room) (length (drop k hs))) (lt-ltb (holeRoom d room) (length (drop k hs)) (omega (arith, length-drop k hs)))) p),
+      (λ e. ⊎-elim (λ p. inl (ltb-true 0 k p)) (λ p. inr (rw l at (ltb-true (holeRoom d room) (length (drop k hs)) p))) (o .0 e)),
+      (λ p. o .1 (⊎-elim (λ q. inl (lt-ltb 0 k q)) (λ q. inr (lt-ltb (holeRoom d room) (length (drop k hs)) (rw l q))) p)),
       )
 
   -- where k is allowed: exactly when fewer holes are written than there are

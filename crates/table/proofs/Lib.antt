@@ -1,4 +1,5 @@
 pub mod FindLaws
+pub mod LimitLaws
 pub mod StatusSize
 pub mod StatusPartial
 pub mod StatusFlags

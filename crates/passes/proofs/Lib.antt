@@ -1,0 +1,2 @@
+pub mod EmptyFile
+pub mod Passes

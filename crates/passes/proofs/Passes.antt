@@ -1,0 +1,36 @@
+-- The passes of document 01 hold.
+-- Assumes nothing.
+use mathlib.Core.Path.{refl}
+use Rattle.passes.proofs.EmptyFile.{empty-never, empty-fourteen}
+use Rattle.passes.specs.Passes.{Passes, twoParts, emptyFile, oneAfterOther, late, scattered, longest, numbered}
+use Rattle.octets.specs.Put.{put}
+use Rattle.header.specs.Start.{startRefusal, typeRefusal, fileRefusal}
+use Rattle.directory_entry.specs.Properties.{propertyRefusal}
+use Rattle.directory_entry.specs.Path.{pathRefusal}
+use Rattle.directory_entry.specs.Entry.{entryRefusal, entryOf}
+use Rattle.packet_metadata.specs.Checksum.{pairAllowed, pairRefusal}
+use Rattle.packet_metadata.specs.Metadata.{metadataRefusal, metadataOf, readMetadata}
+use Rattle.packet_data.specs.Data.{dataRefusal, dataOf, readData}
+use Rattle.runs.specs.Runs.{insert}
+use Rattle.runs.specs.Holes.{edgeFrom, holesFrom, progress, complete}
+use Rattle.table.specs.Tables.{keys, find, runsOf, add, setRuns, remove, reached}
+use Rattle.table.specs.Open.{judgeFound, judgeOpen, openAs, openKey, openRead, openPacket}
+use Rattle.table.specs.Record.{dataJudged, recordRefusal, grown, recordAs, recordData, recordRead, recordPacket}
+use Rattle.table.specs.Close.{closeFound, closeId}
+use Rattle.table.specs.Status.{statusWriteRefusal, holeRoom, holesSent, partialSent, widthBits, statusFlags, pairs, statusOctets, statusPacket, statusFor, statusSent, statusWritten, statusBuffer}
+
+pub passes : Passes
+unfolding twoParts emptyFile oneAfterOther late scattered longest numbered put startRefusal typeRefusal fileRefusal propertyRefusal pathRefusal entryRefusal entryOf pairAllowed pairRefusal metadataRefusal metadataOf readMetadata dataRefusal dataOf readData insert edgeFrom holesFrom progress complete keys find runsOf add setRuns remove reached judgeFound judgeOpen openAs openKey openRead openPacket dataJudged recordRefusal grown recordAs recordData recordRead recordPacket closeFound closeId statusWriteRefusal holeRoom holesSent partialSent widthBits statusFlags pairs statusOctets statusPacket statusFor statusSent statusWritten statusBuffer
+passes =
+    record {
+      hole-reported = (refl, refl, refl);
+      buffer-too-small = (refl, refl);
+      completed = (refl, refl, refl);
+      empty-complete = (refl, empty-never, empty-fourteen);
+      longest-of-width = (refl, refl);
+      touching-joined = (refl, refl, refl);
+      start-missing = (refl, refl, refl, refl);
+      runs-full = (refl, refl, refl);
+      last-offset = (refl, refl, refl);
+      table-full = (refl, refl, refl, refl);
+    }

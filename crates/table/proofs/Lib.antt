@@ -1,0 +1,8 @@
+pub mod FindLaws
+pub mod LimitLaws
+pub mod StatusSize
+pub mod StatusPartial
+pub mod StatusFlags
+pub mod StatusReads
+pub mod StatusSays
+pub mod StatusWritten

@@ -1,0 +1,126 @@
+-- The size of a STATUS, and which holes it holds: the first k are skipped, and of the others as many are written as fit.
+-- Assumes nothing.
+use Prim.Native.Nat.{ℕ, zero, suc, _+_, _*_, _-_, _/_, _<_, _≤_, min}
+use mathlib.Core.Path.{_≡_, refl}
+use mathlib.Core.Bool.{Bool, true, false, not, cond, _&&_}
+use mathlib.Core.List.{List, [], _∷_}
+use mathlib.Core.Option.{some}
+use mathlib.Core.Logic.{_⊎_, inl, inr, ⊎-elim, _↔_}
+use native.Mathlib.Nat.{mul-comm, mul-suc, mul-le-mul, le-div-iff-mul-le, min-comm}
+use native.Mathlib.Omega.{arith}
+use lib.ListN.{length, take, drop, getD, length-append, length-take, length-drop}
+use lib.Seq.{getD-take, getD-drop}
+use lib.Dec.{ltb, eqb}
+use borrow.Author.Tests.{ltb-true, ltb-false, eqb-true, ne-eqb, eq-eqb, lt-ltb, le-ltb}
+use Rattle.octets.proofs.NumberLaws.{length-digits}
+use Rattle.header.specs.Refusals.{when}
+use Rattle.header.specs.declared.Hole.{Hole}
+use Rattle.header.proofs.RefusalLaws.{first-none, rest-none, failed}
+use Rattle.runs.specs.Runs.{Run}
+use Rattle.runs.specs.Holes.{holes}
+use Rattle.runs.proofs.NumberLaws.{le-or-lt}
+use Rattle.table.specs.Transfers.{Key}
+use Rattle.table.specs.Status.{statusWriteRefusal, holeRoom, holesSent, pairs, statusOctets, statusPacket}
+
+-- ---- what is asked of a STATUS that is written
+
+pub record StatusFits (key : Key) (hs : List Hole) (k room : ℕ) : Type 0 where
+  -- "k must be 0 or less than the number of holes"
+  pub allowed : (k ≡ 0) ⊎ (k < length hs)
+  -- Progress and In-Response-To have room
+  pub fields : 8 + 2 * key .width ≤ room
+  -- "If there are holes, room for at least one is needed"
+  pub one : 0 < length hs → 8 + 2 * key .width + 2 * key .width ≤ room
+
+one-of : (a b : Bool) → not a && not b ≡ false → (a ≡ true) ⊎ (b ≡ true)
+one-of true b e = inl refl
+one-of false true e = inr refl
+one-of false false e = absurd (let z : _≡_ {A = ℕ} 0 1 = cc in omega arith)
+
+room-for-one : (d n room : ℕ) → 8 + 2 * d + cond (eqb n 0) 0 (2 * d) ≤ room → 0 < n → 8 + 2 * d + 2 * d ≤ room
+room-for-one d zero room h p = absurd (omega arith)
+room-for-one d (suc n) room h p = rw (ne-eqb (suc n) 0 (omega arith)) at h
+
+pub status-fits : (key : Key) (hs : List Hole) (k room : ℕ) → statusWriteRefusal (some key) hs k room ≡ 0 → StatusFits key hs k room
+unfolding statusWriteRefusal
+status-fits key hs k room e =
+    let r = rest-none (when (not (eqb k 0) && not (ltb k (length hs))) 19) _ e in
+    let f : 8 + 2 * key .width + cond (eqb (length hs) 0) 0 (2 * key .width) ≤ room = ltb-false _ _ (failed _ 19 r) in
+    record {
+      allowed = ⊎-elim (λ p. inl (eqb-true k 0 p)) (λ p. inr (ltb-true k (length hs) p)) (one-of _ _ (failed _ 18 (first-none _ _ e)));
+      fields = omega arith;
+      one = room-for-one (key .width) (length hs) room f;
+    }
+
+-- ---- how many holes fit
+
+-- n holes have room exactly when they fit with what stands before them
+pub hole-room-iff : (d n room : ℕ) → 0 < d → 8 + 2 * d ≤ room → (n ≤ holeRoom d room) ↔ (8 + 2 * d + 2 * d * n ≤ room)
+unfolding holeRoom
+hole-room-iff d n room p h =
+    let i = le-div-iff-mul-le {k = 2 * d} {x = n} {y = room - (8 + 2 * d)} (omega arith) in
+    let c : n * (2 * d) ≡ 2 * d * n = mul-comm n (2 * d) in
+    ((λ l. omega (arith, i .0 l)), (λ l. i .1 (omega arith)))
+
+-- "It writes as many holes as fit ... after the first k": as many as there are after the first k, or as have room
+pub holes-sent-count : (d k room : ℕ) (hs : List Hole) → length (holesSent d k room hs) ≡ min (length hs - k) (holeRoom d room)
+unfolding holesSent
+holes-sent-count d k room hs = simp (length-take, length-drop) (min-comm (holeRoom d room) (length hs - k))
+
+-- "lowest first, after the first k": the hole with the index i is the one with the index k + i
+pub holes-sent-at : (d k room : ℕ) (hs : List Hole) (i : ℕ) (default : Hole) → i < length (holesSent d k room hs)
+    → getD (holesSent d k room hs) i default ≡ getD hs (k + i) default
+unfolding holesSent
+holes-sent-at d k room hs i default h =
+    let l : i < holeRoom d room = omega (arith, simp length-take at h) in
+    rw (getD-take (holeRoom d room) (drop k hs) i default l, getD-drop)
+
+-- where there are holes, one at least is written
+pub holes-sent-some : (key : Key) (hs : List Hole) (k room : ℕ) → 0 < key .width → statusWriteRefusal (some key) hs k room ≡ 0
+    → 0 < length hs → 0 < length (holesSent (key .width) k room hs)
+holes-sent-some key hs k room p e s =
+    let f = status-fits key hs k room e in
+    let r : 1 ≤ holeRoom (key .width) room = hole-room-iff (key .width) 1 room p (f .fields) .1 (omega (arith, f .one s)) in
+    let l : k < length hs = ⊎-elim (λ (z : k ≡ 0). omega arith) (λ q. q) (f .allowed) in
+    rw holes-sent-count (omega arith)
+
+-- ---- the size
+
+pub pairs-length : (d : ℕ) (hs : List Hole) → length (pairs d hs) ≡ 2 * d * length hs
+unfolding pairs
+pairs-length d [] = omega arith
+pairs-length d (h ∷ hs) = simp (length-append, length-digits, pairs-length d hs) (omega (arith, mul-suc (2 * d) (length hs)))
+
+-- "With descriptors of d octets and h holes written the size is 8 + 2d + 2dh octets"
+pub status-octets-size : (flags id d from to : ℕ) (hs : List Hole)
+    → length (statusOctets flags id d from to hs) ≡ 8 + 2 * d + 2 * d * length hs
+unfolding statusOctets
+status-octets-size flags id d from to hs = simp (length-append, length-digits, pairs-length) (omega arith)
+
+module _ (key : Key) (rs : List Run) (k : ℕ) (unasked : Bool) (room : ℕ) where
+  pub status-size : length (statusPacket key rs k unasked room)
+      ≡ 8 + 2 * key .width + 2 * key .width * length (holesSent (key .width) k room (holes rs))
+  unfolding statusPacket
+  status-size = status-octets-size _ _ _ _ _ _
+
+  -- it has room in the buffer
+  pub status-size-fits : 0 < key .width → statusWriteRefusal (some key) (holes rs) k room ≡ 0 → length (statusPacket key rs k unasked room) ≤ room
+  status-size-fits p e =
+      let f = status-fits key (holes rs) k room e in
+      let h = length (holesSent (key .width) k room (holes rs)) in
+      let l : h ≤ holeRoom (key .width) room = omega (arith, holes-sent-count (key .width) k room (holes rs)) in
+      rw status-size (hole-room-iff (key .width) h room p (f .fields) .0 l)
+
+  -- and of the holes that are left not one more would have
+  pub status-size-most : 0 < key .width → statusWriteRefusal (some key) (holes rs) k room ≡ 0
+      → length (holesSent (key .width) k room (holes rs)) < length (holes rs) - k
+      → room < length (statusPacket key rs k unasked room) + 2 * key .width
+  status-size-most p e s =
+      let f = status-fits key (holes rs) k room e in
+      let h = length (holesSent (key .width) k room (holes rs)) in
+      let c : h ≡ min (length (holes rs) - k) (holeRoom (key .width) room) = holes-sent-count (key .width) k room (holes rs) in
+      ⊎-elim
+      (λ (q : 8 + 2 * key .width + 2 * key .width * suc h ≤ room).
+      absurd (omega (arith, hole-room-iff (key .width) (suc h) room p (f .fields) .1 q)))
+      (λ (q : room < 8 + 2 * key .width + 2 * key .width * suc h). omega (arith, status-size, mul-suc (2 * key .width) h))
+      (le-or-lt (8 + 2 * key .width + 2 * key .width * suc h) room)

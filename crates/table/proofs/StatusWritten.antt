@@ -1,0 +1,98 @@
+-- STATUS written for an Id of a table: the answer, every octet of the buffer, and what the buffer then reads as.
+-- Assumes nothing.
+use Prim.Native.Nat.{ℕ, _+_, _*_, _<_, _≤_}
+use mathlib.Core.Path.{_≡_, refl, sym, ap, _∙_}
+use mathlib.Core.Bool.{Bool, _||_}
+use mathlib.Core.List.{List, _++_}
+use mathlib.Core.Option.{Option, none, some}
+use native.Mathlib.Nat.{zero-add}
+use native.Mathlib.Omega.{arith}
+use lib.ListN.{length, take, drop}
+use lib.Seq.{take-at, drop-at}
+use Rattle.octets.specs.Put.{put}
+use Rattle.header.specs.declared.Hole.{Hole}
+use Rattle.header.specs.declared.Written.the-variants.{Size}
+use Rattle.packet_status.specs.Status.{holeList, readStatus}
+use Rattle.packet_status.specs.declared.StatusRead.{StatusRead}
+use Rattle.packet_status.specs.declared.StatusRead.the-variants.{Success}
+use Rattle.packet_status.proofs.StatusLaws.{width-some}
+use Rattle.runs.specs.Runs.{Run}
+use Rattle.runs.specs.Holes.{edge, holes, progress, complete}
+use Rattle.table.specs.Transfers.{Key, Transfer, Valid}
+use Rattle.table.specs.Tables.{keys, find, runsOf}
+use Rattle.table.specs.Status.{statusWriteRefusal, holesSent, partialSent, statusFlags, statusPacket, statusFor, statusRefused, statusSent, statusWritten, statusBuffer}
+use Rattle.table.proofs.FindLaws.{Found, found-fine}
+use Rattle.table.proofs.StatusSize.{status-size, status-size-fits}
+use Rattle.table.proofs.StatusReads.{status-read, status-holes-read}
+
+module _ (t : List Transfer) (v : Valid t) (id k : ℕ) (unasked : Bool) (old : List ℕ) (key : Key) (found : find id (keys t) ≡ some key)
+    (ok : statusRefused t id k unasked old ≡ 0) where
+  abbrev rs : List Run
+  rs = runsOf t id
+
+  abbrev d : ℕ
+  d = key .width
+
+  -- the holes that are written, and the size
+  abbrev sent : List Hole
+  sent = holesSent d k (length old) (holes rs)
+
+  abbrev size : ℕ
+  size = 8 + 2 * d + 2 * d * length sent
+
+  known : Found id key rs
+  known = found-fine t v id key found
+
+  may : statusWriteRefusal (some key) (holes rs) k (length old) ≡ 0
+  may = rw found at ok
+
+  sent-is : statusSent t id k unasked old ≡ statusPacket key rs k unasked (length old)
+  unfolding statusSent statusFor
+  sent-is = rw found
+
+  sent-size : length (statusSent t id k unasked old) ≡ size
+  sent-size = ap length sent-is ∙ status-size key rs k unasked (length old)
+
+  buffer-is : statusBuffer t id k unasked old ≡ statusSent t id k unasked old ++ drop size old
+  unfolding statusBuffer put
+  buffer-is = rw (ok, sent-size, zero-add)
+
+  -- "With descriptors of d octets and h holes written the size is 8 + 2d + 2dh octets"
+  pub status-written-size : statusWritten t id k unasked old ≡ Size size
+  unfolding statusWritten
+  status-written-size = rw (ok, sent-size)
+
+  -- the packet has room
+  pub status-buffer-room : size ≤ length old
+  status-buffer-room =
+      let p : 0 < d = omega (arith, width-some (known .fine .width-is)) in
+      rw (status-size key rs k unasked (length old)) at (status-size-fits key rs k unasked (length old) p may)
+
+  -- the packet stands first, and "Octets after those stay unchanged"
+  pub status-buffer-packet : take size (statusBuffer t id k unasked old) ≡ statusPacket key rs k unasked (length old)
+  status-buffer-packet = rw buffer-is (take-at (statusSent t id k unasked old) (drop size old) size sent-size) ∙ sent-is
+
+  pub status-buffer-rest : drop size (statusBuffer t id k unasked old) ≡ drop size old
+  status-buffer-rest = rw buffer-is (drop-at (statusSent t id k unasked old) (drop size old) size sent-size)
+
+  -- the fields that are written, with the Id i
+  abbrev fieldsWith : ℕ → StatusRead
+  fieldsWith i = Success (record {
+    flags = statusFlags d (partialSent d k (length old) (holes rs)) (unasked || complete (key .length) rs);
+    id = i;
+    width = d;
+    timestamp = 0;
+    progress = progress rs;
+    response = edge rs;
+    holes = 8 + 2 * d;
+    count = length sent;
+  })
+
+  -- "A STATUS that the desk wrote reads back with its fields and holes"
+  pub status-buffer-read : readStatus (take size (statusBuffer t id k unasked old)) ≡ fieldsWith id
+  status-buffer-read =
+      ap readStatus status-buffer-packet
+      ∙ status-read (record { key = key; runs = rs }) k unasked (length old) (known .fine) ∙ ap fieldsWith (known .id-is)
+
+  pub status-buffer-holes : holeList (take size (statusBuffer t id k unasked old)) ≡ sent
+  status-buffer-holes = ap holeList status-buffer-packet ∙ status-holes-read (record { key = key; runs = rs }) k unasked (length old) (known .fine)

@@ -1,32 +1,30 @@
 -- A transfer of length 0: no DATA is taken, and DATA with its Id and width is refused with 14.
 -- Assumes nothing.
-use Prim.Native.Nat.{ℕ, zero, suc, _+_, _<_}
-use mathlib.Core.Path.{_≡_, refl, sym, ap, _∙_}
-use mathlib.Core.Bool.{Bool, true, false, not, cond}
+use Prim.Native.Nat.{ℕ, zero, suc, _<_}
+use mathlib.Core.Path.{_≡_, refl, sym, ap}
+use mathlib.Core.Bool.{Bool, true, false}
 use mathlib.Core.List.{List, [], _∷_}
-use mathlib.Core.Option.{Option, none, some}
+use mathlib.Core.Option.{none, some}
 use native.Mathlib.Omega.{arith}
 use lib.ListN.{length}
 use lib.Dec.{eqb}
 use borrow.Author.Tests.{eqb-true, eqb-false, eq-eqb}
-use Rattle.header.specs.Refusals.{_▹_, refusalOf}
-use Rattle.header.specs.Start.{wordOf, startRefusal, typeRefusal, fileRefusal}
+use Rattle.header.specs.Refusals.{refusalOf}
+use Rattle.header.specs.Start.{startRefusal, typeRefusal, fileRefusal}
 use Rattle.directory_entry.specs.Properties.{propertyRefusal}
 use Rattle.directory_entry.specs.Path.{pathRefusal}
 use Rattle.directory_entry.specs.Entry.{entryRefusal, entryOf}
 use Rattle.packet_metadata.specs.Checksum.{pairAllowed, pairRefusal}
 use Rattle.packet_metadata.specs.Metadata.{metadataRefusal, metadataOf, readMetadata}
-use Rattle.packet_data.specs.Data.{payloadAt, dataRefusal, dataOf, dataAnswer, readData}
+use Rattle.packet_data.specs.Data.{dataRefusal, dataOf, dataAnswer, readData}
 use Rattle.packet_data.specs.declared.Data.{Data}
 use Rattle.packet_data.specs.declared.DataRead.{DataRead}
 use Rattle.packet_data.specs.declared.DataRead.the-variants as data-read
 use Rattle.packet_data.proofs.DataLaws.{data-fine}
-use Rattle.runs.specs.Runs.{Run}
-use Rattle.runs.specs.Holes.{edgeFrom, progress, complete}
 use Rattle.table.specs.Transfers.{Key, Transfer}
-use Rattle.table.specs.Tables.{keys, find, add, reached}
+use Rattle.table.specs.Tables.{keys, find, add}
 use Rattle.table.specs.Open.{judgeFound, judgeOpen, openAs, openKey, openRead, openPacket}
-use Rattle.table.specs.Record.{stopOf, dataJudged, recordRefusal, grown, recordAs, recordData, recordRead, recordPacket, recordAccepted}
+use Rattle.table.specs.Record.{dataJudged, recordRefusal, recordAs, recordData, recordRead, recordPacket, recordAccepted}
 use Rattle.table.specs.declared.Recorded.the-variants as recorded
 use Rattle.table.proofs.LimitLaws.{twelve-iff, thirteen-iff, fourteen-iff}
 use Rattle.passes.specs.Passes.{emptyFile}

@@ -1,4 +1,5 @@
--- The passes of document 01 hold.
+-- The passes of document 01 hold, in one theorem. All is computed from the octets, but for "any DATA is refused", which
+-- speaks of every packet and is proved in EmptyFile.
 -- Assumes nothing.
 use mathlib.Core.Path.{refl}
 use Rattle.passes.proofs.EmptyFile.{empty-never, empty-fourteen}

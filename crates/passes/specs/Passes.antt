@@ -1,4 +1,5 @@
 -- The passes of document 01 that are "proved together, one statement over the whole set, about the definitions".
+-- Every table is made from the empty one by packets that are written out as octets, payloads of 1,000 octets too.
 -- Assumes nothing.
 use Prim.Native.Nat.{ℕ, zero, suc, _+_, _*_, _-_, _^_}
 use mathlib.Core.Path.{_≡_}
@@ -40,6 +41,7 @@ zeros id width offset n = firstWord 3 width ++ (beDigits 4 id ++ (beDigits (2 * 
 
 -- ---- tables
 
+-- the table after opening, and after recording
 abbrev pub opens : List Transfer → List ℕ → List Transfer
 opens t packet = openPacket t packet .table
 
@@ -82,7 +84,11 @@ numbered (suc n) = opens (numbered n) (metadata (suc n) 0 3000)
 
 -- ---- what is to hold of them
 
--- offsets and lengths as opening and recording answer them
+-- a buffer of n octets, none of them 0
+abbrev pub buffer : ℕ → List ℕ
+buffer n = replicate n 255
+
+-- "both answer the edge and whether the transfer is complete"
 abbrev pub upTo : ℕ → Bool → Reached
 upTo edge complete = record { edge = edge; complete = complete }
 
@@ -91,54 +97,45 @@ pub record Passes : Type 0 where
   -- 44 00 00 00 00 00 00 07 03 E8 0B B8 03 E8 07 D0"
   pub hole-reported :
       (runsOf twoParts 7 ≡ run 0 1000 ∷ run 2000 3000 ∷ [])
-      × (statusWritten twoParts 7 0 false (replicate 16 0) ≡ written.Size 16)
-      × (statusBuffer twoParts 7 0 false (replicate 16 0)
+      × (statusWritten twoParts 7 0 false (buffer 16) ≡ written.Size 16)
+      × (statusBuffer twoParts 7 0 false (buffer 16)
       ≡ 68 ∷ 0 ∷ 0 ∷ 0 ∷ 0 ∷ 0 ∷ 0 ∷ 7 ∷ 3 ∷ 232 ∷ 11 ∷ 184 ∷ 3 ∷ 232 ∷ 7 ∷ 208 ∷ [])
-
   -- "The same in a buffer of 15 octets: refusal 20"
   pub buffer-too-small :
-      (statusWritten twoParts 7 0 false (replicate 15 0) ≡ written.Refused (refusalOf 20))
-      × (statusBuffer twoParts 7 0 false (replicate 15 0) ≡ replicate 15 0)
-
+      (statusWritten twoParts 7 0 false (buffer 15) ≡ written.Refused (refusalOf 20))
+      × (statusBuffer twoParts 7 0 false (buffer 15) ≡ buffer 15)
   -- "Then 1,000 to 1,999 arrives: complete, 44 01 00 00 00 00 00 07 0B B8 0B B8"
   pub completed :
       (recordPacket twoParts middle .answer ≡ recorded.Accepted (upTo 3000 true))
-      × (statusWritten (takes twoParts middle) 7 0 false (replicate 12 0) ≡ written.Size 12)
-      × (statusBuffer (takes twoParts middle) 7 0 false (replicate 12 0)
+      × (statusWritten (takes twoParts middle) 7 0 false (buffer 12) ≡ written.Size 12)
+      × (statusBuffer (takes twoParts middle) 7 0 false (buffer 12)
       ≡ 68 ∷ 1 ∷ 0 ∷ 0 ∷ 0 ∷ 0 ∷ 0 ∷ 7 ∷ 11 ∷ 184 ∷ 11 ∷ 184 ∷ [])
-
   -- "L = 0: complete at opening; any DATA is refused": with 14 where Id and width are the transfer's
   pub empty-complete :
       (openPacket [] (metadata 7 0 0) .answer ≡ opened.New (upTo 0 true))
       × ((packet : List ℕ) → recordAccepted (recordPacket emptyFile packet .answer) ≡ false)
       × ((packet : List ℕ) (d : Data) → readData packet ≡ data-read.Accepted d → d .id ≡ 7 → d .width ≡ 2
       → recordPacket emptyFile packet .answer ≡ recorded.Refused (refusalOf 14))
-
   -- "L = 65,535 at width 16 opens; 65,536 is refused with 9"
   pub longest-of-width :
       (openPacket [] (metadata 7 0 65535) .answer ≡ opened.New (upTo 0 false))
       × (openPacket [] (metadata 7 0 65536) .answer ≡ opened.Refused (refusalOf 9))
-
   -- "0 to 9 then 10 to 19: one run, edge 20, no hole"
   pub touching-joined :
       (runsOf oneAfterOther 7 ≡ run 0 20 ∷ []) × (edge (runsOf oneAfterOther 7) ≡ 20) × (holes (runsOf oneAfterOther 7) ≡ [])
-
   -- "Only 5 to 9 received: Progress 0, edge 10, one hole from 0 to 5"
   pub start-missing :
       (runsOf late 7 ≡ run 5 10 ∷ []) × (progress (runsOf late 7) ≡ 0) × (edge (runsOf late 7) ≡ 10) × (holes (runsOf late 7) ≡ hole 0 5 ∷ [])
-
   -- "64 runs, then a packet apart from all: 16. A packet that touches one: accepted."
   pub runs-full :
       (length (runsOf (scattered 64) 7) ≡ 64)
       × (recordPacket (scattered 64) (zeros 7 0 192 1) .answer ≡ recorded.Refused (refusalOf 16))
       × (recordPacket (scattered 64) (zeros 7 0 190 1) .answer ≡ recorded.Accepted (upTo 191 false))
-
   -- "Offset 2^64 - 1 with one octet, L = 2^64 - 1: 14, and no wrapped sum"; the octet before it is taken
   pub last-offset :
       (openPacket [] (metadata 7 2 (2 ^ 64 - 1)) .answer ≡ opened.New (upTo 0 false))
       × (recordPacket longest (zeros 7 2 (2 ^ 64 - 1) 1) .answer ≡ recorded.Refused (refusalOf 14))
       × (recordPacket longest (zeros 7 2 (2 ^ 64 - 2) 1) .answer ≡ recorded.Accepted (upTo (2 ^ 64 - 1) false))
-
   -- "A 17th Id: 17; after one is closed it opens"
   pub table-full :
       (length (numbered 16) ≡ 16)

@@ -1,5 +1,6 @@
 pub mod FindLaws
 pub mod LimitLaws
+pub mod AnswerLaws
 pub mod StatusSize
 pub mod StatusPartial
 pub mod StatusFlags

@@ -3,20 +3,20 @@
 use Prim.Native.Nat.{ℕ, zero, suc, _+_, _*_, _<_, _≤_}
 use mathlib.Core.Path.{_≡_, refl, sym, subst}
 use mathlib.Core.Bool.{Bool, true, false, not, cond, _&&_, true≢false, false≢true}
-use mathlib.Core.List.{List, []}
+use mathlib.Core.List.{List}
 use mathlib.Core.Option.{Option, none, some}
 use mathlib.Core.Logic.{_⊎_, inl, inr, ⊎-elim, _↔_, Iff·trans}
 use native.Mathlib.Omega.{arith}
 use lib.ListN.{length}
 use lib.Dec.{ltb, eqb}
-use borrow.Author.Tests.{ltb-true, ltb-false, eqb-true, eqb-false, lt-ltb, le-ltb, eq-eqb, ne-eqb, not-true, not-false}
+use borrow.Author.Tests.{ltb-true, ltb-false, eqb-true, eqb-false, lt-ltb, le-ltb, eq-eqb, ne-eqb}
 use Rattle.header.specs.Refusals.{_▹_, when}
 use Rattle.header.specs.declared.Hole.{Hole}
 use Rattle.packet_data.specs.declared.Data.{Data}
 use Rattle.runs.specs.Runs.{Run, Member, Canonical}
 use Rattle.runs.proofs.InsertLaws.{insert-member, insert-canonical}
 use Rattle.table.specs.Transfers.{Key, Transfer}
-use Rattle.table.specs.Tables.{keys, find, runsOf}
+use Rattle.table.specs.Tables.{find, runsOf}
 use Rattle.table.specs.Open.{Verdict, judgeFound, judgeOpen}
 use Rattle.table.specs.Open.Verdict.{new, already, refuse}
 use Rattle.table.specs.Record.{stopOf, dataJudged, recordRefusal, grown}
@@ -206,37 +206,60 @@ test-not : (t : Bool) (A : Type 0) → (t ≡ true) ↔ A → (t ≡ false) ↔ 
 test-not true A i = ((λ e. absurd (true≢false e)), (λ n. absurd (n (i .0 refl))))
 test-not false A i = ((λ e a. false≢true (i .1 a)), (λ n. refl))
 
-found-new : (o : Option Key) (count : ℕ) (k : Key) → (judgeFound o count k ≡ new) ↔ ((o ≡ none) × (count < 16))
+-- of an Id that is not open, and of one that is
+
+none-new : (count : ℕ) (k : Key) → (judgeFound none count k ≡ new) ↔ (count < 16)
 unfolding judgeFound
-found-new none count k =
-    let c = Iff·trans (cond-first (ltb count 16) new (refuse 17) new refl (λ e. new-refused (sym e))) (ltb-iff count 16) in
-    ((λ e. (refl, c .0 e)), (λ p. c .1 (p .1)))
+none-new count k = Iff·trans (cond-first (ltb count 16) new (refuse 17) new refl (λ e. new-refused (sym e))) (ltb-iff count 16)
+
+none-seventeen : (count : ℕ) (k : Key) → (judgeFound none count k ≡ refuse 17) ↔ (16 ≤ count)
+unfolding judgeFound
+none-seventeen count k = Iff·trans (cond-second (ltb count 16) new (refuse 17) (refuse 17) new-refused refl) (ltb-not count 16)
+
+none-else : (count : ℕ) (k : Key) (v : Verdict) → (new ≡ v → ⊥) → (refuse 17 ≡ v → ⊥) → judgeFound none count k ≡ v → ⊥
+unfolding judgeFound
+none-else count k v n m e = cond-neither (ltb count 16) new (refuse 17) v n m e
+
+some-already : (j : Key) (count : ℕ) (k : Key) → (judgeFound (some j) count k ≡ already) ↔ Same j k
+unfolding judgeFound
+some-already j count k = Iff·trans (cond-first (same j k) already (refuse 18) already refl (λ z. already-refused (sym z))) (same-iff j k)
+
+some-eighteen : (j : Key) (count : ℕ) (k : Key) → (judgeFound (some j) count k ≡ refuse 18) ↔ (Same j k → ⊥)
+unfolding judgeFound
+some-eighteen j count k =
+    Iff·trans (cond-second (same j k) already (refuse 18) (refuse 18) already-refused refl) (test-not (same j k) (Same j k) (same-iff j k))
+
+some-else : (j : Key) (count : ℕ) (k : Key) (v : Verdict) → (already ≡ v → ⊥) → (refuse 18 ≡ v → ⊥) → judgeFound (some j) count k ≡ v → ⊥
+unfolding judgeFound
+some-else j count k v n m e = cond-neither (same j k) already (refuse 18) v n m e
+
+-- whether it is open or not
+
+found-new : (o : Option Key) (count : ℕ) (k : Key) → (judgeFound o count k ≡ new) ↔ ((o ≡ none) × (count < 16))
+found-new none count k = ((λ e. (refl, none-new count k .0 e)), (λ p. none-new count k .1 (p .1)))
 found-new (some j) count k =
-    ((λ e. absurd (cond-neither (same j k) already (refuse 18) new (λ z. new-already (sym z)) (λ z. new-refused (sym z)) e)), (λ p. absurd (some-none (p .0))))
+    ((λ e. absurd (some-else j count k new (λ z. new-already (sym z)) (λ z. new-refused (sym z)) e)), (λ p. absurd (some-none (p .0))))
 
 found-seventeen : (o : Option Key) (count : ℕ) (k : Key) → (judgeFound o count k ≡ refuse 17) ↔ ((o ≡ none) × (16 ≤ count))
-unfolding judgeFound
-found-seventeen none count k =
-    let c = Iff·trans (cond-second (ltb count 16) new (refuse 17) (refuse 17) new-refused refl) (ltb-not count 16) in
-    ((λ e. (refl, c .0 e)), (λ p. c .1 (p .1)))
+found-seventeen none count k = ((λ e. (refl, none-seventeen count k .0 e)), (λ p. none-seventeen count k .1 (p .1)))
 found-seventeen (some j) count k =
-    ((λ e. absurd (cond-neither (same j k) already (refuse 18) (refuse 17) already-refused (other-number 18 17 (λ z. omega arith)) e)), (λ p. absurd (some-none (p .0))))
+    ((λ e. absurd (some-else j count k (refuse 17) already-refused (other-number 18 17 (λ z. omega arith)) e)), (λ p. absurd (some-none (p .0))))
 
 found-already : (o : Option Key) (count : ℕ) (k : Key) → (judgeFound o count k ≡ already) ↔ ((j : Key) × (o ≡ some j) × Same j k)
-unfolding judgeFound
 found-already none count k =
-    ((λ e. absurd (cond-neither (ltb count 16) new (refuse 17) already new-already (λ z. already-refused (sym z)) e)), (λ p. absurd (some-none (sym (p .1)))))
-found-already (some j) count k =
-    let c = Iff·trans (cond-first (same j k) already (refuse 18) already refl (λ z. already-refused (sym z))) (same-iff j k) in
-    ((λ e. (j, refl, c .0 e)), (λ p. let q : p .0 ≡ j = cc (p .1) in c .1 (subst (λ (x : Key). Same x k) q (p .2))))
+    ((λ e. absurd (none-else count k already new-already (λ z. already-refused (sym z)) e)), (λ p. absurd (some-none (sym (p .1)))))
+found-already (some j) count k = (
+  (λ e. (j, refl, some-already j count k .0 e)),
+  (λ p. let q : p .0 ≡ j = cc (p .1) in some-already j count k .1 (subst (λ (x : Key). Same x k) q (p .2))),
+)
 
 found-eighteen : (o : Option Key) (count : ℕ) (k : Key) → (judgeFound o count k ≡ refuse 18) ↔ ((j : Key) × (o ≡ some j) × (Same j k → ⊥))
-unfolding judgeFound
 found-eighteen none count k =
-    ((λ e. absurd (cond-neither (ltb count 16) new (refuse 17) (refuse 18) new-refused (other-number 17 18 (λ z. omega arith)) e)), (λ p. absurd (some-none (sym (p .1)))))
-found-eighteen (some j) count k =
-    let c = Iff·trans (cond-second (same j k) already (refuse 18) (refuse 18) already-refused refl) (test-not (same j k) (Same j k) (same-iff j k)) in
-    ((λ e. (j, refl, c .0 e)), (λ p. let q : p .0 ≡ j = cc (p .1) in c .1 (subst (λ (x : Key). Same x k → ⊥) q (p .2))))
+    ((λ e. absurd (none-else count k (refuse 18) new-refused (other-number 17 18 (λ z. omega arith)) e)), (λ p. absurd (some-none (sym (p .1)))))
+found-eighteen (some j) count k = (
+  (λ e. (j, refl, some-eighteen j count k .0 e)),
+  (λ p. let q : p .0 ≡ j = cc (p .1) in some-eighteen j count k .1 (subst (λ (x : Key). Same x k → ⊥) q (p .2))),
+)
 
 module _ (ks : List Key) (k : Key) where
   -- a new Id, and room for it
@@ -291,19 +314,7 @@ small : (d n room : ℕ) → (room < least d n) ↔ ((room < 8 + 2 * d) ⊎ ((0 
 small d zero room = ((λ l. inl (omega arith)), (λ m. ⊎-elim (λ l. omega arith) (λ p. absurd (omega arith)) m))
 small d (suc n) room = rw (ne-eqb (suc n) 0 (omega arith)) ((λ l. inr (omega arith, l)), (λ m. ⊎-elim (λ l. omega arith) (λ p. p .1) m))
 
--- 12: "Id not open"
-pub status-twelve-iff : (o : Option Key) (hs : List Hole) (k room : ℕ) → (statusWriteRefusal o hs k room ≡ 12) ↔ (o ≡ none)
-unfolding statusWriteRefusal
-status-twelve-iff none hs k room = ((λ e. refl), (λ e. refl))
-status-twelve-iff (some key) hs k room =
-    ((λ e. absurd (two-12 (wrongSkip k hs) (ltb room (least (key .width) (length hs))) e)), (λ e. absurd (some-none e)))
-
 module _ (key : Key) (hs : List Hole) (k room : ℕ) where
-  -- 19: "k must be 0 or less than the number of holes"
-  pub nineteen-iff : (statusWriteRefusal (some key) hs k room ≡ 19) ↔ ((k ≡ 0 → ⊥) × (length hs ≤ k))
-  unfolding statusWriteRefusal
-  nineteen-iff = Iff·trans (two-19 (wrongSkip k hs) (ltb room (least (key .width) (length hs)))) (wrong-skip k hs)
-
   -- 20, with k allowed: no room for the fields, or for one hole where there are holes
   pub twenty-iff : (statusWriteRefusal (some key) hs k room ≡ 20)
       ↔ (((k ≡ 0 → ⊥) × (length hs ≤ k) → ⊥) × ((room < 8 + 2 * key .width) ⊎ ((0 < length hs) × (room < 8 + 2 * key .width + 2 * key .width))))
@@ -312,3 +323,15 @@ module _ (key : Key) (hs : List Hole) (k room : ℕ) where
       Iff·trans (two-20 (wrongSkip k hs) (ltb room (least (key .width) (length hs))))
       (both (test-not (wrongSkip k hs) ((k ≡ 0 → ⊥) × (length hs ≤ k)) (wrong-skip k hs))
       (Iff·trans (ltb-iff room (least (key .width) (length hs))) (small (key .width) (length hs) room)))
+
+  -- 19: "k must be 0 or less than the number of holes"
+  pub nineteen-iff : (statusWriteRefusal (some key) hs k room ≡ 19) ↔ ((k ≡ 0 → ⊥) × (length hs ≤ k))
+  unfolding statusWriteRefusal
+  nineteen-iff = Iff·trans (two-19 (wrongSkip k hs) (ltb room (least (key .width) (length hs)))) (wrong-skip k hs)
+
+-- 12: "Id not open"
+pub status-twelve-iff : (o : Option Key) (hs : List Hole) (k room : ℕ) → (statusWriteRefusal o hs k room ≡ 12) ↔ (o ≡ none)
+unfolding statusWriteRefusal
+status-twelve-iff none hs k room = ((λ e. refl), (λ e. refl))
+status-twelve-iff (some key) hs k room =
+    ((λ e. absurd (two-12 (wrongSkip k hs) (ltb room (least (key .width) (length hs))) e)), (λ e. absurd (some-none e)))

@@ -1,7 +1,7 @@
 -- Bit 14 of a STATUS: it is set exactly when fewer holes are written than there are.
 -- Assumes nothing.
 use Prim.Native.Nat.{ℕ, zero, suc, _-_, _<_, _≤_, min}
-use mathlib.Core.Path.{_≡_, refl, ap, sym, _∙_}
+use mathlib.Core.Path.{_≡_, refl}
 use mathlib.Core.Bool.{Bool, true, false, _||_}
 use mathlib.Core.List.{List}
 use mathlib.Core.Logic.{_⊎_, inl, inr, ⊎-elim, _↔_}
@@ -30,20 +30,18 @@ module _ (d k room : ℕ) (hs : List Hole) where
   unfolding partialSent
   partial-means =
       let o = or-iff (ltb 0 k) (ltb (holeRoom d room) (length (drop k hs))) in
-      let l = length-drop k hs in
-      (
-      (λ e. ⊎-elim (λ p. inl (ltb-true 0 k p)) (λ p. inr (rw l at (ltb-true (holeRoom d room) (length (drop k hs)) p))) (o .0 e)),
-      (λ p. o .1 (⊎-elim (λ q. inl (lt-ltb 0 k q)) (λ q. inr (lt-ltb (holeRoom d room) (length (drop k hs)) (rw l q))) p)),
+      let l = length-drop k hs in (
+        (λ e. ⊎-elim (λ p. inl (ltb-true 0 k p)) (λ p. inr (rw l at (ltb-true (holeRoom d room) (length (drop k hs)) p))) (o .0 e)),
+        (λ p. o .1 (⊎-elim (λ q. inl (lt-ltb 0 k q)) (λ q. inr (lt-ltb (holeRoom d room) (length (drop k hs)) (rw l q))) p)),
       )
 
   -- where k is allowed: exactly when fewer holes are written than there are
   pub partial-iff : (k ≡ 0) ⊎ (k < length hs) → (partialSent d k room hs ≡ true) ↔ (length (holesSent d k room hs) < length hs)
   partial-iff a =
-      let c : length (holesSent d k room hs) ≡ min (length hs - k) (holeRoom d room) = holes-sent-count d k room hs in
-      (
-      (λ e. ⊎-elim (λ (p : 0 < k). ⊎-elim (λ (z : k ≡ 0). omega arith) (λ (q : k < length hs). omega arith) a)
-      (λ (p : holeRoom d room < length hs - k). omega arith) (partial-means .0 e)),
-      (λ l. partial-means .1 (⊎-elim (λ (p : k ≤ 0). inr (omega arith)) (λ (p : 0 < k). inl p) (le-or-lt k 0))),
+      let c : length (holesSent d k room hs) ≡ min (length hs - k) (holeRoom d room) = holes-sent-count d k room hs in (
+        (λ e. ⊎-elim (λ (p : 0 < k). ⊎-elim (λ (z : k ≡ 0). omega arith) (λ (q : k < length hs). omega arith) a)
+            (λ (p : holeRoom d room < length hs - k). omega arith) (partial-means .0 e)),
+        (λ l. partial-means .1 (⊎-elim (λ (p : k ≤ 0). inr (omega arith)) (λ (p : 0 < k). inl p) (le-or-lt k 0))),
       )
 
   -- with bit 14 clear the whole list is written

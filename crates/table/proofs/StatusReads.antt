@@ -1,39 +1,35 @@
 -- "A STATUS that the desk wrote reads back with its fields and holes."
 -- Assumes nothing.
-use Prim.Native.Nat.{ℕ, zero, suc, _+_, _*_, _-_, _/_, _%_, _^_, _<_, _≤_, min}
+use Prim.Native.Nat.{ℕ, suc, _+_, _*_, _-_, _^_, _<_, _≤_}
 use mathlib.Core.Path.{_≡_, refl, sym, ap, _∙_}
 use mathlib.Core.Bool.{Bool, true, false, _||_}
 use mathlib.Core.List.{List, [], _∷_, _++_}
-use mathlib.Core.Option.{some}
-use mathlib.Core.Logic.{_⊎_, inl, inr, ⊎-elim}
 use native.Mathlib.Nat.{mul-le-mul, mul-div-right, mul-mod-right}
 use native.Mathlib.Omega.{arith}
 use lib.ListN.{length, take, drop, getD}
 use lib.Seq.{take-at, drop-at, drop-drop}
-use lib.Dec.{ltb, leb, eqb}
+use lib.Dec.{eqb}
 use borrow.Author.Tests.{lt-ltb, le-ltb, le-leb, eq-eqb}
 use Rattle.octets.specs.Numbers.{beValue, beDigits, Width}
-use Rattle.octets.specs.Numbers.Width.{two, four, eight}
 use Rattle.octets.proofs.NumberLaws.{value-digits, length-digits, width-le}
 use Rattle.header.specs.Refusals.{refusalOf}
-use Rattle.header.specs.Word.{bits, markOf, typeOf, flagsOf, widthOf, descriptorOctets, timestampOctets, partialOf, statusOf, wordFor}
+use Rattle.header.specs.Word.{markOf, typeOf, flagsOf, widthOf, descriptorOctets, timestampOctets, partialOf, statusOf, wordFor}
 use Rattle.header.specs.Start.{wordOf, idOf, startRefusal, typeRefusal}
 use Rattle.header.specs.declared.Hole.{Hole}
-use Rattle.packet_status.specs.Holes.{holeAt, holesOf, holesAfter, startsWell, holesWell}
-use Rattle.packet_status.specs.Status.{progressAt, responseAt, holesAt, progressOf, responseOf, listOctets, holeCount, holeList, successRefusal, statusRefusal, successOf, readStatus, readHole}
+use Rattle.packet_status.specs.Holes.{holesOf, holesAfter, startsWell, holesWell}
+use Rattle.packet_status.specs.Status.{holesAt, progressOf, responseOf, listOctets, holeCount, holeList, successRefusal, statusRefusal, successOf, readStatus, readHole}
 use Rattle.packet_status.specs.declared.StatusRead.the-variants.{Success}
 use Rattle.packet_status.specs.declared.HoleRead.the-variants as hole-read
 use Rattle.packet_status.proofs.AcceptedLaws.{holes-well-means}
 use Rattle.packet_status.proofs.StatusLaws.{width-some, success-none, hole-read-listed, hole-past-list}
-use Rattle.runs.specs.Runs.{Run}
 use Rattle.runs.specs.Holes.{edge, holes, progress, complete, HolesApart}
 use Rattle.runs.proofs.EdgeLaws.{edge-stops}
 use Rattle.runs.proofs.HoleLaws.{apart-drop, apart-take}
 use Rattle.runs.proofs.HolePlaces.{holes-few}
 use Rattle.runs.proofs.ProgressLaws.{progress-edge, holes-between, progress-no-holes, progress-first-hole}
-use Rattle.table.specs.Transfers.{Key, Transfer, TransferFine}
-use Rattle.table.specs.Status.{statusWriteRefusal, holeRoom, holesSent, partialSent, bit, statusFlags, pairs, statusOctets, statusPacket}
-use Rattle.table.proofs.StatusSize.{StatusFits, status-fits, holes-sent-count, pairs-length, status-octets-size}
+use Rattle.table.specs.Transfers.{Transfer, TransferFine}
+use Rattle.table.specs.Status.{holeRoom, holesSent, partialSent, statusFlags, pairs, statusOctets, statusPacket}
+use Rattle.table.proofs.StatusSize.{holes-sent-count, status-octets-size}
 use Rattle.table.proofs.StatusPartial.{whole-sent}
 use Rattle.table.proofs.StatusFlags.{bit-test, flags-fit, flags-mark, flags-type, flags-flags, flags-narrow, flags-octets, flags-timestamp, flags-partial, flags-status}
 
@@ -96,14 +92,17 @@ apart-well partial from top (h ∷ hs) l a n f =
 
 -- ---- a STATUS whose numbers fit their fields
 
+octets-word : (flags id d from to : ℕ) (hs : List Hole) → flags < 2 ^ 24 → wordOf (statusOctets flags id d from to hs) ≡ wordFor 4 flags
+unfolding statusOctets
+octets-word flags id d from to hs h = value-digits 4 (wordFor 4 flags) (omega arith)
+
 module _ (id d from to : ℕ) (p u : Bool) (hs : List Hole) (w : Width d) (id-fits : id < 2 ^ 32) (from-fits : from < 256 ^ d) (to-fits : to < 256 ^ d)
     (below : HolesBelow (256 ^ d) hs) where
   abbrev s : List ℕ
   s = statusOctets (statusFlags d p u) id d from to hs
 
   word : wordOf s ≡ wordFor 4 (statusFlags d p u)
-  unfolding statusOctets
-  word = value-digits 4 (wordFor 4 (statusFlags d p u)) (omega (arith, flags-fit d w p u))
+  word = octets-word (statusFlags d p u) id d from to hs (flags-fit d w p u)
 
   ident : idOf s ≡ id
   unfolding statusOctets
@@ -247,6 +246,11 @@ module _ (x : Transfer) (k : ℕ) (unasked : Bool) (room : ℕ) (fine : Transfer
   abbrev packet : List ℕ
   packet = statusPacket (x .key) (x .runs) k unasked room
 
+  -- its first word: bit 14 where holes are left out, bit 15 where it is sent unasked or the transfer is complete
+  pub status-word : wordOf packet ≡ wordFor 4 (statusFlags d partial fifteen)
+  unfolding statusPacket
+  status-word = octets-word (statusFlags d partial fifteen) _ _ _ _ _ (flags-fit d (fine .width-is) partial fifteen)
+
   -- the reader takes it
   pub status-accepted : statusRefusal packet ≡ 0
   unfolding statusPacket
@@ -275,11 +279,6 @@ module _ (x : Transfer) (k : ℕ) (unasked : Bool) (room : ℕ) (fine : Transfer
   unfolding statusPacket
   status-holes-read =
       list-is (x .key .id) d (progress (x .runs)) (edge (x .runs)) partial fifteen sent (fine .width-is) (fine .id-fits) progress-fits edge-fits sent-below
-
-  pub status-word : wordOf packet ≡ wordFor 4 (statusFlags d partial fifteen)
-  unfolding statusPacket
-  status-word =
-      word (x .key .id) d (progress (x .runs)) (edge (x .runs)) partial fifteen sent (fine .width-is) (fine .id-fits) progress-fits edge-fits sent-below
 
   status-code : statusOf (wordOf packet) ≡ 0
   status-code = ap statusOf status-word ∙ flags-status d (fine .width-is) partial fifteen

@@ -2,7 +2,7 @@
 -- holes are left out, its bit 15 that it was sent unasked or that the transfer is complete.
 -- Assumes nothing.
 use Prim.Native.Nat.{ℕ, suc, _<_, _≤_}
-use mathlib.Core.Path.{_≡_, refl, sym, ap, subst, _∙_}
+use mathlib.Core.Path.{_≡_, sym, ap, subst, _∙_}
 use mathlib.Core.Bool.{Bool, true, false, _||_}
 use mathlib.Core.List.{List, [], _∷_, _++_}
 use mathlib.Core.Logic.{_⊎_, inl, inr, ⊎-elim, _↔_}
@@ -26,10 +26,9 @@ use Rattle.table.proofs.StatusReads.{status-word}
 in-append : (f g : List Hole) (o : ℕ) → InHole (f ++ g) o ↔ (InHole f o ⊎ InHole g o)
 in-append [] g o = ((λ m. inr m), (λ m. ⊎-elim (λ z. absurd z) (λ n. n) m))
 in-append (h ∷ f) g o =
-    let i = in-append f g o in
-    (
-    (λ m. ⊎-elim (λ w. inl (inl w)) (λ n. ⊎-elim (λ a. inl (inr a)) (λ b. inr b) (i .0 n)) m),
-    (λ m. ⊎-elim (λ a. ⊎-elim (λ w. inl w) (λ n. inr (i .1 (inl n))) a) (λ b. inr (i .1 (inr b))) m),
+    let i = in-append f g o in (
+      (λ m. ⊎-elim (λ w. inl (inl w)) (λ n. ⊎-elim (λ a. inl (inr a)) (λ b. inr b) (i .0 n)) m),
+      (λ m. ⊎-elim (λ a. ⊎-elim (λ w. inl w) (λ n. inr (i .1 (inl n))) a) (λ b. inr (i .1 (inr b))) m),
     )
 
 -- the holes that were skipped, those that were written, and those that did not fit are all the holes, in their order
@@ -40,10 +39,9 @@ holes-parts d k room hs = rw (take-append-drop (holeRoom d room) (drop k hs)) (t
 in-parts : (f g h hs : List Hole) (o : ℕ) → f ++ (g ++ h) ≡ hs → (InHole f o ⊎ (InHole g o ⊎ InHole h o)) ↔ InHole hs o
 in-parts f g h hs o e =
     let i = in-append f (g ++ h) o in
-    let j = in-append g h o in
-    (
-    (λ m. subst (λ (l : List Hole). InHole l o) e (i .1 (⊎-elim inl (λ n. inr (j .1 n)) m))),
-    (λ m. ⊎-elim inl (λ n. inr (j .0 n)) (i .0 (subst (λ (l : List Hole). InHole l o) (sym e) m))),
+    let j = in-append g h o in (
+      (λ m. subst (λ (l : List Hole). InHole l o) e (i .1 (⊎-elim inl (λ n. inr (j .1 n)) m))),
+      (λ m. ⊎-elim inl (λ n. inr (j .0 n)) (i .0 (subst (λ (l : List Hole). InHole l o) (sym e) m))),
     )
 
 module _ (x : Transfer) (k : ℕ) (unasked : Bool) (room : ℕ) (fine : TransferFine x) where
@@ -113,8 +111,7 @@ module _ (x : Transfer) (k : ℕ) (unasked : Bool) (room : ℕ) (fine : Transfer
       ap (λ (n : ℕ). bits 32 n 15 15) (status-word x k unasked room fine) ∙ flags-unasked d (fine .width-is) (partialSent d k room hs) fifteen in
       let b = bit-iff fifteen in
       let o = or-iff unasked (complete (x .key .length) rs) in
-      let c = status-says-complete in
-      (
-      (λ z. ⊎-elim inl (λ t. inr (c .0 t)) (o .0 (b .0 (sym e ∙ z)))),
-      (λ m. e ∙ b .1 (o .1 (⊎-elim inl (λ t. inr (c .1 t)) m))),
+      let c = status-says-complete in (
+        (λ z. ⊎-elim inl (λ t. inr (c .0 t)) (o .0 (b .0 (sym e ∙ z)))),
+        (λ m. e ∙ b .1 (o .1 (⊎-elim inl (λ t. inr (c .1 t)) m))),
       )

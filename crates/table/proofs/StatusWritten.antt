@@ -1,17 +1,19 @@
 -- STATUS written for an Id of a table: the answer, every octet of the buffer, and what the buffer then reads as.
 -- Assumes nothing.
 use Prim.Native.Nat.{ℕ, _+_, _*_, _<_, _≤_}
-use mathlib.Core.Path.{_≡_, refl, sym, ap, _∙_}
+use mathlib.Core.Path.{_≡_, sym, ap, _∙_}
 use mathlib.Core.Bool.{Bool, _||_}
 use mathlib.Core.List.{List, _++_}
-use mathlib.Core.Option.{Option, none, some}
+use mathlib.Core.Option.{some}
 use native.Mathlib.Nat.{zero-add}
 use native.Mathlib.Omega.{arith}
 use lib.ListN.{length, take, drop}
 use lib.Seq.{take-at, drop-at}
 use Rattle.octets.specs.Put.{put}
+use Rattle.header.specs.Refusals.{refusalOf}
 use Rattle.header.specs.declared.Hole.{Hole}
-use Rattle.header.specs.declared.Written.the-variants.{Size}
+use Rattle.header.specs.declared.Written.the-variants.{Size, Refused}
+use Rattle.header.proofs.WritingLaws.{written-refused, buffer-refused}
 use Rattle.packet_status.specs.Status.{holeList, readStatus}
 use Rattle.packet_status.specs.declared.StatusRead.{StatusRead}
 use Rattle.packet_status.specs.declared.StatusRead.the-variants.{Success}
@@ -96,3 +98,13 @@ module _ (t : List Transfer) (v : Valid t) (id k : ℕ) (unasked : Bool) (old : 
 
   pub status-buffer-holes : holeList (take size (statusBuffer t id k unasked old)) ≡ sent
   status-buffer-holes = ap holeList status-buffer-packet ∙ status-holes-read (record { key = key; runs = rs }) k unasked (length old) (known .fine)
+
+-- where it is refused, the answer is the refusal, and the buffer keeps what it held
+module _ (t : List Transfer) (id k : ℕ) (unasked : Bool) (old : List ℕ) (no : statusRefused t id k unasked old ≡ 0 → ⊥) where
+  pub status-refused-answer : statusWritten t id k unasked old ≡ Refused (refusalOf (statusRefused t id k unasked old))
+  unfolding statusWritten
+  status-refused-answer = sym (written-refused (statusRefused t id k unasked old) (length (statusSent t id k unasked old)) no)
+
+  pub status-refused-buffer : statusBuffer t id k unasked old ≡ old
+  unfolding statusBuffer
+  status-refused-buffer = sym (buffer-refused (statusRefused t id k unasked old) (statusSent t id k unasked old) old no)

@@ -11,7 +11,7 @@ use lib.Seq.{take-at, drop-at, drop-drop}
 use lib.Dec.{eqb}
 use borrow.Author.Tests.{lt-ltb, le-ltb, le-leb, eq-eqb}
 use Rattle.octets.specs.Numbers.{beValue, beDigits, Width}
-use Rattle.octets.proofs.NumberLaws.{value-digits, length-digits, width-le}
+use Rattle.octets.proofs.NumberLaws.{value-digits, length-digits, width-le, width-some}
 use Rattle.header.specs.Refusals.{refusalOf}
 use Rattle.header.specs.Word.{markOf, typeOf, flagsOf, widthOf, descriptorOctets, timestampOctets, partialOf, statusOf, wordFor}
 use Rattle.header.specs.Start.{wordOf, idOf, startRefusal, typeRefusal}
@@ -21,7 +21,7 @@ use Rattle.packet_status.specs.Status.{holesAt, progressOf, responseOf, listOct
 use Rattle.packet_status.specs.declared.StatusRead.the-variants.{Success}
 use Rattle.packet_status.specs.declared.HoleRead.the-variants as hole-read
 use Rattle.packet_status.proofs.AcceptedLaws.{holes-well-means}
-use Rattle.packet_status.proofs.StatusLaws.{width-some, success-none, hole-read-listed, hole-past-list}
+use Rattle.packet_status.proofs.StatusLaws.{success-none, hole-read-listed, hole-past-list}
 use Rattle.runs.specs.Holes.{edge, holes, progress, complete, HolesApart}
 use Rattle.runs.proofs.EdgeLaws.{edge-stops}
 use Rattle.runs.proofs.HoleLaws.{apart-drop, apart-take}

@@ -10,6 +10,7 @@ use native.Mathlib.Omega.{arith}
 use lib.ListN.{length, take, drop}
 use lib.Seq.{take-at, drop-at}
 use Rattle.octets.specs.Put.{put}
+use Rattle.octets.proofs.NumberLaws.{width-some}
 use Rattle.header.specs.Refusals.{refusalOf}
 use Rattle.header.specs.declared.Hole.{Hole}
 use Rattle.header.specs.declared.Written.the-variants.{Size, Refused}
@@ -17,7 +18,6 @@ use Rattle.header.proofs.WritingLaws.{written-refused, buffer-refused}
 use Rattle.packet_status.specs.Status.{holeList, readStatus}
 use Rattle.packet_status.specs.declared.StatusRead.{StatusRead}
 use Rattle.packet_status.specs.declared.StatusRead.the-variants.{Success}
-use Rattle.packet_status.proofs.StatusLaws.{width-some}
 use Rattle.runs.specs.Runs.{Run}
 use Rattle.runs.specs.Holes.{edge, holes, progress, complete}
 use Rattle.table.specs.Transfers.{Key, Transfer, Valid}

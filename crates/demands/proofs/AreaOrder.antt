@@ -17,7 +17,7 @@ use Rattle.area.specs.Operations.{AreaFinished, freshArea, openFound, openArea,
 use Rattle.area.proofs.AreaLaws.{stored-holds, length-stored}
 use Rattle.demands.specs.Order.{Call, opening, recording, taken, after, Sorted}
 use Rattle.demands.specs.Demand3.{callArea, Holds, OrderFree, made, Demand3, Demand3ByTransfer}
-use Rattle.demands.proofs.ValidLaws.{fresh-valid}
+use Rattle.table.proofs.ValidLaws.{fresh-valid}
 use Rattle.demands.proofs.TableOrder.{callTable, call-valid, table-order}
 use Rattle.demands.proofs.Sorting.{sort-sorts}
 

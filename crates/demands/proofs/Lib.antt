@@ -1,10 +1,3 @@
-pub mod TableLaws
-pub mod FineLaws
-pub mod OpenLaws
-pub mod RecordLaws
-pub mod OtherLaws
-pub mod ReadLaws
-pub mod ValidLaws
 pub mod FillLaws
 pub mod TableOrder
 pub mod Sorting

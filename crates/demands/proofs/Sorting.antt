@@ -10,7 +10,7 @@ use native.Mathlib.Decide.{ℕ-discrete}
 use lib.Dec.{eqb, ltb}
 use borrow.Author.Tests.{eqb-true, eqb-false, ltb-true, ltb-false, leb-true, leb-false}
 use Rattle.demands.specs.Order.{Packet, Call, recordings, idIn, offsetIn, In, Rising, Grouped, TransferByTransfer, earlier, place, sort, sortCalls}
-use Rattle.demands.proofs.TableLaws.{by-test}
+use Rattle.table.proofs.TableLaws.{by-test}
 use Rattle.demands.proofs.FillLaws.{in-perm}
 
 abbrev Before : Packet → Packet → Type 0

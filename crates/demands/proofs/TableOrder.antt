@@ -24,13 +24,13 @@ use Rattle.table.specs.Open.{OpenOutcome, openPacket, openAccepted, keyOf}
 use Rattle.table.specs.Record.{RecordOutcome, dataJudged, grown, recordPacket, recordAccepted}
 use Rattle.demands.specs.Order.{Packet, Call, opening, recording, openings, recordings, taken, after, idRead, offsetRead, stopRead, idIn, offsetIn, stopIn, In, Brings, Brought, Rising, Sorted}
 use Rattle.demands.specs.Demand3.{Holds}
-use Rattle.demands.proofs.TableLaws.{find-add-same, find-add-other, keys-set, runs-add, runs-set-same, runs-set-other}
-use Rattle.demands.proofs.FineLaws.{table-unique}
-use Rattle.demands.proofs.OpenLaws.{open-cases, open-alike}
-use Rattle.demands.proofs.RecordLaws.{record-cases, record-taken}
-use Rattle.demands.proofs.OtherLaws.{open-kept, record-kept}
-use Rattle.demands.proofs.ReadLaws.{data-some}
-use Rattle.demands.proofs.ValidLaws.{fresh-valid, open-valid, record-valid}
+use Rattle.table.proofs.TableLaws.{find-add-same, find-add-other, keys-set, runs-add, runs-set-same, runs-set-other}
+use Rattle.table.proofs.FineLaws.{table-unique}
+use Rattle.table.proofs.OpenLaws.{open-cases, open-alike}
+use Rattle.table.proofs.RecordLaws.{record-cases, record-taken}
+use Rattle.table.proofs.OtherLaws.{open-kept, record-kept}
+use Rattle.table.proofs.ReadLaws.{data-some}
+use Rattle.table.proofs.ValidLaws.{fresh-valid, open-valid, record-valid}
 use Rattle.demands.proofs.FillLaws.{in-perm, one, one-same, one-other, one-cases, one-canonical, fill, fill-nil, fill-only, fill-holds, fill-same, fill-grows, Ahead, ahead-one}
 
 -- a call on a table: whether it is accepted, and the table after it

@@ -12,11 +12,11 @@ use Rattle.header.specs.Word.{typeOf}
 use Rattle.header.specs.Start.{wordOf, startRefusal, typeRefusal}
 use Rattle.header.proofs.RefusalLaws.{first-none}
 use Rattle.header.proofs.StartLaws.{type-fine}
-use Rattle.packet_metadata.specs.Metadata.{metadataRefusal, metadataOf, readMetadata, metadataAnswer}
+use Rattle.packet_metadata.specs.Metadata.{readMetadata}
 use Rattle.packet_metadata.specs.declared.Metadata.{Metadata}
 use Rattle.packet_metadata.specs.declared.MetadataRead.{MetadataRead}
 use Rattle.packet_metadata.specs.declared.MetadataRead.the-variants as metadata-read
-use Rattle.packet_data.specs.Data.{dataRefusal, dataOf, readData, dataAnswer}
+use Rattle.packet_data.specs.Data.{readData}
 use Rattle.packet_data.specs.declared.Data.{Data}
 use Rattle.packet_data.specs.declared.DataRead.{DataRead}
 use Rattle.packet_data.specs.declared.DataRead.the-variants as data-read
@@ -33,23 +33,6 @@ pub read-typed : (t : ℕ) (s : List ℕ) → typeRefusal t s ≡ 0 → readPack
 unfolding typeRefusal
 read-typed t s e =
     sym (read-by-type s (first-none _ _ e) (ap (λ (n : ℕ). readType n s) (sym (type-fine t s e .ptype))))
-
--- an accepted answer was not refused
-pub metadata-none : (s : List ℕ) (m : Metadata) → readMetadata s ≡ metadata-read.Accepted m → (metadataRefusal s ≡ 0) × (metadataOf s ≡ m)
-unfolding readMetadata
-metadata-none s m e = go (metadataRefusal s) e
-  where
-    go : (n : ℕ) → metadataAnswer n (metadataOf s) ≡ metadata-read.Accepted m → (n ≡ 0) × (metadataOf s ≡ m)
-    go zero q = (refl, cc)
-    go (suc n) q = absurd (let z : _≡_ {A = ℕ} 0 1 = cc in omega arith)
-
-pub data-none : (s : List ℕ) (d : Data) → readData s ≡ data-read.Accepted d → (dataRefusal s ≡ 0) × (dataOf s ≡ d)
-unfolding readData
-data-none s d e = go (dataRefusal s) e
-  where
-    go : (n : ℕ) → dataAnswer n (dataOf s) ≡ data-read.Accepted d → (n ≡ 0) × (dataOf s ≡ d)
-    go zero q = (refl, cc)
-    go (suc n) q = absurd (let z : _≡_ {A = ℕ} 0 1 = cc in omega arith)
 
 -- where the answer comes from: one of the three readers, or a refusal before them
 data ReadFrom (s : List ℕ) : Type 0 where

@@ -17,16 +17,18 @@ use Rattle.directory_entry.specs.Properties.{pathAt}
 use Rattle.packet_metadata.specs.Metadata.{entryAt, metadataRefusal, metadataOf}
 use Rattle.packet_metadata.specs.WriteMetadata.{metadataSize, metadataWriteRefusal, metadataOctets, metadataWritten, metadataBuffer}
 use Rattle.packet_metadata.specs.declared.Metadata.{Metadata}
+use Rattle.packet_metadata.proofs.MetadataLaws.{metadata-given}
 use Rattle.packet_metadata.proofs.RoundTrip as metadata
 use Rattle.packet_data.specs.Data.{payloadAt, dataRefusal, dataOf, payloadOf}
 use Rattle.packet_data.specs.WriteData.{dataRefused, dataOctets, dataWritten, dataBuffer}
 use Rattle.packet_data.specs.declared.Data.{Data}
+use Rattle.packet_data.proofs.DataLaws.{data-given}
 use Rattle.packet_data.proofs.RoundTrip as data-trip
 use Rattle.packet_status.specs.WriteFailure.{failureWriteRefusal, failureOctets, failureWritten, failureBuffer}
 use Rattle.packet_status.proofs.RoundTrip as status
 use Rattle.packet.specs.Read.{ofMetadata, ofData, ofStatus, readType, readPacket}
 use Rattle.packet.specs.declared.Read.the-variants as read
-use Rattle.packet.proofs.CaseLaws.{read-typed, metadata-none, data-none, packet-metadata, packet-data}
+use Rattle.packet.proofs.CaseLaws.{read-typed, packet-metadata, packet-data}
 
 -- a writer that answers a size refused nothing, and left the packet at the start of the buffer
 written-size : (n size m : ℕ) → writtenOf n size ≡ Size m → (n ≡ 0) × (size ≡ m)
@@ -63,7 +65,7 @@ module _ (flags id : ℕ) (timestamp : List ℕ) (offset : ℕ) (payload old : L
       let s = dataOctets flags id timestamp offset payload in
       let r = data-trip.data-read-written flags id timestamp offset payload (length old) (accepted .0) in
       rw data-packet-written
-      (read-typed 3 s (first-none _ _ (data-none s _ r .0)) ∙ ap ofData r)
+      (read-typed 3 s (first-none _ _ (data-given s _ r .0)) ∙ ap ofData r)
 
   pub payload-reads-back : payloadOf (take n (dataBuffer flags id timestamp offset payload old)) ≡ payload
   payload-reads-back = rw data-packet-written (data-trip.payload-read-written flags id timestamp offset payload (length old) (accepted .0))
@@ -74,7 +76,7 @@ module _ (flags id : ℕ) (timestamp : List ℕ) (offset : ℕ) (payload old : L
 -- DATA, read and written
 module _ (s : List ℕ) (os : Octets s) (d : Data) (ok : readPacket s ≡ read.Data d) (old : List ℕ) (room : length s ≤ length old) where
   none : (dataRefusal s ≡ 0) × (dataOf s ≡ d)
-  none = data-none s d (packet-data s d ok)
+  none = data-given s d (packet-data s d ok)
 
   pub data-writes-back :
       (dataWritten (d .flags) (d .id) (take (d .timestamp) (drop 8 s)) (d .offset) (payloadOf s) old ≡ Size (length s))
@@ -113,7 +115,7 @@ module _ (flags id : ℕ) (checksum : List ℕ) (properties size mtime ctime : �
       let s = metadataOctets flags id checksum properties size mtime ctime path in
       let r = metadata.metadata-read-written flags id checksum properties size mtime ctime path (length old) (fine .0) in
       rw metadata-packet-written
-      (read-typed 2 s (first-none _ _ (metadata-none s _ r .0)) ∙ ap ofMetadata r)
+      (read-typed 2 s (first-none _ _ (metadata-given s _ r .0)) ∙ ap ofMetadata r)
 
   pub checksum-reads-back : take (length checksum) (drop 8 (take n (metadataBuffer flags id checksum properties size mtime ctime path old))) ≡ checksum
   checksum-reads-back =
@@ -127,7 +129,7 @@ module _ (flags id : ℕ) (checksum : List ℕ) (properties size mtime ctime : �
 -- METADATA, read and written; checksum and path are the octets at their places
 module _ (s : List ℕ) (os : Octets s) (m : Metadata) (ok : readPacket s ≡ read.Metadata m) (old : List ℕ) (room : length s ≤ length old) where
   nothing : (metadataRefusal s ≡ 0) × (metadataOf s ≡ m)
-  nothing = metadata-none s m (packet-metadata s m ok)
+  nothing = metadata-given s m (packet-metadata s m ok)
 
   abbrev checksumRead : List ℕ
   checksumRead = take (m .checksum) (drop 8 s)

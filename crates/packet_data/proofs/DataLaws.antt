@@ -12,9 +12,9 @@ use Rattle.header.specs.Start.{wordOf, typeRefusal, fileRefusal}
 use Rattle.header.proofs.RefusalLaws.{first-none, rest-none, failed}
 use Rattle.header.proofs.StartLaws.{TypeFine, type-fine, FileFine, file-fine}
 use Rattle.header.proofs.WordLaws.{octets-le}
-use Rattle.packet_data.specs.Data.{payloadAt, dataRefusal, dataAnswer, payloadPart}
+use Rattle.packet_data.specs.Data.{payloadAt, dataRefusal, dataOf, readData, dataAnswer, payloadPart}
 use Rattle.packet_data.specs.declared.Data.{Data}
-use Rattle.packet_data.specs.declared.DataRead.the-variants.{Refused}
+use Rattle.packet_data.specs.declared.DataRead.the-variants.{Accepted, Refused}
 
 pub payload-at-le : (w : ℕ) → payloadAt w ≤ 40
 payload-at-le w = omega (arith, octets-le w)
@@ -49,3 +49,12 @@ answer-refused (suc n) d h = refl
 pub part-refused : (n : ℕ) (s : List ℕ) → (n ≡ 0 → ⊥) → [] ≡ payloadPart n s
 part-refused zero s h = absurd (h refl)
 part-refused (suc n) s h = refl
+
+-- an accepted read was not refused, and its fields are those of the definition
+pub data-given : (s : List ℕ) (d : Data) → readData s ≡ Accepted d → (dataRefusal s ≡ 0) × (dataOf s ≡ d)
+unfolding readData
+data-given s d e = go (dataRefusal s) e
+  where
+    go : (n : ℕ) → dataAnswer n (dataOf s) ≡ Accepted d → (n ≡ 0) × (dataOf s ≡ d)
+    go zero q = (refl, cc)
+    go (suc n) q = absurd (let z : _≡_ {A = ℕ} 0 1 = cc in omega arith)

@@ -3,6 +3,7 @@
 use Prim.Native.Nat.{ℕ, zero, suc, _≤_}
 use mathlib.Core.Path.{_≡_, refl}
 use mathlib.Core.List.{List}
+use native.Mathlib.Omega.{arith}
 use lib.ListN.{length, drop}
 use lib.Dec.{ltb}
 use borrow.Author.Tests.{ltb-false}
@@ -13,9 +14,9 @@ use Rattle.header.proofs.RefusalLaws.{first-none, rest-none, failed}
 use Rattle.header.proofs.StartLaws.{TypeFine, type-fine}
 use Rattle.directory_entry.specs.Entry.{entryRefusal}
 use Rattle.packet_metadata.specs.Checksum.{pairRefusal}
-use Rattle.packet_metadata.specs.Metadata.{entryAt, metadataRefusal, metadataAnswer}
+use Rattle.packet_metadata.specs.Metadata.{entryAt, metadataRefusal, metadataOf, readMetadata, metadataAnswer}
 use Rattle.packet_metadata.specs.declared.Metadata.{Metadata}
-use Rattle.packet_metadata.specs.declared.MetadataRead.the-variants.{Refused}
+use Rattle.packet_metadata.specs.declared.MetadataRead.the-variants.{Accepted, Refused}
 
 pub record MetadataFine (s : List ℕ) : Type 0 where
   pub start : TypeFine 2 s
@@ -42,3 +43,12 @@ metadata-fine s e =
 pub answer-refused : (n : ℕ) (m : Metadata) → (n ≡ 0 → ⊥) → Refused (refusalOf n) ≡ metadataAnswer n m
 answer-refused zero m h = absurd (h refl)
 answer-refused (suc n) m h = refl
+
+-- an accepted read was not refused, and its fields are those of the definition
+pub metadata-given : (s : List ℕ) (m : Metadata) → readMetadata s ≡ Accepted m → (metadataRefusal s ≡ 0) × (metadataOf s ≡ m)
+unfolding readMetadata
+metadata-given s m e = go (metadataRefusal s) e
+  where
+    go : (n : ℕ) → metadataAnswer n (metadataOf s) ≡ Accepted m → (n ≡ 0) × (metadataOf s ≡ m)
+    go zero q = (refl, cc)
+    go (suc n) q = absurd (let z : _≡_ {A = ℕ} 0 1 = cc in omega arith)

@@ -1,3 +1,10 @@
+pub mod TableLaws
+pub mod FineLaws
+pub mod OpenLaws
+pub mod RecordLaws
+pub mod OtherLaws
+pub mod ReadLaws
+pub mod ValidLaws
 pub mod FindLaws
 pub mod LimitLaws
 pub mod AnswerLaws

@@ -14,17 +14,17 @@ use Rattle.packet_metadata.specs.declared.MetadataRead.the-variants as metadata
 use Rattle.packet_data.specs.Data.{readData}
 use Rattle.packet_data.specs.declared.Data.{Data}
 use Rattle.packet_data.specs.declared.DataRead.the-variants as data-read
 use Rattle.table.specs.Transfers.{Key, Transfer}
 use Rattle.table.specs.Tables.{keys, find, runsOf, remove}
 use Rattle.table.specs.Open.{OpenOutcome, openPacket, openAccepted, keyOf}
 use Rattle.table.specs.Record.{RecordOutcome, grown, recordPacket, recordAccepted}
 use Rattle.table.specs.Close.{CloseOutcome, closeFound, closeId}
 use Rattle.table.specs.declared.Opened.the-variants as opened
 use Rattle.table.specs.declared.Recorded.the-variants as recorded
 use Rattle.table.specs.declared.Finished.the-variants as finished
-use Rattle.demands.proofs.TableLaws.{find-add-other, runs-add-other, keys-set, runs-set-other, find-remove-other, runs-remove-other}
-use Rattle.demands.proofs.OpenLaws.{open-cases}
-use Rattle.demands.proofs.RecordLaws.{record-cases}
+use Rattle.table.proofs.TableLaws.{find-add-other, runs-add-other, keys-set, runs-set-other, find-remove-other, runs-remove-other}
+use Rattle.table.proofs.OpenLaws.{open-cases}
+use Rattle.table.proofs.RecordLaws.{record-cases}
 
 -- what u holds for an Id is what t holds for it: open or not, width, length, and the received offsets
 pub record Kept (t u : List Transfer) (i : ℕ) : Type 0 where

@@ -10,17 +10,17 @@ use Rattle.octets.specs.Numbers.{Octets}
 use Rattle.packet_metadata.specs.declared.Metadata.{Metadata}
 use Rattle.packet_data.specs.declared.Data.{Data}
 use Rattle.runs.proofs.InsertLaws.{insert-canonical, insert-stops}
 use Rattle.table.specs.Transfers.{Key, Transfer, TransferFine, Valid}
 use Rattle.table.specs.Tables.{keys, find, runsOf, empty}
 use Rattle.table.specs.Open.{OpenOutcome, openPacket, keyOf}
 use Rattle.table.specs.Record.{RecordOutcome, stopOf, grown, recordPacket}
 use Rattle.table.specs.Close.{CloseOutcome, closeId}
-use Rattle.demands.proofs.TableLaws.{length-keys, length-add, length-set, length-remove}
-use Rattle.demands.proofs.FineLaws.{fine-found, fine-add, fine-set, fine-remove}
-use Rattle.demands.proofs.OpenLaws.{open-cases}
-use Rattle.demands.proofs.RecordLaws.{record-cases, judged-stop}
-use Rattle.demands.proofs.OtherLaws.{close-cases}
-use Rattle.demands.proofs.ReadLaws.{MetadataKnown, metadata-known, data-some}
+use Rattle.table.proofs.TableLaws.{length-keys, length-add, length-set, length-remove}
+use Rattle.table.proofs.FineLaws.{fine-found, fine-add, fine-set, fine-remove}
+use Rattle.table.proofs.OpenLaws.{open-cases}
+use Rattle.table.proofs.RecordLaws.{record-cases, judged-stop}
+use Rattle.table.proofs.OtherLaws.{close-cases}
+use Rattle.table.proofs.ReadLaws.{MetadataKnown, metadata-known, data-some}
 
 pub fresh-valid : Valid []
 fresh-valid = record { few = omega arith; fine = tt }

@@ -1,7 +1,7 @@
 -- What the readers give of octets: the fields of an accepted METADATA or DATA, and what is known of them.
 -- Assumes nothing.
-use Prim.Native.Nat.{ℕ, zero, suc, _^_, _<_}
-use mathlib.Core.Path.{_≡_, refl}
+use Prim.Native.Nat.{ℕ, _^_, _<_}
+use mathlib.Core.Path.{_≡_}
 use mathlib.Core.List.{List}
 use native.Mathlib.Omega.{arith}
 use lib.ListN.{length, drop}
@@ -12,22 +12,14 @@ use Rattle.header.specs.Start.{wordOf}
 use Rattle.header.proofs.StartLaws.{file-fine}
 use Rattle.directory_entry.specs.Entry.{entryOf}
 use Rattle.directory_entry.proofs.EntryLaws.{entry-fine}
-use Rattle.packet_metadata.specs.Metadata.{entryAt, metadataRefusal, metadataOf, metadataAnswer, readMetadata}
+use Rattle.packet_metadata.specs.Metadata.{entryAt, metadataRefusal, metadataOf, readMetadata}
 use Rattle.packet_metadata.specs.declared.Metadata.{Metadata}
 use Rattle.packet_metadata.specs.declared.MetadataRead.the-variants as metadata-read
-use Rattle.packet_metadata.proofs.MetadataLaws.{metadata-fine}
-use Rattle.packet_data.specs.Data.{payloadAt, dataRefusal, dataOf, dataAnswer, readData}
+use Rattle.packet_metadata.proofs.MetadataLaws.{metadata-fine, metadata-given}
+use Rattle.packet_data.specs.Data.{payloadAt, dataRefusal, dataOf, readData}
 use Rattle.packet_data.specs.declared.Data.{Data}
 use Rattle.packet_data.specs.declared.DataRead.the-variants as data-read
-use Rattle.packet_data.proofs.DataLaws.{data-fine}
-
-pub metadata-given : (s : List ℕ) (m : Metadata) → readMetadata s ≡ metadata-read.Accepted m → (metadataRefusal s ≡ 0) × (metadataOf s ≡ m)
-unfolding readMetadata
-metadata-given s m e = go (metadataRefusal s) e
-  where
-    go : (n : ℕ) → metadataAnswer n (metadataOf s) ≡ metadata-read.Accepted m → (n ≡ 0) × (metadataOf s ≡ m)
-    go zero q = (refl, cc)
-    go (suc n) q = absurd (let z : _≡_ {A = ℕ} 0 1 = cc in omega arith)
+use Rattle.packet_data.proofs.DataLaws.{data-fine, data-given}
 
 pub record MetadataKnown (m : Metadata) : Type 0 where
   pub id-fits : m .id < 2 ^ 32
@@ -46,14 +38,6 @@ fields-known s o z =
 
 pub metadata-known : (s : List ℕ) (m : Metadata) → Octets s → readMetadata s ≡ metadata-read.Accepted m → MetadataKnown m
 metadata-known s m o e = let g = metadata-given s m e in rw (← (g .1)) (fields-known s o (g .0))
-
-pub data-given : (s : List ℕ) (d : Data) → readData s ≡ data-read.Accepted d → (dataRefusal s ≡ 0) × (dataOf s ≡ d)
-unfolding readData
-data-given s d e = go (dataRefusal s) e
-  where
-    go : (n : ℕ) → dataAnswer n (dataOf s) ≡ data-read.Accepted d → (n ≡ 0) × (dataOf s ≡ d)
-    go zero q = (refl, cc)
-    go (suc n) q = absurd (let z : _≡_ {A = ℕ} 0 1 = cc in omega arith)
 
 some-payload : (s : List ℕ) → dataRefusal s ≡ 0 → 0 < dataOf s .length
 unfolding dataOf

@@ -15,11 +15,11 @@ use Rattle.packet_metadata.specs.Metadata.{readMetadata}
 use Rattle.packet_metadata.specs.declared.Metadata.{Metadata}
 use Rattle.packet_metadata.specs.declared.MetadataRead.{MetadataRead}
 use Rattle.packet_metadata.specs.declared.MetadataRead.the-variants as metadata-read
 use Rattle.table.specs.Transfers.{Key, Transfer}
 use Rattle.table.specs.Tables.{keys, find, runsOf, add, reached}
 use Rattle.table.specs.Open.{OpenOutcome, keyOf, Verdict, new, already, refuse, judgeFound, judgeOpen, openAs, openKey, openRead, openPacket, openAccepted}
 use Rattle.table.specs.declared.Opened.the-variants.{New, AlreadyOpen, Refused}
-use Rattle.demands.proofs.TableLaws.{by-test, find-id, addKey, keys-add}
+use Rattle.table.proofs.TableLaws.{by-test, find-id, addKey, keys-add}
 
 both : (a b : Bool) → a && b ≡ true → (a ≡ true) × (b ≡ true)
 both true b e = (refl, e)

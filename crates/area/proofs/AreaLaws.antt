@@ -22,7 +22,8 @@ use Rattle.area.specs.declared.Table.{Table}
 use Rattle.area.proofs.WordLaws.{length-octets, append-octets, words-octets-fit}
 use Rattle.area.proofs.LayoutLaws.{numbers-octets, octets-numbers, length-wordsOf, numbersAt-sized}
 use Rattle.area.proofs.JudgeLaws.{judged-passed}
-use Rattle.area.proofs.NumberLaws.{passed-valid, passed-numbers, numbers-sized, numbers-pass, numbers-back, numbers-below, fresh-numbers, fresh-valid}
+use Rattle.area.proofs.NumberLaws.{passed-valid, passed-numbers, numbers-sized, numbers-pass, numbers-back, numbers-below, fresh-numbers}
+use Rattle.table.proofs.ValidLaws.{fresh-valid}
 
 -- ---- the image of a table
 pub length-image : (t : List Transfer) → length (image t) ≡ areaOctets

@@ -378,6 +378,3 @@ fresh-numbers = sym (λ j. record {
   starts = zeros (λ k. runAt [] k .start) 1024 (λ k. refl) j;
   stops = zeros (λ k. runAt [] k .stop) 1024 (λ k. refl) j;
 })
-
-pub fresh-valid : Valid []
-fresh-valid = record { few = omega arith; fine = tt }

@@ -1,0 +1,4 @@
+pub mod PlaceLaws
+pub mod SetLaws
+pub mod InsertSteps
+pub mod HeldLaws

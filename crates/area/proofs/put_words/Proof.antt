@@ -1,6 +1,6 @@
 -- `area::put_words` meets its contract. The loop's invariant: the octets of the first i words are put, and the others as they were.
 -- The measure is what is left of the words. Assumes nothing.
-use Prim.Native.Nat.{_-_, _≤_, _*_, _+_}
+use Prim.Native.Nat.{_-_, _≤_, _*_}
 use mathlib.Core.Path.{_≡_, refl, _∙_}
 use denote.Ref.{now}
 use lib.ListN.{length, take}
@@ -47,8 +47,7 @@ loop-less c = search needs
 loop-again : tie.Need-loop-again Inv-loop μ-loop
 loop-again c =
     let a = c .before .before .before .before .before .before .before .before .before .args in
-    let l = c .before .before .before .before .before .before .loop in
-    (
+    let l = c .before .before .before .before .before .before .loop in (
       omega arith,
       c .before .before .write-number .kept .0 ∙ l .inv .1,
       put-step (a .k) (l .i) _ (now (a .ws)) (l .area) _ (now (a .area)) (omega arith) (omega arith) refl (l .inv .2) (c .before .before .write-number .ensures),
@@ -59,8 +58,7 @@ same-length c = c .before .loop .inv .1
 
 returns : tie.Need-returns Inv-loop μ-loop
 returns c =
-    let a = c .before .before .before .before .args in
-    (
+    let a = c .before .before .before .before .args in (
       put-end (a .k) (c .before .loop .i) (now (a .ws)) (c .before .loop .area) (now (a .area)) (omega arith) (c .before .loop .inv .2),
       λ i. c .before .before .shared-slice-known .given i .fits,
     )

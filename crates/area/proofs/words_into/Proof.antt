@@ -1,9 +1,9 @@
 -- `area::words_into` meets its contract. The loop's invariant: the first i places hold the first i words, and the others what they held.
 -- The measure is what is left of the length. Assumes nothing.
-use Prim.Native.Nat.{_-_, _≤_, _*_, _+_}
-use mathlib.Core.Path.{_≡_, refl, _∙_}
+use Prim.Native.Nat.{_-_, _≤_}
+use mathlib.Core.Path.{_≡_, refl}
 use denote.Ref.{now}
-use lib.ListN.{length, set, length-set}
+use lib.ListN.{length, length-set}
 use lib.Seq.{paste, paste-zero}
 use Rattle.area.specs.Words.{wordsAt}
 use Rattle.area.proofs.WordLoops.{fill-step, fill-end}
@@ -44,8 +44,7 @@ loop-less c = search needs
 loop-again : tie.Need-loop-again Inv-loop μ-loop
 loop-again c =
     let a = c .before .before .before .before .before .args in
-    let l = c .before .before .loop in
-    (
+    let l = c .before .before .loop in (
       omega arith,
       simp length-set (l .inv .1),
       fill-step (now (a .area)) (l .out) (now (a .out)) (a .k) (l .i) (c .word .result) (omega arith) (l .inv .2) (c .word .ensures),

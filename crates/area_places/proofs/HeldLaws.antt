@@ -7,25 +7,25 @@ use mathlib.Core.Bool.{Bool, true, false, cond}
 use mathlib.Core.List.{List}
 use mathlib.Core.Option.{none, some}
 use native.Mathlib.Omega.{arith}
+use native.Mathlib.Nat.{zero-add}
 use native.Mathlib.Numerals.{add-one}
 use lib.ListN.{length, getD, drop}
 use lib.Seq.{ext-getD}
 use borrow.Author.Tests.{eq-eqb, ne-eqb}
 use Rattle.runs.specs.Runs.{Run, run}
 use Rattle.run_set.specs.RunSets.{heldRuns, setOf}
-use Rattle.run_set.specs.declared.RunSet.{RunSet}
 use Rattle.run_set.proofs.SetLaws.{set-count, starts-length, stops-length, held-set, starts-at, stops-at}
-use Rattle.table.specs.Transfers.{Transfer, TransferFine}
+use Rattle.table.specs.Transfers.{Transfer}
 use Rattle.area.specs.Words.{wordAt, wordsAt}
 use Rattle.area.specs.Numbers.{nth, runAt, numbers, transfersAt, transfersOf}
-use Rattle.area.specs.Image.{numbersAt}
+use Rattle.area.specs.Image.{areaOctets, numbersAt}
 use Rattle.area.specs.Judge.{judged, tableOf}
 use Rattle.area.specs.declared.Table.{Table}
 use Rattle.area.proofs.WordLaws.{length-words, part-at}
 use Rattle.area.proofs.LayoutLaws.{numbersAt-sized}
-use Rattle.area.proofs.PlaceLaws.{tabulate-at, fine-at, nth-cases, length-transfers}
-use Rattle.area.proofs.JudgeLaws.{judged-passed}
-use Rattle.area.proofs.NumberLaws.{passed-valid, passed-numbers}
+use Rattle.area.proofs.PlaceLaws.{tabulate-at, nth-cases, length-transfers}
+use Rattle.area.proofs.JudgeLaws.{judged-passed, id-at}
+use Rattle.area.proofs.NumberLaws.{passed-numbers}
 use Rattle.area.proofs.AreaLaws.{held-valid}
 use Rattle.area_places.specs.Places.{placeOf}
 use Rattle.area_places.specs.Change.{runSetAt}
@@ -129,25 +129,48 @@ module _ (a : List ℕ) (t : List Transfer) (e : tableOf a ≡ some t) where
     runs-held = ap heldRuns run-set-at ∙ held-set (nth t p .runs) (few-runs p)
 
 -- ---- the search for an Id: of n places those before i are passed
-module _ (s : Table) (id i n p : ℕ) (inv : i + placeOf id (transfersAt s i (n - i)) ≡ p) where
-  pub find-more : i < n → (getD (s .ids) i 0 ≡ id → ⊥) → i + 1 + placeOf id (transfersAt s (i + 1) (n - (i + 1))) ≡ p
-  unfolding placeOf transfersAt
-  find-more h g =
-      let e : n - i ≡ suc (n - (i + 1)) = omega arith in
-      let v : i + suc (placeOf id (transfersAt s (i + 1) (n - (i + 1)))) ≡ p
-      = rw add-one (rw (e, ne-eqb (getD (s .ids) i 0) id g, add-one) at inv) in
-      omega arith
+pub record Search (a : List ℕ) (id n i : ℕ) : Type 0 where
+  pub long : areaOctets ≤ length a
+  pub few : n ≤ 16
+  pub passed : i ≤ n
+  pub rest : i + placeOf id (transfersAt (numbersAt a) i (n - i)) ≡ placeOf id (transfersOf (numbersAt a))
 
-  pub find-here : i < n → getD (s .ids) i 0 ≡ id → i ≡ p
-  unfolding placeOf transfersAt
-  find-here h g =
-      let e : n - i ≡ suc (n - (i + 1)) = omega arith in
-      let v : i + 0 ≡ p = rw (e, eq-eqb (getD (s .ids) i 0) id g) at inv in
-      omega arith
+pub find-start : (a : List ℕ) (id n : ℕ) → judged a ≡ true → n ≡ wordAt a 0 → Search a id n 0
+find-start a id n e f =
+    let t : List Transfer = transfersOf (numbersAt a) in
+    let m : n ≡ numbersAt a .count = unfold numbersAt in f in
+    record {
+      long = judged-passed a e .0;
+      few =
+          omega (arith, held-valid a t (judged-holds a e) .few, length-transfers (numbersAt a) 0 (numbersAt a .count));
+      passed = omega arith;
+      rest = let z : n - 0 ≡ numbersAt a .count = omega arith in rw z (zero-add (placeOf id t));
+    }
 
-  pub find-end : n ≤ i → i ≡ p
-  unfolding placeOf transfersAt
-  find-end h =
-      let e : n - i ≡ 0 = omega arith in
-      let v : i + 0 ≡ p = rw e at inv in
-      omega arith
+module _ (a : List ℕ) (id n i w : ℕ) (inv : Search a id n i) where
+  module _ (h : i < n) (f : w ≡ wordAt a (1 + i)) where
+    one-more : n - i ≡ suc (n - (i + 1))
+    one-more = omega arith
+
+    id-here : w ≡ getD (numbersAt a .ids) i 0
+    id-here = id-at a i w (omega (arith, inv .few)) f
+
+    pub find-more : (w ≡ id → ⊥) → Search a id n (i + 1)
+    unfolding placeOf transfersAt
+    find-more g =
+        let v : i + suc (placeOf id (transfersAt (numbersAt a) (i + 1) (n - (i + 1)))) ≡ placeOf id (transfersOf (numbersAt a))
+        = rw add-one (rw (one-more, ← id-here, ne-eqb w id g, add-one) at (inv .rest)) in
+        record { long = inv .long; few = inv .few; passed = omega arith; rest = omega arith }
+
+    pub find-here : w ≡ id → i ≡ placeOf id (transfersOf (numbersAt a))
+    unfolding placeOf transfersAt
+    find-here g =
+        let v : i + 0 ≡ placeOf id (transfersOf (numbersAt a)) = rw (one-more, ← id-here, eq-eqb w id g) at (inv .rest) in
+        omega arith
+
+pub find-end : (a : List ℕ) (id n i : ℕ) → Search a id n i → n ≤ i → i ≡ placeOf id (transfersOf (numbersAt a))
+unfolding placeOf transfersAt
+find-end a id n i inv h =
+    let e : n - i ≡ 0 = omega arith in
+    let v : i + 0 ≡ placeOf id (transfersOf (numbersAt a)) = rw e at (inv .rest) in
+    omega arith

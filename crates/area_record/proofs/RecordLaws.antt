@@ -3,18 +3,18 @@
 -- Assumes nothing.
 use Prim.Native.Nat.{ℕ, zero, suc, _+_, _≤_, _<_}
 use mathlib.Core.Path.{_≡_, refl, sym, ap, _∙_}
-use mathlib.Core.Bool.{Bool, true, false}
+use mathlib.Core.Bool.{Bool, true, false, not}
 use mathlib.Core.List.{List, _++_}
-use mathlib.Core.Option.{none, some}
+use mathlib.Core.Option.{Option, some}
 use mathlib.Core.Logic.{⊎-elim}
 use native.Mathlib.Omega.{arith}
 use lib.ListN.{length, drop}
-use lib.Dec.{ltb}
-use borrow.Author.Tests.{lt-ltb, le-ltb}
+use lib.Dec.{ltb, eqb}
+use borrow.Author.Tests.{lt-ltb, le-ltb, ltb-false}
 use Rattle.octets.specs.Numbers.{Octets}
-use Rattle.header.specs.Refusals.{_▹_, when, refusalOf}
-use Rattle.header.proofs.RefusalLaws.{stays}
-use Rattle.packet_data.specs.Data.{dataRefusal, dataOf, dataAnswer, readData}
+use Rattle.header.specs.Refusals.{when, refusalOf}
+use Rattle.header.proofs.RefusalLaws.{stays, first-none, rest-none, failed}
+use Rattle.packet_data.specs.Data.{dataRefusal, dataOf, readData}
 use Rattle.packet_data.specs.declared.Data.{Data}
 use Rattle.runs.specs.Runs.{Run, insert}
 use Rattle.runs.specs.Holes.{edge, complete}
@@ -24,8 +24,8 @@ use Rattle.run_set.specs.declared.RunSet.{RunSet}
 use Rattle.run_set.specs.declared.Insertion.{Insertion}
 use Rattle.run_set.proofs.SetLaws.{set-count, held-set, inserted-fits, inserted-over}
 use Rattle.table.specs.Transfers.{Key, Transfer}
-use Rattle.table.specs.Tables.{keys, find, setRuns, runsOf, reached}
-use Rattle.table.specs.Record.{RecordOutcome, stopOf, dataJudged, recordRefusal, grown, recordAs, recordData, recordRead, recordPacket}
+use Rattle.table.specs.Tables.{keys, find, setRuns, reached}
+use Rattle.table.specs.Record.{stopOf, dataJudged, recordRefusal, grown, recordAs, recordData, recordRead, recordPacket}
 use Rattle.table.specs.declared.Recorded.{Recorded}
 use Rattle.table.specs.declared.Recorded.the-variants.{Accepted, Refused}
 use Rattle.area.specs.Words.{wordOctets, wordAt}
@@ -37,12 +37,12 @@ use Rattle.area.proofs.AreaLaws.{decode-only, judged-unheld, held-valid}
 use Rattle.area_places.specs.Places.{placeOf, withRuns}
 use Rattle.area_places.specs.Change.{runSetAt, withRunSet}
 use Rattle.area_places.proofs.PlaceLaws.{place-le, place-found, place-id, place-missing, place-runs, place-set}
-use Rattle.area_places.proofs.HeldLaws.{judged-holds, count-word, width-word, length-word, few-runs, run-set-at, runs-held}
+use Rattle.area_places.proofs.HeldLaws.{judged-holds, width-word, length-word, few-runs, run-set-at, runs-held}
 use Rattle.area_places.proofs.ChangeLaws.{stored-runs}
 use Rattle.area_record.specs.Record.{keyFrom, recordedIn, extended}
 
 -- ---- the whole: 22, the reader's refusal, or the packet's fields
-pub record-unheld : (a s : List ℕ) → judged a ≡ false → recordArea a s ≡ record { answer = Refused (refusalOf 22); area = a }
+pub record-unheld : (a s : List ℕ) → judged a ≡ false → record { answer = Refused (refusalOf 22); area = a } ≡ recordArea a s
 unfolding recordArea recordFound
 record-unheld a s e = rw (judged-unheld a e)
 
@@ -51,59 +51,79 @@ module _ (a s : List ℕ) (e : judged a ≡ true) where
   table = transfersOf (numbersAt a)
 
   pub record-unread : (n : ℕ) → Octets a → n ≡ dataRefusal s → (n ≡ 0 → ⊥)
-      → recordArea a s ≡ record { answer = Refused (refusalOf n); area = a }
+      → record { answer = Refused (refusalOf n); area = a } ≡ recordArea a s
   unfolding recordArea recordFound recordPacket recordRead readData
   record-unread zero o f g = absurd (g refl)
   record-unread (suc n) o f g =
       rw (judged-holds a e, ← f)
-      (ap (λ (l : List ℕ). record { answer = Refused (refusalOf (suc n)); area = l }) (decode-only a table o (judged-holds a e) .1))
+      (ap (λ (l : List ℕ). record { answer = Refused (refusalOf (suc n)); area = l }) (sym (decode-only a table o (judged-holds a e) .1)))
 
-  pub record-read : dataRefusal s ≡ 0 → recordArea a s ≡ recordedIn a table (dataOf s)
+  pub record-read : dataRefusal s ≡ 0 → recordedIn a table (dataOf s) ≡ recordArea a s
   unfolding recordArea recordFound recordPacket recordRead readData recordedIn
   record-read f = rw (judged-holds a e, f)
 
 -- an answer with its area, part by part
-pub both : (x : Recorded) (l : List ℕ) (o : AreaRecorded) → record { answer = x; area = l } ≡ o → (x ≡ o .answer) × (l ≡ o .area)
-both x l o e = (ap (λ (r : AreaRecorded). r .answer) e, ap (λ (r : AreaRecorded). r .area) e)
+pub both : {x y : Recorded} {l : List ℕ} {o : AreaRecorded} → x ≡ y → record { answer = y; area = l } ≡ o → (x ≡ o .answer) × (l ≡ o .area)
+both e f = (e ∙ ap (λ (r : AreaRecorded). r .answer) f, ap (λ (r : AreaRecorded). r .area) f)
 
--- ---- the fields, in an area that holds t
-module _ (a : List ℕ) (t : List Transfer) (d : Data) (o : Octets a) (e : tableOf a ≡ some t) where
-  abbrev place : ℕ
-  place = placeOf (d .id) t
+-- ---- 13, 14 and 15 are none only where the packet ends within the transfer
+pub judged-within : (k : Key) (d : Data) → dataJudged (some k) d ≡ 0 → stopOf d ≤ k .length
+unfolding dataJudged
+judged-within k d e =
+    let r = rest-none (when (not (eqb (d .width) (k .width))) 13) _ e in
+    ltb-false (k .length) (stopOf d) (failed (ltb (k .length) (stopOf d)) 13 (first-none (when (ltb (k .length) (stopOf d)) 14) _ r))
 
+as-refused : (n : ℕ) (k : Option Key) (rs : List Run) (t : List Transfer) (d : Data) → (n ≡ 0 → ⊥)
+    → recordAs n k rs t d ≡ record { answer = Refused (refusalOf n); table = t }
+unfolding recordAs
+as-refused zero k rs t d z = absurd (z refl)
+as-refused (suc n) k rs t d z = refl
+
+-- ---- the fields, in an area that holds t, where p is the place of their Id
+module _ (a : List ℕ) (t : List Transfer) (d : Data) (o : Octets a) (e : tableOf a ≡ some t) (p : ℕ) (q : p ≡ placeOf (d .id) t) where
   refused : (n : ℕ) → _≡_ {A = AreaRecorded} (record { answer = Refused (refusalOf n); area = a })
       (record { answer = Refused (refusalOf n); area = storedIn a t })
   refused n = ap (λ (l : List ℕ). record { answer = Refused (refusalOf n); area = l }) (sym (decode-only a t o e .1))
 
-  pub fields-missing : length t ≤ place → record { answer = Refused (refusalOf 12); area = a } ≡ recordedIn a t d
+  pub fields-missing : length t ≤ p → record { answer = Refused (refusalOf 12); area = a } ≡ recordedIn a t d
   unfolding recordedIn recordData recordRefusal dataJudged recordAs
   fields-missing h = rw (place-missing (d .id) t (omega (arith, place-le (d .id) t))) (refused 12)
 
-  module _ (h : place < length t) where
-    pub fields-judged : (n : ℕ) → n ≡ dataJudged (some (nth t place .key)) d → (n ≡ 0 → ⊥)
-        → record { answer = Refused (refusalOf n); area = a } ≡ recordedIn a t d
-    unfolding recordedIn recordData recordRefusal recordAs
-    fields-judged zero f g = absurd (g refl)
-    fields-judged (suc n) f g = rw (place-found (d .id) t h, ← f) (refused (suc n))
+  -- w and n are the width and the length that stand at the place, and m is what they give
+  module _ (h : p < length t) (w n m : ℕ) (f : w ≡ wordAt a (17 + p)) (g : n ≡ wordAt a (33 + p))
+      (j : m ≡ dataJudged (some (keyFrom (d .id) w n)) d) where
+    key-is : nth t p .key ≡ keyFrom (d .id) w n
+    key-is =
+        let l : p < 16 = omega (arith, held-valid a t e .few) in
+        let u : nth t p .key .id ≡ d .id = rw q (place-id (d .id) t (omega arith)) in
+        λ i. record { id = u i; width = sym (f ∙ width-word a t e p l) i; length = sym (g ∙ length-word a t e p l) i }
+
+    found : find (d .id) (keys t) ≡ some (keyFrom (d .id) w n)
+    found =
+        place-found (d .id) t (omega arith) ∙ ap (λ (x : ℕ). some (nth t x .key)) (sym q) ∙ ap some key-is
+
+    pub fields-judged : (m ≡ 0 → ⊥) → record { answer = Refused (refusalOf m); area = a } ≡ recordedIn a t d
+    unfolding recordedIn recordData recordRefusal
+    fields-judged z = rw (found, ← j, stays m _ z, as-refused m (some (keyFrom (d .id) w n)) (grown t d) t d z) (refused m)
 
     abbrev rest : List Run
-    rest = insert (d .offset) (stopOf d) (nth t place .runs)
+    rest = insert (d .offset) (stopOf d) (nth t p .runs)
 
-    pub fields-extended : dataJudged (some (nth t place .key)) d ≡ 0
-        → extended a t place (nth t place .key .length) (d .offset) (stopOf d) ≡ recordedIn a t d
-    unfolding recordedIn recordData recordRefusal recordAs grown reached extended
-    fields-extended f =
-        rw (place-found (d .id) t h, f, place-runs (d .id) t)
+    grown-is : grown t d ≡ rest
+    unfolding grown
+    grown-is = ap (insert (d .offset) (stopOf d)) (place-runs (d .id) t ∙ ap (λ (x : ℕ). nth t x .runs) (sym q))
+
+    set-is : setRuns (d .id) rest t ≡ withRuns t p rest
+    set-is = place-set (d .id) rest t ∙ ap (λ (x : ℕ). withRuns t x rest) (sym q)
+
+    pub fields-extended : m ≡ 0 → extended a t p n (d .offset) (stopOf d) ≡ recordedIn a t d
+    unfolding recordedIn recordData recordRefusal recordAs reached extended
+    fields-extended z =
+        let y : dataJudged (some (keyFrom (d .id) w n)) d ≡ 0 = sym j ∙ z in
+        rw (found, y, grown-is)
         (⊎-elim
-        (λ (m : length rest ≤ 64).
-        rw (le-ltb 64 (length rest) m)
-        (ap (λ (u : List Transfer).
-        record {
-          answer = Accepted (record { edge = edge rest; complete = complete (nth t place .key .length) rest });
-          area = storedIn a u;
-        })
-        (sym (place-set (d .id) rest t))))
-        (λ (m : 64 < length rest). rw (lt-ltb 64 (length rest) m) (refused 16))
+        (λ (k : length rest ≤ 64). rw (le-ltb 64 (length rest) k, set-is))
+        (λ (k : 64 < length rest). rw (lt-ltb 64 (length rest) k) (refused 16))
         (le-or-lt (length rest) 64))
 
 -- ---- the runs of a place, with new offsets

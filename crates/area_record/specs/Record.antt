@@ -8,7 +8,7 @@ use lib.ListN.{length}
 use lib.Dec.{ltb}
 use Rattle.header.specs.Refusals.{refusalOf}
 use Rattle.packet_data.specs.declared.Data.{Data}
-use Rattle.runs.specs.Runs.{Run, insert}
+use Rattle.runs.specs.Runs.{insert}
 use Rattle.runs.specs.Holes.{edge, complete}
 use Rattle.table.specs.Transfers.{Key, Transfer}
 use Rattle.table.specs.Record.{recordData}

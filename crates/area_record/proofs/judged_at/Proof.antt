@@ -1,37 +1,63 @@
-use native.Mathlib.Omega.{arith}
+-- `area_record::judged_at` meets its contract: each refusal stands where those before it are none, and no sum can wrap.
+-- Assumes nothing.
+use Prim.Native.Nat.{_+_}
+use borrow.Author.Tests.{lt-ltb, le-ltb, eq-eqb, ne-eqb}
+use Rattle.table.specs.Record.{dataJudged}
 use borrow.Author.Needs.{needs}
+use native.Mathlib.Omega.{arith}
 use Rattle.area_record.proofs.judged_at.Statement.{statement}
 use Rattle.area_record.proofs.judged_at.Tie as tie
-use Rattle.area_record.proofs.judged_at.Reads as reads
-use Rattle.area_record.proofs.judged_at.Lts as lts
 
--- src/lib.rt:22:9
 returns : tie.Need-returns
-returns c = ?
+unfolding dataJudged
+returns c = rw (ne-eqb (c .before .args .d .width) (c .before .args .width) (omega arith))
 
--- src/lib.rt:26:9
 returns-2 : tie.Need-returns-2
-returns-2 c = ?
+unfolding dataJudged
+returns-2 c =
+    let d = c .before .before .args .d in
+    rw (eq-eqb (d .width) (c .before .before .args .width) (omega arith), lt-ltb (c .before .before .args .length) (d .offset + d .length) (omega arith))
 
--- src/lib.rt:29:9
 returns-3 : tie.Need-returns-3
-returns-3 c = ?
+unfolding dataJudged
+returns-3 c =
+    let d = c .before .before .before .before .args .d in
+    rw (eq-eqb (d .width) (c .before .before .before .before .args .width) (omega arith), lt-ltb (c .before .before .before .before .args .length) (d .offset + d .length) (omega arith))
 
--- src/lib.rt:32:9
 returns-4 : tie.Need-returns-4
-returns-4 c = ?
+unfolding dataJudged
+returns-4 c =
+    let d = c .before .before .before .before .before .before .args .d in
+    rw (
+      eq-eqb (d .width) (c .before .before .before .before .before .before .args .width) (omega arith),
+      le-ltb (c .before .before .before .before .before .before .args .length) (d .offset + d .length) (omega arith),
+      ne-eqb (d .eod) 1 (omega arith),
+    )
 
--- src/lib.rt:34:8
 add-if5 : tie.Need-add-if5
 add-if5 c = search needs
 
--- src/lib.rt:35:9
 returns-5 : tie.Need-returns-5
-returns-5 c = ?
+unfolding dataJudged
+returns-5 c =
+    let d = c .before .before .before .before .before .before .before .before .args .d in
+    rw (
+      eq-eqb (d .width) (c .before .before .before .before .before .before .before .before .args .width) (omega arith),
+      le-ltb (c .before .before .before .before .before .before .before .before .args .length) (d .offset + d .length) (omega arith),
+      eq-eqb (d .eod) 1 (omega arith),
+      ne-eqb (d .offset + d .length) (c .before .before .before .before .before .before .before .before .args .length) (omega arith),
+    )
 
--- src/lib.rt:18:1
 returns-6 : tie.Need-returns-6
-returns-6 c = ?
+unfolding dataJudged
+returns-6 c =
+    let d = c .before .before .before .before .before .before .before .before .args .d in
+    rw (
+      eq-eqb (d .width) (c .before .before .before .before .before .before .before .before .args .width) (omega arith),
+      le-ltb (c .before .before .before .before .before .before .before .before .args .length) (d .offset + d .length) (omega arith),
+      eq-eqb (d .eod) 1 (omega arith),
+      eq-eqb (d .offset + d .length) (c .before .before .before .before .before .before .before .before .args .length) (omega arith),
+    )
 
 pub judged-at-spec : {M : Type 1} → statement M
 judged-at-spec =

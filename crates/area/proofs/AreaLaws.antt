@@ -10,20 +10,19 @@ use mathlib.Core.Logic.{_↔_}
 use native.Mathlib.Omega.{arith}
 use lib.ListN.{length, take, drop, length-append, length-drop, take-append-drop}
 use lib.Seq.{take-at, drop-at}
-use lib.Dec.{leb}
-use borrow.Author.Tests.{leb-true, le-leb}
+use borrow.Author.Tests.{le-leb}
 use Rattle.octets.specs.Numbers.{Octets}
 use Rattle.octets.proofs.NumberLaws.{octets-drop}
 use Rattle.table.specs.Transfers.{Transfer, Valid}
 use Rattle.area.specs.Words.{wordOctets}
 use Rattle.area.specs.Numbers.{numbers, transfersOf, freshTable}
 use Rattle.area.specs.Image.{wordsOf, image, areaOctets, storedIn, numbersAt}
-use Rattle.area.specs.Judge.{imageTest, judged, tableOf, loadedOf}
+use Rattle.area.specs.Judge.{judged, tableOf, loadedOf}
 use Rattle.area.specs.declared.Table.{Table}
 use Rattle.area.specs.declared.Loaded.{Loaded}
 use Rattle.area.proofs.WordLaws.{length-octets, append-octets, words-octets-fit}
 use Rattle.area.proofs.LayoutLaws.{numbers-octets, octets-numbers, length-wordsOf, numbersAt-sized}
-use Rattle.area.proofs.TestLaws.{both-true}
+use Rattle.area.proofs.JudgeLaws.{judged-passed}
 use Rattle.area.proofs.NumberLaws.{passed-valid, passed-numbers, numbers-sized, numbers-pass, numbers-back, numbers-below, fresh-numbers, fresh-valid}
 
 -- ---- the image of a table
@@ -87,12 +86,6 @@ pub stored-again : (a : List ℕ) (t u : List Transfer) → storedIn (storedIn a
 stored-again a t u = unfold storedIn in ap (λ (l : List ℕ). image u ++ l) (stored-past a t)
 
 -- ---- the table that an area holds
-judged-passed : (a : List ℕ) → judged a ≡ true → (areaOctets ≤ length a) × (imageTest (numbersAt a) ≡ true)
-unfolding judged
-judged-passed a e =
-    let b = both-true (leb areaOctets (length a)) (imageTest (numbersAt a)) e in
-    (leb-true areaOctets (length a) (b .0), b .1)
-
 held-passed : (a : List ℕ) (t : List Transfer) → tableOf a ≡ some t → (judged a ≡ true) × (transfersOf (numbersAt a) ≡ t)
 unfolding tableOf
 held-passed a t e = go (judged a) refl e

@@ -7,15 +7,16 @@ use mathlib.Core.Bool.{Bool, true, false}
 use native.Mathlib.Omega.{arith}
 use native.Mathlib.Numerals.{add-one}
 use lib.ListN.{length, getD}
-use lib.Dec.{ltb, eqb}
-use borrow.Author.Tests.{le-leb, lt-leb}
+use lib.Dec.{ltb, leb, eqb}
+use borrow.Author.Tests.{leb-true, le-leb, lt-leb}
 use Rattle.area.specs.Words.{wordAt}
 use Rattle.area.specs.Numbers.{freshTable}
-use Rattle.area.specs.Image.{numbersAt}
+use Rattle.area.specs.Image.{areaOctets, numbersAt}
 use Rattle.area.specs.Judge.{allFrom, before, slotTest, runTest, slotFine, runFine, imageTest, judged, loadedOf}
 use Rattle.area.specs.declared.Table.{Table}
 use Rattle.area.specs.declared.Loaded.{Loaded}
 use Rattle.area.proofs.WordLaws.{part-at}
+use Rattle.area.proofs.TestLaws.{both-true}
 
 -- ---- a loop over n places, at place i
 module _ (f : ℕ → Bool) (i n : ℕ) (b : Bool) (inv : allFrom f i (n - i) ≡ b) where
@@ -65,6 +66,12 @@ run-is a b k last m n s e h p c d f g t =
     rw (part-at a 49 16 (k / 64) q, part-at a 33 16 (k / 64) q, part-at a 65 1024 k h, part-at a 1089 1024 k h) (sym (t ∙ rw (c, p, d, f, g)))
 
 -- ---- the whole
+pub judged-passed : (a : List ℕ) → judged a ≡ true → (areaOctets ≤ length a) × (imageTest (numbersAt a) ≡ true)
+unfolding judged
+judged-passed a e =
+    let b = both-true (leb areaOctets (length a)) (imageTest (numbersAt a)) e in
+    (leb-true areaOctets (length a) (b .0), b .1)
+
 pub judged-short : (a : List ℕ) → length a < 16904 → false ≡ judged a
 unfolding judged
 judged-short a h = simp (lt-leb _ _ h)

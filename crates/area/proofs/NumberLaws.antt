@@ -90,7 +90,7 @@ module _ (s : Table) (z : Sized s) (e : imageTest s ≡ true) where
           length-fits = r .1;
           few = rw length-runs (l .few);
           canonical =
-            canonical-runs (s .starts) (s .stops) (getD (s .counts) i 0) (i * 64) 0 (λ x a b. at-place x a b .0) next-place (λ a. omega arith);
+              canonical-runs (s .starts) (s .stops) (getD (s .counts) i 0) (i * 64) 0 (λ x a b. at-place x a b .0) next-place (λ a. omega arith);
           within = stops-runs (s .starts) (s .stops) (getD (s .counts) i 0) (i * 64) (getD (s .lengths) i 0) (λ x a b. at-place x a b .1);
         }
 

@@ -47,8 +47,7 @@ loop-less c = search needs
 loop-again : tie.Need-loop-again Inv-loop μ-loop
 loop-again c =
     let a = c .before .before .before .before .before .before .before .before .before .args in
-    let l = c .before .before .before .before .before .before .loop in
-    (
+    let l = c .before .before .before .before .before .before .loop in (
       omega arith,
       c .before .before .write-number .kept .0 ∙ l .inv .1,
       put-step (a .k) (l .i) _ (now (a .ws)) (l .area) _ (now (a .area)) (omega arith) (omega arith) refl (l .inv .2) (c .before .before .write-number .ensures),
@@ -59,8 +58,7 @@ same-length c = c .before .loop .inv .1
 
 returns : tie.Need-returns Inv-loop μ-loop
 returns c =
-    let a = c .before .before .before .before .args in
-    (
+    let a = c .before .before .before .before .args in (
       put-end (a .k) (c .before .loop .i) (now (a .ws)) (c .before .loop .area) (now (a .area)) (omega arith) (c .before .loop .inv .2),
       λ i. c .before .before .shared-slice-known .given i .fits,
     )

@@ -65,8 +65,7 @@ tested c =
 loop-again : tie.Need-loop-again Inv-loop μ-loop
 loop-again c =
     let l = c .before .before .before .before .before .before .before .loop in
-    let w = c .before .before .word4 in
-    (
+    let w = c .before .before .word4 in (
       omega arith,
       before-next _ (l .k) (w .result) (stop-word-at (now (c .before .before .before .before .before .before .before .before .before .args .area)) (l .k) (w .result) (omega arith) (w .ensures)),
       all-more _ (l .k) 1024 _ (l .inv .2) (omega arith) (tested (c .before) ∙ c .if1 .taken),

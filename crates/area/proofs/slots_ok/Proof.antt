@@ -65,8 +65,7 @@ tested c =
 loop-again : tie.Need-loop-again Inv-loop μ-loop
 loop-again c =
     let l = c .before .before .before .before .before .before .before .loop in
-    let w = c .before .before .before .before .before .word in
-    (
+    let w = c .before .before .before .before .before .word in (
       omega arith,
       before-next _ (l .i) (w .result) (id-at (now (c .before .before .before .before .before .before .before .before .before .args .area)) (l .i) (w .result) (omega arith) (w .ensures)),
       all-more _ (l .i) 16 _ (l .inv .2) (omega arith) (tested (c .before) ∙ c .if1 .taken),

@@ -44,8 +44,7 @@ loop-less c = search needs
 loop-again : tie.Need-loop-again Inv-loop μ-loop
 loop-again c =
     let a = c .before .before .before .before .before .args in
-    let l = c .before .before .loop in
-    (
+    let l = c .before .before .loop in (
       omega arith,
       simp length-set (l .inv .1),
       fill-step (now (a .area)) (l .out) (now (a .out)) (a .k) (l .i) (c .word .result) (omega arith) (l .inv .2) (c .word .ensures),

@@ -51,7 +51,7 @@ loop-again c =
       omega arith,
       simp length-set n,
       fill-step (gapAt (wordsAt (now (a .area)) (a .first) (length (now (a .out)))) (a .b) (a .m) (a .v)) (l .out) (now (a .out)) (l .k) (c .gap-at .result) (omega arith) (l .inv .2)
-      (rw n at (c .gap-at .ensures)),
+          (rw n at (c .gap-at .ensures)),
     )
 
 same-length : tie.Need-same-length Inv-loop μ-loop

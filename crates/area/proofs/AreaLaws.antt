@@ -1,8 +1,8 @@
 -- Areas and tables: every valid table has one image, an area holds a table exactly where it begins with that table's image,
 -- and storing a table leaves the octets past the layout.
 -- Assumes nothing.
-use Prim.Native.Nat.{ℕ, _+_, _≤_}
-use mathlib.Core.Path.{_≡_, refl, sym, ap, ap₂, _∙_}
+use Prim.Native.Nat.{ℕ, _≤_}
+use mathlib.Core.Path.{_≡_, refl, sym, ap, _∙_}
 use mathlib.Core.List.{List, [], _++_}
 use mathlib.Core.Bool.{Bool, true, false, cond}
 use mathlib.Core.Option.{Option, none, some}
@@ -19,7 +19,6 @@ use Rattle.area.specs.Numbers.{numbers, transfersOf, freshTable}
 use Rattle.area.specs.Image.{wordsOf, image, areaOctets, storedIn, numbersAt}
 use Rattle.area.specs.Judge.{judged, tableOf, loadedOf}
 use Rattle.area.specs.declared.Table.{Table}
-use Rattle.area.specs.declared.Loaded.{Loaded}
 use Rattle.area.proofs.WordLaws.{length-octets, append-octets, words-octets-fit}
 use Rattle.area.proofs.LayoutLaws.{numbers-octets, octets-numbers, length-wordsOf, numbersAt-sized}
 use Rattle.area.proofs.JudgeLaws.{judged-passed}
@@ -110,7 +109,7 @@ held-front a t o e =
     let n : numbers (transfersOf (numbersAt a)) ≡ numbersAt a = passed-numbers (numbersAt a) (numbersAt-sized a) (j .1) in
     sym (numbers-octets a o (j .0)) ∙ ap (λ (s : Table). wordOctets (wordsOf s)) (sym n ∙ ap numbers (p .1))
 
--- "decode a ≡ some t exactly when a begins with the image of t", and t is valid: what an area holds is stored in it
+-- an area holds t exactly where t is valid and the area begins with its image: what an area holds is stored in it
 pub decode-only : (a : List ℕ) (t : List Transfer) → Octets a → tableOf a ≡ some t → Valid t × (storedIn a t ≡ a)
 unfolding storedIn
 decode-only a t o e = (

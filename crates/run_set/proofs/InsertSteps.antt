@@ -2,9 +2,11 @@
 -- Assumes nothing.
 use Prim.Native.Nat.{ℕ, _+_, _-_, _≤_, _<_, min, max}
 use mathlib.Core.Path.{_≡_, sym, ap, _∙_}
+use mathlib.Core.Bool.{true, false}
 use mathlib.Core.List.{List, _∷_}
 use native.Mathlib.Omega.{arith}
 use lib.ListN.{length, getD}
+use borrow.Author.Tests.{le-leb, lt-leb}
 use Rattle.runs.specs.Runs.{run, insert}
 use Rattle.runs.proofs.InsertLaws.{insert-after, insert-before, insert-join}
 use Rattle.run_set.specs.RunSets.{runsAt, heldRuns, laterRuns, freshSet, pushOf, pushAll, setOf, finishedOf, insertedOf}
@@ -47,6 +49,18 @@ module _ (S E : List ℕ) (i n lo hi : ℕ) (out q : RunSet) (inv : pushAll out 
   pub step-end : n ≤ i → pushAll out (run lo hi ∷ runsAt S E i (n - i)) ≡ q
   unfolding insert
   step-end h = rw (runs-end S E i n h) (rw (runs-end S E i n h) at inv)
+
+-- ---- the end of the insertion
+
+module _ (all : RunSet) (i : ℕ) (out : RunSet) (lo hi : ℕ) where
+  pub finished-over : 64 < out .count + (all .count - i) + 1 → record { ok = false; runs = all } ≡ finishedOf all i out lo hi
+  unfolding finishedOf
+  finished-over h = rw (lt-leb (out .count + (all .count - i) + 1) 64 h)
+
+  pub finished-fits : (p q : RunSet) → out .count + (all .count - i) + 1 ≤ 64 → p ≡ pushOf out lo hi → q ≡ pushAll p (laterRuns all i)
+      → record { ok = true; runs = q } ≡ finishedOf all i out lo hi
+  unfolding finishedOf pushAll
+  finished-fits p q h e f = rw (le-leb (out .count + (all .count - i) + 1) 64 h, f, e)
 
 -- once the stretch is placed, the end of the insertion is the insertion
 pub finish : (all out : RunSet) (i lo hi a b : ℕ)

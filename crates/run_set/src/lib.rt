@@ -147,12 +147,12 @@ pub fn progress_of(r: RunSet) -> u64
     0
 }
 
-// Whether all offsets below `size` are received.
-pub fn is_complete(r: RunSet, size: u64) -> bool
+// Whether all offsets below `length` are received.
+pub fn is_complete(r: RunSet, length: u64) -> bool
     requires { ⌜ r .count ≤ 64 ⌝ }
-    ensures { λ x. ⌜ x ≡ complete size (heldRuns r) ⌝ }
+    ensures { λ x. ⌜ x ≡ complete length (heldRuns r) ⌝ }
 {
-    size <= progress_of(r)
+    length <= progress_of(r)
 }
 
 // How many holes there are below the edge.
@@ -181,7 +181,10 @@ pub fn hole_at(r: RunSet, j: usize) -> Hole
         let next = j + 1;
         let from = r.stops[j];
         let to = r.starts[next];
-        return Hole { start: from, end: to };
+        return Hole {
+            start: from,
+            end: to,
+        };
     }
     if j == 0 {
         return Hole { start: 0, end: s };
@@ -189,5 +192,8 @@ pub fn hole_at(r: RunSet, j: usize) -> Hole
     let at = j - 1;
     let from = r.stops[at];
     let to = r.starts[j];
-    Hole { start: from, end: to }
+    Hole {
+        start: from,
+        end: to,
+    }
 }

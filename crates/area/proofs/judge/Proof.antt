@@ -1,5 +1,4 @@
 -- `area::judge` meets its contract: short, too many transfers, a place of a transfer, and then the places of runs. Assumes nothing.
-use Prim.Native.Nat.{_<_, _≤_}
 use denote.Ref.{now}
 use Rattle.area.proofs.JudgeLaws.{judged-short, judged-many, judged-slots, judged-runs}
 use native.Mathlib.Omega.{arith}

@@ -1,6 +1,6 @@
 -- `area::put_words` meets its contract. The loop's invariant: the octets of the first i words are put, and the others as they were.
 -- The measure is what is left of the words. Assumes nothing.
-use Prim.Native.Nat.{_-_, _≤_, _*_, _+_}
+use Prim.Native.Nat.{_-_, _≤_, _*_}
 use mathlib.Core.Path.{_≡_, refl, _∙_}
 use denote.Ref.{now}
 use lib.ListN.{length, take}

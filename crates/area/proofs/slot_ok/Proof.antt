@@ -1,5 +1,4 @@
 -- `area::slot_ok` meets its contract: a return for each test on a used place, and for each on an unused one. Assumes nothing.
-use Prim.Native.Nat.{_<_, _≤_}
 use mathlib.Core.Path.{sym}
 use borrow.Author.Tests.{lt-ltb, le-ltb, le-leb, lt-leb, eq-eqb, ne-eqb}
 use Rattle.area.specs.Judge.{slotTest}

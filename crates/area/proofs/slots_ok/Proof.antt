@@ -1,6 +1,6 @@
 -- `area::slots_ok` meets its contract. The loop's invariant: the places from i on decide, and `last` is the Id before place i.
 -- The measure is what is left of the 16 places. Assumes nothing.
-use Prim.Native.Nat.{_-_, _≤_, _+_}
+use Prim.Native.Nat.{_-_, _≤_}
 use mathlib.Core.Path.{_≡_, refl, _∙_}
 use denote.Ref.{now}
 use Rattle.area.specs.Image.{numbersAt}

@@ -1,9 +1,9 @@
 -- `area::words_into` meets its contract. The loop's invariant: the first i places hold the first i words, and the others what they held.
 -- The measure is what is left of the length. Assumes nothing.
-use Prim.Native.Nat.{_-_, _≤_, _*_, _+_}
-use mathlib.Core.Path.{_≡_, refl, _∙_}
+use Prim.Native.Nat.{_-_, _≤_}
+use mathlib.Core.Path.{_≡_, refl}
 use denote.Ref.{now}
-use lib.ListN.{length, set, length-set}
+use lib.ListN.{length, length-set}
 use lib.Seq.{paste, paste-zero}
 use Rattle.area.specs.Words.{wordsAt}
 use Rattle.area.proofs.WordLoops.{fill-step, fill-end}

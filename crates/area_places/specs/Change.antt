@@ -14,12 +14,12 @@ runSetAt a p = record { starts = wordsAt a (65 + p * 64) 64; stops = wordsAt a (
 
 -- the numbers with these runs at place p
 unfoldable pub withRunSet : Table → ℕ → RunSet → Table
-withRunSet s p r = record
-  { count = s .count
-  ; ids = s .ids
-  ; widths = s .widths
-  ; lengths = s .lengths
-  ; counts = set (s .counts) p (r .count)
-  ; starts = paste (s .starts) (p * 64) (r .starts) 64
-  ; stops = paste (s .stops) (p * 64) (r .stops) 64
-  }
+withRunSet s p r = record {
+  count = s .count;
+  ids = s .ids;
+  widths = s .widths;
+  lengths = s .lengths;
+  counts = set (s .counts) p (r .count);
+  starts = paste (s .starts) (p * 64) (r .starts) 64;
+  stops = paste (s .stops) (p * 64) (r .stops) 64;
+}

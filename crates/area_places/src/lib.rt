@@ -34,12 +34,7 @@ fn words64(area: &[u8], k: usize) -> [u64; 64]
     ensures { λ r. ⌜ r ≡ wordsAt (now (area .entry)) k 64 ⌝ }
 {
     let mut r: [u64; 64] = [0; 64];
-    let mut i = 0;
-    while i < 64 {
-        let w = area::word(area, k + i);
-        r[i] = w;
-        i += 1;
-    }
+    area::words_into(area, k, &mut r);
     r
 }
 

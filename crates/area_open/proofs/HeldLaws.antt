@@ -1,8 +1,8 @@
--- An area that passed the test: the table that it holds, and its numbers place by place.
+-- An area that passed the test, and one turn of the loop that looks for the place of a new Id.
 -- Assumes nothing.
 use Prim.Native.Nat.{ℕ, suc, _+_, _-_, _≤_, _<_}
-use mathlib.Core.Path.{_≡_, refl, sym, ap, _∙_}
-use mathlib.Core.Bool.{true, cond}
+use mathlib.Core.Path.{_≡_, refl, sym, ap, ap₂, _∙_}
+use mathlib.Core.Bool.{Bool, true, cond}
 use mathlib.Core.List.{List}
 use mathlib.Core.Option.{some}
 use native.Mathlib.Omega.{arith}
@@ -12,59 +12,61 @@ use lib.ListN.{length, getD}
 use lib.Dec.{ltb}
 use borrow.Author.Tests.{lt-ltb, le-ltb}
 use Rattle.octets.specs.Numbers.{Octets}
-use Rattle.table.specs.Transfers.{Transfer, Valid}
+use Rattle.runs.specs.Holes.{edge, complete}
+use Rattle.run_set.specs.RunSets.{heldRuns, setOf}
+use Rattle.run_set.specs.declared.RunSet.{RunSet}
+use Rattle.run_set.proofs.SetLaws.{set-count}
+use Rattle.table.specs.Tables.{reached}
+use Rattle.table.specs.declared.Reached.{Reached}
 use Rattle.area.specs.Words.{wordAt}
-use Rattle.area.specs.Numbers.{nth, numbers, transfersAt}
+use Rattle.area.specs.Numbers.{nth, transfersAt}
 use Rattle.area.specs.Image.{areaOctets, storedIn, numbersAt}
 use Rattle.area.specs.Judge.{judged, tableOf}
 use Rattle.area.specs.declared.Table.{Table}
 use Rattle.area.proofs.WordLaws.{part-at}
-use Rattle.area.proofs.PlaceLaws.{length-transfers, transfer-at}
-use Rattle.area.proofs.LayoutLaws.{numbersAt-sized}
 use Rattle.area.proofs.JudgeLaws.{judged-passed}
-use Rattle.area.proofs.NumberLaws.{passed-numbers}
 use Rattle.area.proofs.AreaLaws.{decode-only, held-valid}
 use Rattle.area_places.specs.Places.{placeFor}
+use Rattle.area_places.specs.Change.{runSetAt}
+use Rattle.area_places.proofs.HeldLaws.{judged-holds, count-word, width-word, length-word, few-runs, run-set-at, runs-held}
 use Rattle.area_open.specs.Opening.{heldIn}
-
-pub count-held : (a : List ℕ) → length (heldIn a) ≡ wordAt a 0
-unfolding numbersAt
-count-held a = length-transfers (numbersAt a) 0 (wordAt a 0)
 
 module _ (a : List ℕ) (j : judged a ≡ true) where
   pub long : areaOctets ≤ length a
   long = judged-passed a j .0
 
-  pub held : tableOf a ≡ some (heldIn a)
-  unfolding tableOf
-  held = rw j
+  held : tableOf a ≡ some (heldIn a)
+  held = judged-holds a j
 
-  pub valid-held : Valid (heldIn a)
-  valid-held = held-valid a (heldIn a) held
+  pub count-held : wordAt a 0 ≡ length (heldIn a)
+  count-held = count-word a (heldIn a) held
 
   pub few-held : wordAt a 0 ≤ 16
-  few-held = omega (arith, valid-held .few, count-held a)
-
-  pub numbers-held : numbers (heldIn a) ≡ numbersAt a
-  numbers-held = passed-numbers (numbersAt a) (numbersAt-sized a) (judged-passed a j .1)
+  few-held = omega (arith, held-valid a (heldIn a) held .few, count-held)
 
   -- to store the table that an area holds changes nothing
   pub held-same : Octets a → storedIn a (heldIn a) ≡ a
   held-same o = decode-only a (heldIn a) o held .1
 
--- a used place's key, by its words
-module _ (a : List ℕ) (p : ℕ) (h : p < wordAt a 0) (g : p < 16) where
-  pub id-word : nth (heldIn a) p .key .id ≡ wordAt a (1 + p)
-  unfolding numbersAt
-  id-word = ap (λ (x : Transfer). x .key .id) (transfer-at (numbersAt a) p h) ∙ part-at a 1 16 p g
+  -- what stands at a place
+  module _ (p : ℕ) (h : p < 16) where
+    pub width-held : wordAt a (17 + p) ≡ nth (heldIn a) p .key .width
+    width-held = width-word a (heldIn a) held p h
 
-  pub width-word : nth (heldIn a) p .key .width ≡ wordAt a (17 + p)
-  unfolding numbersAt
-  width-word = ap (λ (x : Transfer). x .key .width) (transfer-at (numbersAt a) p h) ∙ part-at a 17 16 p g
+    pub length-held : wordAt a (33 + p) ≡ nth (heldIn a) p .key .length
+    length-held = length-word a (heldIn a) held p h
 
-  pub length-word : nth (heldIn a) p .key .length ≡ wordAt a (33 + p)
-  unfolding numbersAt
-  length-word = ap (λ (x : Transfer). x .key .length) (transfer-at (numbersAt a) p h) ∙ part-at a 33 16 p g
+    pub few-runs-held : runSetAt a p .count ≤ 64
+    few-runs-held =
+        let n : runSetAt a p .count ≡ setOf (nth (heldIn a) p .runs) .count = ap (λ (r : RunSet). r .count) (run-set-at a (heldIn a) held p h) in
+        omega (arith, set-count (nth (heldIn a) p .runs), few-runs a (heldIn a) held p)
+
+    pub reached-held : (r : RunSet) (n x : ℕ) (z : Bool) → r ≡ runSetAt a p → n ≡ wordAt a (33 + p) → x ≡ edge (heldRuns r) → z ≡ complete n (heldRuns r)
+        → _≡_ {A = Reached} (record { edge = x; complete = z }) (reached (nth (heldIn a) p .key) (nth (heldIn a) p .runs))
+    unfolding reached
+    reached-held r n x z er en ex ez =
+        let rs : heldRuns r ≡ nth (heldIn a) p .runs = ap heldRuns er ∙ runs-held a (heldIn a) held p h in
+        λ i. record { edge = (ex ∙ ap edge rs) i; complete = (ez ∙ ap₂ complete (en ∙ length-held) rs) i }
 
 -- ---- the loop that looks for the place of a new Id
 for-cons : (s : Table) (id i m : ℕ)

@@ -53,7 +53,7 @@ loop-again c =
     let a = now (c .before .before .before .before .before .before .args .area) in (
       omega arith,
       for-next a (c .before .before .before .before .before .before .args .id) (c .before .before .before .loop .i) _ (c .before .before .before .loop .inv .1) (c .before .word2 .result) (omega arith) (omega (arith, few-held a (c .before .before .before .before .before .before .pre))) (c .before .word2 .ensures)
-      (omega arith),
+          (omega arith),
     )
 
 returns-2 : tie.Need-returns-2 Inv-loop μ-loop

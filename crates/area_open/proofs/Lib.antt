@@ -1,0 +1,3 @@
+pub mod MoveLaws
+pub mod HeldLaws
+pub mod OpenLaws

@@ -1,0 +1,82 @@
+-- `area_open::open_key` meets its contract: an Id that is open, or has no room, leaves the area. Assumes nothing.
+use Prim.Native.Nat.{_<_}
+use mathlib.Core.Path.{_≡_, refl, sym, ap, _∙_}
+use denote.Ref.{now}
+use Rattle.table.specs.Open.{OpenOutcome}
+use Rattle.table.specs.declared.Opened.the-variants as opened
+use Rattle.area.specs.Image.{storedIn}
+use Rattle.area.specs.Numbers.{nth}
+use Rattle.area_slots.specs.Slots.{key}
+use Rattle.area_open.specs.Opening.{heldIn, metAnswer}
+use Rattle.area_open.proofs.HeldLaws.{long, count-held, few-held}
+use Rattle.area_open.proofs.OpenLaws.{open-met, open-full, open-new, reached-new, key-kept}
+use borrow.Author.Needs.{needs}
+use native.Mathlib.Omega.{arith}
+use Rattle.area_open.proofs.open_key.Statement.{statement}
+use Rattle.area_open.proofs.open_key.Tie as tie
+
+word-requires : tie.Need-word-requires
+word-requires c κs = omega (arith, long (now (c .before .before .args .area)) (c .before .before .pre))
+
+find-place-requires : tie.Need-find-place-requires
+find-place-requires c κs = search needs
+
+met-requires : tie.Need-met-requires
+met-requires c κs = (c .before .before .before .before .before .before .before .pre, omega (arith, few-held (now (c .before .before .before .before .before .before .before .args .area)) (c .before .before .before .before .before .before .before .pre)))
+
+same-length : tie.Need-same-length
+same-length c = search needs
+
+returns : tie.Need-returns
+returns c =
+    let a = now (c .before .before .before .before .before .before .before .before .args .area) in
+    let k = key (c .before .before .before .before .before .before .before .before .args .id) (c .before .before .before .before .before .before .before .before .args .width) (c .before .before .before .before .before .before .before .before .args .size) in
+    let n = count-held a (c .before .before .before .before .before .before .before .before .pre) in
+    key-kept a (c .before .before .before .before .before .before .before .before .pre) k _ (c .met .result) (λ i. c .before .before .before .before .before .before .before .slice-known .given i .fits) (open-met (heldIn a) k (omega arith))
+    (c .met .ensures ∙ ap (λ p. metAnswer (nth (heldIn a) p) (c .before .before .before .before .before .before .before .before .args .width) (c .before .before .before .before .before .before .before .before .args .size)) (c .before .before .before .find-place .ensures))
+
+refuse-requires : tie.Need-refuse-requires
+refuse-requires c κs = search needs
+
+same-length-2 : tie.Need-same-length-2
+same-length-2 c = search needs
+
+returns-2 : tie.Need-returns-2
+returns-2 c =
+    let a = now (c .before .before .before .before .before .before .before .before .args .area) in
+    let k = key (c .before .before .before .before .before .before .before .before .args .id) (c .before .before .before .before .before .before .before .before .args .width) (c .before .before .before .before .before .before .before .before .args .size) in
+    let n = count-held a (c .before .before .before .before .before .before .before .before .pre) in
+    key-kept a (c .before .before .before .before .before .before .before .before .pre) k _ _ (λ i. c .before .before .before .before .before .before .before .slice-known .given i .fits) (open-full (heldIn a) k (omega arith) (omega arith))
+    (ap opened.Refused (c .refuse .ensures))
+
+add-key-requires : tie.Need-add-key-requires
+add-key-requires c κs = search needs
+
+same-length-3 : tie.Need-same-length-3
+same-length-3 c = search needs
+
+returns-3 : tie.Need-returns-3
+returns-3 c =
+    let a = now (c .before .before .before .before .before .before .before .before .before .before .before .args .area) in
+    let k = key (c .before .before .before .before .before .before .before .before .before .before .before .args .id) (c .before .before .before .before .before .before .before .before .before .before .before .args .width) (c .before .before .before .before .before .before .before .before .before .before .before .args .size) in
+    let n = count-held a (c .before .before .before .before .before .before .before .before .before .before .before .pre) in
+    let e = open-new (heldIn a) k (omega arith) (omega arith) in (
+      ap opened.New (reached-new k _ refl) ∙ sym (ap (λ (o : OpenOutcome). o .answer) e),
+      c .before .before .add-key .ensures ∙ sym (ap (λ (o : OpenOutcome). storedIn a (o .table)) e),
+    )
+
+pub open-key-spec : {M : Type 1} → statement M
+open-key-spec =
+    tie.close
+    (tie.spec
+    word-requires
+    find-place-requires
+    met-requires
+    same-length
+    returns
+    refuse-requires
+    same-length-2
+    returns-2
+    add-key-requires
+    same-length-3
+    returns-3)

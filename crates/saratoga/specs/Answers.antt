@@ -4,8 +4,8 @@ use Rattle.header.specs.declared.Written.{Written}
 use Rattle.header.specs.declared.Written.the-variants as written
 use Rattle.packet_status.specs.declared.HoleRead.{HoleRead}
 use Rattle.packet_status.specs.declared.HoleRead.the-variants as hole-read
-use Rattle.saratoga.specs.declared.HoleAnswer.{HoleAnswer}
-use Rattle.saratoga.specs.declared.WrittenAnswer.{WrittenAnswer}
+use Rattle.saratoga.specs.declared.packets.HoleAnswer.{HoleAnswer}
+use Rattle.saratoga.specs.declared.packets.WrittenAnswer.{WrittenAnswer}
 
 abbrev pub holeAnswer : HoleRead → HoleAnswer
 holeAnswer (hole-read.Accepted h) = record { number = 0; code = 0; start = h .start; end = h .end }

@@ -8,7 +8,7 @@ use Rattle.packet_status.specs.declared.SuccessStatus.{SuccessStatus}
 use Rattle.packet_status.specs.declared.FailureStatus.{FailureStatus}
 use Rattle.packet.specs.declared.Read.{Read}
 use Rattle.packet.specs.declared.Read.the-variants as read
-use Rattle.saratoga.specs.declared.PacketAnswer.{PacketAnswer}
+use Rattle.saratoga.specs.declared.packets.PacketAnswer.{PacketAnswer}
 
 -- what C gets for METADATA
 abbrev pub metadataPacket : Metadata → PacketAnswer

@@ -2,8 +2,8 @@
 use mathlib.Core.Path.{ap, _∙_}
 use Rattle.saratoga.specs.Answers.{writtenAnswer}
 use borrow.Author.Needs.{needs}
-use Rattle.saratoga.proofs.saratoga_write_data.Statement.{statement}
-use Rattle.saratoga.proofs.saratoga_write_data.Tie as tie
+use Rattle.saratoga.proofs.packets.saratoga_write_data.Statement.{statement}
+use Rattle.saratoga.proofs.packets.saratoga_write_data.Tie as tie
 
 write-data-requires : tie.Need-write-data-requires
 write-data-requires c κs = search needs

@@ -2,8 +2,8 @@
 use mathlib.Core.Path.{ap, _∙_}
 use Rattle.saratoga.specs.Answers.{writtenAnswer}
 use borrow.Author.Needs.{needs}
-use Rattle.saratoga.proofs.saratoga_write_failure.Statement.{statement}
-use Rattle.saratoga.proofs.saratoga_write_failure.Tie as tie
+use Rattle.saratoga.proofs.packets.saratoga_write_failure.Statement.{statement}
+use Rattle.saratoga.proofs.packets.saratoga_write_failure.Tie as tie
 
 write-failure-requires : tie.Need-write-failure-requires
 write-failure-requires c κs = search needs

@@ -2,8 +2,8 @@
 use mathlib.Core.Path.{sym, ap, _∙_}
 use Rattle.saratoga.specs.PacketAnswers.{packetAnswer}
 use borrow.Author.Needs.{needs}
-use Rattle.saratoga.proofs.saratoga_read.Statement.{statement}
-use Rattle.saratoga.proofs.saratoga_read.Tie as tie
+use Rattle.saratoga.proofs.packets.saratoga_read.Statement.{statement}
+use Rattle.saratoga.proofs.packets.saratoga_read.Tie as tie
 
 read-packet-requires : tie.Need-read-packet-requires
 read-packet-requires c κs = search needs

@@ -2,8 +2,8 @@
 use mathlib.Core.Path.{sym, ap, _∙_}
 use Rattle.saratoga.specs.Answers.{holeAnswer}
 use borrow.Author.Needs.{needs}
-use Rattle.saratoga.proofs.saratoga_read_hole.Statement.{statement}
-use Rattle.saratoga.proofs.saratoga_read_hole.Tie as tie
+use Rattle.saratoga.proofs.packets.saratoga_read_hole.Statement.{statement}
+use Rattle.saratoga.proofs.packets.saratoga_read_hole.Tie as tie
 
 read-hole-requires : tie.Need-read-hole-requires
 read-hole-requires c κs = search needs

@@ -2,8 +2,8 @@
 use mathlib.Core.Path.{ap, _∙_}
 use Rattle.saratoga.specs.Answers.{writtenAnswer}
 use borrow.Author.Needs.{needs}
-use Rattle.saratoga.proofs.saratoga_write_metadata.Statement.{statement}
-use Rattle.saratoga.proofs.saratoga_write_metadata.Tie as tie
+use Rattle.saratoga.proofs.packets.saratoga_write_metadata.Statement.{statement}
+use Rattle.saratoga.proofs.packets.saratoga_write_metadata.Tie as tie
 
 write-metadata-requires : tie.Need-write-metadata-requires
 write-metadata-requires c κs = search needs

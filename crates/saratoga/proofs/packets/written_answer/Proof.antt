@@ -2,8 +2,8 @@
 use mathlib.Core.Path.{sym, ap}
 use Rattle.saratoga.specs.Answers.{writtenAnswer}
 use borrow.Author.Needs.{needs}
-use Rattle.saratoga.proofs.written_answer.Statement.{statement}
-use Rattle.saratoga.proofs.written_answer.Tie as tie
+use Rattle.saratoga.proofs.packets.written_answer.Statement.{statement}
+use Rattle.saratoga.proofs.packets.written_answer.Tie as tie
 
 enum-known-a : tie.Need-enum-known-a
 enum-known-a c = search needs

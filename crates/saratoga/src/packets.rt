@@ -1,0 +1,322 @@
+// Packets: reading any of them, one hole of a STATUS, and writing METADATA, DATA and failure STATUS.
+ghost use mathlib.Core.Path.{_≡_};
+ghost use Rattle.packet.specs.Read.{readPacket};
+ghost use Rattle.packet_data.specs.WriteData.{dataWritten, dataBuffer};
+ghost use Rattle.packet_metadata.specs.WriteMetadata.{metadataWritten, metadataBuffer};
+ghost use Rattle.packet_status.specs.Status.{readHole};
+ghost use Rattle.packet_status.specs.WriteFailure.{failureWritten, failureBuffer};
+ghost use Rattle.saratoga.specs.PacketAnswers.{metadataPacket, dataPacket, successPacket, failurePacket, refusedPacket, packetAnswer};
+ghost use Rattle.saratoga.specs.Answers.{holeAnswer, writtenAnswer};
+use header::Refusal;
+use header::Written;
+use packet::Read;
+use packet_data::Data;
+use packet_metadata::Metadata;
+use packet_status::FailureStatus;
+use packet_status::HoleRead;
+use packet_status::SuccessStatus;
+
+// struct saratoga_packet; `ptype` is its field `type`.
+#[repr(C)]
+pub struct PacketAnswer {
+    pub number: u64,
+    pub code: u64,
+    pub ptype: u64,
+    pub flags: u64,
+    pub id: u64,
+    pub width: usize,
+    pub timestamp_at: usize,
+    pub timestamp_len: usize,
+    pub checksum_at: usize,
+    pub checksum_len: usize,
+    pub properties: u64,
+    pub size: u64,
+    pub mtime: u64,
+    pub ctime: u64,
+    pub path_at: usize,
+    pub path_len: usize,
+    pub offset: u64,
+    pub payload_at: usize,
+    pub payload_len: usize,
+    pub status: u64,
+    pub progress: u64,
+    pub in_response_to: u64,
+    pub holes_at: usize,
+    pub hole_count: usize,
+}
+
+// struct saratoga_hole.
+#[repr(C)]
+pub struct HoleAnswer {
+    pub number: u64,
+    pub code: u64,
+    pub start: u64,
+    pub end: u64,
+}
+
+// struct saratoga_written.
+#[repr(C)]
+pub struct WrittenAnswer {
+    pub number: u64,
+    pub code: u64,
+    pub size: usize,
+}
+
+fn metadata_packet(m: Metadata) -> PacketAnswer
+    ensures { λ r. ⌜ r ≡ metadataPacket m ⌝ }
+{
+    PacketAnswer {
+        number: 0,
+        code: 0,
+        ptype: 2,
+        flags: m.flags,
+        id: m.id,
+        width: m.width,
+        timestamp_at: 0,
+        timestamp_len: 0,
+        checksum_at: 8,
+        checksum_len: m.checksum,
+        properties: m.entry.properties,
+        size: m.entry.size,
+        mtime: m.entry.mtime,
+        ctime: m.entry.ctime,
+        path_at: m.entry.path,
+        path_len: m.entry.length,
+        offset: 0,
+        payload_at: 0,
+        payload_len: 0,
+        status: 0,
+        progress: 0,
+        in_response_to: 0,
+        holes_at: 0,
+        hole_count: 0,
+    }
+}
+
+fn data_packet(d: Data) -> PacketAnswer
+    ensures { λ r. ⌜ r ≡ dataPacket d ⌝ }
+{
+    PacketAnswer {
+        number: 0,
+        code: 0,
+        ptype: 3,
+        flags: d.flags,
+        id: d.id,
+        width: d.width,
+        timestamp_at: 8,
+        timestamp_len: d.timestamp,
+        checksum_at: 0,
+        checksum_len: 0,
+        properties: 0,
+        size: 0,
+        mtime: 0,
+        ctime: 0,
+        path_at: 0,
+        path_len: 0,
+        offset: d.offset,
+        payload_at: d.start,
+        payload_len: d.length,
+        status: 0,
+        progress: 0,
+        in_response_to: 0,
+        holes_at: 0,
+        hole_count: 0,
+    }
+}
+
+fn success_packet(s: SuccessStatus) -> PacketAnswer
+    ensures { λ r. ⌜ r ≡ successPacket s ⌝ }
+{
+    PacketAnswer {
+        number: 0,
+        code: 0,
+        ptype: 4,
+        flags: s.flags,
+        id: s.id,
+        width: s.width,
+        timestamp_at: 8,
+        timestamp_len: s.timestamp,
+        checksum_at: 0,
+        checksum_len: 0,
+        properties: 0,
+        size: 0,
+        mtime: 0,
+        ctime: 0,
+        path_at: 0,
+        path_len: 0,
+        offset: 0,
+        payload_at: 0,
+        payload_len: 0,
+        status: 0,
+        progress: s.progress,
+        in_response_to: s.response,
+        holes_at: s.holes,
+        hole_count: s.count,
+    }
+}
+
+fn failure_packet(f: FailureStatus) -> PacketAnswer
+    ensures { λ r. ⌜ r ≡ failurePacket f ⌝ }
+{
+    PacketAnswer {
+        number: 0,
+        code: 0,
+        ptype: 4,
+        flags: f.flags,
+        id: f.id,
+        width: 0,
+        timestamp_at: 0,
+        timestamp_len: 0,
+        checksum_at: 0,
+        checksum_len: 0,
+        properties: 0,
+        size: 0,
+        mtime: 0,
+        ctime: 0,
+        path_at: 0,
+        path_len: 0,
+        offset: 0,
+        payload_at: 0,
+        payload_len: 0,
+        status: f.status,
+        progress: 0,
+        in_response_to: 0,
+        holes_at: 0,
+        hole_count: 0,
+    }
+}
+
+fn refused_packet(refusal: Refusal) -> PacketAnswer
+    ensures { λ r. ⌜ r ≡ refusedPacket refusal ⌝ }
+{
+    PacketAnswer {
+        number: refusal.number,
+        code: refusal.code,
+        ptype: 0,
+        flags: 0,
+        id: 0,
+        width: 0,
+        timestamp_at: 0,
+        timestamp_len: 0,
+        checksum_at: 0,
+        checksum_len: 0,
+        properties: 0,
+        size: 0,
+        mtime: 0,
+        ctime: 0,
+        path_at: 0,
+        path_len: 0,
+        offset: 0,
+        payload_at: 0,
+        payload_len: 0,
+        status: 0,
+        progress: 0,
+        in_response_to: 0,
+        holes_at: 0,
+        hole_count: 0,
+    }
+}
+
+// What C gets of a written packet.
+pub fn written_answer(a: Written) -> WrittenAnswer
+    ensures { λ r. ⌜ r ≡ writtenAnswer a ⌝ }
+{
+    match a {
+        Written::Size(size) => WrittenAnswer {
+            number: 0,
+            code: 0,
+            size,
+        },
+        Written::Refused(refusal) => WrittenAnswer {
+            number: refusal.number,
+            code: refusal.code,
+            size: 0,
+        },
+    }
+}
+
+#[no_mangle]
+pub extern "C" fn saratoga_read(packet: &[u8]) -> PacketAnswer
+    ensures { λ r. ⌜ r ≡ packetAnswer (readPacket (now (packet .entry))) ⌝ }
+{
+    let a = packet::read_packet(packet);
+    match a {
+        Read::Metadata(m) => metadata_packet(m),
+        Read::Data(d) => data_packet(d),
+        Read::Success(s) => success_packet(s),
+        Read::Failure(f) => failure_packet(f),
+        Read::Refused(r) => refused_packet(r),
+    }
+}
+
+#[no_mangle]
+pub extern "C" fn saratoga_read_hole(packet: &[u8], index: u64) -> HoleAnswer
+    ensures { λ r. ⌜ r ≡ holeAnswer (readHole index (now (packet .entry))) ⌝ }
+{
+    let a = packet_status::read_hole(packet, index);
+    match a {
+        HoleRead::Accepted(h) => HoleAnswer {
+            number: 0,
+            code: 0,
+            start: h.start,
+            end: h.end,
+        },
+        HoleRead::Refused(refusal) => HoleAnswer {
+            number: refusal.number,
+            code: refusal.code,
+            start: 0,
+            end: 0,
+        },
+    }
+}
+
+#[no_mangle]
+pub extern "C" fn saratoga_write_metadata(
+    flags: u64,
+    id: u64,
+    checksum: &[u8],
+    properties: u64,
+    size: u64,
+    mtime: u64,
+    ctime: u64,
+    path: &[u8],
+    out: &mut [u8],
+) -> WrittenAnswer
+    ensures { λ r. ⌜ (r ≡ writtenAnswer (metadataWritten flags id (now (checksum .entry)) properties size mtime ctime (now (path .entry)) (now (out .entry))))
+        × (now (out .exit) ≡ metadataBuffer flags id (now (checksum .entry)) properties size mtime ctime (now (path .entry)) (now (out .entry))) ⌝ }
+{
+    written_answer(packet_metadata::write_metadata(
+        out,
+        flags,
+        id,
+        checksum,
+        properties,
+        size,
+        mtime,
+        ctime,
+        path,
+    ))
+}
+
+#[no_mangle]
+pub extern "C" fn saratoga_write_data(
+    flags: u64,
+    id: u64,
+    timestamp: &[u8],
+    offset: u64,
+    payload: &[u8],
+    out: &mut [u8],
+) -> WrittenAnswer
+    ensures { λ r. ⌜ (r ≡ writtenAnswer (dataWritten flags id (now (timestamp .entry)) offset (now (payload .entry)) (now (out .entry))))
+        × (now (out .exit) ≡ dataBuffer flags id (now (timestamp .entry)) offset (now (payload .entry)) (now (out .entry))) ⌝ }
+{
+    written_answer(packet_data::write_data(out, flags, id, timestamp, offset, payload))
+}
+
+#[no_mangle]
+pub extern "C" fn saratoga_write_failure(id: u64, status: u64, out: &mut [u8]) -> WrittenAnswer
+    ensures { λ r. ⌜ (r ≡ writtenAnswer (failureWritten id status (now (out .entry))))
+        × (now (out .exit) ≡ failureBuffer id status (now (out .entry))) ⌝ }
+{
+    written_answer(packet_status::write_failure(out, id, status))
+}

@@ -1,7 +1,7 @@
 # make test     the gate: proofs, must-fail edits, host tests
 # make lib      proves the library and builds target/staticlib/libsaratoga.a
 # make compare  compares the archive with the codec and receiver of host/paper; SEED=N and CALLS=N are optional
-# make soak     the same over 2 x 10^8 calls on areas, some hours; or for SECONDS=N seconds
+# make soak     the same over 3 x 10^8 calls, an hour or more; or for SECONDS=N seconds
 # make install  header and archive below PREFIX (default /usr/local)
 PREFIX ?= /usr/local
 ARCHIVE = target/staticlib/libsaratoga.a
@@ -19,7 +19,7 @@ lib:
 
 compare: lib
 	cd host && CARGO_TARGET_DIR=../target/host cargo build --offline --locked --release --quiet
-	target/host/release/compare $(if $(SEED),--seed $(SEED)) $(if $(CALLS),--calls $(CALLS))
+	target/host/release/compare $(if $(SEED),--seed $(SEED)) $(if $(CALLS),--calls $(CALLS) --receiver-calls $(CALLS))
 
 soak: lib
 	cd host && CARGO_TARGET_DIR=../target/host cargo build --offline --locked --release --quiet

@@ -1,0 +1,4 @@
+pub mod PlaceLaws
+pub mod HeldLaws
+pub mod PutLaws
+pub mod ChangeLaws

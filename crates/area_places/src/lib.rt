@@ -1,0 +1,66 @@
+// One transfer's place in the area: found by its Id, its key and runs read, its runs written back in place.
+ghost use mathlib.Core.Path.{_≡_};
+ghost use mathlib.Core.Bool.{true};
+ghost use mathlib.Core.List.{_++_};
+ghost use Prim.Native.Nat.{_+_, _*_, _≤_, _<_};
+ghost use lib.ListN.{length, drop};
+ghost use Rattle.area.specs.Words.{wordOctets, wordsAt, wordAt};
+ghost use Rattle.area.specs.Numbers.{transfersOf};
+ghost use Rattle.area.specs.Image.{wordsOf, numbersAt};
+ghost use Rattle.area.specs.Judge.{judged};
+ghost use Rattle.area_places.specs.Places.{placeOf};
+ghost use Rattle.area_places.specs.Change.{runSetAt, withRunSet};
+use run_set::RunSet;
+
+// The place of an Id; the number of open transfers where it is not open.
+pub fn find_place(area: &[u8], id: u64) -> usize
+    requires { ⌜ judged (now area) ≡ true ⌝ }
+    ensures { λ r. ⌜ r ≡ placeOf id (transfersOf (numbersAt (now (area .entry)))) ⌝ }
+{
+    let n = area::word(area, 0) as usize;
+    let mut i = 0;
+    while i < n {
+        if area::word(area, 1 + i) == id {
+            return i;
+        }
+        i += 1;
+    }
+    i
+}
+
+// The 64 words from word k on.
+fn words64(area: &[u8], k: usize) -> [u64; 64]
+    requires { ⌜ k * 8 + 512 ≤ length (now area) ⌝ }
+    ensures { λ r. ⌜ r ≡ wordsAt (now (area .entry)) k 64 ⌝ }
+{
+    let mut r: [u64; 64] = [0; 64];
+    area::words_into(area, k, &mut r);
+    r
+}
+
+// The runs at a place.
+pub fn runs_at(area: &[u8], place: usize) -> RunSet
+    requires { ⌜ (16904 ≤ length (now area)) × (place < 16) ⌝ }
+    ensures { λ r. ⌜ r ≡ runSetAt (now (area .entry)) place ⌝ }
+{
+    let starts = words64(area, 65 + place * 64);
+    let stops = words64(area, 1089 + place * 64);
+    let n = area::word(area, 49 + place);
+    let count = n as usize;
+    RunSet {
+        starts,
+        stops,
+        count,
+    }
+}
+
+// The runs at a place become these; the rest of the area stays.
+pub fn put_runs(area: &mut [u8], place: usize, r: RunSet)
+    requires { ⌜ (16904 ≤ length (now area)) × (place < 16) ⌝ }
+    ensures { λ _. ⌜ now (area .exit) ≡ wordOctets (wordsOf (withRunSet (numbersAt (now (area .entry))) place r)) ++ drop 16904 (now (area .entry)) ⌝ }
+{
+    area::put_words(area, 65 + place * 64, &r.starts);
+    area::put_words(area, 1089 + place * 64, &r.stops);
+    let n = r.count;
+    octets::write_number(area, (49 + place) * 8, 8, n as u64);
+}

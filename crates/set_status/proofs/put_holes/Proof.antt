@@ -59,7 +59,7 @@ loop-again c =
       omega (arith, one-less (2 * a .width) (l .left) (omega arith)),
       omega arith,
       pairs-step (a .width) (holes (heldRuns (a .r))) (c .before .before .before .before .hole-at .result) (l .j) (l .left) (l .at) (l .out) _ _ (omega arith) (l .inv .2) (omega arith)
-      (c .before .before .before .before .hole-at .ensures) (c .before .before .put-hole .ensures) (l .inv .3),
+          (c .before .before .before .before .hole-at .ensures) (c .before .before .put-hole .ensures) (l .inv .3),
     )
 
 same-length : tie.Need-same-length Inv-loop μ-loop

@@ -72,9 +72,9 @@ returns c =
     let m : 8 + 2 * d + 2 * d * length (holesPart (a .r) (a .first) (a .count)) ≤ length (now (a .out)) = rw l (h .fits) in (
       search needs,
       parts-put (a .flags) (a .id) d (progress (heldRuns (a .r))) (edge (heldRuns (a .r))) (c .before .before .before .before .before .before .before .before .before .before .before .before .before .before .before .before .before .before .before .join .result) (c .before .before .before .before .before .before .before .before .before .before .before .before .before .before .before .before .before .before .before .before .before .before .progress-of .result)
-      (c .before .before .before .before .before .before .before .before .before .before .before .before .before .before .before .before .before .before .before .before .before .edge-of .result) (holesPart (a .r) (a .first) (a .count)) (now (a .out)) _ _ _ _ _ m
-      (c .before .before .before .before .before .before .before .before .before .before .before .before .before .before .before .before .before .before .before .join .ensures) (c .before .before .before .before .before .before .before .before .before .before .before .before .before .before .before .before .before .before .before .before .before .before .progress-of .ensures) (c .before .before .before .before .before .before .before .before .before .before .before .before .before .before .before .before .before .before .before .before .before .edge-of .ensures)
-      (c .before .before .before .before .before .before .before .before .before .before .before .before .before .before .before .before .before .before .write-number .ensures) (c .before .before .before .before .before .before .before .before .before .before .before .before .before .before .write-number2 .ensures) (c .before .before .before .before .before .before .before .before .before .before .write-number3 .ensures) (c .before .before .before .before .before .before .write-number4 .ensures) (c .before .before .put-holes .ensures),
+          (c .before .before .before .before .before .before .before .before .before .before .before .before .before .before .before .before .before .before .before .before .before .edge-of .result) (holesPart (a .r) (a .first) (a .count)) (now (a .out)) _ _ _ _ _ m
+          (c .before .before .before .before .before .before .before .before .before .before .before .before .before .before .before .before .before .before .before .join .ensures) (c .before .before .before .before .before .before .before .before .before .before .before .before .before .before .before .before .before .before .before .before .before .before .progress-of .ensures) (c .before .before .before .before .before .before .before .before .before .before .before .before .before .before .before .before .before .before .before .before .before .edge-of .ensures)
+          (c .before .before .before .before .before .before .before .before .before .before .before .before .before .before .before .before .before .before .write-number .ensures) (c .before .before .before .before .before .before .before .before .before .before .before .before .before .before .write-number2 .ensures) (c .before .before .before .before .before .before .before .before .before .before .write-number3 .ensures) (c .before .before .before .before .before .before .write-number4 .ensures) (c .before .before .put-holes .ensures),
     )
 
 pub put-status-spec : {M : Type 1} → statement M

@@ -2,14 +2,15 @@
 # make lib      proves the library and builds target/staticlib/libsaratoga.a
 # make compare  compares the archive with the codec and receiver of host/paper; SEED=N and CALLS=N are optional
 # make soak     the same over 3 x 10^8 calls, an hour or more; or for SECONDS=N seconds
+# make stack    prints the stack that each function needs
 # make install  header and archive below PREFIX (default /usr/local)
 PREFIX ?= /usr/local
 ARCHIVE = target/staticlib/libsaratoga.a
 
-.PHONY: test lib compare soak install clean help
+.PHONY: test lib compare soak stack install clean help
 
 help:
-	@sed -n 's/^# //p' Makefile | head -n 5
+	@sed -n 's/^# //p' Makefile | head -n 6
 
 test:
 	bash .ci/run
@@ -25,6 +26,10 @@ soak: lib
 	cd host && CARGO_TARGET_DIR=../target/host cargo build --offline --locked --release --quiet
 	target/host/release/compare $(if $(SEED),--seed $(SEED)) \
 		$(if $(SECONDS),--seconds $(SECONDS),--calls 100000000 --receiver-calls 200000000)
+
+stack: lib
+	$(CC) -std=c99 -O2 -Iinclude host/ctest/stack.c $(ARCHIVE) -lpthread -o target/stack
+	target/stack
 
 install: lib
 	install -d $(DESTDIR)$(PREFIX)/include $(DESTDIR)$(PREFIX)/lib

@@ -101,11 +101,11 @@ fn recorded_answer(a: Recorded) -> RecordedAnswer
     ensures { λ r. ⌜ r ≡ recordedAnswer a ⌝ }
 {
     match a {
-        Recorded::Accepted(x) => RecordedAnswer {
+        Recorded::Accepted(reached) => RecordedAnswer {
             number: 0,
             code: 0,
-            edge: x.edge,
-            complete: one_if(x.complete),
+            edge: reached.edge,
+            complete: one_if(reached.complete),
         },
         Recorded::Refused(refusal) => RecordedAnswer {
             number: refusal.number,

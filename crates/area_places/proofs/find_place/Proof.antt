@@ -33,7 +33,7 @@ returns c =
     let s = (c .before .before .before .before .before .before) in
     let l = c .before .before .before .loop in
     let w = c .before .word2 in
-    find-here (now (s .args .area)) (s .args .id) (c .before .before .before .before .word .result) (l .i) (w .result) (l .inv) (omega arith) (w .ensures) (c .if1 .taken)
+    find-here (now (s .args .area)) (s .args .id) (c .before .before .before .before .word .result) (l .i) (w .result) (l .inv) (omega arith) (w .ensures) (omega arith)
 
 add-i : tie.Need-add-i Inv-loop μ-loop
 add-i c = omega (arith, c .before .before .before .loop .inv .few)
@@ -46,7 +46,7 @@ loop-again c =
     let s = (c .before .before .before .before .before .before) in
     let l = c .before .before .before .loop in
     let w = c .before .word2 in
-    find-more (now (s .args .area)) (s .args .id) (c .before .before .before .before .word .result) (l .i) (w .result) (l .inv) (omega arith) (w .ensures) (c .if1 .left)
+    find-more (now (s .args .area)) (s .args .id) (c .before .before .before .before .word .result) (l .i) (w .result) (l .inv) (omega arith) (w .ensures) (omega arith)
 
 returns-2 : tie.Need-returns-2 Inv-loop μ-loop
 returns-2 c =

@@ -30,16 +30,24 @@ fits c =
     (held-long a _ (held c), place-small a _ (c .args .place) (held c) (c .pre .1))
 
 runs-at-requires : tie.Need-runs-at-requires
-runs-at-requires c κs = fits (c .before .before)
+runs-at-requires c κs =
+    let k = fits (c .before .before) in
+    (k .0, omega (arith, k))
 
-inserted-requires : tie.Need-inserted-requires
-inserted-requires c κs =
+-- the runs that stand there are few
+old-few : (c : tie.After-runs-at) → c .runs-at .result .count ≤ 64
+old-few c =
     let s = (c .before .before .before) in
     let n = count-few (now (s .args .area)) _ (s .args .place) (held s) (s .pre .1) in
-    omega (arith, ap (λ (r : RunSet). r .count) (c .runs-at .ensures), n)
+    omega (arith, ap (λ (r : RunSet). r .count) (c .runs-at .ensures))
+
+inserted-requires : tie.Need-inserted-requires
+inserted-requires c κs = omega (arith, old-few (c))
 
 put-runs-requires : tie.Need-put-runs-requires
-put-runs-requires c κs = fits (c .before .before .before .before .before .before .before)
+put-runs-requires c κs =
+    let k = fits (c .before .before .before .before .before .before .before) in
+    (k .0, omega (arith, k))
 
 -- what is inserted into is what stands at the place, and what comes of it has room
 inserted-is : (c : tie.After-inserted)
@@ -55,10 +63,10 @@ few c =
     extend-few (now (s .args .area)) _ (s .args .place) (held s) (s .pre .1) (s .args .from) (s .args .to) (c .inserted .result) (inserted-is c)
 
 edge-of-requires : tie.Need-edge-of-requires
-edge-of-requires c κs = few (c .before .before .before .before .before .before) (c .before .before .before .before .before .if1 .taken)
+edge-of-requires c κs = omega (arith, few (c .before .before .before .before .before .before) (c .before .before .before .before .before .if1 .taken), old-few (c .before .before .before .before .before .before .before))
 
 is-complete-requires : tie.Need-is-complete-requires
-is-complete-requires c κs = few (c .before .before .before .before .before .before .before) (c .before .before .before .before .before .before .if1 .taken)
+is-complete-requires c κs = omega (arith, few (c .before .before .before .before .before .before .before) (c .before .before .before .before .before .before .if1 .taken), old-few (c .before .before .before .before .before .before .before .before))
 
 same-length : tie.Need-same-length
 same-length c = search needs

@@ -102,7 +102,7 @@ add-extend c =
     omega arith
 
 extend-requires : tie.Need-extend-requires
-extend-requires c κs = (c .before .before .before .before .before .before .before .before .before .before .before .before .before .pre, known (c .before .before .before .before .before .before .before) .0)
+extend-requires c κs = (c .before .before .before .before .before .before .before .before .before .before .before .before .before .pre, omega (arith, known (c .before .before .before .before .before .before .before)))
 
 same-length-3 : tie.Need-same-length-3
 same-length-3 c = search needs

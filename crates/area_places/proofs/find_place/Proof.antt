@@ -19,7 +19,7 @@ word-requires c κs = omega (arith, judged-passed (now (c .before .args .area)) 
 
 loop-holds : tie.Need-loop-holds Inv-loop μ-loop
 loop-holds c =
-    let s = (c .before .before) in
+    let s = c .before .before in
     find-start (now (s .args .area)) (s .args .id) (c .word .result) (s .pre) (c .word .ensures)
 
 add-word : tie.Need-add-word Inv-loop μ-loop
@@ -30,7 +30,7 @@ word-requires-2 c κs = omega (arith, c .before .loop .inv .few, c .before .loop
 
 returns : tie.Need-returns Inv-loop μ-loop
 returns c =
-    let s = (c .before .before .before .before .before .before) in
+    let s = c .before .before .before .before .before .before in
     let l = c .before .before .before .loop in
     let w = c .before .word2 in
     find-here (now (s .args .area)) (s .args .id) (c .before .before .before .before .word .result) (l .i) (w .result) (l .inv) (omega arith) (w .ensures) (omega arith)
@@ -43,14 +43,14 @@ loop-less c = omega (arith, c .before .before .before .loop .inv .few)
 
 loop-again : tie.Need-loop-again Inv-loop μ-loop
 loop-again c =
-    let s = (c .before .before .before .before .before .before) in
+    let s = c .before .before .before .before .before .before in
     let l = c .before .before .before .loop in
     let w = c .before .word2 in
     find-more (now (s .args .area)) (s .args .id) (c .before .before .before .before .word .result) (l .i) (w .result) (l .inv) (omega arith) (w .ensures) (omega arith)
 
 returns-2 : tie.Need-returns-2 Inv-loop μ-loop
 returns-2 c =
-    let s = (c .before .before .before .before) in
+    let s = c .before .before .before .before in
     let l = c .before .loop in
     find-end (now (s .args .area)) (s .args .id) (c .before .before .word .result) (l .i) (l .inv) (omega arith)
 

@@ -37,12 +37,12 @@ runs-at-requires c κs =
 -- the runs that stand there are few
 old-few : (c : tie.After-runs-at) → c .runs-at .result .count ≤ 64
 old-few c =
-    let s = (c .before .before .before) in
+    let s = c .before .before .before in
     let n = count-few (now (s .args .area)) _ (s .args .place) (held s) (s .pre .1) in
     omega (arith, ap (λ (r : RunSet). r .count) (c .runs-at .ensures))
 
 inserted-requires : tie.Need-inserted-requires
-inserted-requires c κs = omega (arith, old-few (c))
+inserted-requires c κs = omega (arith, old-few c)
 
 put-runs-requires : tie.Need-put-runs-requires
 put-runs-requires c κs =
@@ -51,30 +51,34 @@ put-runs-requires c κs =
 
 -- what is inserted into is what stands at the place, and what comes of it has room
 inserted-is : (c : tie.After-inserted)
-    → let s = (c .before .before .before .before) in
+    → let s = c .before .before .before .before in
     c .inserted .result ≡ insertedOf (runSetAt (now (s .args .area)) (s .args .place)) (s .args .from) (s .args .to)
 inserted-is c =
-    let s = (c .before .before .before .before) in
+    let s = c .before .before .before .before in
     c .inserted .ensures ∙ ap (λ (r : RunSet). insertedOf r (s .args .from) (s .args .to)) (c .before .runs-at .ensures)
 
 few : (c : tie.After-inserted) → c .inserted .result .ok ≡ true → c .inserted .result .runs .count ≤ 64
 few c =
-    let s = (c .before .before .before .before) in
+    let s = c .before .before .before .before in
     extend-few (now (s .args .area)) _ (s .args .place) (held s) (s .pre .1) (s .args .from) (s .args .to) (c .inserted .result) (inserted-is c)
 
 edge-of-requires : tie.Need-edge-of-requires
-edge-of-requires c κs = omega (arith, few (c .before .before .before .before .before .before) (c .before .before .before .before .before .if1 .taken), old-few (c .before .before .before .before .before .before .before))
+edge-of-requires c κs =
+    let t = c .before .before .before .before .before .if1 .taken in
+    omega (arith, few (c .before .before .before .before .before .before) t, old-few (c .before .before .before .before .before .before .before))
 
 is-complete-requires : tie.Need-is-complete-requires
-is-complete-requires c κs = omega (arith, few (c .before .before .before .before .before .before .before) (c .before .before .before .before .before .before .if1 .taken), old-few (c .before .before .before .before .before .before .before .before))
+is-complete-requires c κs =
+    let t = c .before .before .before .before .before .before .if1 .taken in
+    omega (arith, few (c .before .before .before .before .before .before .before) t, old-few (c .before .before .before .before .before .before .before .before))
 
 same-length : tie.Need-same-length
 same-length c = search needs
 
 returns : tie.Need-returns
 returns c =
-    let s = (c .before .before .before .before .before .before .before .before .before .before .before .before) in
-    let p = (c .before .before .before .before .before .before .before .before) in
+    let s = c .before .before .before .before .before .before .before .before .before .before .before .before in
+    let p = c .before .before .before .before .before .before .before .before in
     both refl
     (extend-done (now (s .args .area)) _ (s .args .place) (held s) (s .pre .1) (s .args .from) (s .args .to) (p .inserted .result) (inserted-is p)
     (s .args .size) (c .before .before .before .before .before .before .before .if1 .taken) _ (c .before .edge-of .result) (c .is-complete .result) (c .before .before .before .before .put-runs .ensures) (c .before .edge-of .ensures)
@@ -88,8 +92,8 @@ same-length-2 c = search needs
 
 returns-2 : tie.Need-returns-2
 returns-2 c =
-    let s = (c .before .before .before .before .before .before) in
-    let p = (c .before .before) in
+    let s = c .before .before .before .before .before .before in
+    let p = c .before .before in
     both (ap Refused (c .refuse .ensures))
     (extend-over (now (s .args .area)) _ (s .args .place) (held s) (s .pre .1) (s .args .from) (s .args .to) (p .inserted .result) (inserted-is p)
     (s .args .size) (c .before .if1 .left))

@@ -15,21 +15,21 @@ returns c = rw (ne-eqb (c .before .args .d .width) (c .before .args .width) (ome
 returns-2 : tie.Need-returns-2
 unfolding dataJudged
 returns-2 c =
-    let s = (c .before .before) in
+    let s = c .before .before in
     let d = s .args .d in
     rw (eq-eqb (d .width) (s .args .width) (omega arith), lt-ltb (s .args .length) (d .offset + d .length) (omega arith))
 
 returns-3 : tie.Need-returns-3
 unfolding dataJudged
 returns-3 c =
-    let s = (c .before .before .before .before) in
+    let s = c .before .before .before .before in
     let d = s .args .d in
     rw (eq-eqb (d .width) (s .args .width) (omega arith), lt-ltb (s .args .length) (d .offset + d .length) (omega arith))
 
 returns-4 : tie.Need-returns-4
 unfolding dataJudged
 returns-4 c =
-    let s = (c .before .before .before .before .before .before) in
+    let s = c .before .before .before .before .before .before in
     let d = s .args .d in
     rw (
       eq-eqb (d .width) (s .args .width) (omega arith),
@@ -43,7 +43,7 @@ add-if5 c = search needs
 returns-5 : tie.Need-returns-5
 unfolding dataJudged
 returns-5 c =
-    let s = (c .before .before .before .before .before .before .before .before) in
+    let s = c .before .before .before .before .before .before .before .before in
     let d = s .args .d in
     rw (
       eq-eqb (d .width) (s .args .width) (omega arith),
@@ -55,7 +55,7 @@ returns-5 c =
 returns-6 : tie.Need-returns-6
 unfolding dataJudged
 returns-6 c =
-    let s = (c .before .before .before .before .before .before .before .before) in
+    let s = c .before .before .before .before .before .before .before .before in
     let d = s .args .d in
     rw (
       eq-eqb (d .width) (s .args .width) (omega arith),

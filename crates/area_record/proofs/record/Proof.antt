@@ -29,7 +29,7 @@ same-length c = search needs
 
 returns : tie.Need-returns
 returns c =
-    let s = (c .before .before .before .before .before .before .before) in
+    let s = c .before .before .before .before .before .before .before in
     both (ap Refused (c .refuse .ensures))
     (record-unheld (now (s .args .area)) (now (s .args .packet)) (sym (c .before .before .before .judge .ensures) ∙ not-true _ (c .before .if1 .taken)))
 
@@ -45,11 +45,12 @@ passed c = sym (c .before .before .judge .ensures) ∙ not-false _ (c .if1 .left
 
 returns-2 : tie.Need-returns-2
 returns-2 c =
-    let s = (c .before .before .before .before .before .before .before .before) in
+    let s = c .before .before .before .before .before .before .before .before in
     let n = c .before .before .before .data-refusal in
+    let k = c .before .before .before .before .before .before .before .slice-known in
+    let j = passed (c .before .before) in
     both (ap Refused (c .refuse2 .ensures))
-    (record-unread (now (s .args .area)) (now (s .args .packet)) (passed (c .before .before)) (n .result) (λ i. c .before .before .before .before .before .before .before .slice-known .given i .fits) (n .ensures)
-    (omega arith))
+    (record-unread (now (s .args .area)) (now (s .args .packet)) j (n .result) (λ i. k .given i .fits) (n .ensures) (omega arith))
 
 data-fields-requires : tie.Need-data-fields-requires
 data-fields-requires c κs = search needs
@@ -65,8 +66,9 @@ returns-3 c =
     let a = now (c .before .before .before .before .before .before .before .before .before .before .before .before .args .area) in
     let p = now (c .before .before .before .before .before .before .before .before .before .before .before .before .args .packet) in
     let z : dataRefusal p ≡ 0 = omega arith in
+    let j = passed (c .before .before .before .before .before .before) in
     both-as (c .before .before .record-fields .ensures)
-    (ap (recordedIn a (transfersOf (numbersAt a))) (c .before .before .before .before .data-fields .ensures) ∙ record-read a p (passed (c .before .before .before .before .before .before)) z)
+    (ap (recordedIn a (transfersOf (numbersAt a))) (c .before .before .before .before .data-fields .ensures) ∙ record-read a p j z)
 
 pub record-spec : {M : Type 1} → statement M
 record-spec =

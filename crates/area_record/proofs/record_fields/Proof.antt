@@ -44,23 +44,24 @@ count c = c .word .ensures ∙ count-word (now (c .before .before .before .befor
 
 -- where the Id is open its place is below that number, and so one of 16
 known : (c : tie.Else1)
-    → let s = (c .before .before .before .before .before .before) in
+    → let s = c .before .before .before .before .before .before in
     (c .before .before .before .find-place .result < length (transfersOf (numbersAt (now (s .args .area)))))
     × (c .before .before .before .find-place .result < 16)
     × (areaOctets ≤ length (now (s .args .area)))
 known c =
-    let s = (c .before .before .before .before .before .before) in
+    let s = c .before .before .before .before .before .before in
     let n = count (c .before) in
     let a = now (s .args .area) in
     (omega arith, omega (arith, held-valid a _ (held s) .few), held-long a _ (held s))
 
 returns : tie.Need-returns
 returns c =
-    let s = (c .before .before .before .before .before .before .before) in
+    let s = c .before .before .before .before .before .before .before in
     let f = c .before .before .before .before .find-place in
     let n = count (c .before .before) in
+    let o = octets (c .before .before .before .before .before .before) in
     both (ap Refused (c .refuse .ensures))
-    (fields-missing (now (s .args .area)) _ (s .args .d) (octets (c .before .before .before .before .before .before)) (held s) (f .result) (f .ensures) (omega arith))
+    (fields-missing (now (s .args .area)) _ (s .args .d) o (held s) (f .result) (f .ensures) (omega arith))
 
 add-word : tie.Need-add-word
 add-word c = omega (arith, known (c .before))
@@ -85,38 +86,44 @@ same-length-2 c = search needs
 
 returns-2 : tie.Need-returns-2
 returns-2 c =
-    let s = (c .before .before .before .before .before .before .before .before .before .before .before .before .before) in
+    let s = c .before .before .before .before .before .before .before .before .before .before .before .before .before in
     let f = c .before .before .before .before .before .before .before .before .before .before .find-place in
     let w = c .before .before .before .before .before .word2 in
     let n = c .before .before .before .word3 in
     let j = c .before .before .judged-at in
+    let o = octets (c .before .before .before .before .before .before .before .before .before .before .before .before) in
+    let k = known (c .before .before .before .before .before .before .before) in
     both (ap Refused (c .refuse2 .ensures))
-    (fields-judged (now (s .args .area)) _ (s .args .d) (octets (c .before .before .before .before .before .before .before .before .before .before .before .before)) (held s) (f .result) (f .ensures) (known (c .before .before .before .before .before .before .before) .0)
-    (w .result) (n .result) (j .result) (w .ensures) (n .ensures) (j .ensures) (omega arith))
+    (fields-judged (now (s .args .area)) _ (s .args .d) o (held s) (f .result) (f .ensures) (k .0) (w .result) (n .result) (j .result) (w .ensures) (n .ensures) (j .ensures) (omega arith))
 
 add-extend : tie.Need-add-extend
 add-extend c =
     let d = c .before .before .before .before .before .before .before .before .before .before .before .before .before .args .d in
     let j = c .before .before .judged-at in
-    let k = judged-within (keyFrom (d .id) (c .before .before .before .before .before .word2 .result) (c .before .before .before .word3 .result)) d (sym (j .ensures) ∙ c .before .if2 .left) in
+    let w = c .before .before .before .before .before .word2 in
+    let n = c .before .before .before .word3 in
+    let k = judged-within (keyFrom (d .id) (w .result) (n .result)) d (sym (j .ensures) ∙ c .before .if2 .left) in
     omega arith
 
 extend-requires : tie.Need-extend-requires
-extend-requires c κs = (c .before .before .before .before .before .before .before .before .before .before .before .before .before .pre, omega (arith, known (c .before .before .before .before .before .before .before)))
+extend-requires c κs =
+    let k = known (c .before .before .before .before .before .before .before) in
+    (c .before .before .before .before .before .before .before .before .before .before .before .before .before .pre, omega arith)
 
 same-length-3 : tie.Need-same-length-3
 same-length-3 c = search needs
 
 returns-3 : tie.Need-returns-3
 returns-3 c =
-    let s = (c .before .before .before .before .before .before .before .before .before .before .before .before .before .before .before .before) in
+    let s = c .before .before .before .before .before .before .before .before .before .before .before .before .before .before .before .before in
     let f = c .before .before .before .before .before .before .before .before .before .before .before .before .before .find-place in
     let w = c .before .before .before .before .before .before .before .before .word2 in
     let n = c .before .before .before .before .before .before .word3 in
     let j = c .before .before .before .before .before .judged-at in
+    let o = octets (c .before .before .before .before .before .before .before .before .before .before .before .before .before .before .before) in
+    let k = known (c .before .before .before .before .before .before .before .before .before .before) in
     both-as (c .before .before .extend .ensures)
-    (fields-extended (now (s .args .area)) _ (s .args .d) (octets (c .before .before .before .before .before .before .before .before .before .before .before .before .before .before .before)) (held s) (f .result) (f .ensures) (known (c .before .before .before .before .before .before .before .before .before .before) .0)
-    (w .result) (n .result) (j .result) (w .ensures) (n .ensures) (j .ensures) (omega arith))
+    (fields-extended (now (s .args .area)) _ (s .args .d) o (held s) (f .result) (f .ensures) (k .0) (w .result) (n .result) (j .result) (w .ensures) (n .ensures) (j .ensures) (omega arith))
 
 pub record-fields-spec : {M : Type 1} → statement M
 record-fields-spec =

@@ -1,6 +1,5 @@
 -- `area_open::met` meets its contract. Assumes nothing.
-use Prim.Native.Nat.{_+_}
-use mathlib.Core.Path.{_≡_, sym, ap, _∙_}
+use mathlib.Core.Path.{sym, ap, _∙_}
 use denote.Ref.{now}
 use Rattle.table.specs.declared.Opened.the-variants as opened
 use Rattle.area.specs.Numbers.{nth}

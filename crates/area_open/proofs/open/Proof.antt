@@ -1,6 +1,6 @@
 -- `area_open::open` meets its contract: 22, then the reader's, then those of the table. Assumes nothing.
 use mathlib.Core.Path.{_≡_, sym, ap, _∙_}
-use mathlib.Core.Bool.{true, false}
+use mathlib.Core.Bool.{true}
 use denote.Ref.{now}
 use Rattle.table.specs.declared.Opened.the-variants as opened
 use Rattle.area.specs.Judge.{judged}

@@ -1,6 +1,5 @@
 -- `area_open::open_key` meets its contract: an Id that is open, or has no room, leaves the area. Assumes nothing.
-use Prim.Native.Nat.{_<_}
-use mathlib.Core.Path.{_≡_, refl, sym, ap, _∙_}
+use mathlib.Core.Path.{refl, sym, ap, _∙_}
 use denote.Ref.{now}
 use Rattle.table.specs.Open.{OpenOutcome}
 use Rattle.table.specs.declared.Opened.the-variants as opened

@@ -1,8 +1,7 @@
 -- `area_open::place_for` meets its contract. The loop's invariant: the place lies as many places after i as it has among those from i on.
 -- The measure is what is left of the open transfers. Assumes nothing.
-use Prim.Native.Nat.{_+_, _-_, _≤_, _<_}
-use mathlib.Core.Path.{_≡_, refl}
-use native.Mathlib.Nat.{zero-add}
+use Prim.Native.Nat.{_+_, _-_, _≤_}
+use mathlib.Core.Path.{_≡_}
 use denote.Ref.{now}
 use Rattle.area.specs.Words.{wordAt}
 use Rattle.area.specs.Numbers.{transfersAt}

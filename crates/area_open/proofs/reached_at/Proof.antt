@@ -1,5 +1,4 @@
 -- `area_open::reached_at` meets its contract. Assumes nothing.
-use Prim.Native.Nat.{_≤_}
 use denote.Ref.{now}
 use Rattle.area_open.proofs.HeldLaws.{long, few-runs-held, reached-held}
 use borrow.Author.Needs.{needs}

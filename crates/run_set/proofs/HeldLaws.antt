@@ -1,6 +1,6 @@
 -- The edge, the progress and the holes of the runs that a set holds, read off its arrays.
 -- Assumes nothing.
-use Prim.Native.Nat.{ℕ, zero, suc, _+_, _-_, _≤_, _<_}
+use Prim.Native.Nat.{ℕ, suc, _+_, _-_, _≤_, _<_}
 use mathlib.Core.Path.{_≡_, refl, sym, ap, ap₂, _∙_}
 use mathlib.Core.Bool.{cond}
 use mathlib.Core.List.{List, [], _∷_}
@@ -10,7 +10,6 @@ use native.Mathlib.Numerals.{add-one}
 use lib.ListN.{length, getD}
 use lib.Dec.{eqb}
 use borrow.Author.Tests.{eq-eqb, ne-eqb}
-use Rattle.header.specs.declared.Hole.{Hole}
 use Rattle.runs.specs.Runs.{Run, run, Canonical}
 use Rattle.runs.specs.Holes.{edgeFrom, edge, hole, holesFrom, holes, progress}
 use Rattle.runs.proofs.NumberLaws.{le-or-lt}

@@ -11,6 +11,7 @@ use Rattle.runs.specs.Runs.{run, insert}
 use Rattle.runs.proofs.InsertLaws.{insert-after, insert-before, insert-join}
 use Rattle.run_set.specs.RunSets.{runsAt, heldRuns, laterRuns, freshSet, pushOf, pushAll, setOf, finishedOf, insertedOf}
 use Rattle.run_set.specs.declared.RunSet.{RunSet}
+use Rattle.run_set.specs.declared.Insertion.{Insertion}
 use Rattle.run_set.proofs.PlaceLaws.{length-runs, runs-cons, runs-end}
 use Rattle.run_set.proofs.SetLaws.{push-count}
 
@@ -63,15 +64,15 @@ module _ (all : RunSet) (i : ℕ) (out : RunSet) (lo hi : ℕ) where
   finished-fits p q h e f = rw (le-leb (out .count + (all .count - i) + 1) 64 h, f, e)
 
 -- once the stretch is placed, the end of the insertion is the insertion
-pub finish : (all out : RunSet) (i lo hi a b : ℕ)
+pub finish : (all out : RunSet) (i lo hi a b : ℕ) (r : Insertion) → r ≡ finishedOf all i out lo hi
     → pushAll out (run lo hi ∷ laterRuns all i) ≡ setOf (insert a b (heldRuns all))
-    → finishedOf all i out lo hi ≡ insertedOf all a b
+    → r ≡ insertedOf all a b
 unfolding finishedOf insertedOf
-finish all out i lo hi a b e =
+finish all out i lo hi a b r f e =
     let n : out .count + (all .count - i) + 1 ≡ length (insert a b (heldRuns all))
     = omega (
       arith,
       sym (push-count out (run lo hi ∷ laterRuns all i)) ∙ ap (λ (r : RunSet). r .count) e ∙ push-count freshSet (insert a b (heldRuns all)),
       length-runs (all .starts) (all .stops) i (all .count - i),
     ) in
-    rw (n, e)
+    f ∙ rw (n, e)

@@ -50,8 +50,8 @@ finished-requires c κs = search needs
 returns : tie.Need-returns Inv-loop μ-loop
 returns c =
     let at = c .before .before .before .before .before .before .loop in
-    c .finished .ensures
-    ∙ finish _ _ _ _ _ _ _ (step-before _ _ _ _ _ _ _ _ (at .inv .3) (omega arith) (omega arith) (omega arith))
+    finish _ _ _ _ _ _ _ _ (c .finished .ensures)
+    (step-before _ _ _ _ _ _ _ _ (at .inv .3) (omega arith) (omega arith) (omega arith))
 
 lesser-requires : tie.Need-lesser-requires Inv-loop μ-loop
 lesser-requires c κs = search needs
@@ -90,8 +90,8 @@ finished-requires-2 c κs = search needs
 
 returns-2 : tie.Need-returns-2 Inv-loop μ-loop
 returns-2 c =
-    c .finished2 .ensures
-    ∙ finish _ _ _ _ _ _ _ (step-end _ _ _ _ _ _ _ _ (c .before .before .loop .inv .3) (omega arith))
+    finish _ _ _ _ _ _ _ _ (c .finished2 .ensures)
+    (step-end _ _ _ _ _ _ _ _ (c .before .before .loop .inv .3) (omega arith))
 
 pub inserted-spec : {M : Type 1} → statement M
 inserted-spec =

@@ -38,7 +38,7 @@ same-length c = search needs
 
 returns : tie.Need-returns
 returns c =
-    let s = (c .before .before .before .before .before .before) in
+    let s = c .before .before .before .before .before .before in
     let a = now (s .before .before .before .before .args .area) in
     let n = count-held a (passed s) in
     let e = close-kept a (passed s) (s .before .before .before .before .args .id) (λ i. s .before .before .before .slice-known .given i .fits) (omega arith) in (
@@ -48,7 +48,7 @@ returns c =
 
 numbers-without-requires : tie.Need-numbers-without-requires
 numbers-without-requires c κs =
-    let s = (c .before .before .before .before .before .before) in
+    let s = c .before .before .before .before .before .before in
     let a = now (s .before .before .before .before .args .area) in
     (long a (passed s), omega (arith, few-held a (passed s)), omega arith)
 
@@ -60,7 +60,7 @@ same-length-2 c = search needs
 
 returns-2 : tie.Need-returns-2
 returns-2 c =
-    let s = (c .before .before .before .before .before .before .before .before .before .before .before) in
+    let s = c .before .before .before .before .before .before .before .before .before .before .before in
     let a = now (s .before .before .before .before .args .area) in
     let id = s .before .before .before .before .args .id in
     let n = count-held a (passed s) in

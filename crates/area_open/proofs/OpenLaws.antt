@@ -30,7 +30,7 @@ use Rattle.area.specs.Words.{wordOctets, wordAt}
 use Rattle.area.specs.Numbers.{nth, numbers, freshTable}
 use Rattle.area.specs.Image.{wordsOf, areaOctets, storedIn, numbersAt}
 use Rattle.area.specs.Judge.{judged}
-use Rattle.area.specs.Operations.{AreaOpened, AreaFinished, openFound, openArea, closeFoundIn, closeArea}
+use Rattle.area.specs.Operations.{AreaOpened, openFound, openArea, closeFoundIn, closeArea}
 use Rattle.area.specs.declared.Table.{Table}
 use Rattle.area.proofs.NumberLaws.{fresh-numbers}
 use Rattle.area.proofs.AreaLaws.{stored-numbers, judged-unheld}

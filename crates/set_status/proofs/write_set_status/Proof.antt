@@ -1,13 +1,12 @@
 -- `set_status::write_set_status` meets its contract: a refusal leaves the buffer, and else the packet stands in it.
 -- Assumes nothing.
-use Prim.Native.Nat.{_-_, _≤_}
-use mathlib.Core.Path.{_≡_, sym, ap, _∙_}
+use Prim.Native.Nat.{_≤_}
+use mathlib.Core.Path.{_≡_, _∙_}
 use denote.Ref.{now}
 use lib.ListN.{length}
 use Rattle.octets.proofs.NumberLaws.{width-le, width-some}
 use Rattle.runs.specs.Holes.{holes}
 use Rattle.run_set.specs.RunSets.{heldRuns}
-use Rattle.table.specs.Status.{holeRoom, statusFlags}
 use Rattle.table.proofs.StatusFlags.{flags-fit}
 use Rattle.set_status.specs.Written.{keyOf, sizeRefusal}
 use Rattle.set_status.proofs.PacketLaws.{key-refused, key-written, skip-there, fields-room, part-room}

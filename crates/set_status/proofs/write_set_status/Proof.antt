@@ -36,7 +36,7 @@ returns c =
     let k = key-refused (keyOf (a .id) (a .width) (a .whole)) (heldRuns (a .r)) (a .skip) (a .unasked) (now (a .out)) n (number (c .before .before)) (omega arith) in
     (rw (c .refuse .ensures) (k .0), k .1)
 
--- where it is none, the skipped holes are there, the fields have room, and so have the holes that are written
+-- where it is none, the holes that are skipped are there
 known : (c : tie.Else1)
     → (sizeRefusal (c .before .before .before .before .args .width) (length (holes (heldRuns (c .before .before .before .before .args .r)))) (c .before .before .before .before .args .skip) (length (now (c .before .before .before .before .args .out))) ≡ 0)
     × (c .before .before .before .before .args .skip ≤ c .before .before .hole-count .result)

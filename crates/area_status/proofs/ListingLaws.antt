@@ -1,8 +1,8 @@
 -- What is listed of an area: 22, then 12 past the number open, and else each transfer once, in rising order of Id.
 -- Assumes nothing.
-use Prim.Native.Nat.{ℕ, zero, suc, _+_, _<_, _≤_}
-use mathlib.Core.Path.{_≡_, refl, sym, ap, _∙_}
-use mathlib.Core.Bool.{Bool, true, false}
+use Prim.Native.Nat.{ℕ, zero, suc, _<_, _≤_}
+use mathlib.Core.Path.{_≡_}
+use mathlib.Core.Bool.{Bool}
 use mathlib.Core.List.{List}
 use mathlib.Core.Option.{none, some}
 use mathlib.Core.Logic.{⊎-elim}
@@ -15,12 +15,11 @@ use Rattle.runs.specs.Holes.{edge, complete}
 use Rattle.runs.proofs.NumberLaws.{le-or-lt}
 use Rattle.table.specs.Transfers.{Transfer}
 use Rattle.area.specs.Numbers.{nth}
-use Rattle.area.specs.Judge.{judged, tableOf}
+use Rattle.area.specs.Judge.{tableOf}
 use Rattle.area.proofs.AreaLaws.{held-valid}
 use Rattle.area.proofs.PlaceLaws.{rising-at}
 use Rattle.area_status.specs.Listing.{listingOf, listedIn, listedFound, listedArea}
 use Rattle.area_status.specs.declared.Listing.{Listing}
-use Rattle.area_status.specs.declared.Listed.{Listed}
 use Rattle.area_status.specs.declared.Listed.the-variants.{Open, Refused}
 
 -- 22 where the area holds no table

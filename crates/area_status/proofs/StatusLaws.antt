@@ -22,7 +22,7 @@ use Rattle.table.specs.Tables.{keys, find, runsOf}
 use Rattle.table.specs.Status.{statusWriteRefusal, statusFor, statusSent, statusWritten, statusBuffer}
 use Rattle.area.specs.Words.{wordAt}
 use Rattle.area.specs.Numbers.{nth, transfersOf}
-use Rattle.area.specs.Image.{areaOctets, numbersAt}
+use Rattle.area.specs.Image.{numbersAt}
 use Rattle.area.specs.Judge.{judged, tableOf}
 use Rattle.area.specs.Operations.{statusAnswer, statusLeaves, areaStatusWritten, areaStatusBuffer}
 use Rattle.area.proofs.AreaLaws.{judged-unheld, held-long, held-valid}

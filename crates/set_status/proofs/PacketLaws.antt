@@ -1,6 +1,6 @@
 -- The STATUS of a key and its runs, from the numbers that the code works with.
 -- Assumes nothing.
-use Prim.Native.Nat.{ℕ, zero, suc, _+_, _*_, _-_, _<_, _≤_, min}
+use Prim.Native.Nat.{ℕ, _+_, _*_, _-_, _<_, _≤_, min}
 use mathlib.Core.Path.{_≡_, refl, sym, ap, _∙_}
 use mathlib.Core.Bool.{Bool, _||_}
 use mathlib.Core.List.{List}
@@ -13,7 +13,6 @@ use Rattle.octets.specs.Numbers.{Width}
 use Rattle.octets.specs.Put.{put}
 use Rattle.octets.proofs.NumberLaws.{width-some}
 use Rattle.header.specs.declared.Hole.{Hole}
-use Rattle.header.specs.declared.Written.{Written}
 use Rattle.header.specs.declared.Written.the-variants.{Size, Refused}
 use Rattle.header.specs.Refusals.{refusalOf}
 use Rattle.header.proofs.WritingLaws.{written-refused, buffer-refused}

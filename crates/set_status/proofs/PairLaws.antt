@@ -1,4 +1,4 @@
--- A STATUS put into a buffer part after part, and its holes one after the other.
+-- A STATUS put into a buffer part after part, and its holes one after another.
 -- Assumes nothing.
 use Prim.Native.Nat.{ℕ, zero, suc, _+_, _*_, _-_, _<_, _≤_}
 use mathlib.Core.Path.{_≡_, refl, sym, ap, _∙_}

@@ -1,6 +1,6 @@
 -- STATUS of one transfer by its key and its runs: what the writer answers, what it leaves, and the numbers on the way.
 -- Assumes nothing.
-use Prim.Native.Nat.{ℕ, _+_, _*_, _<_, _≤_}
+use Prim.Native.Nat.{ℕ, _+_, _*_, _≤_}
 use mathlib.Core.Bool.{Bool, not, cond, _&&_, _||_}
 use mathlib.Core.List.{List, _++_}
 use mathlib.Core.Option.{some}
@@ -12,11 +12,11 @@ use Rattle.header.specs.Writing.{writtenOf, bufferAfter}
 use Rattle.header.specs.declared.Hole.{Hole}
 use Rattle.header.specs.declared.Written.{Written}
 use Rattle.runs.specs.Runs.{Run, Canonical}
-use Rattle.runs.specs.Holes.{edge, holes, progress}
+use Rattle.runs.specs.Holes.{holes}
 use Rattle.run_set.specs.RunSets.{heldRuns}
 use Rattle.run_set.specs.declared.RunSet.{RunSet}
 use Rattle.table.specs.Transfers.{Key}
-use Rattle.table.specs.Status.{statusWriteRefusal, statusOctets, statusPacket, pairs}
+use Rattle.table.specs.Status.{statusWriteRefusal, statusPacket}
 
 abbrev pub keyOf : ℕ → ℕ → ℕ → Key
 keyOf id width length = record { id = id; width = width; length = length }

@@ -1,7 +1,7 @@
 // STATUS of one transfer, written from its runs straight into the lent buffer.
 ghost use mathlib.Core.Path.{_≡_};
 ghost use mathlib.Core.Bool.{_||_};
-ghost use Prim.Native.Nat.{_+_, _*_, _-_, _≤_, _<_, _^_, min};
+ghost use Prim.Native.Nat.{_+_, _*_, _≤_, _<_, _^_, min};
 ghost use lib.ListN.{length};
 ghost use Rattle.octets.specs.Numbers.{Width};
 ghost use Rattle.octets.specs.Put.{put};
@@ -31,7 +31,7 @@ fn least_room(width: usize, holes: usize) -> usize
     if holes == 0 {
         return 8 + 2 * width;
     }
-    8 + 2 * width + 2 * width
+    8 + 4 * width
 }
 
 // Refusals 19 and 20; 0 for none. `room` is the buffer's length.
@@ -77,10 +77,11 @@ fn unasked_or_complete(r: RunSet, whole: u64, unasked: bool) -> bool
     requires { ⌜ r .count ≤ 64 ⌝ }
     ensures { λ x. ⌜ x ≡ (unasked || complete whole (heldRuns r)) ⌝ }
 {
+    let done = run_set::is_complete(r, whole);
     if unasked {
         return true;
     }
-    run_set::is_complete(r, whole)
+    done
 }
 
 fn width_bits(width: usize) -> u64

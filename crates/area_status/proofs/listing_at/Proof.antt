@@ -1,7 +1,7 @@
 -- `area_status::listing_at` meets its contract: the words and the runs at a place are those of its transfer.
 -- Assumes nothing.
 use Prim.Native.Nat.{_<_, _≤_}
-use mathlib.Core.Path.{_≡_, sym, ap, _∙_}
+use mathlib.Core.Path.{ap, _∙_}
 use denote.Ref.{now}
 use lib.ListN.{length}
 use Rattle.run_set.specs.RunSets.{heldRuns}

@@ -3,7 +3,6 @@
 -- Assumes nothing.
 use Prim.Native.Nat.{_+_, _*_, _≤_}
 use mathlib.Core.Path.{_≡_, refl, _∙_}
-use denote.Ref.{now}
 use lib.ListN.{length}
 use Rattle.octets.specs.Put.{put}
 use Rattle.runs.specs.Holes.{holes}

@@ -1,13 +1,12 @@
 -- `set_status::write_set_status` meets its contract: a refusal leaves the buffer, and else the packet stands in it.
 -- Assumes nothing.
-use Prim.Native.Nat.{_-_, _≤_}
-use mathlib.Core.Path.{_≡_, sym, ap, _∙_}
+use Prim.Native.Nat.{_≤_}
+use mathlib.Core.Path.{_≡_, _∙_}
 use denote.Ref.{now}
 use lib.ListN.{length}
 use Rattle.octets.proofs.NumberLaws.{width-le, width-some}
 use Rattle.runs.specs.Holes.{holes}
 use Rattle.run_set.specs.RunSets.{heldRuns}
-use Rattle.table.specs.Status.{holeRoom, statusFlags}
 use Rattle.table.proofs.StatusFlags.{flags-fit}
 use Rattle.set_status.specs.Written.{keyOf, sizeRefusal}
 use Rattle.set_status.proofs.PacketLaws.{key-refused, key-written, skip-there, fields-room, part-room}
@@ -37,7 +36,7 @@ returns c =
     let k = key-refused (keyOf (a .id) (a .width) (a .whole)) (heldRuns (a .r)) (a .skip) (a .unasked) (now (a .out)) n (number (c .before .before)) (omega arith) in
     (rw (c .refuse .ensures) (k .0), k .1)
 
--- where it is none, the skipped holes are there, the fields have room, and so have the holes that are written
+-- where it is none, the holes that are skipped are there
 known : (c : tie.Else1)
     → (sizeRefusal (c .before .before .before .before .args .width) (length (holes (heldRuns (c .before .before .before .before .args .r)))) (c .before .before .before .before .args .skip) (length (now (c .before .before .before .before .args .out))) ≡ 0)
     × (c .before .before .before .before .args .skip ≤ c .before .before .hole-count .result)

@@ -216,10 +216,15 @@ static void compare_damaged(const struct tables *t, const uint8_t *packet, size_
     struct saratoga_recorded a, b;
     struct saratoga_opened c, d;
     memcpy(ours, t->ours, AREA);
-    if (below(2))
+    if (below(3) == 0) {
+        /* A run starts where the one before it stops. */
+        size_t run = 64 * below(open + 1) % 1024 + 1 + below(20);
+        memcpy(ours + 8 * (65 + run), ours + 8 * (1089 + run - 1), 8);
+    } else if (below(2)) {
         ours[8 * k + below(8)] ^= (uint8_t)(1 << below(8));
-    else
+    } else {
         put(ours + 8 * k, below(70), 8);
+    }
     memcpy(plain, ours, AREA);
     a = saratoga_record(ours, len, packet, size);
     b = area_record(plain, len, packet, size);

@@ -220,6 +220,10 @@ static void compare_damaged(const struct tables *t, const uint8_t *packet, size_
         /* A run starts where the one before it stops. */
         size_t run = 64 * below(open + 1) % 1024 + 1 + below(20);
         memcpy(ours + 8 * (65 + run), ours + 8 * (1089 + run - 1), 8);
+    } else if (below(8) == 0) {
+        /* An Id is that before it. */
+        size_t place = 1 + below(15);
+        memcpy(ours + 8 * (1 + place), ours + 8 * place, 8);
     } else if (below(2)) {
         ours[8 * k + below(8)] ^= (uint8_t)(1 << below(8));
     } else {

@@ -3,14 +3,17 @@
 # make compare  compares the archive with the codec and receiver of host/paper; SEED=N and CALLS=N are optional
 # make soak     the same over 3 x 10^8 calls, an hour or more; or for SECONDS=N seconds
 # make stack    prints the stack that each function needs
+# make bench    measures the library beside plain C and prints the ratios; docs/BENCHMARKS.md
+# make bench-instructions   the same in instructions, by callgrind
 # make install  header and archive below PREFIX (default /usr/local)
 PREFIX ?= /usr/local
 ARCHIVE = target/staticlib/libsaratoga.a
+BENCH_FLAGS = -O2 -Wall -Wextra -Iinclude
 
-.PHONY: test lib compare soak stack install clean help
+.PHONY: test lib compare soak stack bench-program bench bench-instructions install clean help
 
 help:
-	@sed -n 's/^# //p' Makefile | head -n 6
+	@sed -n 's/^# //p' Makefile | head -n 8
 
 test:
 	bash .ci/run
@@ -30,6 +33,18 @@ soak: lib
 stack: lib
 	$(CC) -std=c99 -O2 -Iinclude host/ctest/stack.c $(ARCHIVE) -lpthread -o target/stack
 	target/stack
+
+bench-program: lib
+	mkdir -p target/bench
+	$(CXX) -std=c++17 $(BENCH_FLAGS) -c host/bench/plain_map.cc -o target/bench/plain_map.o
+	$(CC) -std=c99 $(BENCH_FLAGS) host/bench/*.c target/bench/plain_map.o $(ARCHIVE) -lstdc++ -o target/bench/bench
+
+bench: bench-program
+	@echo "(A), (B), (C): $$($(CC) --version | head -n 1), $(BENCH_FLAGS)"
+	target/bench/bench $(if $(REPEATS),--repeats $(REPEATS))
+
+bench-instructions: bench-program
+	host/bench/instructions
 
 install: lib
 	install -d $(DESTDIR)$(PREFIX)/include $(DESTDIR)$(PREFIX)/lib

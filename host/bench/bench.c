@@ -1,0 +1,709 @@
+/*
+ * Measures our receiver beside (A), (B) and (C) of receivers.h, on the same inputs in one run, and prints nanoseconds
+ * for each call and ratios. First it compares: all receivers must give the same answers and buffers, and (B) the same
+ * area, on every input that is measured and on random ones, refusals among them; otherwise it ends with status 1.
+ *
+ *     bench                 compares and measures
+ *     bench --repeats N     how often each case is measured; the median is printed (default 101)
+ *     bench --calls N       how many random calls are compared (default 40000)
+ *     bench --list          prints the cases and the receivers of each, for host/bench/instructions
+ *     bench --once          runs each of these twice and calls case_end after each run, for callgrind
+ */
+#define _POSIX_C_SOURCE 200809L
+#include <stdio.h>
+#include <stdlib.h>
+#include <string.h>
+#include <time.h>
+
+#include "receivers.h"
+
+enum { AREA = SARATOGA_AREA_OCTETS, PAYLOAD = 1000, ROOM = 1048 };
+enum { CALLS = 256, PART = 16, REPEATS_MOST = 1001, CASES_MOST = 20 };
+enum receiver { OURS, MEMORY, PLAIN_AREA, MAP, RECEIVERS };
+enum operation { READ, OPEN, RECORD, STATUS, CLOSE };
+
+static const char *const receiver_names[RECEIVERS] = {"ours", "A", "B", "C"};
+
+struct tables {
+    uint8_t ours[AREA], plain[AREA];
+    struct memory_table *memory;
+    struct map_table *map;
+};
+
+struct call {
+    uint8_t *packet;
+    size_t size;
+    uint64_t id;
+};
+
+struct bench_case {
+    char name[64];
+    enum operation operation;
+    struct tables start;
+    struct call calls[CALLS];
+    size_t count;
+};
+
+static struct bench_case *cases[CASES_MOST];
+static size_t case_count;
+static uint8_t status_room[ROOM];
+static unsigned long compared;
+static uint8_t refusals_seen[23];
+
+/* Numbers that look random; the same in each run. */
+static uint64_t random_state = 611;
+
+static uint64_t random_number(void)
+{
+    uint64_t z = random_state += UINT64_C(0x9E3779B97F4A7C15);
+    z = (z ^ z >> 30) * UINT64_C(0xBF58476D1CE4E5B9);
+    z = (z ^ z >> 27) * UINT64_C(0x94D049BB133111EB);
+    return z ^ z >> 31;
+}
+
+static size_t below(size_t n)
+{
+    return (size_t)(random_number() % n);
+}
+
+static void *allocated(size_t size)
+{
+    void *memory = calloc(1, size);
+    if (memory == NULL) {
+        fprintf(stderr, "bench: no memory\n");
+        exit(2);
+    }
+    return memory;
+}
+
+/* Tables. */
+
+static void make_tables(struct tables *t)
+{
+    saratoga_fresh(t->ours, AREA);
+    area_fresh(t->plain, AREA);
+    t->memory = memory_new();
+    t->map = map_new();
+}
+
+static void copy_tables(struct tables *to, const struct tables *from, enum receiver receiver)
+{
+    switch (receiver) {
+    case OURS:
+        memcpy(to->ours, from->ours, AREA);
+        break;
+    case MEMORY:
+        memory_copy(to->memory, from->memory);
+        break;
+    case PLAIN_AREA:
+        memcpy(to->plain, from->plain, AREA);
+        break;
+    default:
+        map_copy(to->map, from->map);
+    }
+}
+
+/* Packets. */
+
+static void put(uint8_t *at, uint64_t number, size_t octets)
+{
+    while (octets > 0) {
+        at[--octets] = (uint8_t)number;
+        number >>= 8;
+    }
+}
+
+static uint64_t width_flags(size_t width)
+{
+    return width == 2 ? 0 : width == 4 ? 0x400000 : 0x800000;
+}
+
+static size_t data_packet(uint8_t *p, uint64_t flags, uint64_t id, uint64_t offset, size_t payload)
+{
+    size_t width = (size_t)2 << (flags >> 22 & 3), at = flags & SARATOGA_FLAG_TIMESTAMP ? 24 : 8;
+    put(p, UINT64_C(0x43000000) | flags, 4);
+    put(p + 4, id, 4);
+    memset(p + 8, 0x5A, at - 8);
+    put(p + at, offset, width < 8 ? width : 8);
+    memset(p + at + width, 0xC3, payload);
+    return at + width + payload;
+}
+
+/* The size stands in 64 bits. */
+static size_t metadata_packet(uint8_t *p, uint64_t flags, uint64_t id, uint64_t size, size_t path)
+{
+    size_t at = 8 + 4 * (flags >> 4 & 15);
+    put(p, UINT64_C(0x42000000) | flags, 4);
+    put(p + 4, id, 4);
+    memset(p + 8, 0x5A, at - 8);
+    put(p + at, 0x0080, 2);
+    put(p + at + 2, size, 8);
+    put(p + at + 10, 0, 8);
+    memset(p + at + 18, 'p', path);
+    p[at + 18 + path] = 0;
+    return at + 19 + path;
+}
+
+/* Comparing. */
+
+static void same(const char *what, const char *whom, const void *ours, const void *theirs, size_t size)
+{
+    if (memcmp(ours, theirs, size) != 0) {
+        fprintf(stderr, "bench: %s: ours and (%s) differ\n", what, whom);
+        exit(1);
+    }
+}
+
+/* Answers have fields of 64 bits alone, so they are the same where their octets are. */
+#define COMPARED(what, answer, call_ours, call_a, call_b, call_c)         \
+    do {                                                                  \
+        struct answer ours = call_ours, a = call_a, b = call_b, c = call_c; \
+        same(what, "A", &ours, &a, sizeof ours);                          \
+        same(what, "B", &ours, &b, sizeof ours);                          \
+        same(what, "C", &ours, &c, sizeof ours);                          \
+        same(what, "B: area", t->ours, t->plain, AREA);                   \
+        refusals_seen[ours.number] = 1;                                   \
+        compared++;                                                       \
+    } while (0)
+
+static void compare_read(const uint8_t *packet, size_t size)
+{
+    struct saratoga_packet ours = saratoga_read(packet, size), plain = plain_read(packet, size);
+    same("read", "A", &ours, &plain, sizeof ours);
+    refusals_seen[ours.number] = 1;
+    compared++;
+}
+
+static void compare_open(struct tables *t, const uint8_t *packet, size_t size)
+{
+    COMPARED("open", saratoga_opened, saratoga_open(t->ours, AREA, packet, size), memory_open(t->memory, packet, size),
+             area_open(t->plain, AREA, packet, size), map_open(t->map, packet, size));
+}
+
+static void compare_record(struct tables *t, const uint8_t *packet, size_t size)
+{
+    COMPARED("record", saratoga_recorded, saratoga_record(t->ours, AREA, packet, size),
+             memory_record(t->memory, packet, size), area_record(t->plain, AREA, packet, size),
+             map_record(t->map, packet, size));
+}
+
+static void compare_close(struct tables *t, uint64_t id)
+{
+    COMPARED("close", saratoga_done, saratoga_close(t->ours, AREA, id), memory_close(t->memory, id),
+             area_close(t->plain, AREA, id), map_close(t->map, id));
+}
+
+static uint64_t compare_status(struct tables *t, uint64_t id, uint64_t skip, uint64_t unasked, size_t room)
+{
+    static uint8_t out[RECEIVERS][ROOM];
+    memset(out, 0xA5, sizeof out);
+    COMPARED("status", saratoga_written, saratoga_write_status(t->ours, AREA, id, skip, unasked, out[OURS], room),
+             memory_write_status(t->memory, id, skip, unasked, out[MEMORY], room),
+             area_write_status(t->plain, AREA, id, skip, unasked, out[PLAIN_AREA], room),
+             map_write_status(t->map, id, skip, unasked, out[MAP], room));
+    same("status: buffer", "A", out[OURS], out[MEMORY], ROOM);
+    same("status: buffer", "B", out[OURS], out[PLAIN_AREA], ROOM);
+    same("status: buffer", "C", out[OURS], out[MAP], ROOM);
+    memcpy(status_room, out[OURS], ROOM);
+    return out[OURS][0] == 0x44 ? 1 : 0;
+}
+
+/* A damaged area, or one cut short: ours and (B) alone. */
+static void compare_damaged(const struct tables *t, const uint8_t *packet, size_t size)
+{
+    static uint8_t ours[AREA], plain[AREA];
+    size_t open = t->ours[7], k = below(2) ? below(2113) : below(65 + 64 * (open + 1)), len = below(20) ? AREA : AREA - 1;
+    struct saratoga_recorded a, b;
+    struct saratoga_opened c, d;
+    memcpy(ours, t->ours, AREA);
+    if (below(3) == 0) {
+        /* A run starts where the one before it stops. */
+        size_t run = 64 * below(open + 1) % 1024 + 1 + below(20);
+        memcpy(ours + 8 * (65 + run), ours + 8 * (1089 + run - 1), 8);
+    } else if (below(8) == 0) {
+        /* An Id is that before it. */
+        size_t place = 1 + below(15);
+        memcpy(ours + 8 * (1 + place), ours + 8 * place, 8);
+    } else if (below(2)) {
+        ours[8 * k + below(8)] ^= (uint8_t)(1 << below(8));
+    } else {
+        put(ours + 8 * k, below(70), 8);
+    }
+    memcpy(plain, ours, AREA);
+    a = saratoga_record(ours, len, packet, size);
+    b = area_record(plain, len, packet, size);
+    same("record, damaged", "B", &a, &b, sizeof a);
+    same("record, damaged", "B: area", ours, plain, AREA);
+    refusals_seen[a.number] = 1;
+    c = saratoga_open(ours, len, packet, size);
+    d = area_open(plain, len, packet, size);
+    same("open, damaged", "B", &c, &d, sizeof c);
+    same("open, damaged", "B: area", ours, plain, AREA);
+    compared += 2;
+}
+
+/* A packet for one of 18 Ids, of which each has a width and a length of its own; some are wrong. */
+static size_t random_packet(uint8_t *p, enum operation operation)
+{
+    static const size_t widths[3] = {2, 4, 8};
+    static const uint8_t pairs[8] = {0x00, 0x11, 0x42, 0x53, 0x14, 0xFF, 0x21, 0x04};
+    uint64_t id = below(3) ? below(4) : below(18), length = id == 5 ? 0 : 20000 + 1000 * id, flags = width_flags(widths[id % 3]);
+    size_t size;
+    if (below(40) == 0)
+        flags = width_flags(widths[below(3)]);
+    if (operation == OPEN) {
+        flags |= below(8) ? 0 : pairs[below(8)];
+        size = metadata_packet(p, flags, id, below(30) ? length : (uint64_t)1 << below(64),
+                               below(20) ? 1 + below(40) : 1000 + below(40));
+    } else {
+        uint64_t payload = 1 + below(60), offset = below(30) ? below(20000 + 1000 * id) : random_number();
+        if (below(6) == 0) {
+            payload = 500;
+            offset = offset / 500 * 500;
+        }
+        flags |= below(4) ? 0 : SARATOGA_FLAG_TIMESTAMP;
+        flags |= below(20) ? 0 : SARATOGA_FLAG_END_OF_DATA;
+        size = data_packet(p, flags, id, offset, payload);
+    }
+    if (below(20) == 0)
+        p[below(size < 40 ? size : 40)] ^= (uint8_t)(1 << below(8));
+    if (below(40) == 0)
+        size = below(100) ? below(size + 1) : 65530 + below(12);
+    return size;
+}
+
+static void compare_random(unsigned long calls)
+{
+    static uint8_t packet[66000];
+    struct tables *t = allocated(sizeof *t);
+    make_tables(t);
+    while (compared < calls) {
+        size_t choice = below(100), size;
+        if (choice < 12) {
+            size = random_packet(packet, OPEN);
+            compare_open(t, packet, size);
+        } else if (choice < 70) {
+            size = random_packet(packet, RECORD);
+            compare_record(t, packet, size);
+        } else if (choice < 85) {
+            uint64_t id = below(50) ? below(18) : random_number();
+            if (compare_status(t, id, below(3) ? 0 : below(70), below(2), below(2) ? ROOM : below(ROOM))) {
+                memcpy(packet, status_room, ROOM);
+                size = 8 + 4 * below(130);
+                if (below(3) == 0)
+                    packet[below(size)] ^= (uint8_t)(1 << below(8));
+                compare_read(packet, size);
+            }
+        } else if (choice < 86) {
+            compare_close(t, below(20) ? below(18) : random_number());
+        } else if (choice < 95) {
+            size = random_packet(packet, below(2) ? OPEN : RECORD);
+            compare_read(packet, size);
+        } else {
+            size = random_packet(packet, below(2) ? OPEN : RECORD);
+            compare_damaged(t, packet, size);
+        }
+    }
+}
+
+/* Cases. */
+
+static struct bench_case *new_case(const char *name, enum operation operation)
+{
+    struct bench_case *c = allocated(sizeof *c);
+    snprintf(c->name, sizeof c->name, "%s", name);
+    c->operation = operation;
+    make_tables(&c->start);
+    cases[case_count++] = c;
+    return c;
+}
+
+static uint8_t *new_call(struct bench_case *c, uint64_t id)
+{
+    struct call *call = &c->calls[c->count++];
+    call->packet = allocated(PAYLOAD + 48);
+    call->id = id;
+    return call->packet;
+}
+
+static void data_call(struct bench_case *c, uint64_t flags, uint64_t id, uint64_t offset)
+{
+    uint8_t *packet = new_call(c, id);
+    c->calls[c->count - 1].size = data_packet(packet, flags, id, offset, PAYLOAD);
+}
+
+enum { SPACING = 0x10000000 };
+
+static uint64_t id_of(size_t transfer)
+{
+    return 0x1000 + 0x35 * transfer;
+}
+
+/* Opens transfers of 64 bits, each with `runs` runs of 1,000 octets, the first from `from` on. */
+static void open_with_runs(struct bench_case *c, size_t transfers, size_t runs, uint64_t from)
+{
+    static uint8_t packet[PAYLOAD + 48];
+    size_t i, j, size;
+    for (i = 0; i < transfers; i++) {
+        size = metadata_packet(packet, 0x800000, id_of(i), (uint64_t)1 << 40, 11);
+        compare_open(&c->start, packet, size);
+        for (j = 0; j < runs; j++) {
+            size = data_packet(packet, 0x800000, id_of(i), from + j * SPACING, PAYLOAD);
+            compare_record(&c->start, packet, size);
+        }
+    }
+}
+
+static void read_case(size_t width, int timestamp)
+{
+    char name[64];
+    struct bench_case *c;
+    size_t i;
+    snprintf(name, sizeof name, "read DATA, width %d%s", (int)(8 * width), timestamp ? ", timestamp" : "");
+    c = new_case(name, READ);
+    for (i = 0; i < CALLS; i++)
+        data_call(c, width_flags(width) | (timestamp ? SARATOGA_FLAG_TIMESTAMP : 0), id_of(i % 16), 100 * i);
+}
+
+/*
+ * Packets in fours, each four at a transfer and a run drawn at random: one that extends the run, one apart from all runs
+ * (a run more), the one between them (a run less), and a repeat. So the number of runs held stays.
+ */
+static void record_case(size_t transfers, size_t runs)
+{
+    uint64_t stops[16][64], stop;
+    char name[64];
+    struct bench_case *c;
+    size_t i, j;
+    snprintf(name, sizeof name, "record, %d run%s, %d open", (int)runs, runs == 1 ? "" : "s", (int)transfers);
+    c = new_case(name, RECORD);
+    open_with_runs(c, transfers, runs, 0);
+    for (i = 0; i < 16; i++)
+        for (j = 0; j < 64; j++)
+            stops[i][j] = j * SPACING + PAYLOAD;
+    while (c->count < CALLS) {
+        i = below(transfers);
+        j = below(runs);
+        stop = stops[i][j];
+        data_call(c, 0x800000, id_of(i), stop);
+        data_call(c, 0x800000, id_of(i), stop + 2 * PAYLOAD);
+        data_call(c, 0x800000, id_of(i), stop + PAYLOAD);
+        data_call(c, 0x800000, id_of(i), stop);
+        stops[i][j] = stop + 3 * PAYLOAD;
+    }
+}
+
+static void status_case(size_t transfers, size_t holes)
+{
+    char name[64];
+    struct bench_case *c;
+    snprintf(name, sizeof name, "STATUS, %d holes, %d open", (int)holes, (int)transfers);
+    c = new_case(name, STATUS);
+    open_with_runs(c, transfers, holes == 0 ? 1 : holes, holes == 0 ? 0 : PAYLOAD);
+    while (c->count < CALLS)
+        new_call(c, id_of(below(transfers)));
+}
+
+static void open_call(struct bench_case *c, uint64_t id)
+{
+    uint8_t *packet = new_call(c, id);
+    c->calls[c->count - 1].size = metadata_packet(packet, 0x800000, id, (uint64_t)1 << 40, 11);
+}
+
+static void open_and_close_cases(void)
+{
+    struct bench_case *new_ids = new_case("open, new, 0 to 15 open", OPEN);
+    struct bench_case *already = new_case("open, already open, 16 open", OPEN);
+    struct bench_case *closing = new_case("close, 16 to 1 open", CLOSE);
+    size_t i;
+    open_with_runs(already, 16, 8, 0);
+    open_with_runs(closing, 16, 8, 0);
+    for (i = 0; i < 16; i++) {
+        open_call(new_ids, id_of(7 * i % 16));
+        new_call(closing, id_of(11 * i % 16));
+    }
+    while (already->count < CALLS)
+        open_call(already, id_of(below(16)));
+}
+
+static void make_cases(void)
+{
+    static const size_t runs[3] = {1, 8, 63};
+    size_t i;
+    read_case(2, 0);
+    read_case(2, 1);
+    read_case(8, 0);
+    read_case(8, 1);
+    for (i = 0; i < 6; i++)
+        record_case(i < 3 ? 1 : 16, runs[i % 3]);
+    status_case(1, 0);
+    status_case(1, 64);
+    status_case(16, 0);
+    status_case(16, 64);
+    open_and_close_cases();
+}
+
+static void compare_case(const struct bench_case *c, struct tables *t)
+{
+    size_t i;
+    for (i = 0; i < RECEIVERS; i++)
+        copy_tables(t, &c->start, i);
+    for (i = 0; i < c->count; i++) {
+        const struct call *call = &c->calls[i];
+        switch (c->operation) {
+        case READ:
+            compare_read(call->packet, call->size);
+            break;
+        case OPEN:
+            compare_open(t, call->packet, call->size);
+            break;
+        case RECORD:
+            compare_record(t, call->packet, call->size);
+            break;
+        case STATUS:
+            compare_status(t, call->id, 0, 0, ROOM);
+            break;
+        case CLOSE:
+            compare_close(t, call->id);
+        }
+    }
+}
+
+/* Running: the calls of a case from `from` up to, not including, `to`, straight to the functions of one receiver. */
+
+#define RUNNER(receiver, reader, ...)                                                                              \
+    static uint64_t receiver##_run(const struct bench_case *c, struct tables *t, size_t from, size_t to)           \
+    {                                                                                                              \
+        const struct call *call = c->calls + from, *end = c->calls + to;                                           \
+        uint64_t sum = 0;                                                                                          \
+        (void)t;                                                                                                   \
+        switch (c->operation) {                                                                                    \
+        case READ:                                                                                                 \
+            for (; call < end; call++)                                                                             \
+                sum += reader(call->packet, call->size).payload_len;                                               \
+            break;                                                                                                 \
+        case OPEN:                                                                                                 \
+            for (; call < end; call++)                                                                             \
+                sum += receiver##_open(__VA_ARGS__, call->packet, call->size).number;                              \
+            break;                                                                                                 \
+        case RECORD:                                                                                               \
+            for (; call < end; call++)                                                                             \
+                sum += receiver##_record(__VA_ARGS__, call->packet, call->size).edge;                              \
+            break;                                                                                                 \
+        case STATUS:                                                                                               \
+            for (; call < end; call++)                                                                             \
+                sum += receiver##_write_status(__VA_ARGS__, call->id, 0, 0, status_room, ROOM).size;               \
+            break;                                                                                                 \
+        case CLOSE:                                                                                                \
+            for (; call < end; call++)                                                                             \
+                sum += receiver##_close(__VA_ARGS__, call->id).number;                                             \
+        }                                                                                                          \
+        return sum;                                                                                                \
+    }
+
+RUNNER(saratoga, saratoga_read, t->ours, AREA)
+RUNNER(memory, plain_read, t->memory)
+RUNNER(area, plain_read, t->plain, AREA)
+RUNNER(map, plain_read, t->map)
+
+static uint64_t (*const runners[RECEIVERS])(const struct bench_case *, struct tables *, size_t, size_t) = {
+    saratoga_run, memory_run, area_run, map_run};
+static volatile uint64_t kept;
+
+/* Reading is the same plain C in (A), (B) and (C). */
+static int measured(const struct bench_case *c, enum receiver receiver)
+{
+    return c->operation != READ || receiver <= MEMORY;
+}
+
+static double now(void)
+{
+    struct timespec t;
+    clock_gettime(CLOCK_MONOTONIC, &t);
+    return 1e9 * (double)t.tv_sec + (double)t.tv_nsec;
+}
+
+static int rising(const void *a, const void *b)
+{
+    double x = *(const double *)a, y = *(const double *)b;
+    return (x > y) - (x < y);
+}
+
+static double median(double *values, size_t count)
+{
+    qsort(values, count, sizeof values[0], rising);
+    return values[count / 2];
+}
+
+/* What reading the clock twice takes by itself. */
+static double clock_time(void)
+{
+    static double times[1001];
+    size_t i;
+    for (i = 0; i < 1001; i++) {
+        double start = now();
+        times[i] = now() - start;
+    }
+    return median(times, 1001);
+}
+
+/*
+ * Nanoseconds of each part of PART calls of a case, from its start on, after a run that isn't timed. Parts are short, so
+ * that few of them are interrupted, and the median leaves those out.
+ */
+static double times[CASES_MOST][RECEIVERS][CALLS / PART][REPEATS_MOST];
+
+static void sample(size_t which, struct tables *t, enum receiver receiver, size_t repeat, double clock)
+{
+    const struct bench_case *c = cases[which];
+    size_t i;
+    copy_tables(t, &c->start, receiver);
+    kept += runners[receiver](c, t, 0, c->count);
+    copy_tables(t, &c->start, receiver);
+    for (i = 0; i < c->count / PART; i++) {
+        double start = now();
+        kept += runners[receiver](c, t, i * PART, (i + 1) * PART);
+        times[which][receiver][i][repeat] = now() - start - clock;
+    }
+}
+
+/* Nanoseconds for a call: the medians of the parts, together. */
+static double time_of(size_t which, enum receiver receiver, size_t repeats)
+{
+    const struct bench_case *c = cases[which];
+    double sum = 0;
+    size_t i;
+    for (i = 0; i < c->count / PART; i++)
+        sum += median(times[which][receiver][i], repeats);
+    return sum / (double)c->count;
+}
+
+static void print_ratio(double ratio)
+{
+    if (ratio > 0)
+        printf(" %7.2f", ratio);
+    else
+        printf(" %7s", "");
+}
+
+static void print_time(double time)
+{
+    if (time > 0)
+        printf(" %8.1f", time);
+    else
+        printf(" %8s", "");
+}
+
+static void measure(size_t repeats)
+{
+    double clock = clock_time(), worst_record = 0, worst_read = 0;
+    struct tables *t = allocated(sizeof *t);
+    size_t i, k, r;
+    make_tables(t);
+    for (r = 0; r < repeats; r++)
+        for (i = 0; i < case_count; i++)
+            for (k = 0; k < RECEIVERS; k++)
+                if (measured(cases[i], k))
+                    sample(i, t, k, r, clock);
+    printf("Nanoseconds a call, medians of %d, and ratios\n", (int)repeats);
+    printf("%-31s %8s %8s %8s %8s %7s %7s %7s\n", "", "ours", "(A)", "(B)", "(C)", "ours/A", "ours/B", "ours/C");
+    for (i = 0; i < case_count; i++) {
+        double ratio[RECEIVERS] = {0}, time[RECEIVERS] = {0};
+        for (k = 0; k < RECEIVERS; k++) {
+            if (!measured(cases[i], k))
+                continue;
+            time[k] = time_of(i, k, repeats);
+            ratio[k] = time[OURS] / time[k];
+        }
+        printf("%-31s", cases[i]->name);
+        for (k = 0; k < RECEIVERS; k++)
+            print_time(time[k]);
+        for (k = MEMORY; k < RECEIVERS; k++)
+            print_ratio(ratio[k]);
+        printf("\n");
+        if (cases[i]->operation == RECORD && ratio[PLAIN_AREA] > worst_record)
+            worst_record = ratio[PLAIN_AREA];
+        if (cases[i]->operation == READ && ratio[MEMORY] > worst_read)
+            worst_read = ratio[MEMORY];
+    }
+    printf("aim: reading DATA at most 1.2 times plain C: %.2f, %s\n", worst_read, worst_read <= 1.2 ? "met" : "not met");
+    printf("aim: recording at most 1.5 times (B): %.2f, %s\n", worst_record, worst_record <= 1.5 ? "met" : "not met");
+}
+
+/* For callgrind. */
+
+void case_end(void);
+__attribute__((noinline)) void case_end(void)
+{
+    kept++;
+}
+
+static void once(void)
+{
+    struct tables *t = allocated(sizeof *t);
+    size_t i, k, r;
+    make_tables(t);
+    case_end();
+    for (i = 0; i < case_count; i++)
+        for (k = 0; k < RECEIVERS; k++)
+            for (r = 0; measured(cases[i], k) && r < 2; r++) {
+                copy_tables(t, &cases[i]->start, k);
+                kept += runners[k](cases[i], t, 0, cases[i]->count);
+                case_end();
+            }
+}
+
+static void list(void)
+{
+    size_t i, k;
+    for (i = 0; i < case_count; i++)
+        for (k = 0; k < RECEIVERS; k++)
+            if (measured(cases[i], k))
+                printf("%s\t%s\t%d\n", cases[i]->name, receiver_names[k], (int)cases[i]->count);
+}
+
+static int usage(void)
+{
+    fprintf(stderr, "usage: bench [--repeats N] [--calls N] | --list | --once\n");
+    return 2;
+}
+
+int main(int argc, char **argv)
+{
+    unsigned long repeats = 101, calls = 40000;
+    int i;
+    struct tables *t = allocated(sizeof *t);
+    make_tables(t);
+    make_cases();
+    if (argc == 2 && strcmp(argv[1], "--list") == 0) {
+        list();
+        return 0;
+    }
+    if (argc == 2 && strcmp(argv[1], "--once") == 0) {
+        once();
+        return 0;
+    }
+    for (i = 1; i + 1 < argc; i += 2) {
+        unsigned long number = strtoul(argv[i + 1], NULL, 10);
+        if (strcmp(argv[i], "--repeats") == 0 && number > 0 && number <= REPEATS_MOST)
+            repeats = number;
+        else if (strcmp(argv[i], "--calls") == 0)
+            calls = number;
+        else
+            return usage();
+    }
+    if (i < argc)
+        return usage();
+    for (i = 0; i < (int)case_count; i++)
+        compare_case(cases[i], t);
+    printf("compared: %lu calls on the measured inputs", compared);
+    compared = 0;
+    compare_random(calls);
+    printf(" and %lu random ones: ours, (A), (B) and (C) agree\nrefusals among them:", compared);
+    for (i = 1; i < 23; i++)
+        if (refusals_seen[i])
+            printf(" %d", i);
+    printf("\n\n");
+    measure(repeats);
+    return 0;
+}

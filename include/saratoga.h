@@ -1,14 +1,14 @@
 /*
- * saratoga: read and write packets of the Saratoga file transfer protocol (draft 09).
+ * saratoga: read and write packets of the Saratoga file transfer protocol (draft 09), and receive files by it.
  *
  * Every call gives an answer: a result, or a refusal.
  * - Accepted: `number` and `code` are 0.
  * - Refused: `number` is one of SARATOGA_REFUSED_..., `code` is the status code to send to the peer in a failure
- *   STATUS (0: send nothing), and every other field is 0. No lent buffer is touched.
+ *   STATUS (0: send nothing), and every other field is 0. No lent buffer and no area is touched.
  * Where several refusals apply, the first in the order stated at the function is given.
  *
  * Pointers must not be NULL, also where the length is 0, and must be valid for their length: readable where const,
- * else readable and writable. A buffer to be written must not overlap any other argument.
+ * else readable and writable. A buffer or an area to be written must not overlap any other argument.
  * Apart from that, any octets and any numbers may be passed.
  *
  * Bits count from 0, the highest bit of the first octet. All numbers in packets are big-endian.
@@ -39,20 +39,28 @@ extern "C" {
 #define SARATOGA_FLAG_END_OF_DATA UINT64_C(0x008000)   /* bit 16 of DATA: it holds the last octet */
 
 /* Refusal numbers, each with its `code`. */
-#define SARATOGA_REFUSED_TRUNCATED 1   /* 0x00: packet ends inside a field, or in a path of fewer than 1,024 octets */
-#define SARATOGA_REFUSED_TOO_LONG 2    /* 0x00: packet over 65,535 octets, read or to be written */
-#define SARATOGA_REFUSED_VERSION 3     /* 0x00: bits 0 and 1 are not 0 1 */
-#define SARATOGA_REFUSED_TYPE 4        /* 0x0A: type not 2, 3 or 4, or not the one that the function takes */
-#define SARATOGA_REFUSED_WIDTH 5       /* 0x09: width bits 11 */
-#define SARATOGA_REFUSED_KIND 6        /* 0x01: kind or property bits not those of a file */
-#define SARATOGA_REFUSED_CHECKSUM 7    /* 0x01: pair of checksum type and length not allowed */
-#define SARATOGA_REFUSED_PATH 8        /* 0x01: path empty, over 1,023 octets, or followed by octets */
-#define SARATOGA_REFUSED_SIZE 9        /* 0x09: size above the largest number of the packet's descriptor width */
-#define SARATOGA_REFUSED_NO_PAYLOAD 10 /* 0x01: DATA with no payload */
-#define SARATOGA_REFUSED_HOLES 11      /* 0x00: hole list not allowed, or holes asked of a failure STATUS */
-#define SARATOGA_REFUSED_INDEX 19      /* 0x00: no hole has that index */
-#define SARATOGA_REFUSED_BUFFER 20     /* 0x00: buffer too small */
-#define SARATOGA_REFUSED_FIELD 21      /* 0x00: a field to be written exceeds its bits, or failure code 0 */
+#define SARATOGA_REFUSED_TRUNCATED 1     /* 0x00: packet ends inside a field, or in a path of fewer than 1,024 octets */
+#define SARATOGA_REFUSED_TOO_LONG 2      /* 0x00: packet over 65,535 octets, read or to be written */
+#define SARATOGA_REFUSED_VERSION 3       /* 0x00: bits 0 and 1 are not 0 1 */
+#define SARATOGA_REFUSED_TYPE 4          /* 0x0A: type not 2, 3 or 4, or not the one that the function takes */
+#define SARATOGA_REFUSED_WIDTH 5         /* 0x09: width bits 11 */
+#define SARATOGA_REFUSED_KIND 6          /* 0x01: kind or property bits not those of a file */
+#define SARATOGA_REFUSED_CHECKSUM 7      /* 0x01: pair of checksum type and length not allowed */
+#define SARATOGA_REFUSED_PATH 8          /* 0x01: path empty, over 1,023 octets, or followed by octets */
+#define SARATOGA_REFUSED_SIZE 9          /* 0x09: size above the largest number of the packet's descriptor width */
+#define SARATOGA_REFUSED_NO_PAYLOAD 10   /* 0x01: DATA with no payload */
+#define SARATOGA_REFUSED_HOLES 11        /* 0x00: hole list not allowed, or holes asked of a failure STATUS */
+#define SARATOGA_REFUSED_NOT_OPEN 12     /* 0x06: Id not open */
+#define SARATOGA_REFUSED_OTHER_WIDTH 13  /* 0x09: DATA of another descriptor width than the transfer's */
+#define SARATOGA_REFUSED_PAST_END 14     /* 0x09: offset plus payload length above the transfer's length */
+#define SARATOGA_REFUSED_EARLY_END 15    /* 0x01: end of data set, and offset plus payload length not that length */
+#define SARATOGA_REFUSED_RUNS 16         /* 0x03: more than 64 runs would be received */
+#define SARATOGA_REFUSED_TABLE_FULL 17   /* 0x03: a new Id, and 16 are open */
+#define SARATOGA_REFUSED_OPEN_OTHER 18   /* 0x09: Id open with another width or length */
+#define SARATOGA_REFUSED_INDEX 19        /* 0x00: no hole has that index, or that many can't be skipped */
+#define SARATOGA_REFUSED_BUFFER 20       /* 0x00: buffer too small, or the area to be made fresh */
+#define SARATOGA_REFUSED_FIELD 21        /* 0x00: a field to be written exceeds its bits, or failure code 0 */
+#define SARATOGA_REFUSED_AREA 22         /* 0x00: area too short, or its octets are no image of a transfer table */
 
 /* A written packet: `size` octets from the start of `out`. */
 struct saratoga_written {
@@ -159,6 +167,115 @@ struct saratoga_written saratoga_write_data(uint64_t flags, uint64_t id, const u
  * Order of refusals: 21 (id over 32 bits, status 0 or over 255), 20.
  */
 struct saratoga_written saratoga_write_failure(uint64_t id, uint64_t status, uint8_t *out, size_t out_len);
+
+/*
+ * Receiving.
+ *
+ * The transfer table holds what is open: at most 16 Ids, each with a descriptor width, a length and the set of offsets
+ * received. A run is a longest unbroken stretch of received offsets; a transfer holds at most 64. The edge is the first
+ * offset after the last one received, 0 where there is none. A hole is a longest unbroken stretch of offsets below the
+ * edge that were not received. A transfer is complete when every offset below its length was received.
+ *
+ * Between calls the program keeps the table in an area of its own, of SARATOGA_AREA_OCTETS octets, as docs/AREA.md lays
+ * it out. The program may copy it, save it and take it up again; nothing else holds any state. An area may be longer:
+ * octets past SARATOGA_AREA_OCTETS are never read or written. One call at a time may use an area, and packet, buffer
+ * and area must not overlap.
+ *
+ * Every function but saratoga_fresh judges the whole area first, and refuses with 22 before all else where it is
+ * shorter than SARATOGA_AREA_OCTETS or its octets are no image of a table. A refusal leaves area and buffers untouched.
+ *
+ * No payload is kept. The program must write a packet's payload to disk BEFORE it records the packet if it relies on
+ * `complete`: `complete` says that every octet was recorded, not that it was stored.
+ */
+
+/* Octets of an area. */
+#define SARATOGA_AREA_OCTETS 16904
+
+/* A call with no result but that it was accepted. */
+struct saratoga_done {
+    uint64_t number, code;
+};
+
+/* An opened transfer. */
+struct saratoga_opened {
+    uint64_t number, code;
+    uint64_t edge;
+    uint64_t complete;     /* 1 where every octet was received, else 0 */
+    uint64_t already_open; /* 1 where the Id was open with the same width and length, else 0 */
+};
+
+/* A recorded packet: the transfer as it stands with it. */
+struct saratoga_recorded {
+    uint64_t number, code;
+    uint64_t edge;
+    uint64_t complete; /* 1 where every octet was received, else 0 */
+};
+
+/* An open transfer. */
+struct saratoga_listed {
+    uint64_t number, code;
+    uint64_t id;
+    uint64_t width;    /* octets of a descriptor: 2, 4 or 8 */
+    uint64_t length;   /* of the file, in octets */
+    uint64_t edge;
+    uint64_t complete; /* 1 where every octet was received, else 0 */
+    uint64_t runs;     /* how many, at most 64 */
+};
+
+/*
+ * Makes the area that of a table with nothing open, whatever it held: SARATOGA_AREA_OCTETS octets are written.
+ *
+ * Refusal: 20 (area shorter than SARATOGA_AREA_OCTETS), and no other.
+ */
+struct saratoga_done saratoga_fresh(uint8_t *area, size_t area_len);
+
+/*
+ * Opens the transfer of a METADATA packet: its Id, with the packet's own descriptor width and the size as the length,
+ * and nothing received. A length of 0 is complete at once. Where the Id is open with the same width and length, nothing
+ * changes: `already_open` is 1, and edge and completeness are those of the transfer as it stands. Path, times and
+ * checksum are not kept and not compared.
+ *
+ * Order of refusals: 22, the reader's for METADATA with 4 for any other type (2, 1, 3, 4, 5, 6, 7, 1, 6, 5, 1, 1 or 8,
+ * 9: see saratoga_read), 18, 17.
+ */
+struct saratoga_opened saratoga_open(uint8_t *area, size_t area_len, const uint8_t *packet, size_t packet_len);
+
+/*
+ * Records a DATA packet: adds the offsets of its payload to those received. A repeat adds nothing and is accepted.
+ * Write the payload to disk first (see above).
+ *
+ * Order of refusals: 22, the reader's for DATA with 4 for any other type (2, 1, 3, 4, 5, 6, 1, 10: see saratoga_read),
+ * 12, 13, 14, 15, 16.
+ */
+struct saratoga_recorded saratoga_record(uint8_t *area, size_t area_len, const uint8_t *packet, size_t packet_len);
+
+/*
+ * Closes a transfer: its Id is no longer open, and what was received is forgotten. Its place can be used again.
+ *
+ * Order of refusals: 22, 12 (also for any id over 32 bits).
+ */
+struct saratoga_done saratoga_close(uint8_t *area, size_t area_len, uint64_t id);
+
+/*
+ * Writes a success STATUS of an open transfer into `out`; octets after it stay. The area is only read. Progress is the
+ * lowest offset not received, In-Response-To the edge. The first `skip` holes are left out, then as many are written as
+ * `out` has room for, lowest first. Bit 14 is set where a hole was skipped or did not fit, bit 15 where `unasked` is
+ * not 0 or the transfer is complete. With descriptors of d octets (2, 4 or 8) and h holes written, the size is
+ * 8 + 2 d + 2 d h, so 1,048 octets are always enough.
+ *
+ * Order of refusals: 22, 12 (also for any id over 32 bits), 19 (`skip` is neither 0 nor below the number of holes),
+ * 20 (no room for the fields before the holes or, where there are holes, for one of them).
+ */
+struct saratoga_written saratoga_write_status(const uint8_t *area, size_t area_len, uint64_t id, uint64_t skip,
+                                              uint64_t unasked, uint8_t *out, size_t out_len);
+
+/*
+ * Lists the open transfers, for a program that takes up an area again: gives number `index`, counted from 0, in rising
+ * order of Id. The area is only read.
+ *
+ * Order of refusals: 22, 12 (`index` is not below the number open).
+ */
+struct saratoga_listed saratoga_transfer(const uint8_t *area, size_t area_len, uint64_t index);
 
 #ifdef __cplusplus
 }

@@ -2,6 +2,7 @@
 
 use paper::read;
 use paper::refusal::Refusal;
+use paper::table;
 
 /// `struct saratoga_written`
 #[repr(C)]
@@ -50,6 +51,98 @@ pub struct Packet {
     pub in_response_to: u64,
     pub holes_at: u64,
     pub hole_count: u64,
+}
+
+/// `struct saratoga_done`
+#[repr(C)]
+#[derive(Clone, Copy, Debug, Default, PartialEq, Eq)]
+pub struct Done {
+    pub number: u64,
+    pub code: u64,
+}
+
+/// `struct saratoga_opened`
+#[repr(C)]
+#[derive(Clone, Copy, Debug, Default, PartialEq, Eq)]
+pub struct Opened {
+    pub number: u64,
+    pub code: u64,
+    pub edge: u64,
+    pub complete: u64,
+    pub already_open: u64,
+}
+
+/// `struct saratoga_recorded`
+#[repr(C)]
+#[derive(Clone, Copy, Debug, Default, PartialEq, Eq)]
+pub struct Recorded {
+    pub number: u64,
+    pub code: u64,
+    pub edge: u64,
+    pub complete: u64,
+}
+
+/// `struct saratoga_listed`
+#[repr(C)]
+#[derive(Clone, Copy, Debug, Default, PartialEq, Eq)]
+pub struct Listed {
+    pub number: u64,
+    pub code: u64,
+    pub id: u64,
+    pub width: u64,
+    pub length: u64,
+    pub edge: u64,
+    pub complete: u64,
+    pub runs: u64,
+}
+
+impl From<Result<(), Refusal>> for Done {
+    fn from(answer: Result<(), Refusal>) -> Done {
+        match answer {
+            Ok(()) => Done::default(),
+            Err(refusal) => Done { number: refusal.number(), code: refusal.code() },
+        }
+    }
+}
+
+impl From<Result<table::Opened, Refusal>> for Opened {
+    fn from(answer: Result<table::Opened, Refusal>) -> Opened {
+        match answer {
+            Ok(opened) => Opened {
+                edge: opened.state.edge,
+                complete: opened.state.complete.into(),
+                already_open: opened.already_open.into(),
+                ..Opened::default()
+            },
+            Err(refusal) => Opened { number: refusal.number(), code: refusal.code(), ..Opened::default() },
+        }
+    }
+}
+
+impl From<Result<table::State, Refusal>> for Recorded {
+    fn from(answer: Result<table::State, Refusal>) -> Recorded {
+        match answer {
+            Ok(state) => Recorded { edge: state.edge, complete: state.complete.into(), ..Recorded::default() },
+            Err(refusal) => Recorded { number: refusal.number(), code: refusal.code(), ..Recorded::default() },
+        }
+    }
+}
+
+impl From<Result<table::Listed, Refusal>> for Listed {
+    fn from(answer: Result<table::Listed, Refusal>) -> Listed {
+        match answer {
+            Ok(listed) => Listed {
+                id: listed.id,
+                width: listed.width as u64,
+                length: listed.length,
+                edge: listed.state.edge,
+                complete: listed.state.complete.into(),
+                runs: listed.runs as u64,
+                ..Listed::default()
+            },
+            Err(refusal) => Listed { number: refusal.number(), code: refusal.code(), ..Listed::default() },
+        }
+    }
 }
 
 impl From<Result<usize, Refusal>> for Written {

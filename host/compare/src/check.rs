@@ -1,19 +1,21 @@
 //! One call, compared: every field of the answer, every octet of every lent buffer.
 
 use std::fmt::Debug;
+use std::time::Instant;
 
 use paper::write::{DataFields, MetadataFields};
 
 use crate::answer::{Hole, Packet, Written};
 use crate::codec::{Codec, Paper};
 use crate::lent::Lent;
+use crate::receiver::Receiver;
 use crate::rng::Rng;
 use crate::tally::{Function, Tally};
 
 /// Why a run ends.
 #[derive(Debug)]
 pub enum Stop {
-    /// The number of calls asked for is reached.
+    /// The number of calls asked for is reached, or the time is over.
     Enough,
     /// A disagreement, described.
     Mismatch(String),
@@ -21,19 +23,33 @@ pub enum Stop {
 
 pub type Step = Result<(), Stop>;
 
-/// A codec under test, with the counts of the run.
+/// A codec and a receiver under test, with the counts of the run.
 pub struct Check<'a> {
     codec: &'a dyn Codec,
+    pub receiver: &'a dyn Receiver,
+    /// The receiver's calls aren't compared with the paper's: what they do is judged by the caller alone.
+    pub alone: bool,
     pub rng: Rng,
     pub tally: Tally,
     pub calls: u64,
     /// The number of calls at which to stop.
     pub stop_at: u64,
+    /// The time at which to stop.
+    pub until: Option<Instant>,
 }
 
 impl<'a> Check<'a> {
-    pub fn new(codec: &'a dyn Codec, seed: u64) -> Check<'a> {
-        Check { codec, rng: Rng::new(seed), tally: Tally::default(), calls: 0, stop_at: u64::MAX }
+    pub fn new(codec: &'a dyn Codec, receiver: &'a dyn Receiver, seed: u64) -> Check<'a> {
+        Check {
+            codec,
+            receiver,
+            alone: false,
+            rng: Rng::new(seed),
+            tally: Tally::default(),
+            calls: 0,
+            stop_at: u64::MAX,
+            until: None,
+        }
     }
 
     /// `saratoga_read`, this one call.
@@ -118,8 +134,9 @@ impl<'a> Check<'a> {
         Ok((got, out.octets()[..got.size as usize].to_vec()))
     }
 
-    fn count(&mut self) -> Step {
-        if self.calls >= self.stop_at {
+    pub fn count(&mut self) -> Step {
+        let over = |until: Instant| self.calls % 1_024 == 0 && Instant::now() >= until;
+        if self.calls >= self.stop_at || self.until.is_some_and(over) {
             return Err(Stop::Enough);
         }
         self.calls += 1;
@@ -135,7 +152,7 @@ pub fn require(holds: bool, what: impl Fn() -> String) -> Step {
     }
 }
 
-fn same_answer<T: PartialEq + Debug>(function: Function, got: &T, want: &T, context: impl Fn() -> String) -> Step {
+pub fn same_answer<T: PartialEq + Debug>(function: Function, got: &T, want: &T, context: impl Fn() -> String) -> Step {
     require(got == want, || {
         let (got, want) = (format!("{got:?}"), format!("{want:?}"));
         let differ: Vec<_> = got.split(", ").zip(want.split(", ")).filter(|(got, want)| got != want).collect();
@@ -144,7 +161,7 @@ fn same_answer<T: PartialEq + Debug>(function: Function, got: &T, want: &T, cont
     })
 }
 
-fn same_octets(function: Function, what: &str, got: &Lent, want: &Lent, context: impl Fn() -> String) -> Step {
+pub fn same_octets(function: Function, what: &str, got: &Lent, want: &Lent, context: impl Fn() -> String) -> Step {
     match got.difference(want) {
         None => Ok(()),
         Some((at, got, want)) => Err(Stop::Mismatch(format!(

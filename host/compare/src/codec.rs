@@ -1,4 +1,4 @@
-//! What is compared: the five functions of include/saratoga.h, here over slices.
+//! What is compared first: the five functions of include/saratoga.h that read and write packets, here over slices.
 
 use paper::write::{DataFields, MetadataFields};
 

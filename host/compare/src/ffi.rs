@@ -1,5 +1,5 @@
-//! The archive's functions: the declarations of include/saratoga.h, and a codec that calls them. Nothing checks
-//! these against the header but host/ctest, which compiles it.
+//! The archive's functions: the declarations of include/saratoga.h, and a codec and a receiver that call them. Nothing
+//! checks these against the header but host/ctest, which compiles it.
 
 use std::ptr::NonNull;
 
@@ -7,6 +7,11 @@ use paper::write::{DataFields, MetadataFields};
 
 use crate::answer::{Hole, Packet, Written};
 use crate::codec::Codec;
+#[cfg(receiver)]
+use crate::{
+    answer::{Done, Listed, Opened, Recorded},
+    receiver::{Ask, Receiver},
+};
 
 extern "C" {
     fn saratoga_read(packet: *const u8, packet_len: usize) -> Packet;
@@ -39,6 +44,24 @@ extern "C" {
     fn saratoga_write_failure(id: u64, status: u64, out: *mut u8, out_len: usize) -> Written;
 }
 
+#[cfg(receiver)]
+extern "C" {
+    fn saratoga_fresh(area: *mut u8, area_len: usize) -> Done;
+    fn saratoga_open(area: *mut u8, area_len: usize, packet: *const u8, packet_len: usize) -> Opened;
+    fn saratoga_record(area: *mut u8, area_len: usize, packet: *const u8, packet_len: usize) -> Recorded;
+    fn saratoga_close(area: *mut u8, area_len: usize, id: u64) -> Done;
+    fn saratoga_write_status(
+        area: *const u8,
+        area_len: usize,
+        id: u64,
+        skip: u64,
+        unasked: u64,
+        out: *mut u8,
+        out_len: usize,
+    ) -> Written;
+    fn saratoga_transfer(area: *const u8, area_len: usize, index: u64) -> Listed;
+}
+
 /// The slice's start. An empty slice gets an address that nothing may be read from.
 fn start(octets: &[u8]) -> *const u8 {
     match octets {
@@ -54,10 +77,10 @@ fn start_mut(octets: &mut [u8]) -> *mut u8 {
     }
 }
 
-/// The codec in the archive.
+/// The codec and the receiver in the archive.
 pub struct Archive;
 
-// Each call is sound: a slice is valid for its length, and `out` is borrowed alone, so overlaps nothing.
+// Each call is sound: a slice is valid for its length, and what is written is borrowed alone, so overlaps nothing.
 impl Codec for Archive {
     fn read(&self, packet: &[u8]) -> Packet {
         unsafe { saratoga_read(start(packet), packet.len()) }
@@ -104,5 +127,33 @@ impl Codec for Archive {
 
     fn write_failure(&self, id: u64, status: u64, out: &mut [u8]) -> Written {
         unsafe { saratoga_write_failure(id, status, start_mut(out), out.len()) }
+    }
+}
+
+#[cfg(receiver)]
+impl Receiver for Archive {
+    fn fresh(&self, area: &mut [u8]) -> Done {
+        unsafe { saratoga_fresh(start_mut(area), area.len()) }
+    }
+
+    fn open(&self, area: &mut [u8], packet: &[u8]) -> Opened {
+        unsafe { saratoga_open(start_mut(area), area.len(), start(packet), packet.len()) }
+    }
+
+    fn record(&self, area: &mut [u8], packet: &[u8]) -> Recorded {
+        unsafe { saratoga_record(start_mut(area), area.len(), start(packet), packet.len()) }
+    }
+
+    fn close(&self, area: &mut [u8], id: u64) -> Done {
+        unsafe { saratoga_close(start_mut(area), area.len(), id) }
+    }
+
+    fn write_status(&self, area: &[u8], ask: Ask, out: &mut [u8]) -> Written {
+        let Ask { id, skip, unasked } = ask;
+        unsafe { saratoga_write_status(start(area), area.len(), id, skip, unasked, start_mut(out), out.len()) }
+    }
+
+    fn transfer(&self, area: &[u8], index: u64) -> Listed {
+        unsafe { saratoga_transfer(start(area), area.len(), index) }
     }
 }

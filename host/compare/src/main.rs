@@ -1,5 +1,5 @@
-//! Compares the archive libsaratoga.a with the codec of host/paper: every field of every answer and every octet of
-//! every lent buffer, over many calls.
+//! Compares the archive libsaratoga.a with the codec and the receiver of host/paper: every field of every answer and
+//! every octet of every lent buffer and area, over many calls.
 
 #![deny(unsafe_code)]
 
@@ -15,6 +15,7 @@ mod limits;
 mod limits_write;
 mod packets;
 mod random;
+mod receiver;
 mod rng;
 mod round_trip;
 mod run;
@@ -24,25 +25,31 @@ mod tests;
 mod wrong;
 
 use std::process::ExitCode;
-use std::time::{SystemTime, UNIX_EPOCH};
+use std::time::{Duration, Instant, SystemTime, UNIX_EPOCH};
+
+use run::End;
 
 const HELP: &str = "\
-compare: compares libsaratoga.a with a codec written from the papers alone
+compare: compares libsaratoga.a with a codec and a receiver written from the papers alone
 
-usage: compare [--seed N] [--calls N] [--self-check] [--help]
+usage: compare [--seed N] [--calls N] [--receiver-calls N] [--seconds N] [--self-check] [--help]
 
-  --seed N       start the random numbers from N (else from the clock); the seed is printed
-  --calls N      make N calls, 3,000,000 unless given; each limit is always tried, in some 260,000
-  --self-check   compare with codecs that are wrong in one way each instead: every one must be found
-  --help         print this
+  --seed N             start the random numbers from N (else from the clock); the seed is printed
+  --calls N            make N calls on packets, 3,000,000 unless given; each limit is always tried, in some 260,000
+  --receiver-calls N   make N calls on areas, 1,000,000 unless given; each limit is always tried, in some 200,000
+  --seconds N          make calls for N seconds instead, a quarter of the time on packets
+  --self-check         compare with codecs and receivers that are wrong in one way each instead: each must be found
+  --help               print this
 
-A run fails with status 1 at the first answer or octet that differs, which it prints with the packet, or where a
-refusal that can occur never did.
+A run fails with status 1 at the first answer or octet that differs, which it prints with the packet and the area, or
+where a refusal that can occur never did.
 ";
 
 struct Options {
     seed: u64,
     calls: u64,
+    receiver_calls: u64,
+    seconds: Option<u64>,
     self_check: bool,
 }
 
@@ -72,27 +79,48 @@ fn main() -> ExitCode {
     }
 }
 
+/// The receiver in the archive.
+#[cfg(receiver)]
+const RECEIVER: Option<&dyn receiver::Receiver> = Some(&ffi::Archive);
+#[cfg(not(receiver))]
+const RECEIVER: Option<&dyn receiver::Receiver> = None;
+
 fn compare(options: &Options) -> Result<(), String> {
-    let agreed = run::run(&ffi::Archive, options.seed, options.calls)?;
-    print!("{}", agreed.tally);
-    let missing = agreed.tally.missing();
-    if !missing.is_empty() {
-        return Err(format!("never occurred, seed {}: {}", options.seed, missing.join(", ")));
+    let seed = options.seed;
+    let start = Instant::now();
+    let end = |quarters: u32, calls: u64| match options.seconds {
+        Some(seconds) => End::at(start + Duration::from_secs(seconds) * quarters / 4),
+        None => End::after(calls),
+    };
+    let packets = run::packets(&ffi::Archive, seed, end(1, options.calls))?;
+    println!("compare: {} calls on packets agree, seed {seed}", packets.calls);
+    let mut missing = packets.tally.missing(0);
+    let mut tally = packets.tally;
+    if let Some(receiver) = RECEIVER {
+        let areas = run::receiver(&ffi::Archive, receiver, seed, end(4, options.receiver_calls))?;
+        println!("compare: {} calls on areas agree, seed {seed}", areas.calls);
+        missing.extend(areas.tally.missing(1));
+        tally = tally.with(&areas.tally);
+        missing.extend(tally.never().into_iter().map(|number| format!("{number} from any function")));
     }
-    println!("compare: {} calls agree, seed {}", agreed.calls, options.seed);
-    Ok(())
+    print!("{tally}");
+    match missing.is_empty() {
+        true => Ok(()),
+        false => Err(format!("never occurred, seed {seed}: {}", missing.join(", "))),
+    }
 }
 
 fn self_check(options: &Options) -> Result<(), String> {
-    run::self_check(options.seed, options.calls)?;
-    println!("compare: all {} wrong codecs are found, seed {}", wrong::ALL.len(), options.seed);
+    let count = run::self_check(options.seed, options.calls)?;
+    println!("compare: all {count} wrong codecs and receivers are found, seed {}", options.seed);
     Ok(())
 }
 
 /// What the command line asks for; none where that is help.
 fn options() -> Result<Option<Options>, String> {
     let clock = SystemTime::now().duration_since(UNIX_EPOCH).map_or(0, |time| time.as_nanos() as u64);
-    let mut options = Options { seed: clock, calls: 3_000_000, self_check: false };
+    let mut options =
+        Options { seed: clock, calls: 3_000_000, receiver_calls: 1_000_000, seconds: None, self_check: false };
     let mut words = std::env::args().skip(1);
     while let Some(word) = words.next() {
         let mut number = || {
@@ -102,6 +130,8 @@ fn options() -> Result<Option<Options>, String> {
         match word.as_str() {
             "--seed" => options.seed = number()?,
             "--calls" => options.calls = number()?,
+            "--receiver-calls" => options.receiver_calls = number()?,
+            "--seconds" => options.seconds = Some(number()?),
             "--self-check" => options.self_check = true,
             "--help" | "-h" => return Ok(None),
             _ => return Err(format!("unknown option {word}")),

@@ -40,7 +40,7 @@ pub fn case(check: &mut Check) -> Step {
     }
 }
 
-fn valid_packet(rng: &mut Rng) -> Vec<u8> {
+pub fn valid_packet(rng: &mut Rng) -> Vec<u8> {
     match rng.below(10) {
         0..=2 => Metadata::valid(rng).octets(rng),
         3..=5 => Data::valid(rng).octets(rng),
@@ -84,7 +84,7 @@ fn truncated(check: &mut Check) -> Step {
 }
 
 /// One to three bits, mostly in the first octets.
-fn flip(packet: &mut [u8], rng: &mut Rng) {
+pub fn flip(packet: &mut [u8], rng: &mut Rng) {
     for _ in 0..rng.between(1, 3) {
         let last = match rng.below(3) {
             0 => packet.len() - 1,
@@ -96,7 +96,7 @@ fn flip(packet: &mut [u8], rng: &mut Rng) {
     }
 }
 
-fn extend(packet: &mut Vec<u8>, rng: &mut Rng) {
+pub fn extend(packet: &mut Vec<u8>, rng: &mut Rng) {
     let len = match rng.below(40) {
         0 => 65_534 + rng.place(0, 3) - packet.len().min(65_534),
         _ => rng.place(1, 40),
@@ -108,7 +108,7 @@ fn extend(packet: &mut Vec<u8>, rng: &mut Rng) {
 }
 
 /// One to three faults, in the order of their list. A packet over 65,535 octets, the last of each list, is rare.
-fn spoil<T>(item: &mut T, faults: &[Fault<T>], rng: &mut Rng) {
+pub fn spoil<T>(item: &mut T, faults: &[Fault<T>], rng: &mut Rng) {
     let mut places: Vec<usize> = (0..rng.between(1, 3)).map(|_| rng.place(0, faults.len() - 1)).collect();
     places.sort();
     for at in places {
@@ -118,7 +118,7 @@ fn spoil<T>(item: &mut T, faults: &[Fault<T>], rng: &mut Rng) {
     }
 }
 
-fn spoiled_packet(rng: &mut Rng) -> Vec<u8> {
+pub fn spoiled_packet(rng: &mut Rng) -> Vec<u8> {
     match rng.below(4) {
         0 => {
             let mut packet = Metadata::valid(rng);
@@ -144,7 +144,7 @@ fn spoiled_packet(rng: &mut Rng) -> Vec<u8> {
 }
 
 /// Random octets behind a first word that is likely to be taken.
-fn senseless_packet(rng: &mut Rng) -> Vec<u8> {
+pub fn senseless_packet(rng: &mut Rng) -> Vec<u8> {
     let len = match rng.below(100) {
         0 => rng.place(60_000, 66_000),
         _ => rng.place(0, 70),

@@ -1,10 +1,30 @@
-//! A whole run: the limits, then random cases until enough calls are made.
+//! A whole run of each comparison: the limits, then random cases until enough calls are made.
 
-use crate::check::{Check, Stop};
-use crate::codec::Codec;
+use std::fmt::Debug;
+use std::time::Instant;
+
+use crate::check::{Check, Step, Stop};
+use crate::codec::{Codec, Paper};
+use crate::receiver::{self, orders, pass, Receiver};
 use crate::tally::Tally;
-use crate::wrong::ALL;
-use crate::{limits, limits_write, random};
+use crate::{limits, limits_write, random, wrong};
+
+/// When to end: after so many calls, or at a time. The limits always run whole, which may take more.
+#[derive(Clone, Copy)]
+pub struct End {
+    calls: u64,
+    until: Option<Instant>,
+}
+
+impl End {
+    pub fn after(calls: u64) -> End {
+        End { calls, until: None }
+    }
+
+    pub fn at(time: Instant) -> End {
+        End { calls: u64::MAX, until: Some(time) }
+    }
+}
 
 /// A run in which everything agreed.
 pub struct Agreed {
@@ -12,31 +32,77 @@ pub struct Agreed {
     pub tally: Tally,
 }
 
-/// Compares `codec` with the paper's over `calls` calls; the limits always run whole, which may take more.
-pub fn run(codec: &dyn Codec, seed: u64, calls: u64) -> Result<Agreed, String> {
-    let mut check = Check::new(codec, seed);
-    match whole(&mut check, calls) {
+/// Compares `codec` with the paper's.
+pub fn packets(codec: &dyn Codec, seed: u64, end: End) -> Result<Agreed, String> {
+    run(Check::new(codec, &Paper, seed), seed, |check| {
+        limits_write::run(check)?;
+        limits::run(check)?;
+        until(check, end, random::case)
+    })
+}
+
+/// Compares `receiver` with the paper's. The STATUS that it writes is read by `codec`.
+pub fn receiver(codec: &dyn Codec, receiver: &dyn Receiver, seed: u64, end: End) -> Result<Agreed, String> {
+    run(Check::new(codec, receiver, seed), seed, |check| {
+        for _ in 0..50 {
+            pass::case(check)?;
+        }
+        receiver::limits::run(check)?;
+        receiver::limits_area::run(check)?;
+        until(check, end, pass::case)
+    })
+}
+
+/// Tries the two orders on `receiver`, without the paper's answers.
+fn orders_alone(receiver: &dyn Receiver, seed: u64, end: End) -> Result<Agreed, String> {
+    let mut check = Check::new(&Paper, receiver, seed);
+    check.alone = true;
+    run(check, seed, |check| until(check, end, orders::trial))
+}
+
+fn run(mut check: Check, seed: u64, whole: impl FnOnce(&mut Check) -> Step) -> Result<Agreed, String> {
+    match whole(&mut check) {
         Ok(()) | Err(Stop::Enough) => Ok(Agreed { calls: check.calls, tally: check.tally }),
         Err(Stop::Mismatch(what)) => Err(format!("call {}, seed {seed}: {what}", check.calls)),
     }
 }
 
-fn whole(check: &mut Check, calls: u64) -> Result<(), Stop> {
-    limits_write::run(check)?;
-    limits::run(check)?;
-    check.stop_at = calls;
+/// Random cases; a long run says now and then that it goes on.
+fn until(check: &mut Check, end: End, case: fn(&mut Check) -> Step) -> Step {
+    check.stop_at = end.calls;
+    check.until = end.until;
+    let mut told = 0;
     loop {
-        random::case(check)?;
+        case(check)?;
+        if check.calls / 10_000_000 > told {
+            told = check.calls / 10_000_000;
+            println!("compare: {told}0,000,000 calls so far");
+        }
     }
 }
 
-/// Runs the comparison against each wrong codec, and prints what was found of it. All must be found.
-pub fn self_check(seed: u64, calls: u64) -> Result<(), String> {
-    for wrong in ALL {
-        match run(&wrong, seed, calls) {
-            Ok(_) => return Err(format!("the wrong codec {wrong:?} was not found, seed {seed}")),
-            Err(what) => println!("found {wrong:?}: {}", what.lines().next().unwrap_or_default()),
+/// Runs the comparisons against each wrong codec and receiver, and prints what was found of it. All must be found; how
+/// many there are.
+pub fn self_check(seed: u64, calls: u64) -> Result<usize, String> {
+    let end = End::after(calls);
+    for wrong in wrong::ALL {
+        found("codec", &wrong, packets(&wrong, seed, end), seed)?;
+    }
+    for wrong in receiver::wrong::ALL {
+        found("receiver", wrong, receiver(&Paper, wrong, seed, end), seed)?;
+    }
+    for wrong in receiver::wrong::OF_ORDERS {
+        found("receiver by the two orders", wrong, orders_alone(wrong, seed, end), seed)?;
+    }
+    Ok(wrong::ALL.len() + receiver::wrong::ALL.len())
+}
+
+fn found(what: &str, wrong: &dyn Debug, outcome: Result<Agreed, String>, seed: u64) -> Result<(), String> {
+    match outcome {
+        Ok(_) => Err(format!("the wrong {what} {wrong:?} was not found, seed {seed}")),
+        Err(how) => {
+            println!("found {what} {wrong:?}: {}", how.lines().next().unwrap_or_default());
+            Ok(())
         }
     }
-    Ok(())
 }

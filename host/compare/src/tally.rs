@@ -10,18 +10,36 @@ pub enum Function {
     WriteMetadata,
     WriteData,
     WriteFailure,
+    Fresh,
+    Open,
+    Record,
+    Close,
+    WriteStatus,
+    Transfer,
 }
 
-const COLUMNS: usize = 5;
+const COLUMNS: usize = 11;
 /// 0, accepted, to 22.
 const ROWS: usize = 23;
 
-const NAMES: [&str; COLUMNS] =
-    ["saratoga_read", "saratoga_read_hole", "saratoga_write_metadata", "saratoga_write_data", "saratoga_write_failure"];
+/// Each with its heading in the table.
+const NAMES: [(&str, &str); COLUMNS] = [
+    ("saratoga_read", "read"),
+    ("saratoga_read_hole", "read_hole"),
+    ("saratoga_write_metadata", "metadata"),
+    ("saratoga_write_data", "data"),
+    ("saratoga_write_failure", "failure"),
+    ("saratoga_fresh", "fresh"),
+    ("saratoga_open", "open"),
+    ("saratoga_record", "record"),
+    ("saratoga_close", "close"),
+    ("saratoga_write_status", "status"),
+    ("saratoga_transfer", "transfer"),
+];
 
 impl Function {
     pub fn name(self) -> &'static str {
-        NAMES[self as usize]
+        NAMES[self as usize].0
     }
 }
 
@@ -32,7 +50,16 @@ const CAN_OCCUR: [&[usize]; COLUMNS] = [
     &[0, 1, 5, 6, 7, 8, 9, 20, 21],
     &[0, 1, 2, 5, 6, 10, 20, 21],
     &[0, 20, 21],
+    &[0, 20],
+    &[0, 1, 2, 3, 4, 5, 6, 7, 8, 9, 17, 18, 22],
+    &[0, 1, 2, 3, 4, 5, 6, 10, 12, 13, 14, 15, 16, 22],
+    &[0, 12, 22],
+    &[0, 12, 19, 20, 22],
+    &[0, 12, 22],
 ];
+
+/// The functions of each comparison: those on packets, then those on areas.
+pub const PARTS: [std::ops::Range<usize>; 2] = [0..5, 5..COLUMNS];
 
 #[derive(Clone, Default)]
 pub struct Tally {
@@ -44,34 +71,53 @@ impl Tally {
         self.counts[number as usize][function as usize] += 1;
     }
 
-    /// The numbers that can occur and never did.
-    pub fn missing(&self) -> Vec<String> {
+    /// The counts of both.
+    pub fn with(mut self, other: &Tally) -> Tally {
+        for (row, more) in self.counts.iter_mut().zip(&other.counts) {
+            for (count, more) in row.iter_mut().zip(more) {
+                *count += more;
+            }
+        }
+        self
+    }
+
+    /// The numbers that a function of `part` can answer and never did.
+    pub fn missing(&self, part: usize) -> Vec<String> {
         let mut missing = vec![];
-        for (column, numbers) in CAN_OCCUR.iter().enumerate() {
-            for &number in numbers.iter().filter(|&&number| self.counts[number][column] == 0) {
-                missing.push(format!("{number} from {}", NAMES[column]));
+        for column in PARTS[part].clone() {
+            for &number in CAN_OCCUR[column].iter().filter(|&&number| self.counts[number][column] == 0) {
+                missing.push(format!("{number} from {}", NAMES[column].0));
             }
         }
         missing
     }
+
+    /// The numbers 1 to 22 that no function answered.
+    pub fn never(&self) -> Vec<String> {
+        (1..ROWS).filter(|&number| self.counts[number] == [0; COLUMNS]).map(|number| number.to_string()).collect()
+    }
 }
 
+/// A table for each comparison that was made; the last column counts all functions.
 impl fmt::Display for Tally {
     fn fmt(&self, f: &mut fmt::Formatter) -> fmt::Result {
-        writeln!(f, "refusal      read  read_hole   metadata       data    failure     in all")?;
-        for (number, row) in self.counts.iter().enumerate() {
-            let sum: u64 = row.iter().sum();
-            if sum == 0 {
-                continue;
+        let sum = |row: &[u64]| row.iter().sum::<u64>();
+        for part in PARTS.iter().filter(|part| self.counts.iter().any(|row| sum(&row[(*part).clone()]) > 0)) {
+            write!(f, "refusal")?;
+            for (_, name) in &NAMES[part.clone()] {
+                write!(f, " {name:>10}")?;
             }
-            match number {
-                0 => write!(f, "none   ")?,
-                _ => write!(f, "{number:<7}")?,
+            writeln!(f, " {:>10}", "in all")?;
+            for (number, row) in self.counts.iter().enumerate().filter(|(_, row)| sum(*row) > 0) {
+                match number {
+                    0 => write!(f, "none   ")?,
+                    _ => write!(f, "{number:<7}")?,
+                }
+                for count in &row[part.clone()] {
+                    write!(f, " {count:>10}")?;
+                }
+                writeln!(f, " {:>10}", sum(row))?;
             }
-            for count in row {
-                write!(f, " {count:>10}")?;
-            }
-            writeln!(f, " {sum:>10}")?;
         }
         Ok(())
     }

@@ -1,16 +1,20 @@
-//! The comparison itself: it finds every wrong codec, and agrees with a right one.
+//! The comparisons themselves: they find every wrong codec and receiver, and agree with right ones.
 
 use crate::codec::Paper;
-use crate::run::{run, self_check};
+use crate::run::{packets, receiver, self_check, End};
 
 #[test]
-fn wrong_codecs_are_found() {
+fn wrong_ones_are_found() {
     self_check(1, 1_000_000).unwrap();
 }
 
 #[test]
 fn the_paper_agrees_with_itself() {
-    let agreed = run(&Paper, 1, 400_000).unwrap_or_else(|what| panic!("{what}"));
-    assert_eq!(agreed.tally.missing(), Vec::<String>::new());
-    assert!(agreed.calls >= 400_000);
+    let packets = packets(&Paper, 1, End::after(400_000)).unwrap_or_else(|what| panic!("{what}"));
+    assert_eq!(packets.tally.missing(0), Vec::<String>::new());
+    assert!(packets.calls >= 400_000);
+    let receiver = receiver(&Paper, &Paper, 1, End::after(250_000)).unwrap_or_else(|what| panic!("{what}"));
+    assert_eq!(receiver.tally.missing(1), Vec::<String>::new());
+    assert!(receiver.calls >= 250_000);
+    assert_eq!(packets.tally.with(&receiver.tally).never(), Vec::<String>::new());
 }

@@ -43,6 +43,16 @@ fn descriptor_octets(width_bits: u64) -> usize {
 /// The octets of a descriptor that is "refused here".
 pub const REFUSED_WIDTH: usize = 16;
 
+/// The two bits of a width, the other way.
+pub fn width_bits(octets: usize) -> u64 {
+    match octets {
+        2 => 0b00,
+        4 => 0b01,
+        8 => 0b10,
+        _ => unreachable!("no transfer has another width"),
+    }
+}
+
 /// The packet's own descriptor width, in octets: "Bits 8 and 9 give the descriptor width".
 pub fn packet_width(word: u64) -> usize {
     descriptor_octets(word_bits(word, 8, 9))
@@ -100,6 +110,11 @@ pub fn timestamp_octets(word: u64) -> usize {
     }
 }
 
+/// DATA: end-of-data is bit 16 of section 4.4.
+pub fn end_of_data(word: u64) -> bool {
+    word_bits(word, 16, 16) == 1
+}
+
 /// STATUS: "Bit 14 says that the hole list isn't complete".
 pub fn list_incomplete(word: u64) -> bool {
     word_bits(word, 14, 14) == 1
@@ -108,4 +123,10 @@ pub fn list_incomplete(word: u64) -> bool {
 /// STATUS: "bits 24 to 31 are the status code".
 pub fn status_code(word: u64) -> u64 {
     word_bits(word, 24, 31)
+}
+
+/// The flags of a success STATUS that is written: "All other flags are 0, apart from the width."
+pub fn status_flags(width: usize, list_incomplete: bool, unasked: bool) -> u64 {
+    let bit = |bit: u32, set: bool| u64::from(set) << (31 - bit);
+    (width_bits(width) << (31 - 9)) + bit(14, list_incomplete) + bit(15, unasked)
 }

@@ -1,9 +1,14 @@
-//! A second codec for Saratoga packets, written from the papers alone and for plainness, not speed. The archive is
-//! compared with it. Words in quotes are document 01's; "section" is the Saratoga draft, version 09.
+//! A second codec and a second receiver for Saratoga, written from the papers alone and for plainness, not speed. The
+//! archive is compared with them. Words in quotes are document 01's; "section" is the Saratoga draft, version 09.
 
 #![forbid(unsafe_code)]
 
+pub mod area;
 pub mod layout;
+pub mod marks;
 pub mod read;
+pub mod received;
 pub mod refusal;
+pub mod status;
+pub mod table;
 pub mod write;

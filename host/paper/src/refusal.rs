@@ -1,5 +1,4 @@
-//! "The numbers of a refusal": every refusal that the codec can give, with "the status code to send (0: nothing to
-//! send)".
+//! "The numbers of a refusal": every refusal, with "the status code to send (0: nothing to send)".
 
 /// One row of the table. The value of each is its number.
 #[derive(Clone, Copy, Debug, PartialEq, Eq)]
@@ -26,12 +25,28 @@ pub enum Refusal {
     NoPayload = 10,
     /// "hole list not as above"
     HoleList = 11,
-    /// "k not allowed": here, no hole has the index asked for.
+    /// "Id not open"
+    NotOpen = 12,
+    /// "DATA width not the transfer's"
+    OtherWidth = 13,
+    /// "offset + payload length above L"
+    PastEnd = 14,
+    /// "EOD set and offset + payload length not L"
+    EarlyEnd = 15,
+    /// "the received set would have more than 64 runs"
+    Runs = 16,
+    /// "new Id and 16 open"
+    TableFull = 17,
+    /// "Id open with another width or L"
+    OpenOther = 18,
+    /// "k not allowed"; in reading a hole, none has the index asked for.
     Index = 19,
     /// "buffer too small"
     Buffer = 20,
     /// "a field to be written exceeds its bits (128 where width bits are 11), or failure code 0"
     Field = 21,
+    /// "a lent desk area is no image of a desk as described"
+    Area = 22,
 }
 
 impl Refusal {
@@ -54,9 +69,17 @@ impl Refusal {
             Refusal::Size => 0x09,
             Refusal::NoPayload => 0x01,
             Refusal::HoleList => 0,
+            Refusal::NotOpen => 0x06,
+            Refusal::OtherWidth => 0x09,
+            Refusal::PastEnd => 0x09,
+            Refusal::EarlyEnd => 0x01,
+            Refusal::Runs => 0x03,
+            Refusal::TableFull => 0x03,
+            Refusal::OpenOther => 0x09,
             Refusal::Index => 0,
             Refusal::Buffer => 0,
             Refusal::Field => 0,
+            Refusal::Area => 0,
         }
     }
 }

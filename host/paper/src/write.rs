@@ -124,7 +124,7 @@ fn exceeds(value: u64, bits: u32) -> bool {
 }
 
 /// The first word, of bits 0 1, the type and bits 8 to 31, and the Id.
-fn first_octets(kind: u64, flags: u64, id: u64) -> Vec<u8> {
+pub(crate) fn first_octets(kind: u64, flags: u64, id: u64) -> Vec<u8> {
     let mut packet = Vec::new();
     push(&mut packet, (0b01 << 6) + kind, 1);
     push(&mut packet, flags, 3);
@@ -133,7 +133,7 @@ fn first_octets(kind: u64, flags: u64, id: u64) -> Vec<u8> {
 }
 
 /// A number in `octets` octets: "All numbers are big-endian."
-fn push(packet: &mut Vec<u8>, value: u64, octets: usize) {
+pub(crate) fn push(packet: &mut Vec<u8>, value: u64, octets: usize) {
     assert!(u128::from(value) <= largest(octets));
     for place in (0..octets).rev() {
         packet.push((value >> (8 * place)) as u8);
@@ -141,7 +141,7 @@ fn push(packet: &mut Vec<u8>, value: u64, octets: usize) {
 }
 
 /// "2 then 20 last". "Octets after those stay unchanged, as for every writer."
-fn copy_out(packet: &[u8], out: &mut [u8]) -> Result<usize, Refusal> {
+pub(crate) fn copy_out(packet: &[u8], out: &mut [u8]) -> Result<usize, Refusal> {
     if packet.len() > MAX_PACKET {
         return Err(Refusal::TooLong);
     }

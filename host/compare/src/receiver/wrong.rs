@@ -1,0 +1,159 @@
+//! Receivers that are wrong in one way each: the comparison must find every one of them.
+
+/// Names each once: the enum, and the list of all.
+macro_rules! wrong {
+    ($($(#[$what:meta])* $name:ident,)*) => {
+        /// What is wrong.
+        #[derive(Clone, Copy, Debug, PartialEq, Eq)]
+        pub enum Wrong {
+            $($(#[$what])* $name,)*
+        }
+
+        pub const ALL: &[Wrong] = &[$(Wrong::$name,)*];
+    };
+}
+
+wrong! {
+    // "How a page gets spoiled", and "Proofs that would be worth nothing".
+    /// The packet's octets are added to those received before: repeats count twice.
+    CountsOctets,
+    /// A hole's end is its last octet.
+    HoleEndInside,
+    /// Runs are joined only where they overlap, in the area.
+    TouchingApart,
+    /// The same, and touching runs use up room.
+    TouchingTakesRoom,
+    /// Complete when there are no holes below the edge.
+    CompleteWithoutHoles,
+    /// Always complete.
+    AlwaysComplete,
+    /// Records the first packet and nods at the rest.
+    FirstPacketOnly,
+    /// Refuses everything.
+    RefusesAll,
+
+    // Recording.
+    /// The edge is the highest offset received.
+    EdgeInside,
+    /// A 65th run is taken.
+    SixtyFiveRuns,
+    /// The 64th run is refused.
+    SixtyThreeRuns,
+    /// The room is judged before runs are joined.
+    RoomBeforeJoining,
+    /// Offset and payload length are added modulo 2^64.
+    WrappedSum,
+    /// The last octet of the file is refused.
+    LastOctetRefused,
+    /// End of data is not looked at.
+    EndOfDataIgnored,
+    /// End of data is taken from bit 15.
+    EndOfDataBit,
+    /// A packet refused with 15 is recorded.
+    RecordedOnRefusal,
+    /// 12 before the reader's refusals.
+    IdBeforePacket,
+    /// 14 before 13.
+    EndBeforeWidth,
+    /// 15 before 14.
+    EndOfDataBeforeEnd,
+    /// 16 before 15.
+    RunsBeforeEndOfData,
+    /// 12 before 4 for METADATA.
+    IdBeforeType,
+
+    // Opening.
+    /// A 17th Id is opened.
+    SeventeenIds,
+    /// The 16th Id is refused.
+    FifteenIds,
+    /// 17 before 18.
+    FullBeforeOther,
+    /// Opening again forgets what was received.
+    AgainForgets,
+    /// Opening again answers the edge 0.
+    AgainAnswersFresh,
+    /// Another width is "already open".
+    WidthNotCompared,
+    /// Another length is "already open".
+    LengthNotCompared,
+    /// L = 0 isn't complete.
+    EmptyNotComplete,
+    /// The width is the directory entry's.
+    EntryWidth,
+
+    // Closing and listing.
+    /// The Id is taken modulo 2^32.
+    IdWraps,
+    /// The closed place isn't cleared.
+    PlaceNotCleared,
+    /// The index is taken modulo 2^32.
+    IndexWraps,
+    /// Holes are listed for runs.
+    HolesForRuns,
+
+    // STATUS.
+    /// From the edge to the length is a hole.
+    HoleToLength,
+    /// Without room for a hole none is written.
+    NoRoomNoHole,
+    /// All holes may be skipped.
+    AllSkipped,
+    /// 20 before 19.
+    BufferBeforeSkip,
+    /// Bit 14 is for holes that did not fit alone.
+    SkippedNotTold,
+    /// Bit 15 is for unasked alone.
+    CompleteNotTold,
+    /// Only 1 is unasked.
+    UnaskedIsOne,
+    /// Progress is where the first hole written starts.
+    ProgressAfterSkip,
+    /// A buffer that is too small is written to.
+    BufferTouched,
+    /// The octet after the STATUS is cleared.
+    OctetAfter,
+
+    // The area.
+    /// The reader's refusals before 22.
+    PacketBeforeArea,
+    /// 12 before 22 in closing.
+    IdBeforeArea,
+    /// Runs that touch are taken.
+    TouchingTaken,
+    /// Runs that overlap are taken.
+    OverlappingTaken,
+    /// A run past the length is taken.
+    LongRunTaken,
+    /// A length over the width is taken.
+    LongLengthTaken,
+    /// Another width is taken.
+    OtherWidthTaken,
+    /// An Id over 32 bits is taken.
+    LongIdTaken,
+    /// Ids in another order are taken.
+    OtherOrderTaken,
+    /// Octets in places that nothing uses are taken.
+    StrayTaken,
+    /// An area that is short by one octet is taken.
+    ShortTaken,
+    /// A longer area is refused.
+    LongerRefused,
+    /// The octet past the layout is cleared.
+    PastCleared,
+    /// A fresh table has its count cleared alone.
+    FreshCountOnly,
+    /// A fresh table is refused where the area is no image.
+    FreshJudges,
+    /// An area too short for a fresh table is written to.
+    FreshTouchesShort,
+}
+
+/// Those that the trial of the two orders must find by itself, without the paper's answers.
+pub const OF_ORDERS: &[Wrong] = &[
+    Wrong::FirstPacketOnly,
+    Wrong::TouchingTakesRoom,
+    Wrong::RoomBeforeJoining,
+    Wrong::RecordedOnRefusal,
+    Wrong::AgainForgets,
+];

@@ -1,0 +1,43 @@
+//! "**Writing STATUS** for an open Id takes a number k of holes to skip and whether it was unasked."
+
+use crate::layout::{status_flags, STATUS};
+use crate::refusal::Refusal;
+use crate::table::Table;
+use crate::write::{copy_out, first_octets, push};
+
+impl Table {
+    /// Writes a success STATUS and answers its size. "Writing STATUS: 12, 19, 20."
+    pub fn write_status(&self, id: u64, skip: u64, unasked: bool, out: &mut [u8]) -> Result<usize, Refusal> {
+        let transfer = self.transfers.get(&id).ok_or(Refusal::NotOpen)?;
+        let holes = transfer.received.holes();
+        // "k must be 0 or less than the number of holes."
+        let skip = match usize::try_from(skip) {
+            Ok(skip) if skip == 0 || skip < holes.len() => skip,
+            _ => return Err(Refusal::Index),
+        };
+        // "With descriptors of d octets and h holes written the size is 8 + 2d + 2dh octets."
+        let d = transfer.width;
+        let size = |h: usize| 8 + 2 * d + 2 * d * h;
+        // "It writes as many holes as fit, lowest first, after the first k."
+        let after = &holes[skip..];
+        let fit = (0..=after.len()).rev().find(|&h| size(h) <= out.len()).ok_or(Refusal::Buffer)?;
+        // "If there are holes, room for at least one is needed."
+        if !holes.is_empty() && fit == 0 {
+            return Err(Refusal::Buffer);
+        }
+        // "Bit 14 is set exactly when some hole was skipped or did not fit. Bit 15 is set if unasked or complete."
+        let list_incomplete = skip > 0 || fit < after.len();
+        let flags = status_flags(d, list_incomplete, unasked || transfer.state().complete);
+
+        let mut packet = first_octets(STATUS, flags, id);
+        // "Progress is the lowest offset not received (the edge if there are no holes); In-Response-To is the edge."
+        push(&mut packet, transfer.received.lowest_missing(), d);
+        push(&mut packet, transfer.received.edge(), d);
+        for &(start, end) in &after[..fit] {
+            push(&mut packet, start, d);
+            push(&mut packet, end, d);
+        }
+        assert_eq!(packet.len(), size(fit));
+        copy_out(&packet, out)
+    }
+}

@@ -1,0 +1,119 @@
+//! "What the desk means": the table of open transfers, a "map, of at most 16 Ids, from Id to width w, length L (at most
+//! 2^w - 1) and a set of received offsets below L". A refused call returns before anything is changed.
+
+use std::collections::BTreeMap;
+
+use crate::layout::{end_of_data, DATA, METADATA};
+use crate::read::{read_types, Packet};
+use crate::received::Received;
+use crate::refusal::Refusal;
+
+/// "A fresh desk has room for 16 transfers of 64 runs, all empty."
+pub const MAX_TRANSFERS: usize = 16;
+pub const MAX_RUNS: usize = 64;
+
+#[derive(Clone, Debug, Default, PartialEq, Eq)]
+pub struct Table {
+    pub transfers: BTreeMap<u64, Transfer>,
+}
+
+#[derive(Clone, Debug, PartialEq, Eq)]
+pub struct Transfer {
+    /// Octets of a descriptor: 2, 4 or 8.
+    pub width: usize,
+    pub length: u64,
+    pub received: Received,
+}
+
+/// "Opening and recording [...] both answer the edge and whether the transfer is complete."
+#[derive(Clone, Copy, Debug, PartialEq, Eq)]
+pub struct State {
+    pub edge: u64,
+    pub complete: bool,
+}
+
+#[derive(Clone, Copy, Debug, PartialEq, Eq)]
+pub struct Opened {
+    pub state: State,
+    pub already_open: bool,
+}
+
+/// An open transfer, for a program that takes up an area again.
+#[derive(Clone, Copy, Debug, PartialEq, Eq)]
+pub struct Listed {
+    pub id: u64,
+    pub width: usize,
+    pub length: u64,
+    pub state: State,
+    pub runs: usize,
+}
+
+impl Transfer {
+    pub fn state(&self) -> State {
+        State { edge: self.received.edge(), complete: self.received.complete(self.length) }
+    }
+}
+
+impl Table {
+    /// "**Opening** by METADATA starts with nothing received, at width w." "Opening: the reader's, then 18, 17."
+    pub fn open(&mut self, packet: &[u8]) -> Result<Opened, Refusal> {
+        let Packet::Metadata(metadata) = read_types(packet, &[METADATA])? else {
+            unreachable!("only METADATA is taken")
+        };
+        let id = metadata.header.id;
+        if let Some(open) = self.transfers.get(&id) {
+            // "An Id that is open with equal width and L answers "already open" and changes nothing."
+            if (open.width, open.length) == (metadata.width, metadata.size) {
+                return Ok(Opened { state: open.state(), already_open: true });
+            }
+            return Err(Refusal::OpenOther);
+        }
+        if self.transfers.len() == MAX_TRANSFERS {
+            return Err(Refusal::TableFull);
+        }
+        let new = Transfer { width: metadata.width, length: metadata.size, received: Received::default() };
+        let state = new.state();
+        self.transfers.insert(id, new);
+        Ok(Opened { state, already_open: false })
+    }
+
+    /// "**Recording** DATA adds the offsets from offset to offset + payload length - 1. A repeat adds nothing and is
+    /// accepted." "Recording: the reader's, then 12, 13, 14, 15, 16."
+    pub fn record(&mut self, packet: &[u8]) -> Result<State, Refusal> {
+        let Packet::Data(data) = read_types(packet, &[DATA])? else { unreachable!("only DATA is taken") };
+        let transfer = self.transfers.get_mut(&data.header.id).ok_or(Refusal::NotOpen)?;
+        if data.width != transfer.width {
+            return Err(Refusal::OtherWidth);
+        }
+        // "no wrapped sum": in numbers of 128 bits.
+        let end = u128::from(data.offset) + data.payload.len() as u128;
+        let length = u128::from(transfer.length);
+        if end > length {
+            return Err(Refusal::PastEnd);
+        }
+        if end_of_data(data.header.flags) && end != length {
+            return Err(Refusal::EarlyEnd);
+        }
+        // "the received set would have more than 64 runs"
+        let mut received = transfer.received.clone();
+        received.add(data.offset, end as u64);
+        if received.run_count() > MAX_RUNS {
+            return Err(Refusal::Runs);
+        }
+        transfer.received = received;
+        Ok(transfer.state())
+    }
+
+    /// "**Closing** removes an Id; its place is used again." "Closing: 12."
+    pub fn close(&mut self, id: u64) -> Result<(), Refusal> {
+        self.transfers.remove(&id).map(drop).ok_or(Refusal::NotOpen)
+    }
+
+    /// The open transfer at `index` in rising order of Id; 12 where there is none.
+    pub fn transfer(&self, index: u64) -> Result<Listed, Refusal> {
+        let mut numbered = (0..).zip(&self.transfers);
+        let (_, (&id, transfer)) = numbered.find(|&(number, _)| number == index).ok_or(Refusal::NotOpen)?;
+        let runs = transfer.received.run_count();
+        Ok(Listed { id, width: transfer.width, length: transfer.length, state: transfer.state(), runs })
+    }
+}

@@ -1,0 +1,31 @@
+//! Packets laid out by hand.
+
+#![allow(dead_code)]
+
+/// Octets from hexadecimal with spaces.
+pub fn hex(text: &str) -> Vec<u8> {
+    text.split_whitespace().map(|octet| u8::from_str_radix(octet, 16).unwrap()).collect()
+}
+
+/// The first octets: the type, the width bits for descriptors of `width` octets, and the Id.
+fn start(kind: u8, width: usize, id: u32) -> Vec<u8> {
+    let width_bits = [(2, 0x00), (4, 0x40), (8, 0x80)].iter().find(|pair| pair.0 == width).unwrap().1;
+    [&[0x40 | kind, width_bits, 0, 0][..], &id.to_be_bytes()].concat()
+}
+
+/// METADATA without checksum, with the size in 64 bits (property bit 8), times 0 and the path `a`.
+pub fn metadata(id: u32, width: usize, size: u64) -> Vec<u8> {
+    [start(2, width, id), hex("00 80"), size.to_be_bytes().to_vec(), vec![0; 8], b"a\0".to_vec()].concat()
+}
+
+/// DATA without timestamp, with `len` octets of payload.
+pub fn data(id: u32, width: usize, offset: u64, len: usize) -> Vec<u8> {
+    [&start(3, width, id)[..], &offset.to_be_bytes()[8 - width..], &vec![0x61; len]].concat()
+}
+
+/// The same with end of data (bit 16).
+pub fn last_data(id: u32, width: usize, offset: u64, len: usize) -> Vec<u8> {
+    let mut packet = data(id, width, offset, len);
+    packet[2] |= 0x80;
+    packet
+}

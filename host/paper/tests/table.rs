@@ -1,0 +1,220 @@
+//! The table: "Passes to be tried" of document 01, and each rule of opening, recording, closing and STATUS by hand.
+
+mod common;
+
+use common::{data, hex, last_data, metadata};
+use paper::refusal::Refusal;
+use paper::table::{Opened, State, Table};
+
+/// A table with transfer 7 open.
+fn with(width: usize, length: u64) -> Table {
+    let mut table = Table::default();
+    table.open(&metadata(7, width, length)).unwrap();
+    table
+}
+
+/// Records stretches of transfer 7 at width 16; each must be accepted.
+fn received(length: u64, stretches: &[(u64, usize)]) -> Table {
+    let mut table = with(2, length);
+    for &(offset, len) in stretches {
+        table.record(&data(7, 2, offset, len)).unwrap();
+    }
+    table
+}
+
+/// The octets of transfer 7's STATUS in a buffer of `room` octets; those after it must stay.
+fn status(table: &Table, skip: u64, unasked: bool, room: usize) -> Result<Vec<u8>, Refusal> {
+    let mut out = vec![0xA5; room];
+    let answer = table.write_status(7, skip, unasked, &mut out);
+    let size = answer.unwrap_or(0);
+    assert!(out[size..].iter().all(|&octet| octet == 0xA5));
+    answer.map(|size| out[..size].to_vec())
+}
+
+fn edge(edge: u64) -> Result<State, Refusal> {
+    Ok(State { edge, complete: false })
+}
+
+fn complete(edge: u64) -> Result<State, Refusal> {
+    Ok(State { edge, complete: true })
+}
+
+/// "Id 7, width 16, L = 3,000, octets 0 to 999 and 2,000 to 2,999 received"
+#[test]
+fn page_with_a_hole() {
+    let mut table = received(3_000, &[(0, 1_000), (2_000, 1_000)]);
+    let want = hex("44 00 00 00 00 00 00 07 03 E8 0B B8 03 E8 07 D0");
+    assert_eq!(status(&table, 0, false, 16), Ok(want));
+    // "The same in a buffer of 15 octets: refusal 20."
+    assert_eq!(status(&table, 0, false, 15), Err(Refusal::Buffer));
+    // "Then 1,000 to 1,999 arrives: complete"
+    assert_eq!(table.record(&data(7, 2, 1_000, 1_000)), complete(3_000));
+    assert_eq!(status(&table, 0, false, 12), Ok(hex("44 01 00 00 00 00 00 07 0B B8 0B B8")));
+}
+
+/// "One packet came twice, another never came, the sum matched"
+#[test]
+fn a_repeat_makes_no_page_complete() {
+    let mut table = received(3_000, &[(0, 1_000), (2_000, 1_000)]);
+    assert_eq!(table.record(&data(7, 2, 0, 1_000)), edge(3_000));
+    assert_eq!(status(&table, 0, true, 99), Ok(hex("44 01 00 00 00 00 00 07 03 E8 0B B8 03 E8 07 D0")));
+}
+
+/// "L = 0: complete at opening; any DATA is refused."
+#[test]
+fn empty_file() {
+    let mut table = Table::default();
+    let opened = table.open(&metadata(7, 2, 0));
+    assert_eq!(opened, Ok(Opened { state: State { edge: 0, complete: true }, already_open: false }));
+    assert_eq!(table.record(&data(7, 2, 0, 1)), Err(Refusal::PastEnd));
+    assert_eq!(status(&table, 0, false, 12), Ok(hex("44 01 00 00 00 00 00 07 00 00 00 00")));
+}
+
+/// "L = 65,535 at width 16 opens; 65,536 is refused with 9."
+#[test]
+fn longest_file_at_width_16() {
+    let mut table = Table::default();
+    assert!(table.open(&metadata(7, 2, 65_535)).is_ok());
+    assert_eq!(table.open(&metadata(8, 2, 65_536)), Err(Refusal::Size));
+}
+
+/// "0 to 9 then 10 to 19: one run, edge 20, no hole."
+#[test]
+fn touching_packets() {
+    let mut table = received(3_000, &[(0, 10)]);
+    assert_eq!(table.record(&data(7, 2, 10, 10)), edge(20));
+    assert_eq!(table.transfers[&7].received.run_count(), 1);
+    assert_eq!(status(&table, 0, false, 99), Ok(hex("44 00 00 00 00 00 00 07 00 14 00 14")));
+}
+
+/// "Only 5 to 9 received: Progress 0, edge 10, one hole from 0 to 5."
+#[test]
+fn start_not_received() {
+    let table = received(3_000, &[(5, 5)]);
+    assert_eq!(status(&table, 0, false, 99), Ok(hex("44 00 00 00 00 00 00 07 00 00 00 0A 00 00 00 05")));
+}
+
+/// "64 runs, then a packet apart from all: 16. A packet that touches one: accepted."
+#[test]
+fn sixty_four_runs() {
+    let runs: Vec<_> = (0..64).map(|run| (10 * run, 5)).collect();
+    let mut table = received(3_000, &runs);
+    let before = table.clone();
+    assert_eq!(table.record(&data(7, 2, 1_000, 1)), Err(Refusal::Runs));
+    assert_eq!(table.record(&data(7, 2, 7, 1)), Err(Refusal::Runs));
+    assert_eq!(table, before);
+    assert_eq!(table.record(&data(7, 2, 5, 1)), edge(635));
+    assert_eq!(table.record(&data(7, 2, 6, 4)), edge(635));
+    assert_eq!(table.transfers[&7].received.run_count(), 63);
+    assert_eq!(table.record(&data(7, 2, 1_000, 1)), edge(1_001));
+}
+
+/// "Offset 2^64 - 1 with one octet, L = 2^64 - 1: 14, and no wrapped sum."
+#[test]
+fn no_wrapped_sum() {
+    let mut table = with(8, u64::MAX);
+    assert_eq!(table.record(&data(7, 8, u64::MAX, 1)), Err(Refusal::PastEnd));
+    assert_eq!(table.record(&data(7, 8, u64::MAX, 2)), Err(Refusal::PastEnd));
+    assert_eq!(table.record(&last_data(7, 8, u64::MAX - 1, 1)), edge(u64::MAX));
+}
+
+/// "A 17th Id: 17; after one is closed it opens."
+#[test]
+fn seventeen_ids() {
+    let mut table = Table::default();
+    for id in 1..=16 {
+        assert!(table.open(&metadata(id, 2, 9)).is_ok());
+    }
+    assert_eq!(table.open(&metadata(17, 2, 9)), Err(Refusal::TableFull));
+    // 18 comes before 17, and what is open already needs no room.
+    assert_eq!(table.open(&metadata(16, 2, 8)), Err(Refusal::OpenOther));
+    assert!(table.open(&metadata(16, 2, 9)).unwrap().already_open);
+    assert_eq!(table.close(3), Ok(()));
+    assert!(table.open(&metadata(17, 2, 9)).is_ok());
+    assert_eq!(table.close(3), Err(Refusal::NotOpen));
+}
+
+#[test]
+fn opening_again() {
+    let mut table = received(3_000, &[(5, 5)]);
+    let opened = table.open(&metadata(7, 2, 3_000));
+    assert_eq!(opened, Ok(Opened { state: State { edge: 10, complete: false }, already_open: true }));
+    assert_eq!(table.open(&metadata(7, 4, 3_000)), Err(Refusal::OpenOther));
+    assert_eq!(table.open(&metadata(7, 2, 2_999)), Err(Refusal::OpenOther));
+    assert_eq!(table, received(3_000, &[(5, 5)]));
+    // After closing nothing is left of it.
+    table.close(7).unwrap();
+    let opened = table.open(&metadata(7, 4, 3_000));
+    assert_eq!(opened, Ok(Opened { state: State { edge: 0, complete: false }, already_open: false }));
+}
+
+/// Everything is wrong with the packet; the faults are mended one after the other.
+#[test]
+fn recording_refusals_in_their_order() {
+    let runs: Vec<_> = (0..64).map(|run| (10 * run, 5)).collect();
+    let mut table = received(3_000, &runs);
+    let mut packet = last_data(8, 4, 3_000, 1);
+    let mut next = |mend: &dyn Fn(&mut Vec<u8>), want: Refusal| {
+        mend(&mut packet);
+        assert_eq!(table.record(&packet), Err(want));
+    };
+    next(&|p| p[0] = 0x44, Refusal::Type);
+    next(&|p| p[0] = 0x42, Refusal::Type);
+    next(&|p| p[0] = 0x43, Refusal::NotOpen);
+    next(&|p| p[7] = 7, Refusal::OtherWidth);
+    next(&|p| *p = last_data(7, 2, 3_000, 1), Refusal::PastEnd);
+    next(&|p| *p = last_data(7, 2, 2_998, 1), Refusal::EarlyEnd);
+    next(&|p| *p = data(7, 2, 2_998, 1), Refusal::Runs);
+    next(&|p| *p = last_data(7, 2, 2_999, 1), Refusal::Runs);
+}
+
+#[test]
+fn status_rooms_and_skips() {
+    // Holes 0 to 1, 2 to 3 and 4 to 5.
+    let table = received(9, &[(1, 1), (3, 1), (5, 1)]);
+    let of = |flags: &str, holes: &str| Ok(hex(&format!("44 {flags} 00 00 00 00 00 07 00 00 00 06 {holes}")));
+    assert_eq!(status(&table, 0, false, 24), of("00", "00 00 00 01 00 02 00 03 00 04 00 05"));
+    assert_eq!(status(&table, 0, false, 23), of("02", "00 00 00 01 00 02 00 03"));
+    assert_eq!(status(&table, 0, false, 20), of("02", "00 00 00 01 00 02 00 03"));
+    assert_eq!(status(&table, 0, true, 19), of("03", "00 00 00 01"));
+    assert_eq!(status(&table, 0, false, 15), Err(Refusal::Buffer));
+    assert_eq!(status(&table, 1, false, 99), of("02", "00 02 00 03 00 04 00 05"));
+    assert_eq!(status(&table, 2, false, 16), of("02", "00 04 00 05"));
+    assert_eq!(status(&table, 2, false, 15), Err(Refusal::Buffer));
+    assert_eq!(status(&table, 3, false, 0), Err(Refusal::Index));
+    assert_eq!(status(&table, u64::MAX, false, 99), Err(Refusal::Index));
+    // Without holes only 0 is allowed.
+    let table = received(9, &[(0, 1)]);
+    assert_eq!(status(&table, 0, false, 12), Ok(hex("44 00 00 00 00 00 00 07 00 01 00 01")));
+    assert_eq!(status(&table, 0, false, 11), Err(Refusal::Buffer));
+    assert_eq!(status(&table, 1, false, 0), Err(Refusal::Index));
+    assert_eq!(table.write_status(7 + (1 << 32), 1, false, &mut []), Err(Refusal::NotOpen));
+}
+
+#[test]
+fn status_of_wider_transfers() {
+    let mut table = with(4, 0xFFFF_FFFF);
+    table.record(&data(7, 4, 0xFFFF_FFFE, 1)).unwrap();
+    let want = hex("44 40 00 00 00 00 00 07 00 00 00 00 FF FF FF FF 00 00 00 00 FF FF FF FE");
+    assert_eq!(status(&table, 0, false, 24), Ok(want));
+    let mut table = with(8, u64::MAX);
+    table.record(&data(7, 8, 1, 1)).unwrap();
+    let want = "44 80 00 00 00 00 00 07 00 00 00 00 00 00 00 00 00 00 00 00 00 00 00 02 \
+                00 00 00 00 00 00 00 00 00 00 00 00 00 00 00 01";
+    assert_eq!(status(&table, 0, false, 99), Ok(hex(want)));
+}
+
+#[test]
+fn listing() {
+    let mut table = Table::default();
+    for (id, width, length) in [(300, 8, u64::MAX), (7, 2, 3), (0xFFFF_FFFF, 4, 0)] {
+        table.open(&metadata(id, width, length)).unwrap();
+    }
+    table.record(&data(7, 2, 2, 1)).unwrap();
+    let list = |index| table.transfer(index).map(|t| (t.id, t.width, t.length, t.state.edge, t.state.complete, t.runs));
+    assert_eq!(list(0), Ok((7, 2, 3, 3, false, 1)));
+    assert_eq!(list(1), Ok((300, 8, u64::MAX, 0, false, 0)));
+    assert_eq!(list(2), Ok((0xFFFF_FFFF, 4, 0, 0, true, 0)));
+    assert_eq!(list(3), Err(Refusal::NotOpen));
+    assert_eq!(list(u64::MAX), Err(Refusal::NotOpen));
+}

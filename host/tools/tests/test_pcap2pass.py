@@ -1,6 +1,4 @@
 """pcap2pass on captures made here of the project's own packets, and against tshark or tcpdump where there is one."""
-import importlib.machinery
-import importlib.util
 import io
 import os
 import random
@@ -13,10 +11,11 @@ import tempfile
 import unittest
 
 import captures
+import loading
 from captures import cooked, cooked2, enhanced, ethernet, interface, ipv4, ipv6, pcap, pcapng, section, simple, udp
 from packets import page_packets, record
 
-TOOL = os.path.join(os.path.dirname(os.path.abspath(__file__)), "..", "pcap2pass")
+pcap2pass = loading.tool("pcap2pass")
 PACKETS = page_packets()
 PASS = b"".join(record(b"P", packet) for packet in PACKETS)
 
@@ -46,12 +45,6 @@ WRAPPINGS = {
 }
 
 
-sys.dont_write_bytecode = True
-LOADER = importlib.machinery.SourceFileLoader("pcap2pass", TOOL)
-pcap2pass = importlib.util.module_from_spec(importlib.util.spec_from_loader("pcap2pass", LOADER))
-LOADER.exec_module(pcap2pass)
-
-
 def run(capture):
     """Output, messages and exit status of pcap2pass on a capture."""
     out, told = io.BytesIO(), []
@@ -61,7 +54,7 @@ def run(capture):
 
 def run_program(capture, *options):
     """The same of the program with options."""
-    done = subprocess.run([sys.executable, "-B", TOOL, *options], input=capture, capture_output=True, check=False)
+    done = subprocess.run([sys.executable, "-B", loading.path_of("pcap2pass"), *options], input=capture, capture_output=True, check=False)
     return done.stdout, done.stderr.decode(), done.returncode
 
 

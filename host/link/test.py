@@ -413,6 +413,10 @@ def loopback(program, place, address, seconds, options):
                     next_kill = time.monotonic() + chance.uniform(0.01, 0.3)
             if sender.done() and receiver.kills >= 15:
                 break
+        heard = sender.answers
+        while sender.answers == heard:  # the last program started is at work
+            check(time.monotonic() < begun + seconds + 25, "no answer any more")
+            sender.round(7)
         status = receiver.end(signal.SIGTERM)
         check(status == 0, f"the program ended with {status}")
     finally:

@@ -2,14 +2,16 @@
 # make lib      proves the library and builds target/staticlib/libsaratoga.a
 # make compare  compares the archive with the codec and receiver of host/paper; SEED=N and CALLS=N are optional
 # make soak     the same over 2 x 10^8 calls on areas, some hours; or for SECONDS=N seconds
-# make install  header and archive below PREFIX (default /usr/local)
+# make link     builds the link program, target/link/saratoga-link (docs/LINK.md)
+# make install  header, archive, pkg-config file and man page below PREFIX (default /usr/local)
 PREFIX ?= /usr/local
+VERSION = 0.1
 ARCHIVE = target/staticlib/libsaratoga.a
 
-.PHONY: test lib compare soak install clean help
+.PHONY: test lib compare soak link install clean help
 
 help:
-	@sed -n 's/^# //p' Makefile | head -n 5
+	@sed -n 's/^# make/make/p' Makefile
 
 test:
 	bash .ci/run
@@ -26,10 +28,17 @@ soak: lib
 	target/host/release/compare $(if $(SEED),--seed $(SEED)) \
 		$(if $(SECONDS),--seconds $(SECONDS),--calls 100000000 --receiver-calls 200000000)
 
+link: lib
+	mkdir -p target/link
+	$(CC) -std=c99 -Wall -Wextra -pedantic -O2 -Iinclude host/link/link.c $(ARCHIVE) -o target/link/saratoga-link
+
 install: lib
-	install -d $(DESTDIR)$(PREFIX)/include $(DESTDIR)$(PREFIX)/lib
+	install -d $(DESTDIR)$(PREFIX)/include $(DESTDIR)$(PREFIX)/lib/pkgconfig $(DESTDIR)$(PREFIX)/share/man/man1
 	install -m 644 include/saratoga.h $(DESTDIR)$(PREFIX)/include/saratoga.h
 	install -m 644 $(ARCHIVE) $(DESTDIR)$(PREFIX)/lib/libsaratoga.a
+	sed 's|@PREFIX@|$(PREFIX)|;s|@VERSION@|$(VERSION)|' host/saratoga.pc.in >$(DESTDIR)$(PREFIX)/lib/pkgconfig/saratoga.pc
+	chmod 644 $(DESTDIR)$(PREFIX)/lib/pkgconfig/saratoga.pc
+	install -m 644 host/man/replay.1 $(DESTDIR)$(PREFIX)/share/man/man1/replay.1
 
 clean:
 	rm -rf target

@@ -2,7 +2,9 @@
 """Tests the link program end to end: on passes, cut off at every place between two writes, and over a lossy loopback
 while it is killed again and again. Needs a C compiler, python3 and the archive; under a minute.
 
-    host/link/test.py [SECONDS]     SECONDS bounds the part that kills the program (else 12)
+    host/link/test.py [SECONDS]     SECONDS bounds the part that kills the program (else 6)
+
+With SHOW_WRONG set it prints how each program with another order of writes was found.
 """
 import os
 import random
@@ -23,6 +25,9 @@ from packets import END_OF_DATA, WANTED, data, failure, metadata, record, succes
 
 ARCHIVE = os.path.join(ROOT, "target", "staticlib", "libsaratoga.a")
 SOURCE = os.path.join(PLACE, "link.c")
+POWERCUT = os.path.join(PLACE, "powercut.c")
+WRAPPED = ["-Wl," + ",".join(f"--wrap={name}" for name in (
+    "openat", "openat64", "pwrite", "pwrite64", "renameat", "fsync"))]
 AREA_OCTETS = 16904
 
 
@@ -31,22 +36,27 @@ def check(holds, what):
         raise AssertionError(what)
 
 
-def build(source, out, *options):
+def build(sources, out, *options):
     subprocess.run([os.environ.get("CC", "cc"), "-std=c99", "-Wall", "-Wextra", "-Werror", "-pedantic", "-O1", "-g",
-                    *options, "-I" + os.path.join(ROOT, "include"), source, ARCHIVE, "-o", out], check=True)
+                    *options, "-I" + os.path.join(ROOT, "include"), *sources, ARCHIVE, "-o", out], check=True)
     return out
 
 
-def run(program, place, *options, octets=b"", cut=0):
+def run(program, place, *options, octets=b"", **environment):
     """Lines, messages and exit status of the program."""
     done = subprocess.run([program, "-d", place, *options], input=octets, capture_output=True, check=False, timeout=20,
-                          env=dict(os.environ, LINK_CUT=str(cut)))
+                          env=dict(os.environ, **environment))
     return done.stdout.decode().splitlines(), done.stderr.decode(), done.returncode
 
 
 def content(*parts):
     with open(os.path.join(*parts), "rb") as file:
         return file.read()
+
+
+def holds(place, name, octets):
+    """Whether a file is there and has these octets."""
+    return os.path.exists(os.path.join(place, name)) and content(place, name) == octets
 
 
 def stored(place):
@@ -78,7 +88,7 @@ def nothing_promised_is_missing(place, originals, lines=()):
         words = line.split()
         if words[1] == "complete":
             ident, name = int(words[2][3:]), words[4][5:]
-            check(content(place, name) == originals[ident], f"{line}: the page isn't on disk")
+            check(holds(place, name, originals[ident]), f"{line}: the page isn't on disk")
     for ident, told in statuses(lines).items():
         if ident in (stored(place) or {}):
             for start, stop in told:
@@ -205,14 +215,12 @@ def more_than_sixteen(program, place):
 
 def run_cut(program, place, octets, cut=0):
     """The program ended at a place. Nothing need be forced to disk: it is not the machine that ends."""
-    return run(program, place, "--no-fsync", "-", octets=octets, cut=cut)
+    return run(program, place, "--no-fsync", "-", octets=octets, LINK_CUT=str(cut))
 
 
-def cut_everywhere(program, place):
-    """A pass of two transfers, of which one Id is used twice. The program is ended at each place between two writes, and
-    inside each write; then the pass comes again. Gives the number of places."""
-    first, second = page(900, 3), page(700, 4)
-    originals = {7: first, 9: second}
+def two_transfers():
+    """Two pages, and a pass of both with repeats, overlaps and one packet late."""
+    originals = {7: page(900, 3), 9: page(700, 4)}
 
     def sent(ident, *chunks):
         original = originals[ident]
@@ -223,13 +231,20 @@ def cut_everywhere(program, place):
 
     packets = sent(7, (600, 300, END_OF_DATA), (0, 300, WANTED)) + sent(9, (0, 350, 0), (350, 350, 0))
     packets += sent(7, (200, 500, WANTED), (0, 900, WANTED))
-    octets = b"".join(record(b"P", packet) for packet in packets)
+    return originals, b"".join(record(b"P", packet) for packet in packets)
+
+
+def cut_everywhere(program, place):
+    """The program is ended at each place between two writes, and inside each write; then the pass comes again. Gives the
+    number of places."""
+    originals, octets = two_transfers()
     count = 0
     while True:
         count += 1
         here = os.path.join(place, str(count))
         os.mkdir(here)
         reported, cuts = [], 0
+        check(count < 1000, "the program is cut off without end")
         # Cut off at the same place after each restart, until the whole pass gets through.
         cut = count
         while True:
@@ -242,7 +257,7 @@ def cut_everywhere(program, place):
             cuts += 1
             cut = count if cuts < 4 else 0
         for ident, original in originals.items():
-            check(content(here, f"{ident:08x}.page") == original, f"page {ident} after a cut at place {count}")
+            check(holds(here, f"{ident:08x}.page", original), f"page {ident} after a cut at place {count}")
             check(any(f"complete id={ident} " in line for line in reported), f"page {ident} was never reported")
         check(not os.path.exists(os.path.join(here, "00000007.part")), "a part is left")
         if cuts == 0:
@@ -273,6 +288,63 @@ def cut_while_an_id_is_used_again(program, place):
             return count - 1
         run_cut(program, here, octets[1])
         check(content(here, "00000007.page") == new and content(here, "00000010.page") == old, f"a cut at {count}")
+
+
+# Power cuts: what was not forced to disk may be lost, or not.
+
+
+def after_the_cut(disk, place, target, how, chance):
+    """Makes `target` the directory as a power cut leaves it. `how`: which of the things not forced to disk are there
+    all the same: "none", "names" (of files, not their octets), "octets" (not names), or "some"."""
+    def lines(name):
+        path = os.path.join(disk, name)
+        return content(path).decode().splitlines() if os.path.exists(path) else []
+
+    names = {}
+    for line in lines("names"):
+        inode, name = line.split()
+        names[name] = inode
+    for line in lines("changes"):
+        if how == "names" or (how == "some" and chance.random() < 0.5):
+            what, inode, name, *new = line.split()
+            names.pop(name, None)
+            names[new[0] if what == "rename" else name] = inode
+    now = {str(os.stat(os.path.join(place, name)).st_ino): content(place, name) for name in os.listdir(place)}
+    os.mkdir(target)
+    for name, inode in names.items():
+        kept = os.path.join(disk, "octets-" + inode)
+        octets = content(kept) if os.path.exists(kept) else b""
+        if inode in now and (how == "octets" or (how == "some" and chance.random() < 0.5)):
+            octets = now[inode]
+        with open(os.path.join(target, name), "wb") as file:
+            file.write(octets)
+
+
+def power_cuts(program, plain, place):
+    """The power goes at each call that writes, renames or forces to disk. Whatever then is on disk, nothing that was said
+    is missing, and the pass, sent again to the plain program, completes both pages. Gives the number of calls."""
+    originals, octets = two_transfers()
+    chance = random.Random(613)
+    count = 0
+    while True:
+        count += 1
+        here, disk = os.path.join(place, f"{count}"), os.path.join(place, f"{count}-disk")
+        os.mkdir(here)
+        os.mkdir(disk)
+        lines, told, status = run(program, here, "-", octets=octets, POWERCUT=str(count), POWERCUT_DISK=disk)
+        check(status in (0, 98) and count < 1000, f"call {count}: {told}")
+        for number, how in enumerate(("none", "names", "octets", "some", "some", "some")):
+            left = os.path.join(place, f"{count}-{number}")
+            after_the_cut(disk, here, left, how, chance)
+            nothing_promised_is_missing(left, originals, lines)
+            if plain and number < 4:
+                again, told, ended = run(plain, left, "--no-fsync", "-", octets=octets)
+                check((told, ended) == ("", 0), f"call {count}, {how}: {told}")
+                nothing_promised_is_missing(left, originals, again)
+                for ident, original in originals.items():
+                    check(holds(left, f"{ident:08x}.page", original), f"page {ident} after call {count}, {how}")
+        if status == 0:
+            return count - 1
 
 
 # A lossy loopback, and a program that is killed.
@@ -433,47 +505,56 @@ def loopback(program, place, address, seconds, options):
 # Programs that write in another order, which the tests must find.
 
 
+ENDED, CUT = "ended", "power cut"  # which test finds it
+
 WRONG = {
     "records and saves before the payload is written": (
-        "file->written = 1;", "", "        struct file *file = file_of(read->id);",
+        ENDED, "file->written = 1;", "", "        struct file *file = file_of(read->id);",
         "        saratoga_record(area, sizeof area, packet, packet_len); unsaved++; save();\n"
         "        struct file *file = file_of(read->id);"),
     "reports before the last payload is written": (
-        "    if (adds) {\n",
+        ENDED, "    if (adds) {\n",
         "    if (adds && recorded.complete) deliver(number, read->id, recorded.edge);\n    if (adds) {\n"),
     "writes the area in place": (
-        'openat(directory, "area.new", O_WRONLY', 'openat(directory, "area", O_WRONLY',
+        ENDED, 'openat(directory, "area.new", O_WRONLY', 'openat(directory, "area", O_WRONLY',
         'if (renameat(directory, "area.new", directory, "area") != 0)', "if (0)"),
-    "answers before the area is saved": ("if (wanted || recorded.complete ||", "if (recorded.complete ||"),
+    "answers before the area is saved": (ENDED, "if (wanted || recorded.complete ||", "if (recorded.complete ||"),
+    "forces no payload to disk": (CUT, "            force_to_disk(files[i].fd, name);\n", ""),
+    "renames an area that isn't on disk": (CUT, '    force_to_disk(fd, "area.new");\n', ""),
+    "saves an area before the names of new files": (CUT, "    force_directory(); /* the names", "    /* the names"),
+    "reports a page whose new name isn't on disk": (
+        CUT, "        directory_changed = 1;\n        force_directory();\n    } else",
+        "        directory_changed = 1;\n    } else"),
 }
 
 
 def wrong_programs(place):
     with open(SOURCE, encoding="utf-8") as file:
         source = file.read()
-    for number, (what, edits) in enumerate(WRONG.items()):
+    for number, (what, (test, *edits)) in enumerate(WRONG.items()):
         edited = source
         for old, new in zip(edits[::2], edits[1::2]):
             check(edited.count(old) == 1, f"{what}: {old!r} stands {edited.count(old)} times in link.c")
             edited = edited.replace(old, new)
         here = os.path.join(place, str(number))
-        os.makedirs(os.path.join(here, "a"))
-        os.makedirs(os.path.join(here, "b"))
-        with open(os.path.join(here, "link.c"), "w", encoding="utf-8") as file:
+        os.mkdir(here)
+        path = here + ".c"
+        with open(path, "w", encoding="utf-8") as file:
             file.write(edited)
-        program = build(os.path.join(here, "link.c"), os.path.join(here, "link"), "-DLINK_CUT_POINTS", "-Wno-error")
-        found = False
-        for test, name in ((cut_everywhere, "a"), (cut_while_an_id_is_used_again, "b")):
-            try:
-                test(program, os.path.join(here, name))
-            except (AssertionError, FileNotFoundError):
-                found = True
-                break
-        check(found, f"a program that {what} isn't found")
+        try:
+            if test == ENDED:
+                cut_everywhere(build([path], here + ".out", "-DLINK_CUT_POINTS", "-Wno-error"), here)
+            else:
+                power_cuts(build([path, POWERCUT], here + ".out", "-Wno-error", *WRAPPED), None, here)
+        except AssertionError as reason:
+            if os.environ.get("SHOW_WRONG"):
+                print(f"link: a program that {what}: {reason}")
+            continue
+        check(False, f"a program that {what} isn't found")
 
 
 def main():
-    seconds = float(sys.argv[1]) if len(sys.argv) > 1 else 12.0
+    seconds = float(sys.argv[1]) if len(sys.argv) > 1 else 6.0
     begun = time.monotonic()
     with tempfile.TemporaryDirectory() as place:
         def fresh(name):
@@ -481,13 +562,16 @@ def main():
             os.makedirs(path)
             return path
 
-        program = build(SOURCE, os.path.join(place, "saratoga-link"))
-        cutting = build(SOURCE, os.path.join(place, "saratoga-link-cut"), "-DLINK_CUT_POINTS")
+        program = build([SOURCE], os.path.join(place, "saratoga-link"))
+        cutting = build([SOURCE], os.path.join(place, "saratoga-link-cut"), "-DLINK_CUT_POINTS")
+        power = build([SOURCE, POWERCUT], os.path.join(place, "saratoga-link-power"), *WRAPPED)
         passes(program, fresh("passes"))
         more_than_sixteen(program, fresh("sixteen"))
         print("link: passes, restarts and wrong input are as expected")
         places = cut_everywhere(cutting, fresh("cuts")), cut_while_an_id_is_used_again(cutting, fresh("again"))
         print(f"link: ended at each of {sum(places)} places between and inside writes, nothing promised is missing")
+        calls = power_cuts(power, program, fresh("power"))
+        print(f"link: power cut at each of {calls} calls, whatever of the rest is on disk nothing promised is missing")
         wrong_programs(fresh("wrong"))
         print(f"link: {len(WRONG)} programs with another order of writes are found")
         print("link: " + loopback(program, fresh("four"), "127.0.0.1", seconds, ()))

@@ -210,6 +210,33 @@ def more_than_sixteen(program, place):
                          "20 complete id=16 length=20 file=00000010.page"], lines[16:])
 
 
+def any_octets(program, place):
+    """Damaged packets, and offsets that no file has: every packet gets a line, and the program ends by itself."""
+    chance = random.Random(614)
+    for number in range(8):
+        packets, lengths = [], {ident: chance.choice((0, 1, 40, 2**16 - 1, 2**64 - 1)) for ident in range(20)}
+        for _ in range(300):
+            ident = chance.randrange(20)
+            length = lengths[ident]
+            width = 16 if length < 2**16 else 64
+            packet = metadata(ident, width, length)
+            if chance.random() < 0.8:
+                flags = chance.choice((0, WANTED, WANTED, END_OF_DATA))
+                packet = data(ident, width, max(0, chance.choice((0, 7, length // 2, length - 9))), bytes(9), flags)
+            packet = bytearray(packet)
+            if chance.random() < 0.3:
+                packet[chance.randrange(len(packet))] = chance.randrange(256)
+            packets.append(bytes(packet[:chance.choice((len(packet), len(packet), chance.randrange(len(packet) + 1)))]))
+        here = os.path.join(place, str(number % 2))  # every second run takes up what the one before left
+        os.makedirs(here, exist_ok=True)
+        lines, told, status = run(program, here, "--no-fsync", "-", octets=b"".join(record(b"P", p) for p in packets))
+        check(status == 0, f"status {status}: {told}")
+        answered = {int(line.split()[0]) for line in lines}
+        answered |= {int(line.split()[2][:-1]) for line in told.splitlines() if ": packet " in line}
+        check(answered | {0} == set(range(301)), f"no line for packets {set(range(1, 301)) - answered}")
+        check("File too large" in told or not told, told)
+
+
 # Cut off between two writes.
 
 
@@ -567,7 +594,14 @@ def main():
         power = build([SOURCE, POWERCUT], os.path.join(place, "saratoga-link-power"), *WRAPPED)
         passes(program, fresh("passes"))
         more_than_sixteen(program, fresh("sixteen"))
-        print("link: passes, restarts and wrong input are as expected")
+        try:
+            checked = build([SOURCE], os.path.join(place, "saratoga-link-sanitized"), "-fsanitize=address,undefined",
+                            "-fno-sanitize-recover=all")
+        except subprocess.CalledProcessError:
+            print("link: skipped with sanitizers: the compiler doesn't support them")
+            checked = program
+        any_octets(checked, fresh("any"))
+        print("link: passes, damaged packets, restarts and wrong input are as expected")
         places = cut_everywhere(cutting, fresh("cuts")), cut_while_an_id_is_used_again(cutting, fresh("again"))
         print(f"link: ended at each of {sum(places)} places between and inside writes, nothing promised is missing")
         calls = power_cuts(power, program, fresh("power"))

@@ -391,9 +391,10 @@ static void take_data(uint64_t number, const struct peer *peer, const uint8_t *p
      */
     int adds = memcmp(trial, area, sizeof area) != 0;
     if (adds) {
-        /* 2. Payload. Where it can't be written the packet is as good as lost: it isn't recorded, and asked for again. */
+        /* 2. Payload. Where it can't be written the packet is as good as lost: not recorded, and asked for again. */
         struct file *file = file_of(read->id);
-        if (file == NULL || write_at(file->fd, packet + read->payload_at, (size_t)read->payload_len, read->offset) != 0) {
+        const uint8_t *payload = packet + read->payload_at;
+        if (file == NULL || write_at(file->fd, payload, (size_t)read->payload_len, read->offset) != 0) {
             warn("packet %" PRIu64 ": not recorded, as if it had been lost: %s/%08" PRIx64 ".part: %s", number,
                  directory_name, read->id, strerror(errno));
             return;
@@ -502,8 +503,8 @@ static void take_up(void)
             save();
             continue;
         }
-        say(0, "taken-up id=%" PRIu64 " width=%" PRIu64 " length=%" PRIu64 " edge=%" PRIu64 " complete=%" PRIu64, one.id,
-            8 * one.width, one.length, one.edge, one.complete);
+        say(0, "taken-up id=%" PRIu64 " width=%" PRIu64 " length=%" PRIu64 " edge=%" PRIu64 " complete=%" PRIu64,
+            one.id, 8 * one.width, one.length, one.edge, one.complete);
         if (one.complete)
             deliver(0, one.id, one.length);
         i++;
@@ -687,6 +688,7 @@ int main(int count, char **arguments)
         wrong_usage("one of PASS, --udp and --close is needed", "");
     if (port != NULL)
         number_of(port, "--udp", 65535);
+    uint64_t id_to_close = to_close != NULL ? number_of(to_close, "--close", UINT32_MAX) : 0;
 
     directory = open(directory_name, O_RDONLY | O_DIRECTORY | O_CLOEXEC);
     if (directory < 0)
@@ -705,12 +707,11 @@ int main(int count, char **arguments)
 
     take_up();
     if (to_close != NULL) {
-        uint64_t id = number_of(to_close, "--close", UINT32_MAX);
-        if (saratoga_close(area, sizeof area, id).number != 0)
-            die("transfer %" PRIu64 " isn't open", id);
+        if (saratoga_close(area, sizeof area, id_to_close).number != 0)
+            die("transfer %" PRIu64 " isn't open", id_to_close);
         unsaved++;
         save();
-        say(0, "close id=%" PRIu64, id);
+        say(0, "close id=%" PRIu64, id_to_close);
     } else if (pass != NULL) {
         from_pass(pass);
     } else {

@@ -1,6 +1,6 @@
 /*
- * For the test of link.c: a disk that forgets what was not forced to it. The linker puts these functions in the place of
- * openat, pwrite, renameat and fsync (--wrap). They do what those do, and note in the directory POWERCUT_DISK what a
+ * For the test of link.c: a disk that forgets what was not forced to it. The linker puts these functions in the place
+ * of openat, pwrite, renameat and fsync (--wrap). They do what those do, and note in the directory POWERCUT_DISK what a
  * power cut would leave:
  *
  *     octets-INODE   a file's octets when it was last forced to disk; none where it never was

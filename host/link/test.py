@@ -79,7 +79,7 @@ def nothing_promised_is_missing(place, originals, lines=()):
     for ident, (length, runs) in (stored(place) or {}).items():
         original = originals[ident]
         check(length == len(original), f"transfer {ident} of {length} octets")
-        names = [name for name in (f"{ident:08x}.part", f"{ident:08x}.page") if os.path.exists(os.path.join(place, name))]
+        names = [name for name in (f"{ident:08x}.part", f"{ident:08x}.page") if name in os.listdir(place)]
         check(names, f"transfer {ident} is in the area and has no file")
         kept = content(place, names[0])
         for start, stop in runs:
@@ -160,7 +160,8 @@ def passes(program, place):
                    "0 taken-up id=9 width=16 length=0 edge=0 complete=1"], "", 0), got)
 
     # A pass cut short: what stood before is recorded.
-    got = run(program, place, "-q", "-", octets=record(b"P", metadata(1, 16, 4)) + record(b"P", data(1, 16, 0, b"ab"))[:-1])
+    short = record(b"P", metadata(1, 16, 4)) + record(b"P", data(1, 16, 0, b"ab"))[:-1]
+    got = run(program, place, "-q", "-", octets=short)
     check(got[1:] == ("saratoga-link: -: cut short in record 2\n", 1), got)
     check(stored(place)[1] == (4, []), stored(place))
 
@@ -188,8 +189,8 @@ def passes(program, place):
         check("area: is no image of a transfer table" in got[1] and got[2] == 1, got)
         check(content(place, "area") == bad, "the area was touched")
 
-    for options in ((), ("a", "b"), ("--udp", "65536"), ("--udp",), ("--what",), ("--idle", "x", "-"), ("-", "--udp", "1")):
-        got = run(program, place, *options)
+    for options in ("", "a b", "--udp 65536", "--udp", "--what", "--idle x -", "- --udp 1", "--close -1"):
+        got = run(program, place, *options.split())
         check(got[2] == 2 and "see saratoga-link --help" in got[1], got)
     check(run(program, place, "--help")[0][0].startswith("usage: saratoga-link"), "no help")
     check(run(program, "/nowhere", "-")[1:] == ("saratoga-link: /nowhere: No such file or directory\n", 1), "/nowhere")
@@ -262,8 +263,8 @@ def two_transfers():
 
 
 def cut_everywhere(program, place):
-    """The program is ended at each place between two writes, and inside each write; then the pass comes again. Gives the
-    number of places."""
+    """The program is ended at each place between two writes, and inside each write; then the pass comes again. Gives
+    the number of places."""
     originals, octets = two_transfers()
     count = 0
     while True:
@@ -348,8 +349,8 @@ def after_the_cut(disk, place, target, how, chance):
 
 
 def power_cuts(program, plain, place):
-    """The power goes at each call that writes, renames or forces to disk. Whatever then is on disk, nothing that was said
-    is missing, and the pass, sent again to the plain program, completes both pages. Gives the number of calls."""
+    """The power goes at each call that writes, renames or forces to disk. Whatever then is on disk, nothing that was
+    said is missing, and the pass, sent again to the plain program, completes both pages. Gives the number of calls."""
     originals, octets = two_transfers()
     chance = random.Random(613)
     count = 0

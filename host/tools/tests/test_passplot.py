@@ -147,7 +147,8 @@ class Errors(unittest.TestCase):
         self.wrong("2 open id=7 width=16 length=30 edge=0 complete=0 new", "transfer 7 is open already")
         self.wrong("2 send 44", "send is followed by the octets of a STATUS")
         self.wrong("2 refused", "refused is followed by a number")
-        self.wrong("2 taken-up id=7", "a transfer taken up from an earlier run: what was received before isn't in these lines")
+        self.wrong("2 taken-up id=7", "a transfer taken up from an earlier run: what was received before isn't in these "
+                                      "lines")
 
     def test_the_program(self):
         def run(text, *options):

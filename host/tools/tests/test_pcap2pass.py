@@ -54,7 +54,8 @@ def run(capture):
 
 def run_program(capture, *options):
     """The same of the program with options."""
-    done = subprocess.run([sys.executable, "-B", loading.path_of("pcap2pass"), *options], input=capture, capture_output=True, check=False)
+    done = subprocess.run([sys.executable, "-B", loading.path_of("pcap2pass"), *options], input=capture,
+                          capture_output=True, check=False)
     return done.stdout, done.stderr.decode(), done.returncode
 
 

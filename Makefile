@@ -1,14 +1,15 @@
 # make test     the gate: proofs, must-fail edits, host tests
 # make lib      proves the library and builds target/staticlib/libsaratoga.a
 # make compare  compares the archive with the codec and receiver of host/paper; SEED=N and CALLS=N are optional
-# make soak     the same over 2 x 10^8 calls on areas, some hours; or for SECONDS=N seconds
+# make soak     the same over 3 x 10^8 calls, an hour or more; or for SECONDS=N seconds
+# make stack    prints the stack that each function needs
 # make link     builds the link program, target/link/saratoga-link (docs/LINK.md)
 # make install  header, archive, pkg-config file and man page below PREFIX (default /usr/local)
 PREFIX ?= /usr/local
 VERSION = 0.1
 ARCHIVE = target/staticlib/libsaratoga.a
 
-.PHONY: test lib compare soak link install clean help
+.PHONY: test lib compare soak stack link install clean help
 
 help:
 	@sed -n 's/^# make/make/p' Makefile
@@ -21,12 +22,16 @@ lib:
 
 compare: lib
 	cd host && CARGO_TARGET_DIR=../target/host cargo build --offline --locked --release --quiet
-	target/host/release/compare $(if $(SEED),--seed $(SEED)) $(if $(CALLS),--calls $(CALLS))
+	target/host/release/compare $(if $(SEED),--seed $(SEED)) $(if $(CALLS),--calls $(CALLS) --receiver-calls $(CALLS))
 
 soak: lib
 	cd host && CARGO_TARGET_DIR=../target/host cargo build --offline --locked --release --quiet
 	target/host/release/compare $(if $(SEED),--seed $(SEED)) \
 		$(if $(SECONDS),--seconds $(SECONDS),--calls 100000000 --receiver-calls 200000000)
+
+stack: lib
+	$(CC) -std=c99 -O2 -Iinclude host/ctest/stack.c $(ARCHIVE) -lpthread -o target/stack
+	target/stack
 
 link: lib
 	mkdir -p target/link

@@ -11,12 +11,4 @@ fn main() {
     println!("cargo:rerun-if-changed={}", archive.display());
     println!("cargo:rustc-link-search=native={}", dir.display());
     println!("cargo:rustc-link-lib=static=saratoga");
-
-    // TEMPORARY: an archive without the receiver is compared without it. To remove: here, and each cfg(receiver).
-    println!("cargo:rustc-check-cfg=cfg(receiver)");
-    let octets = std::fs::read(&archive).expect("the archive can be read");
-    let name = b"\0saratoga_record\0";
-    if octets.windows(name.len()).any(|part| part == name) {
-        println!("cargo:rustc-cfg=receiver");
-    }
 }

@@ -1,26 +1,8 @@
 /*
- * Calls each function of saratoga.h from C on packets laid out by hand from the papers. Checks every field of the
- * answers and every octet of the lent buffers, and ends with status 1 where one is wrong.
+ * Calls each function of saratoga.h that reads or writes packets from C, on packets laid out by hand from the papers.
+ * Checks every field of the answers and every octet of the lent buffers, and ends with status 1 where one is wrong.
  */
-#include <stdio.h>
-#include <stdlib.h>
-#include <string.h>
-
-#include "saratoga.h"
-
-static int failures;
-
-static void fail(const char *what, const char *field, uint64_t got, uint64_t want)
-{
-    printf("FAILED: %s: %s is 0x%llx and not 0x%llx\n", what, field, (unsigned long long)got, (unsigned long long)want);
-    failures++;
-}
-
-#define SAME(field)                                         \
-    do {                                                    \
-        if (got.field != want.field)                        \
-            fail(what, #field, got.field, want.field);      \
-    } while (0)
+#include "check.h"
 
 static void same_packet(const char *what, struct saratoga_packet got, struct saratoga_packet want)
 {
@@ -58,38 +40,6 @@ static void same_hole(const char *what, struct saratoga_hole got, struct saratog
     SAME(end);
 }
 
-static void same_written(const char *what, struct saratoga_written got, struct saratoga_written want)
-{
-    SAME(number);
-    SAME(code);
-    SAME(size);
-}
-
-static void same_octets(const char *what, const uint8_t *got, const uint8_t *want, size_t len)
-{
-    size_t i;
-    for (i = 0; i < len; i++) {
-        if (got[i] != want[i]) {
-            printf("FAILED: %s: octet %lu is 0x%02x and not 0x%02x\n", what, (unsigned long)i, got[i], want[i]);
-            failures++;
-            return;
-        }
-    }
-}
-
-/* Memory of exactly `len` octets, so that a tool sees any access outside. */
-static uint8_t *lend(const uint8_t *octets, size_t len)
-{
-    uint8_t *lent = malloc(len > 0 ? len : 1);
-    if (lent == NULL)
-        exit(2);
-    if (octets != NULL)
-        memcpy(lent, octets, len);
-    else
-        memset(lent, 0xA5, len);
-    return lent;
-}
-
 static void read_as(const char *what, const uint8_t *packet, size_t len, struct saratoga_packet want)
 {
     uint8_t *lent = lend(packet, len);
@@ -109,15 +59,6 @@ static void hole_as(const char *what, const uint8_t *packet, size_t len, uint64_
     same_hole(what, saratoga_read_hole(lent, len, index), want);
     same_octets(what, lent, packet, len);
     free(lent);
-}
-
-/* A buffer of `len` octets 0xA5 must hold the packet of `size` octets and its old octets after that. */
-static void buffer_holds(const char *what, const uint8_t *out, size_t len, const uint8_t *packet, size_t size)
-{
-    uint8_t *want = lend(NULL, len);
-    memcpy(want, packet, size);
-    same_octets(what, out, want, len);
-    free(want);
 }
 
 /* The STATUS of document 01: 0 to 999 and 2,000 to 2,999 received of 3,000; then all. */
@@ -396,10 +337,5 @@ int main(void)
     write_metadata();
     write_data();
     write_failure();
-    if (failures > 0) {
-        printf("ctest: %d checks FAILED\n", failures);
-        return 1;
-    }
-    printf("ctest: all agree\n");
-    return 0;
+    return report("ctest main");
 }

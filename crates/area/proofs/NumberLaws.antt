@@ -17,13 +17,15 @@ use Rattle.runs.specs.Runs.{Run, run}
 use Rattle.runs.proofs.NumberLaws.{le-or-lt}
 use Rattle.table.specs.Transfers.{Transfer, TransferFine, FineFrom, Valid}
 use Rattle.area.specs.Words.{Below}
-use Rattle.area.specs.Numbers.{tabulate, unused, nth, runAt, numbers, runsAt, transferAt, transfersAt, transfersOf, freshTable}
+use Rattle.run_set.specs.RunSets.{runsAt}
+use Rattle.run_set.proofs.PlaceLaws.{length-runs, run-at, run-out, runs-back}
+use Rattle.area.specs.Numbers.{tabulate, unused, nth, runAt, numbers, transferAt, transfersAt, transfersOf, freshTable}
 use Rattle.area.specs.Image.{wordsOf}
 use Rattle.area.specs.Judge.{allFrom, before, slotTest, runTest, slotFine, runFine, imageTest}
 use Rattle.area.specs.declared.Table.{Table}
 use Rattle.area.proofs.LayoutLaws.{Sized}
 use Rattle.area.proofs.TestLaws.{both-true, all-at, all-holds, length-passed, length-passes, SlotHeld, slot-used, slot-unused, slot-holds, slot-empty, run-used, run-unused, run-holds, run-empty}
-use Rattle.area.proofs.PlaceLaws.{length-tabulate, tabulate-at, tabulate-is, tabulate-below, below-append, length-runs, run-at, run-out, runs-back, canonical-runs, stops-runs, full-at, apart-at, stop-at, start-at, length-transfers, transfer-at, transfer-cases, fine-at, rising-at, nth-cases}
+use Rattle.area.proofs.PlaceLaws.{length-tabulate, tabulate-at, tabulate-is, tabulate-below, below-append, canonical-runs, stops-runs, full-at, apart-at, stop-at, start-at, length-transfers, transfer-at, transfer-cases, fine-at, rising-at, nth-cases}
 
 -- ---- numbers that pass are those of a valid table
 module _ (s : Table) (z : Sized s) (e : imageTest s ≡ true) where

@@ -12,7 +12,8 @@ use Rattle.runs.specs.Runs.{Run, run, CanonicalFrom, StopsTo}
 use Rattle.runs.proofs.NumberLaws.{le-or-lt}
 use Rattle.table.specs.Transfers.{Transfer, TransferFine, FineFrom}
 use Rattle.area.specs.Words.{Below}
-use Rattle.area.specs.Numbers.{tabulate, unused, nth, runsAt, transferAt, transfersAt, transfersOf}
+use Rattle.run_set.specs.RunSets.{runsAt}
+use Rattle.area.specs.Numbers.{tabulate, unused, nth, transferAt, transfersAt, transfersOf}
 use Rattle.area.specs.declared.Table.{Table}
 
 -- ---- an array made by a rule
@@ -49,32 +50,6 @@ below-append (x ∷ xs) ys b d zero = b 0
 below-append (x ∷ xs) ys b d (suc i) = below-append xs ys (λ j. b (suc j)) d i
 
 -- ---- runs read from arrays
-pub length-runs : (S E : List ℕ) (i n : ℕ) → length (runsAt S E i n) ≡ n
-unfolding runsAt
-length-runs S E i zero = refl
-length-runs S E i (suc n) = ap suc (length-runs S E (suc i) n)
-
-pub run-at : (S E : List ℕ) (i n j : ℕ) → j < n → getD (runsAt S E i n) j (run 0 0) ≡ run (getD S (i + j) 0) (getD E (i + j) 0)
-unfolding runsAt
-run-at S E i zero j h = absurd (omega arith)
-run-at S E i (suc n) zero h = rw add-zero
-run-at S E i (suc n) (suc j) h =
-    let e : i + suc j ≡ suc i + j = omega arith in
-    rw e (run-at S E (suc i) n j (omega arith))
-
-pub run-out : (S E : List ℕ) (i n j : ℕ) → n ≤ j → getD (runsAt S E i n) j (run 0 0) ≡ run 0 0
-run-out S E i n j h = List·getD-eq-default (runsAt S E i n) (run 0 0) {n = j} (omega (arith, length-runs S E i n))
-
-pub runs-back : (S E : List ℕ) (b : ℕ) (rs : List Run)
-    → ((j : ℕ) → j < length rs → getD S (b + j) 0 ≡ getD rs j (run 0 0) .start)
-    → ((j : ℕ) → j < length rs → getD E (b + j) 0 ≡ getD rs j (run 0 0) .stop)
-    → runsAt S E b (length rs) ≡ rs
-runs-back S E b rs f g =
-    ext-getD (run 0 0) (runsAt S E b (length rs)) rs (length-runs S E b (length rs))
-    (λ j h.
-    let k : j < length rs = omega (arith, length-runs S E b (length rs)) in
-    run-at S E b (length rs) j k ∙ (λ i. record { start = f j k i; stop = g j k i }))
-
 pub canonical-runs : (S E : List ℕ) (n q k : ℕ)
     → ((x : ℕ) → q ≤ x → x < q + n → getD S x 0 < getD E x 0)
     → ((x : ℕ) → q ≤ x → suc x < q + n → getD E x 0 < getD S (suc x) 0)

@@ -5,6 +5,7 @@ use Prim.Native.Nat.{ℕ, zero, suc, _*_, _/_, _%_}
 use mathlib.Core.List.{List, [], _∷_}
 use lib.ListN.{length, getD, replicate}
 use Rattle.runs.specs.Runs.{Run, run}
+use Rattle.run_set.specs.RunSets.{runsAt}
 use Rattle.table.specs.Transfers.{Transfer}
 use Rattle.area.specs.declared.Table.{Table}
 
@@ -35,12 +36,7 @@ numbers t = record {
   stops = tabulate (λ k. runAt t k .stop) 0 1024;
 }
 
--- back: the n runs from place i on
-unfoldable pub runsAt : List ℕ → List ℕ → ℕ → ℕ → List Run
-runsAt starts stops i zero = []
-runsAt starts stops i (suc n) = run (getD starts i 0) (getD stops i 0) ∷ runsAt starts stops (suc i) n
-
--- the transfer at place i
+-- back: the transfer at place i
 abbrev pub transferAt : Table → ℕ → Transfer
 transferAt s i = record {
   key = record { id = getD (s .ids) i 0; width = getD (s .widths) i 0; length = getD (s .lengths) i 0 };

@@ -3,7 +3,7 @@
 use Prim.Native.Nat.{ℕ, zero, suc, _≤_, _<_}
 use mathlib.Core.Path.{_≡_, refl, sym, ap, _∙_}
 use mathlib.Core.Bool.{Bool, true, false, cond, _&&_}
-use mathlib.Core.List.{List, [], _∷_, _++_}
+use mathlib.Core.List.{List, [], _++_}
 use mathlib.Core.Option.{none, some}
 use native.Mathlib.Omega.{arith}
 use lib.ListN.{length, drop}
@@ -16,6 +16,7 @@ use Rattle.packet_metadata.specs.declared.Metadata.{Metadata}
 use Rattle.packet_metadata.proofs.MetadataLaws.{answer-refused}
 use Rattle.runs.specs.Runs.{Run}
 use Rattle.runs.specs.Holes.{edgeFrom, edge, progress, complete}
+use Rattle.table.proofs.TableLaws.{length-keys}
 use Rattle.table.specs.Transfers.{Key, Transfer}
 use Rattle.table.specs.Tables.{keys, find, runsOf, empty, add, remove, reached}
 use Rattle.table.specs.Open.{OpenOutcome, keyOf, judgeFound, judgeOpen, openAs, openKey, openRead, openPacket}
@@ -30,7 +31,7 @@ use Rattle.area.specs.Words.{wordOctets, wordAt}
 use Rattle.area.specs.Numbers.{nth, numbers, freshTable}
 use Rattle.area.specs.Image.{wordsOf, areaOctets, storedIn, numbersAt}
 use Rattle.area.specs.Judge.{judged}
-use Rattle.area.specs.Operations.{AreaOpened, AreaFinished, openFound, openArea, closeFoundIn, closeArea}
+use Rattle.area.specs.Operations.{AreaOpened, openFound, openArea, closeFoundIn, closeArea}
 use Rattle.area.specs.declared.Table.{Table}
 use Rattle.area.proofs.NumberLaws.{fresh-numbers}
 use Rattle.area.proofs.AreaLaws.{stored-numbers, judged-unheld}
@@ -45,11 +46,6 @@ use Rattle.area_open.proofs.HeldLaws.{count-held, few-held, held-same}
 zero-complete : (n : ℕ) → eqb n 0 ≡ leb n 0
 zero-complete zero = refl
 zero-complete (suc n) = ne-eqb (suc n) 0 (λ q. omega arith) ∙ sym (lt-leb (suc n) 0 (omega arith))
-
-length-keys : (t : List Transfer) → length (keys t) ≡ length t
-unfolding keys
-length-keys [] = refl
-length-keys (x ∷ t) = ap suc (length-keys t)
 
 -- ---- an Id that is open
 reached-length : (j k : Key) (rs : List Run) → j .length ≡ k .length → reached k rs ≡ reached j rs

@@ -26,7 +26,8 @@ use Rattle.area_places.proofs.HeldLaws.{held-numbers}
 use Rattle.area_places.proofs.PutLaws.{paste-cases}
 
 -- a number of each transfer that the change leaves
-set-field : (f : Transfer → ℕ) (t : List Transfer) (p : ℕ) (x : Transfer) → f x ≡ f (nth t p) → (i : ℕ) → f (nth (set t p x) i) ≡ f (nth t i)
+set-field : (f : Transfer → ℕ) (t : List Transfer) (p : ℕ) (x : Transfer) → f x ≡ f (nth t p)
+    → (i : ℕ) → f (nth (set t p x) i) ≡ f (nth t i)
 set-field f [] p x e i = refl
 set-field f (y ∷ t) zero x e zero = e
 set-field f (y ∷ t) zero x e (suc i) = refl

@@ -39,14 +39,14 @@ module _ (a vs : List ℕ) (k : ℕ) (fits : (k + length vs) * 8 ≤ length a) w
   head-length : length (take (k * 8) a) ≡ k * 8
   head-length = length-take-le (k * 8) a (omega arith)
 
-  pub word-below : (j : ℕ) → j < k → wordAt (put (k * 8) (wordOctets vs) a) j ≡ wordAt a j
+  word-below : (j : ℕ) → j < k → wordAt (put (k * 8) (wordOctets vs) a) j ≡ wordAt a j
   unfolding put
   word-below j h =
       front-word (take (k * 8) a) _ j (omega (arith, head-length))
       ∙ sym (front-word (take (k * 8) a) (drop (k * 8) a) j (omega (arith, head-length)))
       ∙ ap (λ (l : List ℕ). wordAt l j) (take-append-drop (k * 8) a)
 
-  pub word-in : Below vs → (i : ℕ) → i < length vs → wordAt (put (k * 8) (wordOctets vs) a) (k + i) ≡ getD vs i 0
+  word-in : Below vs → (i : ℕ) → i < length vs → wordAt (put (k * 8) (wordOctets vs) a) (k + i) ≡ getD vs i 0
   unfolding put
   word-in b i h =
       let r : List ℕ = drop (k * 8 + length (wordOctets vs)) a in
@@ -54,7 +54,7 @@ module _ (a vs : List ℕ) (k : ℕ) (fits : (k + length vs) * 8 ≤ length a) w
       ∙ sym (front-at (length vs) (wordOctets vs ++ r) i h)
       ∙ ap (λ (l : List ℕ). getD l i 0) (words-octets vs r b)
 
-  pub word-above : (j : ℕ) → k + length vs ≤ j → wordAt (put (k * 8) (wordOctets vs) a) j ≡ wordAt a j
+  word-above : (j : ℕ) → k + length vs ≤ j → wordAt (put (k * 8) (wordOctets vs) a) j ≡ wordAt a j
   unfolding put
   word-above j h =
       let n : ℕ = k + length vs in
@@ -81,7 +81,8 @@ same-words a b k n h =
     (λ i g. let l : i < n = omega (arith, length-words n (drop (k * 8) b)) in part-at b k n i l ∙ h i l ∙ sym (part-at a k n i l))
 
 -- what a paste put there, and what it left
-paste-in : (d : List ℕ) (at : ℕ) (s : List ℕ) (n k : ℕ) → at ≤ length d → n ≤ length s → k < n → getD (paste d at s n) (at + k) 0 ≡ getD s k 0
+paste-in : (d : List ℕ) (at : ℕ) (s : List ℕ) (n k : ℕ) → at ≤ length d → n ≤ length s → k < n
+    → getD (paste d at s n) (at + k) 0 ≡ getD s k 0
 paste-in d at s n k h l p =
     let e : length (take at d) ≡ at = length-take-le at d h in
     sym (getD-take (at + n) (paste d at s n) (at + k) 0 (omega arith))
@@ -97,7 +98,8 @@ paste-below d at s n j h p =
     ∙ List·getD-append (take at d) (take n s) 0 j (omega arith)
     ∙ getD-take at d j 0 p
 
-paste-above : (d : List ℕ) (at : ℕ) (s : List ℕ) (n j : ℕ) → at ≤ length d → n ≤ length s → at + n ≤ j → getD (paste d at s n) j 0 ≡ getD d j 0
+paste-above : (d : List ℕ) (at : ℕ) (s : List ℕ) (n j : ℕ) → at ≤ length d → n ≤ length s → at + n ≤ j
+    → getD (paste d at s n) j 0 ≡ getD d j 0
 paste-above d at s n j h l p =
     let e : j ≡ (at + n) + (j - (at + n)) = omega arith in
     rw e (sym (getD-drop (at + n) (paste d at s n) (j - (at + n)) 0)
@@ -119,13 +121,14 @@ paste-cases P d at s j h f g e =
     (le-or-lt at j)
 
 module _ (a vs : List ℕ) (k : ℕ) (fits : (k + length vs) * 8 ≤ length a) where
-  pub array-before : (q n : ℕ) → q + n ≤ k → wordsAt (put (k * 8) (wordOctets vs) a) q n ≡ wordsAt a q n
+  array-before : (q n : ℕ) → q + n ≤ k → wordsAt (put (k * 8) (wordOctets vs) a) q n ≡ wordsAt a q n
   array-before q n h = same-words a _ q n (λ i l. word-below a vs k fits (q + i) (omega arith))
 
-  pub array-after : (q n : ℕ) → k + length vs ≤ q → wordsAt (put (k * 8) (wordOctets vs) a) q n ≡ wordsAt a q n
+  array-after : (q n : ℕ) → k + length vs ≤ q → wordsAt (put (k * 8) (wordOctets vs) a) q n ≡ wordsAt a q n
   array-after q n h = same-words a _ q n (λ i l. word-above a vs k fits (q + i) (omega arith))
 
-  pub array-in : Below vs → (q n p : ℕ) → k ≡ q + p → p + length vs ≤ n → wordsAt (put (k * 8) (wordOctets vs) a) q n ≡ paste (wordsAt a q n) p vs (length vs)
+  array-in : Below vs → (q n p : ℕ) → k ≡ q + p → p + length vs ≤ n
+      → wordsAt (put (k * 8) (wordOctets vs) a) q n ≡ paste (wordsAt a q n) p vs (length vs)
   array-in b q n p e h =
       let w : List ℕ = wordsAt a q n in
       let l : length w ≡ n = length-words n (drop (q * 8) a) in
@@ -237,18 +240,25 @@ module _ (a : List ℕ) (p : ℕ) (r : RunSet) (h : 16904 ≤ length a) (l : p <
 
   changed-rest : drop 16904 Z ≡ drop 16904 a
   changed-rest =
-      drop-put ((49 + p) * 8) 16904 (wordOctets (r .count ∷ [])) Y (omega (arith, lx, ly, length-octets (r .count ∷ []))) (omega (arith, length-octets (r .count ∷ [])))
-      ∙ drop-put ((1089 + p * 64) * 8) 16904 (wordOctets (r .stops)) X (omega (arith, lx, length-octets (r .stops))) (omega (arith, length-octets (r .stops)))
-      ∙ drop-put ((65 + p * 64) * 8) 16904 (wordOctets (r .starts)) a (omega (arith, length-octets (r .starts))) (omega (arith, length-octets (r .starts)))
+      let n = length-octets (r .starts) in
+      let m = length-octets (r .stops) in
+      let o = length-octets (r .count ∷ []) in
+      drop-put ((49 + p) * 8) 16904 (wordOctets (r .count ∷ [])) Y (omega (arith, lx, ly)) (omega arith)
+      ∙ drop-put ((1089 + p * 64) * 8) 16904 (wordOctets (r .stops)) X (omega (arith, lx)) (omega arith)
+      ∙ drop-put ((65 + p * 64) * 8) 16904 (wordOctets (r .starts)) a (omega arith) (omega arith)
 
+  -- the starts, the stops and their number put one after the other
   pub put-changed : (x y z : List ℕ) → x ≡ put ((65 + p * 64) * 8) (wordOctets (r .starts)) a
       → y ≡ put ((1089 + p * 64) * 8) (wordOctets (r .stops)) x
       → z ≡ put ((49 + p) * 8) (beDigits 8 (r .count)) y
       → Octets z
       → z ≡ wordOctets (wordsOf (withRunSet (numbersAt a) p r)) ++ drop 16904 a
   put-changed x y z f g k o =
-      let q : z ≡ Z = k ∙ ap₂ (λ (b d : List ℕ). put ((49 + p) * 8) b d) (sym (one-octets (r .count))) (g ∙ ap (λ (d : List ℕ). put ((1089 + p * 64) * 8) (wordOctets (r .stops)) d) f) in
-      let n : 16904 ≤ length z = rw q (omega (arith, lx, ly, length-put ((49 + p) * 8) (wordOctets (r .count ∷ [])) Y (omega (arith, lx, ly, length-octets (r .count ∷ []))))) in
-      sym (take-append-drop 16904 z)
-      ∙ ap₂ (λ (b d : List ℕ). b ++ d) (sym (numbers-octets z o n) ∙ ap (λ (d : List ℕ). wordOctets (wordsOf (numbersAt d))) q ∙ ap (λ (t : Table). wordOctets (wordsOf t)) changed-numbers)
-      (ap (drop 16904) q ∙ changed-rest)
+      let v : y ≡ Y = g ∙ ap (put ((1089 + p * 64) * 8) (wordOctets (r .stops))) f in
+      let q : z ≡ Z = k ∙ ap₂ (λ (b d : List ℕ). put ((49 + p) * 8) b d) (sym (one-octets (r .count))) v in
+      let c = length-octets (r .count ∷ []) in
+      let m = length-put ((49 + p) * 8) (wordOctets (r .count ∷ [])) Y (omega (arith, lx, ly)) in
+      let n : 16904 ≤ length z = rw q (omega (arith, lx, ly)) in
+      let w : take 16904 z ≡ wordOctets (wordsOf (withRunSet (numbersAt a) p r))
+      = sym (numbers-octets z o n) ∙ ap (λ (t : Table). wordOctets (wordsOf t)) (ap numbersAt q ∙ changed-numbers) in
+      sym (take-append-drop 16904 z) ∙ ap₂ (λ (b d : List ℕ). b ++ d) w (ap (drop 16904) q ∙ changed-rest)

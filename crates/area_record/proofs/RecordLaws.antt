@@ -63,8 +63,14 @@ module _ (a s : List ℕ) (e : judged a ≡ true) where
   record-read f = rw (judged-holds a e, f)
 
 -- an answer with its area, part by part
-pub both : {x y : Recorded} {l : List ℕ} {o : AreaRecorded} → x ≡ y → record { answer = y; area = l } ≡ o → (x ≡ o .answer) × (l ≡ o .area)
+pub both : {x y : Recorded} {l : List ℕ} {o : AreaRecorded} → x ≡ y → record { answer = y; area = l } ≡ o
+    → (x ≡ o .answer) × (l ≡ o .area)
 both e f = (e ∙ ap (λ (r : AreaRecorded). r .answer) f, ap (λ (r : AreaRecorded). r .area) f)
+
+-- and of one that equals another
+pub both-as : {x : Recorded} {l : List ℕ} {m o : AreaRecorded} → (x ≡ m .answer) × (l ≡ m .area) → m ≡ o
+    → (x ≡ o .answer) × (l ≡ o .area)
+both-as h f = (h .0 ∙ ap (λ (r : AreaRecorded). r .answer) f, h .1 ∙ ap (λ (r : AreaRecorded). r .area) f)
 
 -- ---- 13, 14 and 15 are none only where the packet ends within the transfer
 pub judged-within : (k : Key) (d : Data) → dataJudged (some k) d ≡ 0 → stopOf d ≤ k .length
@@ -127,7 +133,7 @@ module _ (a : List ℕ) (t : List Transfer) (d : Data) (o : Octets a) (e : table
         (le-or-lt (length rest) 64))
 
 -- ---- the runs of a place, with new offsets
-module _ (a : List ℕ) (t : List Transfer) (p L from to : ℕ) (e : tableOf a ≡ some t) (h : p < length t) where
+module _ (a : List ℕ) (t : List Transfer) (p : ℕ) (e : tableOf a ≡ some t) (h : p < length t) where
   pub place-small : p < 16
   place-small = omega (arith, held-valid a t e .few)
 
@@ -135,10 +141,10 @@ module _ (a : List ℕ) (t : List Transfer) (p L from to : ℕ) (e : tableOf a �
   count-few =
       omega (arith, ap (λ (r : RunSet). r .count) (run-set-at a t e p place-small), set-count (nth t p .runs), few-runs a t e p)
 
-  abbrev new : List Run
-  new = insert from to (nth t p .runs)
+  module _ (from to : ℕ) (i : Insertion) (f : i ≡ insertedOf (runSetAt a p) from to) where
+    abbrev new : List Run
+    new = insert from to (nth t p .runs)
 
-  module _ (i : Insertion) (f : i ≡ insertedOf (runSetAt a p) from to) where
     fits : length new ≤ 64 → i ≡ record { ok = true; runs = setOf new }
     fits m = f ∙ (rw (runs-held a t e p place-small) at (inserted-fits (runSetAt a p) from to)) m
 
@@ -154,21 +160,21 @@ module _ (a : List ℕ) (t : List Transfer) (p L from to : ℕ) (e : tableOf a �
     pub extend-few : i .ok ≡ true → i .runs .count ≤ 64
     extend-few g = let k = done g in omega (arith, ap (λ (r : RunSet). r .count) (k .1), set-count new)
 
-    pub extend-over : i .ok ≡ false → record { answer = Refused (refusalOf 16); area = a } ≡ extended a t p L from to
+    pub extend-over : (L : ℕ) → i .ok ≡ false → record { answer = Refused (refusalOf 16); area = a } ≡ extended a t p L from to
     unfolding extended
-    extend-over g =
+    extend-over L g =
         ⊎-elim
         (λ (m : length new ≤ 64).
         absurd (let q : i .ok ≡ true = ap (λ (x : Insertion). x .ok) (fits m) in let z : _≡_ {A = ℕ} 0 1 = cc in omega arith))
         (λ (m : 64 < length new). rw (lt-ltb 64 (length new) m))
         (le-or-lt (length new) 64)
 
-    pub extend-done : i .ok ≡ true → (x : List ℕ) (n : ℕ) (c : Bool)
+    pub extend-done : (L : ℕ) → i .ok ≡ true → (x : List ℕ) (n : ℕ) (c : Bool)
         → x ≡ wordOctets (wordsOf (withRunSet (numbersAt a) p (i .runs))) ++ drop areaOctets a
         → n ≡ edge (heldRuns (i .runs)) → c ≡ complete L (heldRuns (i .runs))
         → record { answer = Accepted (record { edge = n; complete = c }); area = x } ≡ extended a t p L from to
     unfolding extended
-    extend-done g x n c y u v =
+    extend-done L g x n c y u v =
         let k = done g in
         let r : heldRuns (i .runs) ≡ new = ap heldRuns (k .1) ∙ held-set new (k .0) in
         rw (le-ltb 64 (length new) (k .0), u, v, r, y, k .1, stored-runs a t p new e h (k .0))

@@ -79,18 +79,19 @@ fn record_fields(area: &mut [u8], d: Data) -> Recorded
     extend(area, place, length, from, from + octets)
 }
 
-// A packet that has to be DATA recorded in a lent area, which is first judged.
+// A packet that has to be DATA, recorded in a lent area. That the area is no image counts before what the packet is.
 pub fn record(area: &mut [u8], packet: &[u8]) -> Recorded
     ensures { λ r. ⌜ (r ≡ recordArea (now (area .entry)) (now (packet .entry)) .answer)
         × (now (area .exit) ≡ recordArea (now (area .entry)) (now (packet .entry)) .area) ⌝ }
 {
-    if area::judge(area) {
-        let n = packet_data::data_refusal(packet);
-        if n != 0 {
-            return Recorded::Refused(header::refuse(n));
-        }
-        let d = packet_data::data_fields(packet);
-        return record_fields(area, d);
+    let held = area::judge(area);
+    let unread = packet_data::data_refusal(packet);
+    if !held {
+        return Recorded::Refused(header::refuse(22));
     }
-    Recorded::Refused(header::refuse(22))
+    if unread != 0 {
+        return Recorded::Refused(header::refuse(unread));
+    }
+    let d = packet_data::data_fields(packet);
+    record_fields(area, d)
 }

@@ -1,2 +1,3 @@
 pub mod PacketAnswers
 pub mod Answers
+pub mod TableAnswers

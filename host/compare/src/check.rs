@@ -135,7 +135,7 @@ impl<'a> Check<'a> {
     }
 
     pub fn count(&mut self) -> Step {
-        let over = |until: Instant| self.calls % 1_024 == 0 && Instant::now() >= until;
+        let over = |until: Instant| self.calls.is_multiple_of(1_024) && Instant::now() >= until;
         if self.calls >= self.stop_at || self.until.is_some_and(over) {
             return Err(Stop::Enough);
         }

@@ -7,7 +7,6 @@ use paper::write::{DataFields, MetadataFields};
 
 use crate::answer::{Hole, Packet, Written};
 use crate::codec::Codec;
-#[cfg(receiver)]
 use crate::{
     answer::{Done, Listed, Opened, Recorded},
     receiver::{Ask, Receiver},
@@ -44,7 +43,6 @@ extern "C" {
     fn saratoga_write_failure(id: u64, status: u64, out: *mut u8, out_len: usize) -> Written;
 }
 
-#[cfg(receiver)]
 extern "C" {
     fn saratoga_fresh(area: *mut u8, area_len: usize) -> Done;
     fn saratoga_open(area: *mut u8, area_len: usize, packet: *const u8, packet_len: usize) -> Opened;
@@ -130,7 +128,6 @@ impl Codec for Archive {
     }
 }
 
-#[cfg(receiver)]
 impl Receiver for Archive {
     fn fresh(&self, area: &mut [u8]) -> Done {
         unsafe { saratoga_fresh(start_mut(area), area.len()) }

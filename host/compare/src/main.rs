@@ -79,12 +79,6 @@ fn main() -> ExitCode {
     }
 }
 
-/// The receiver in the archive.
-#[cfg(receiver)]
-const RECEIVER: Option<&dyn receiver::Receiver> = Some(&ffi::Archive);
-#[cfg(not(receiver))]
-const RECEIVER: Option<&dyn receiver::Receiver> = None;
-
 fn compare(options: &Options) -> Result<(), String> {
     let seed = options.seed;
     let start = Instant::now();
@@ -96,13 +90,11 @@ fn compare(options: &Options) -> Result<(), String> {
     println!("compare: {} calls on packets agree, seed {seed}", packets.calls);
     let mut missing = packets.tally.missing(0);
     let mut tally = packets.tally;
-    if let Some(receiver) = RECEIVER {
-        let areas = run::receiver(&ffi::Archive, receiver, seed, end(4, options.receiver_calls))?;
-        println!("compare: {} calls on areas agree, seed {seed}", areas.calls);
-        missing.extend(areas.tally.missing(1));
-        tally = tally.with(&areas.tally);
-        missing.extend(tally.never().into_iter().map(|number| format!("{number} from any function")));
-    }
+    let areas = run::receiver(&ffi::Archive, &ffi::Archive, seed, end(4, options.receiver_calls))?;
+    println!("compare: {} calls on areas agree, seed {seed}", areas.calls);
+    missing.extend(areas.tally.missing(1));
+    tally = tally.with(&areas.tally);
+    missing.extend(tally.never().into_iter().map(|number| format!("{number} from any function")));
     print!("{tally}");
     match missing.is_empty() {
         true => Ok(()),

@@ -1,6 +1,7 @@
 //! How often each refusal number came, function by function.
 
 use std::fmt;
+use std::ops::Range;
 
 /// The functions, in the order of the table's columns.
 #[derive(Clone, Copy)]
@@ -59,7 +60,7 @@ const CAN_OCCUR: [&[usize]; COLUMNS] = [
 ];
 
 /// The functions of each comparison: those on packets, then those on areas.
-pub const PARTS: [std::ops::Range<usize>; 2] = [0..5, 5..COLUMNS];
+const PARTS: [Range<usize>; 2] = [0..5, 5..COLUMNS];
 
 #[derive(Clone, Default)]
 pub struct Tally {
@@ -98,17 +99,23 @@ impl Tally {
     }
 }
 
-/// A table for each comparison that was made; the last column counts all functions.
+/// A table for each comparison that was made. The last column of the last counts all functions.
 impl fmt::Display for Tally {
     fn fmt(&self, f: &mut fmt::Formatter) -> fmt::Result {
-        let sum = |row: &[u64]| row.iter().sum::<u64>();
-        for part in PARTS.iter().filter(|part| self.counts.iter().any(|row| sum(&row[(*part).clone()]) > 0)) {
+        let made = |part: &&Range<usize>| self.counts.iter().any(|row| sum(&row[(*part).clone()]) > 0);
+        let parts: Vec<_> = PARTS.iter().filter(made).collect();
+        for (at, &part) in parts.iter().enumerate() {
+            let last = at + 1 == parts.len();
             write!(f, "refusal")?;
             for (_, name) in &NAMES[part.clone()] {
                 write!(f, " {name:>10}")?;
             }
-            writeln!(f, " {:>10}", "in all")?;
-            for (number, row) in self.counts.iter().enumerate().filter(|(_, row)| sum(*row) > 0) {
+            writeln!(f, "{}", if last { "     in all" } else { "" })?;
+            for (number, row) in self.counts.iter().enumerate() {
+                let counted = if last { sum(row) } else { sum(&row[part.clone()]) };
+                if counted == 0 {
+                    continue;
+                }
                 match number {
                     0 => write!(f, "none   ")?,
                     _ => write!(f, "{number:<7}")?,
@@ -116,9 +123,16 @@ impl fmt::Display for Tally {
                 for count in &row[part.clone()] {
                     write!(f, " {count:>10}")?;
                 }
-                writeln!(f, " {:>10}", sum(row))?;
+                match last {
+                    true => writeln!(f, " {counted:>10}")?,
+                    false => writeln!(f)?,
+                }
             }
         }
         Ok(())
     }
+}
+
+fn sum(counts: &[u64]) -> u64 {
+    counts.iter().sum()
 }

@@ -49,7 +49,7 @@ pub fn take_up(area: &[u8]) -> Result<Table, Refusal> {
     table(&words).ok_or(Refusal::Area)
 }
 
-/// The table of these words, if they are "the image of a desk as described".
+/// The table of these words, if they are an "image of a desk as described".
 fn table(words: &[u64]) -> Option<Table> {
     let count = small(words[COUNT], MAX_TRANSFERS)?;
     let mut table = Table::default();

@@ -110,6 +110,11 @@ pub fn timestamp_octets(word: u64) -> usize {
     }
 }
 
+/// DATA: status-wanted is bit 15 of section 4.4.
+pub fn status_wanted(word: u64) -> bool {
+    word_bits(word, 15, 15) == 1
+}
+
 /// DATA: end-of-data is bit 16 of section 4.4.
 pub fn end_of_data(word: u64) -> bool {
     word_bits(word, 16, 16) == 1

@@ -1,6 +1,5 @@
 -- `area_open::add_key` meets its contract. Assumes nothing.
-use Prim.Native.Nat.{_<_}
-use mathlib.Core.Path.{_≡_, ap, _∙_}
+use mathlib.Core.Path.{ap, _∙_}
 use mathlib.Core.List.{_++_}
 use denote.Ref.{now}
 use lib.ListN.{drop}
@@ -22,23 +21,27 @@ place-for-requires c κs = search needs
 
 numbers-with-requires : tie.Need-numbers-with-requires
 numbers-with-requires c κs =
-    let a = now (c .before .before .before .before .args .area) in
-    (long a (c .before .before .before .before .pre .0), omega (arith, place-for-le (c .before .before .before .before .args .id) (heldIn a), count-held a (c .before .before .before .before .pre .0), c .before .before .before .before .pre .1), c .before .before .before .before .pre .1)
+    let s = c .before .before .before .before in
+    let a = now (s .args .area) in
+    (long a (s .pre .0), omega (arith, place-for-le (s .args .id) (heldIn a), count-held a (s .pre .0), s .pre .1), s .pre .1)
 
 store-requires : tie.Need-store-requires
-store-requires c κs = long (now (c .before .before .before .before .before .before .args .area)) (c .before .before .before .before .before .before .pre .0)
+store-requires c κs =
+    let s = c .before .before .before .before .before .before in
+    long (now (s .args .area)) (s .pre .0)
 
 same-length : tie.Need-same-length
 same-length c = search needs
 
 returns : tie.Need-returns
 returns c =
-    let a = now (c .before .before .before .before .before .before .before .before .before .args .area) in
-    let k = key (c .before .before .before .before .before .before .before .before .before .args .id) (c .before .before .before .before .before .before .before .before .before .args .width) (c .before .before .before .before .before .before .before .before .before .args .size) in
+    let s = c .before .before .before .before .before .before .before .before .before in
+    let a = now (s .args .area) in
+    let k = key (s .args .id) (s .args .width) (s .args .size) in
     let p = ap (λ p. numbersWith (numbersAt a) p k) (c .before .before .before .before .before .before .place-for .ensures) in
     c .before .before .store .ensures
     ∙ ap (λ (s : Table). wordOctets (wordsOf s) ++ drop 16904 a) (c .before .before .before .before .numbers-with .ensures ∙ p)
-    ∙ stored-with a (c .before .before .before .before .before .before .before .before .before .pre .0) k (c .before .before .before .before .before .before .before .before .before .pre .1)
+    ∙ stored-with a (s .pre .0) k (s .pre .1)
 
 pub add-key-spec : {M : Type 1} → statement M
 add-key-spec =

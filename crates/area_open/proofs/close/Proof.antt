@@ -1,7 +1,6 @@
 -- `area_open::close` meets its contract. Assumes nothing.
-use Prim.Native.Nat.{_<_, _≤_}
 use mathlib.Core.Path.{_≡_, sym, ap, _∙_}
-use mathlib.Core.Bool.{true, false}
+use mathlib.Core.Bool.{true}
 use mathlib.Core.List.{_++_}
 use denote.Ref.{now}
 use lib.ListN.{drop}
@@ -12,7 +11,6 @@ use Rattle.area.specs.Judge.{judged}
 use Rattle.area.specs.Operations.{AreaFinished}
 use Rattle.area.specs.declared.Table.{Table}
 use Rattle.area_slots.specs.Slots.{numbersWithout}
-use Rattle.area_open.specs.Opening.{heldIn}
 use Rattle.area_open.proofs.HeldLaws.{long, count-held, few-held}
 use Rattle.area_open.proofs.OpenLaws.{stored-without, close-kept, close-leaves, close-unheld}
 use borrow.Author.Needs.{needs}
@@ -40,17 +38,19 @@ same-length c = search needs
 
 returns : tie.Need-returns
 returns c =
-    let a = now (c .before .before .before .before .before .before .before .before .before .before .args .area) in
-    let n = count-held a (passed (c .before .before .before .before .before .before)) in
-    let e = close-kept a (passed (c .before .before .before .before .before .before)) (c .before .before .before .before .before .before .before .before .before .before .args .id) (λ i. c .before .before .before .before .before .before .before .before .before .slice-known .given i .fits) (omega arith) in (
+    let s = c .before .before .before .before .before .before in
+    let a = now (s .before .before .before .before .args .area) in
+    let n = count-held a (passed s) in
+    let e = close-kept a (passed s) (s .before .before .before .before .args .id) (λ i. s .before .before .before .slice-known .given i .fits) (omega arith) in (
       ap finished.Refused (c .refuse .ensures) ∙ sym (ap (λ (o : AreaFinished). o .answer) e),
       sym (ap (λ (o : AreaFinished). o .area) e),
     )
 
 numbers-without-requires : tie.Need-numbers-without-requires
 numbers-without-requires c κs =
-    let a = now (c .before .before .before .before .before .before .before .before .before .before .args .area) in
-    (long a (passed (c .before .before .before .before .before .before)), omega (arith, few-held a (passed (c .before .before .before .before .before .before))), omega arith)
+    let s = c .before .before .before .before .before .before in
+    let a = now (s .before .before .before .before .args .area) in
+    (long a (passed s), omega (arith, few-held a (passed s)), omega arith)
 
 store-requires : tie.Need-store-requires
 store-requires c κs = long (now (c .before .before .before .before .before .before .before .before .before .before .before .before .args .area)) (passed (c .before .before .before .before .before .before .before .before))
@@ -60,15 +60,16 @@ same-length-2 c = search needs
 
 returns-2 : tie.Need-returns-2
 returns-2 c =
-    let a = now (c .before .before .before .before .before .before .before .before .before .before .before .before .before .before .before .args .area) in
-    let id = c .before .before .before .before .before .before .before .before .before .before .before .before .before .before .before .args .id in
-    let n = count-held a (passed (c .before .before .before .before .before .before .before .before .before .before .before)) in
-    let e = close-leaves a (passed (c .before .before .before .before .before .before .before .before .before .before .before)) id (omega arith) in
+    let s = c .before .before .before .before .before .before .before .before .before .before .before in
+    let a = now (s .before .before .before .before .args .area) in
+    let id = s .before .before .before .before .args .id in
+    let n = count-held a (passed s) in
+    let e = close-leaves a (passed s) id (omega arith) in
     let p = ap (λ p. numbersWithout (numbersAt a) p) (c .before .before .before .before .before .before .before .find-place .ensures) in (
       sym (ap (λ (o : AreaFinished). o .answer) e),
       c .before .before .store .ensures
           ∙ ap (λ (s : Table). wordOctets (wordsOf s) ++ drop 16904 a) (c .before .before .before .before .numbers-without .ensures ∙ p)
-          ∙ stored-without a (passed (c .before .before .before .before .before .before .before .before .before .before .before)) id (omega arith)
+          ∙ stored-without a (passed s) id (omega arith)
           ∙ sym (ap (λ (o : AreaFinished). o .area) e),
     )
 

@@ -1,8 +1,6 @@
 -- `area_open::fresh` meets its contract. Assumes nothing.
-use Prim.Native.Nat.{_<_, _≤_}
 use mathlib.Core.Path.{sym, ap, _∙_}
 use denote.Ref.{now}
-use lib.ListN.{length}
 use Rattle.table.specs.declared.Finished.the-variants as finished
 use Rattle.area.specs.Operations.{AreaFinished}
 use Rattle.area.proofs.OperationLaws.{fresh-refused, fresh-done}

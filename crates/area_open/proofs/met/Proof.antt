@@ -1,6 +1,5 @@
 -- `area_open::met` meets its contract. Assumes nothing.
-use Prim.Native.Nat.{_+_}
-use mathlib.Core.Path.{_≡_, sym, ap, _∙_}
+use mathlib.Core.Path.{sym, ap, _∙_}
 use denote.Ref.{now}
 use Rattle.table.specs.declared.Opened.the-variants as opened
 use Rattle.area.specs.Numbers.{nth}
@@ -16,47 +15,54 @@ add-word : tie.Need-add-word
 add-word c = search needs
 
 word-requires : tie.Need-word-requires
-word-requires c κs = omega (arith, long (now (c .before .args .area)) (c .before .pre .0))
+word-requires c κs =
+    let s = c .before in
+    omega (arith, long (now (s .args .area)) (s .pre .0))
 
 refuse-requires : tie.Need-refuse-requires
 refuse-requires c κs = search needs
 
 returns : tie.Need-returns
 returns c =
-    let a = now (c .before .before .before .before .args .area) in
-    let p = c .before .before .before .before .args .place in
-    let w = width-held a (c .before .before .before .before .pre .0) p (c .before .before .before .before .pre .1) in
-    ap opened.Refused (c .refuse .ensures) ∙ sym (met-width (nth (heldIn a) p) (c .before .before .before .before .args .width) (c .before .before .before .before .args .size) (λ q. omega arith))
+    let s = c .before .before .before .before in
+    let a = now (s .args .area) in
+    let p = s .args .place in
+    let w = width-held a (s .pre .0) p (s .pre .1) in
+    ap opened.Refused (c .refuse .ensures) ∙ sym (met-width (nth (heldIn a) p) (s .args .width) (s .args .size) (λ q. omega arith))
 
 add-word-2 : tie.Need-add-word-2
 add-word-2 c = search needs
 
 word-requires-2 : tie.Need-word-requires-2
-word-requires-2 c κs = omega (arith, long (now (c .before .before .before .args .area)) (c .before .before .before .pre .0))
+word-requires-2 c κs =
+    let s = c .before .before .before in
+    omega (arith, long (now (s .args .area)) (s .pre .0))
 
 refuse-requires-2 : tie.Need-refuse-requires-2
 refuse-requires-2 c κs = search needs
 
 returns-2 : tie.Need-returns-2
 returns-2 c =
-    let a = now (c .before .before .before .before .before .before .args .area) in
-    let p = c .before .before .before .before .before .before .args .place in
-    let w = width-held a (c .before .before .before .before .before .before .pre .0) p (c .before .before .before .before .before .before .pre .1) in
-    let n = length-held a (c .before .before .before .before .before .before .pre .0) p (c .before .before .before .before .before .before .pre .1) in
+    let s = c .before .before .before .before .before .before in
+    let a = now (s .args .area) in
+    let p = s .args .place in
+    let w = width-held a (s .pre .0) p (s .pre .1) in
+    let n = length-held a (s .pre .0) p (s .pre .1) in
     ap opened.Refused (c .refuse2 .ensures)
-    ∙ sym (met-length (nth (heldIn a) p) (c .before .before .before .before .before .before .args .width) (c .before .before .before .before .before .before .args .size) (omega arith) (λ q. omega arith))
+    ∙ sym (met-length (nth (heldIn a) p) (s .args .width) (s .args .size) (omega arith) (λ q. omega arith))
 
 reached-at-requires : tie.Need-reached-at-requires
 reached-at-requires c κs = search needs
 
 returns-3 : tie.Need-returns-3
 returns-3 c =
-    let a = now (c .before .before .before .before .before .before .args .area) in
-    let p = c .before .before .before .before .before .before .args .place in
-    let w = width-held a (c .before .before .before .before .before .before .pre .0) p (c .before .before .before .before .before .before .pre .1) in
-    let n = length-held a (c .before .before .before .before .before .before .pre .0) p (c .before .before .before .before .before .before .pre .1) in
+    let s = c .before .before .before .before .before .before in
+    let a = now (s .args .area) in
+    let p = s .args .place in
+    let w = width-held a (s .pre .0) p (s .pre .1) in
+    let n = length-held a (s .pre .0) p (s .pre .1) in
     ap opened.AlreadyOpen (c .reached-at .ensures)
-    ∙ sym (met-same (nth (heldIn a) p) (c .before .before .before .before .before .before .args .width) (c .before .before .before .before .before .before .args .size) (omega arith) (omega arith))
+    ∙ sym (met-same (nth (heldIn a) p) (s .args .width) (s .args .size) (omega arith) (omega arith))
 
 pub met-spec : {M : Type 1} → statement M
 met-spec =

@@ -1,6 +1,6 @@
 -- `area_open::open` meets its contract: 22, then the reader's, then those of the table. Assumes nothing.
 use mathlib.Core.Path.{_≡_, sym, ap, _∙_}
-use mathlib.Core.Bool.{true, false}
+use mathlib.Core.Bool.{true}
 use denote.Ref.{now}
 use Rattle.table.specs.declared.Opened.the-variants as opened
 use Rattle.area.specs.Judge.{judged}
@@ -26,9 +26,10 @@ same-length c = search needs
 
 returns : tie.Need-returns
 returns c =
-    let a = now (c .before .before .before .before .before .before .before .before .args .area) in
+    let s = c .before .before .before .before .before .before .before .before in
+    let a = now (s .args .area) in
     let j : judged a ≡ true = sym (c .before .before .before .before .judge .ensures) ∙ c .before .before .before .if1 .taken in
-    open-kept a j (now (c .before .before .before .before .before .before .before .before .args .packet)) _ (λ i. c .before .before .before .before .before .before .before .slice-known .given i .fits) (λ q. omega arith)
+    open-kept a j (now (s .args .packet)) _ (λ i. c .before .before .before .before .before .before .before .slice-known .given i .fits) (λ q. omega arith)
     (ap opened.Refused (c .refuse .ensures ∙ ap refusalOf (c .before .before .metadata-refusal .ensures)))
 
 metadata-fields-requires : tie.Need-metadata-fields-requires
@@ -42,9 +43,10 @@ same-length-2 c = search needs
 
 returns-2 : tie.Need-returns-2
 returns-2 c =
-    let a = now (c .before .before .before .before .before .before .before .before .before .before .before .before .args .area) in
+    let s = c .before .before .before .before .before .before .before .before .before .before .before .before in
+    let a = now (s .args .area) in
     let j : judged a ≡ true = sym (c .before .before .before .before .before .before .before .before .judge .ensures) ∙ c .before .before .before .before .before .before .before .if1 .taken in
-    open-done a j (now (c .before .before .before .before .before .before .before .before .before .before .before .before .args .packet)) (c .before .before .before .before .metadata-fields .result) (c .before .before .open-key .result) _ (omega arith) (c .before .before .before .before .metadata-fields .ensures)
+    open-done a j (now (s .args .packet)) (c .before .before .before .before .metadata-fields .result) (c .before .before .open-key .result) _ (omega arith) (c .before .before .before .before .metadata-fields .ensures)
     (c .before .before .open-key .ensures .0) (c .before .before .open-key .ensures .1)
 
 refuse-requires-2 : tie.Need-refuse-requires-2
@@ -55,8 +57,9 @@ same-length-3 c = search needs
 
 returns-3 : tie.Need-returns-3
 returns-3 c =
-    let a = now (c .before .before .before .before .before .before .args .area) in
-    let e = open-unheld a (sym (c .before .before .judge .ensures) ∙ c .before .if1 .left) (now (c .before .before .before .before .before .before .args .packet)) in (
+    let s = c .before .before .before .before .before .before in
+    let a = now (s .args .area) in
+    let e = open-unheld a (sym (c .before .before .judge .ensures) ∙ c .before .if1 .left) (now (s .args .packet)) in (
       ap opened.Refused (c .refuse2 .ensures) ∙ sym (ap (λ (o : AreaOpened). o .answer) e),
       sym (ap (λ (o : AreaOpened). o .area) e),
     )

@@ -1,6 +1,5 @@
 -- `area_open::open_key` meets its contract: an Id that is open, or has no room, leaves the area. Assumes nothing.
-use Prim.Native.Nat.{_<_}
-use mathlib.Core.Path.{_≡_, refl, sym, ap, _∙_}
+use mathlib.Core.Path.{refl, sym, ap, _∙_}
 use denote.Ref.{now}
 use Rattle.table.specs.Open.{OpenOutcome}
 use Rattle.table.specs.declared.Opened.the-variants as opened
@@ -16,24 +15,29 @@ use Rattle.area_open.proofs.open_key.Statement.{statement}
 use Rattle.area_open.proofs.open_key.Tie as tie
 
 word-requires : tie.Need-word-requires
-word-requires c κs = omega (arith, long (now (c .before .before .args .area)) (c .before .before .pre))
+word-requires c κs =
+    let s = c .before .before in
+    omega (arith, long (now (s .args .area)) (s .pre))
 
 find-place-requires : tie.Need-find-place-requires
 find-place-requires c κs = search needs
 
 met-requires : tie.Need-met-requires
-met-requires c κs = (c .before .before .before .before .before .before .before .pre, omega (arith, few-held (now (c .before .before .before .before .before .before .before .args .area)) (c .before .before .before .before .before .before .before .pre)))
+met-requires c κs =
+    let s = c .before .before .before .before .before .before .before in
+    (s .pre, omega (arith, few-held (now (s .args .area)) (s .pre)))
 
 same-length : tie.Need-same-length
 same-length c = search needs
 
 returns : tie.Need-returns
 returns c =
-    let a = now (c .before .before .before .before .before .before .before .before .args .area) in
-    let k = key (c .before .before .before .before .before .before .before .before .args .id) (c .before .before .before .before .before .before .before .before .args .width) (c .before .before .before .before .before .before .before .before .args .size) in
-    let n = count-held a (c .before .before .before .before .before .before .before .before .pre) in
-    key-kept a (c .before .before .before .before .before .before .before .before .pre) k _ (c .met .result) (λ i. c .before .before .before .before .before .before .before .slice-known .given i .fits) (open-met (heldIn a) k (omega arith))
-    (c .met .ensures ∙ ap (λ p. metAnswer (nth (heldIn a) p) (c .before .before .before .before .before .before .before .before .args .width) (c .before .before .before .before .before .before .before .before .args .size)) (c .before .before .before .find-place .ensures))
+    let s = c .before .before .before .before .before .before .before .before in
+    let a = now (s .args .area) in
+    let k = key (s .args .id) (s .args .width) (s .args .size) in
+    let n = count-held a (s .pre) in
+    key-kept a (s .pre) k _ (c .met .result) (λ i. c .before .before .before .before .before .before .before .slice-known .given i .fits) (open-met (heldIn a) k (omega arith))
+    (c .met .ensures ∙ ap (λ p. metAnswer (nth (heldIn a) p) (s .args .width) (s .args .size)) (c .before .before .before .find-place .ensures))
 
 refuse-requires : tie.Need-refuse-requires
 refuse-requires c κs = search needs
@@ -43,10 +47,11 @@ same-length-2 c = search needs
 
 returns-2 : tie.Need-returns-2
 returns-2 c =
-    let a = now (c .before .before .before .before .before .before .before .before .args .area) in
-    let k = key (c .before .before .before .before .before .before .before .before .args .id) (c .before .before .before .before .before .before .before .before .args .width) (c .before .before .before .before .before .before .before .before .args .size) in
-    let n = count-held a (c .before .before .before .before .before .before .before .before .pre) in
-    key-kept a (c .before .before .before .before .before .before .before .before .pre) k _ _ (λ i. c .before .before .before .before .before .before .before .slice-known .given i .fits) (open-full (heldIn a) k (omega arith) (omega arith))
+    let s = c .before .before .before .before .before .before .before .before in
+    let a = now (s .args .area) in
+    let k = key (s .args .id) (s .args .width) (s .args .size) in
+    let n = count-held a (s .pre) in
+    key-kept a (s .pre) k _ _ (λ i. c .before .before .before .before .before .before .before .slice-known .given i .fits) (open-full (heldIn a) k (omega arith) (omega arith))
     (ap opened.Refused (c .refuse .ensures))
 
 add-key-requires : tie.Need-add-key-requires
@@ -57,9 +62,10 @@ same-length-3 c = search needs
 
 returns-3 : tie.Need-returns-3
 returns-3 c =
-    let a = now (c .before .before .before .before .before .before .before .before .before .before .before .args .area) in
-    let k = key (c .before .before .before .before .before .before .before .before .before .before .before .args .id) (c .before .before .before .before .before .before .before .before .before .before .before .args .width) (c .before .before .before .before .before .before .before .before .before .before .before .args .size) in
-    let n = count-held a (c .before .before .before .before .before .before .before .before .before .before .before .pre) in
+    let s = c .before .before .before .before .before .before .before .before .before .before .before in
+    let a = now (s .args .area) in
+    let k = key (s .args .id) (s .args .width) (s .args .size) in
+    let n = count-held a (s .pre) in
     let e = open-new (heldIn a) k (omega arith) (omega arith) in (
       ap opened.New (reached-new k _ refl) ∙ sym (ap (λ (o : OpenOutcome). o .answer) e),
       c .before .before .add-key .ensures ∙ sym (ap (λ (o : OpenOutcome). storedIn a (o .table)) e),

@@ -18,7 +18,9 @@ word-requires : tie.Need-word-requires Inv-loop μ-loop
 word-requires c κs = omega (arith, judged-passed (now (c .before .args .area)) (c .before .pre) .0)
 
 loop-holds : tie.Need-loop-holds Inv-loop μ-loop
-loop-holds c = find-start (now (c .before .before .args .area)) (c .before .before .args .id) (c .word .result) (c .before .before .pre) (c .word .ensures)
+loop-holds c =
+    let s = c .before .before in
+    find-start (now (s .args .area)) (s .args .id) (c .word .result) (s .pre) (c .word .ensures)
 
 add-word : tie.Need-add-word Inv-loop μ-loop
 add-word c = omega (arith, c .before .loop .inv .few)
@@ -27,7 +29,11 @@ word-requires-2 : tie.Need-word-requires-2 Inv-loop μ-loop
 word-requires-2 c κs = omega (arith, c .before .loop .inv .few, c .before .loop .inv .long)
 
 returns : tie.Need-returns Inv-loop μ-loop
-returns c = find-here (now (c .before .before .before .before .before .before .args .area)) (c .before .before .before .before .before .before .args .id) (c .before .before .before .before .word .result) (c .before .before .before .loop .i) (c .before .word2 .result) (c .before .before .before .loop .inv) (omega arith) (c .before .word2 .ensures) (c .if1 .taken)
+returns c =
+    let s = c .before .before .before .before .before .before in
+    let l = c .before .before .before .loop in
+    let w = c .before .word2 in
+    find-here (now (s .args .area)) (s .args .id) (c .before .before .before .before .word .result) (l .i) (w .result) (l .inv) (omega arith) (w .ensures) (omega arith)
 
 add-i : tie.Need-add-i Inv-loop μ-loop
 add-i c = omega (arith, c .before .before .before .loop .inv .few)
@@ -36,10 +42,17 @@ loop-less : tie.Need-loop-less Inv-loop μ-loop
 loop-less c = omega (arith, c .before .before .before .loop .inv .few)
 
 loop-again : tie.Need-loop-again Inv-loop μ-loop
-loop-again c = find-more (now (c .before .before .before .before .before .before .args .area)) (c .before .before .before .before .before .before .args .id) (c .before .before .before .before .word .result) (c .before .before .before .loop .i) (c .before .word2 .result) (c .before .before .before .loop .inv) (omega arith) (c .before .word2 .ensures) (c .if1 .left)
+loop-again c =
+    let s = c .before .before .before .before .before .before in
+    let l = c .before .before .before .loop in
+    let w = c .before .word2 in
+    find-more (now (s .args .area)) (s .args .id) (c .before .before .before .before .word .result) (l .i) (w .result) (l .inv) (omega arith) (w .ensures) (omega arith)
 
 returns-2 : tie.Need-returns-2 Inv-loop μ-loop
-returns-2 c = find-end (now (c .before .before .before .before .args .area)) (c .before .before .before .before .args .id) (c .before .before .word .result) (c .before .loop .i) (c .before .loop .inv) (omega arith)
+returns-2 c =
+    let s = c .before .before .before .before in
+    let l = c .before .loop in
+    find-end (now (s .args .area)) (s .args .id) (c .before .before .word .result) (l .i) (l .inv) (omega arith)
 
 pub find-place-spec : {M : Type 1} → statement M
 find-place-spec =

@@ -50,10 +50,10 @@ count-fits c = search needs
 
 returns : tie.Need-returns
 returns c =
-    let w = (c .before .before) in
-    let q = (c .before .before .before .before .before .before) in
-    let p = (c .before .before .before .before .before .before .before .before .before .before .before .before .before) in
-    let s = (c .before .before .before .before .before .before .before .before .before .before .before .before .before .before .before .before .before .before .before) in
+    let w = c .before .before in
+    let q = c .before .before .before .before .before .before in
+    let p = c .before .before .before .before .before .before .before .before .before .before .before .before .before in
+    let s = c .before .before .before .before .before .before .before .before .before .before .before .before .before .before .before .before .before .before .before in
     put-changed (now (s .args .area)) (s .args .place) (s .args .t3) (s .pre .0) (s .pre .1) (starts-length s) (stops-length s)
     (p .put-words .ensures .1) (q .put-words2 .ensures .1) (count-fits s) _ _ _ (p .put-words .ensures .0) (q .put-words2 .ensures .0)
     (w .write-number .ensures) (λ i. c .slice-known4 .given i .fits)

@@ -1,6 +1,8 @@
 -- `area_record::extend` meets its contract: 16, or the runs put and what they reach. Assumes nothing.
 use denote.Ref.{now}
 use mathlib.Core.Path.{_≡_, refl, ap, _∙_}
+use mathlib.Core.Bool.{true}
+use mathlib.Core.Option.{some}
 use Prim.Native.Nat.{_≤_, _<_}
 use lib.ListN.{length}
 use Rattle.run_set.specs.RunSets.{insertedOf}
@@ -8,6 +10,7 @@ use Rattle.run_set.specs.declared.RunSet.{RunSet}
 use Rattle.table.specs.declared.Recorded.the-variants.{Refused}
 use Rattle.area.specs.Numbers.{transfersOf}
 use Rattle.area.specs.Image.{areaOctets, numbersAt}
+use Rattle.area.specs.Judge.{tableOf}
 use Rattle.area.proofs.AreaLaws.{held-long}
 use Rattle.area_places.specs.Change.{runSetAt}
 use Rattle.area_places.proofs.HeldLaws.{judged-holds}
@@ -17,52 +20,69 @@ use native.Mathlib.Omega.{arith}
 use Rattle.area_record.proofs.extend.Statement.{statement}
 use Rattle.area_record.proofs.extend.Tie as tie
 
--- the place is one of 16, in an area that is long enough
+-- the area holds its table, is long enough, and the place is one of 16
+held : (c : tie.Start) → let a = now (c .args .area) in tableOf a ≡ some (transfersOf (numbersAt a))
+held c = judged-holds (now (c .args .area)) (c .pre .0)
+
 fits : (c : tie.Start) → (areaOctets ≤ length (now (c .args .area))) × (c .args .place < 16)
 fits c =
     let a = now (c .args .area) in
-    let t = transfersOf (numbersAt a) in
-    let e = judged-holds a (c .pre .0) in
-    (held-long a t e, place-small a t (c .args .place) (c .args .size) (c .args .from) (c .args .to) e (c .pre .1))
+    (held-long a _ (held c), place-small a _ (c .args .place) (held c) (c .pre .1))
 
 runs-at-requires : tie.Need-runs-at-requires
-runs-at-requires c κs = fits (c .before .before)
+runs-at-requires c κs =
+    let k = fits (c .before .before) in
+    (k .0, omega (arith, k))
+
+-- the runs that stand there are few
+old-few : (c : tie.After-runs-at) → c .runs-at .result .count ≤ 64
+old-few c =
+    let s = c .before .before .before in
+    let n = count-few (now (s .args .area)) _ (s .args .place) (held s) (s .pre .1) in
+    omega (arith, ap (λ (r : RunSet). r .count) (c .runs-at .ensures))
 
 inserted-requires : tie.Need-inserted-requires
-inserted-requires c κs =
-    let a = now (c .before .before .before .args .area) in
-    let k = count-few a (transfersOf (numbersAt a)) (c .before .before .before .args .place) (c .before .before .before .args .size) (c .before .before .before .args .from) (c .before .before .before .args .to) (judged-holds a (c .before .before .before .pre .0)) (c .before .before .before .pre .1) in
-    omega (arith, ap (λ (r : RunSet). r .count) (c .runs-at .ensures), k)
+inserted-requires c κs = omega (arith, old-few c)
 
 put-runs-requires : tie.Need-put-runs-requires
-put-runs-requires c κs = fits (c .before .before .before .before .before .before .before)
+put-runs-requires c κs =
+    let k = fits (c .before .before .before .before .before .before .before) in
+    (k .0, omega (arith, k))
 
--- what is inserted into is what stands at the place
-inserted-is : (c : tie.After-inserted) → c .inserted .result ≡ insertedOf (runSetAt (now (c .before .before .before .before .args .area)) (c .before .before .before .before .args .place)) (c .before .before .before .before .args .from) (c .before .before .before .before .args .to)
-inserted-is c = c .inserted .ensures ∙ ap (λ (r : RunSet). insertedOf r (c .before .before .before .before .args .from) (c .before .before .before .before .args .to)) (c .before .runs-at .ensures)
+-- what is inserted into is what stands at the place, and what comes of it has room
+inserted-is : (c : tie.After-inserted)
+    → let s = c .before .before .before .before in
+    c .inserted .result ≡ insertedOf (runSetAt (now (s .args .area)) (s .args .place)) (s .args .from) (s .args .to)
+inserted-is c =
+    let s = c .before .before .before .before in
+    c .inserted .ensures ∙ ap (λ (r : RunSet). insertedOf r (s .args .from) (s .args .to)) (c .before .runs-at .ensures)
+
+few : (c : tie.After-inserted) → c .inserted .result .ok ≡ true → c .inserted .result .runs .count ≤ 64
+few c =
+    let s = c .before .before .before .before in
+    extend-few (now (s .args .area)) _ (s .args .place) (held s) (s .pre .1) (s .args .from) (s .args .to) (c .inserted .result) (inserted-is c)
 
 edge-of-requires : tie.Need-edge-of-requires
 edge-of-requires c κs =
-    let a = now (c .before .before .before .before .before .before .before .before .before .before .args .area) in
-    extend-few a (transfersOf (numbersAt a)) (c .before .before .before .before .before .before .before .before .before .before .args .place) (c .before .before .before .before .before .before .before .before .before .before .args .size) (c .before .before .before .before .before .before .before .before .before .before .args .from) (c .before .before .before .before .before .before .before .before .before .before .args .to) (judged-holds a (c .before .before .before .before .before .before .before .before .before .before .pre .0)) (c .before .before .before .before .before .before .before .before .before .before .pre .1)
-    (c .before .before .before .before .before .before .inserted .result) (inserted-is (c .before .before .before .before .before .before)) (c .before .before .before .before .before .if1 .taken)
+    let t = c .before .before .before .before .before .if1 .taken in
+    omega (arith, few (c .before .before .before .before .before .before) t, old-few (c .before .before .before .before .before .before .before))
 
 is-complete-requires : tie.Need-is-complete-requires
 is-complete-requires c κs =
-    let a = now (c .before .before .before .before .before .before .before .before .before .before .before .args .area) in
-    extend-few a (transfersOf (numbersAt a)) (c .before .before .before .before .before .before .before .before .before .before .before .args .place) (c .before .before .before .before .before .before .before .before .before .before .before .args .size) (c .before .before .before .before .before .before .before .before .before .before .before .args .from) (c .before .before .before .before .before .before .before .before .before .before .before .args .to) (judged-holds a (c .before .before .before .before .before .before .before .before .before .before .before .pre .0)) (c .before .before .before .before .before .before .before .before .before .before .before .pre .1)
-    (c .before .before .before .before .before .before .before .inserted .result) (inserted-is (c .before .before .before .before .before .before .before)) (c .before .before .before .before .before .before .if1 .taken)
+    let t = c .before .before .before .before .before .before .if1 .taken in
+    omega (arith, few (c .before .before .before .before .before .before .before) t, old-few (c .before .before .before .before .before .before .before .before))
 
 same-length : tie.Need-same-length
 same-length c = search needs
 
 returns : tie.Need-returns
 returns c =
-    let a = now (c .before .before .before .before .before .before .before .before .before .before .before .before .args .area) in
+    let s = c .before .before .before .before .before .before .before .before .before .before .before .before in
+    let p = c .before .before .before .before .before .before .before .before in
     both refl
-    (extend-done a (transfersOf (numbersAt a)) (c .before .before .before .before .before .before .before .before .before .before .before .before .args .place) (c .before .before .before .before .before .before .before .before .before .before .before .before .args .size) (c .before .before .before .before .before .before .before .before .before .before .before .before .args .from) (c .before .before .before .before .before .before .before .before .before .before .before .before .args .to) (judged-holds a (c .before .before .before .before .before .before .before .before .before .before .before .before .pre .0)) (c .before .before .before .before .before .before .before .before .before .before .before .before .pre .1)
-    (c .before .before .before .before .before .before .before .before .inserted .result) (inserted-is (c .before .before .before .before .before .before .before .before)) (c .before .before .before .before .before .before .before .if1 .taken) _ (c .before .edge-of .result) (c .is-complete .result) (c .before .before .before .before .put-runs .ensures)
-    (c .before .edge-of .ensures) (c .is-complete .ensures))
+    (extend-done (now (s .args .area)) _ (s .args .place) (held s) (s .pre .1) (s .args .from) (s .args .to) (p .inserted .result) (inserted-is p)
+    (s .args .size) (c .before .before .before .before .before .before .before .if1 .taken) _ (c .before .edge-of .result) (c .is-complete .result) (c .before .before .before .before .put-runs .ensures) (c .before .edge-of .ensures)
+    (c .is-complete .ensures))
 
 refuse-requires : tie.Need-refuse-requires
 refuse-requires c κs = search needs
@@ -72,10 +92,11 @@ same-length-2 c = search needs
 
 returns-2 : tie.Need-returns-2
 returns-2 c =
-    let a = now (c .before .before .before .before .before .before .args .area) in
+    let s = c .before .before .before .before .before .before in
+    let p = c .before .before in
     both (ap Refused (c .refuse .ensures))
-    (extend-over a (transfersOf (numbersAt a)) (c .before .before .before .before .before .before .args .place) (c .before .before .before .before .before .before .args .size) (c .before .before .before .before .before .before .args .from) (c .before .before .before .before .before .before .args .to) (judged-holds a (c .before .before .before .before .before .before .pre .0)) (c .before .before .before .before .before .before .pre .1)
-    (c .before .before .inserted .result) (inserted-is (c .before .before)) (c .before .if1 .left))
+    (extend-over (now (s .args .area)) _ (s .args .place) (held s) (s .pre .1) (s .args .from) (s .args .to) (p .inserted .result) (inserted-is p)
+    (s .args .size) (c .before .if1 .left))
 
 pub extend-spec : {M : Type 1} → statement M
 extend-spec =

@@ -15,22 +15,25 @@ returns c = rw (ne-eqb (c .before .args .d .width) (c .before .args .width) (ome
 returns-2 : tie.Need-returns-2
 unfolding dataJudged
 returns-2 c =
-    let d = c .before .before .args .d in
-    rw (eq-eqb (d .width) (c .before .before .args .width) (omega arith), lt-ltb (c .before .before .args .length) (d .offset + d .length) (omega arith))
+    let s = c .before .before in
+    let d = s .args .d in
+    rw (eq-eqb (d .width) (s .args .width) (omega arith), lt-ltb (s .args .length) (d .offset + d .length) (omega arith))
 
 returns-3 : tie.Need-returns-3
 unfolding dataJudged
 returns-3 c =
-    let d = c .before .before .before .before .args .d in
-    rw (eq-eqb (d .width) (c .before .before .before .before .args .width) (omega arith), lt-ltb (c .before .before .before .before .args .length) (d .offset + d .length) (omega arith))
+    let s = c .before .before .before .before in
+    let d = s .args .d in
+    rw (eq-eqb (d .width) (s .args .width) (omega arith), lt-ltb (s .args .length) (d .offset + d .length) (omega arith))
 
 returns-4 : tie.Need-returns-4
 unfolding dataJudged
 returns-4 c =
-    let d = c .before .before .before .before .before .before .args .d in
+    let s = c .before .before .before .before .before .before in
+    let d = s .args .d in
     rw (
-      eq-eqb (d .width) (c .before .before .before .before .before .before .args .width) (omega arith),
-      le-ltb (c .before .before .before .before .before .before .args .length) (d .offset + d .length) (omega arith),
+      eq-eqb (d .width) (s .args .width) (omega arith),
+      le-ltb (s .args .length) (d .offset + d .length) (omega arith),
       ne-eqb (d .eod) 1 (omega arith),
     )
 
@@ -40,23 +43,25 @@ add-if5 c = search needs
 returns-5 : tie.Need-returns-5
 unfolding dataJudged
 returns-5 c =
-    let d = c .before .before .before .before .before .before .before .before .args .d in
+    let s = c .before .before .before .before .before .before .before .before in
+    let d = s .args .d in
     rw (
-      eq-eqb (d .width) (c .before .before .before .before .before .before .before .before .args .width) (omega arith),
-      le-ltb (c .before .before .before .before .before .before .before .before .args .length) (d .offset + d .length) (omega arith),
+      eq-eqb (d .width) (s .args .width) (omega arith),
+      le-ltb (s .args .length) (d .offset + d .length) (omega arith),
       eq-eqb (d .eod) 1 (omega arith),
-      ne-eqb (d .offset + d .length) (c .before .before .before .before .before .before .before .before .args .length) (omega arith),
+      ne-eqb (d .offset + d .length) (s .args .length) (omega arith),
     )
 
 returns-6 : tie.Need-returns-6
 unfolding dataJudged
 returns-6 c =
-    let d = c .before .before .before .before .before .before .before .before .args .d in
+    let s = c .before .before .before .before .before .before .before .before in
+    let d = s .args .d in
     rw (
-      eq-eqb (d .width) (c .before .before .before .before .before .before .before .before .args .width) (omega arith),
-      le-ltb (c .before .before .before .before .before .before .before .before .args .length) (d .offset + d .length) (omega arith),
+      eq-eqb (d .width) (s .args .width) (omega arith),
+      le-ltb (s .args .length) (d .offset + d .length) (omega arith),
       eq-eqb (d .eod) 1 (omega arith),
-      eq-eqb (d .offset + d .length) (c .before .before .before .before .before .before .before .before .args .length) (omega arith),
+      eq-eqb (d .offset + d .length) (s .args .length) (omega arith),
     )
 
 pub judged-at-spec : {M : Type 1} → statement M

@@ -1,5 +1,5 @@
 -- `area_slots::gap_at` meets its contract. Assumes nothing.
-use Prim.Native.Nat.{_+_, _-_}
+use Prim.Native.Nat.{_-_}
 use mathlib.Core.Path.{sym, _∙_}
 use denote.Ref.{now}
 use Rattle.area.specs.Words.{wordsAt}

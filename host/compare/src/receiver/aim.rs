@@ -10,7 +10,7 @@ use crate::rng::Rng;
 /// An offset and a payload's length, for a transfer as it stands.
 pub fn packet(rng: &mut Rng, transfer: &Transfer) -> (u64, usize) {
     let runs: Vec<(u64, u64)> = transfer.received.runs().collect();
-    let most = most_payload(2).min(transfer.length.max(1).min(1 << 20) as usize) as u64;
+    let most = transfer.length.clamp(1, most_payload(2) as u64);
     let len = payload_len(rng).min(most);
     let length = transfer.length;
     if runs.is_empty() || rng.one_in(4) {

@@ -97,7 +97,7 @@ pub fn table(rng: &mut Rng, files: &[File]) -> Table {
 }
 
 fn transfer(rng: &mut Rng, file: File) -> Transfer {
-    let most = ((u128::from(file.length) + 1) / 2).min(64) as usize;
+    let most = file.length.div_ceil(2).min(64) as usize;
     let runs = match rng.below(6) {
         0 => 0,
         1 => 1,

@@ -1,4 +1,5 @@
-//! "The two orders": a list of openings and recordings on a fresh area, and what was accepted of it, sorted, on another.
+//! "The two orders" (demand 3): a list of openings and recordings on a fresh area, and what was accepted of it, sorted,
+//! on another. Words in quotes are document 01's and demand 3's.
 
 use std::collections::BTreeMap;
 

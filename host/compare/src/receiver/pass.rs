@@ -14,7 +14,7 @@ use crate::rng::Rng;
 
 /// One case, of some or many calls.
 pub fn case(check: &mut Check) -> Step {
-    match check.rng.below(16) {
+    match check.rng.below(10) {
         0 => orders::trial(check),
         _ => pass(check),
     }

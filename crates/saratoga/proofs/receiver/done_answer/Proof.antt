@@ -1,0 +1,21 @@
+-- `saratoga::receiver::done_answer` meets its contract: a return for each case. Assumes nothing.
+use mathlib.Core.Path.{sym, ap}
+use Rattle.saratoga.specs.TableAnswers.{doneAnswer}
+use borrow.Author.Needs.{needs}
+use Rattle.saratoga.proofs.receiver.done_answer.Statement.{statement}
+use Rattle.saratoga.proofs.receiver.done_answer.Tie as tie
+
+enum-told : tie.Need-enum-told
+enum-told c = search needs
+
+enum-known-a : tie.Need-enum-known-a
+enum-known-a c = search needs
+
+returns : tie.Need-returns
+returns c = ap doneAnswer (sym (c .enum-told .given .1))
+
+returns-2 : tie.Need-returns-2
+returns-2 c = ap doneAnswer (sym (c .before .a .given .1))
+
+pub done-answer-spec : {M : Type 1} → statement M
+done-answer-spec = tie.close (tie.spec enum-told enum-known-a returns returns-2)

@@ -1,0 +1,43 @@
+-- `saratoga::receiver::opened_answer` meets its contract: a return for each case. Assumes nothing.
+use mathlib.Core.Path.{sym, ap}
+use Rattle.saratoga.specs.TableAnswers.{openedAnswer}
+use borrow.Author.Needs.{needs}
+use Rattle.saratoga.proofs.receiver.opened_answer.Statement.{statement}
+use Rattle.saratoga.proofs.receiver.opened_answer.Tie as tie
+
+enum-known-a : tie.Need-enum-known-a
+enum-known-a c = search needs
+
+one-if-requires : tie.Need-one-if-requires
+one-if-requires c κs = search needs
+
+enum-known-a-2 : tie.Need-enum-known-a-2
+enum-known-a-2 c = search needs
+
+one-if-requires-2 : tie.Need-one-if-requires-2
+one-if-requires-2 c κs = search needs
+
+enum-known-a-3 : tie.Need-enum-known-a-3
+enum-known-a-3 c = search needs
+
+returns : tie.Need-returns
+returns c = rw (c .one-if .ensures) (ap openedAnswer (sym (c .before .before .a .given .1)))
+
+returns-2 : tie.Need-returns-2
+returns-2 c = rw (c .one-if2 .ensures) (ap openedAnswer (sym (c .before .before .a2 .given .1)))
+
+returns-3 : tie.Need-returns-3
+returns-3 c = ap openedAnswer (sym (c .before .a3 .given .1))
+
+pub opened-answer-spec : {M : Type 1} → statement M
+opened-answer-spec =
+    tie.close
+    (tie.spec
+    enum-known-a
+    one-if-requires
+    enum-known-a-2
+    one-if-requires-2
+    enum-known-a-3
+    returns
+    returns-2
+    returns-3)

@@ -1,0 +1,18 @@
+-- `saratoga::receiver::saratoga_transfer` meets its contract: what the listing answers. Assumes nothing.
+use mathlib.Core.Path.{ap, _∙_}
+use Rattle.saratoga.specs.TableAnswers.{listedAnswer}
+use borrow.Author.Needs.{needs}
+use Rattle.saratoga.proofs.receiver.saratoga_transfer.Statement.{statement}
+use Rattle.saratoga.proofs.receiver.saratoga_transfer.Tie as tie
+
+transfer-requires : tie.Need-transfer-requires
+transfer-requires c κs = search needs
+
+listed-answer-requires : tie.Need-listed-answer-requires
+listed-answer-requires c κs = search needs
+
+returns : tie.Need-returns
+returns c = c .listed-answer .ensures ∙ ap listedAnswer (c .before .transfer .ensures)
+
+pub saratoga-transfer-spec : {M : Type 1} → statement M
+saratoga-transfer-spec = tie.close (tie.spec transfer-requires listed-answer-requires returns)

@@ -1,0 +1,415 @@
+/*
+ * Calls each function of saratoga.h that uses an area from C: the passes of the papers, and each refusal. Checks every
+ * field of the answers and every octet of areas and buffers, and ends with status 1 where one is wrong.
+ */
+#include "check.h"
+
+enum { AREA = SARATOGA_AREA_OCTETS };
+
+/* An answer that is only a refusal. */
+#define REFUSED(type, refusal, send) ((struct saratoga_##type){.number = (refusal), .code = (send)})
+
+static void same_done(const char *what, struct saratoga_done got, struct saratoga_done want)
+{
+    SAME(number);
+    SAME(code);
+}
+
+static void same_opened(const char *what, struct saratoga_opened got, struct saratoga_opened want)
+{
+    SAME(number);
+    SAME(code);
+    SAME(edge);
+    SAME(complete);
+    SAME(already_open);
+}
+
+static void same_recorded(const char *what, struct saratoga_recorded got, struct saratoga_recorded want)
+{
+    SAME(number);
+    SAME(code);
+    SAME(edge);
+    SAME(complete);
+}
+
+static void same_listed(const char *what, struct saratoga_listed got, struct saratoga_listed want)
+{
+    SAME(number);
+    SAME(code);
+    SAME(id);
+    SAME(width);
+    SAME(length);
+    SAME(edge);
+    SAME(complete);
+    SAME(runs);
+}
+
+/* `octets` octets of a number, the highest first. */
+static void put(uint8_t *at, uint64_t number, size_t octets)
+{
+    while (octets > 0) {
+        at[--octets] = (uint8_t)number;
+        number >>= 8;
+    }
+}
+
+/* Bits 8 to 15 of a packet, for descriptors of 2, 4 or 8 octets. */
+static uint8_t width_bits(size_t width)
+{
+    return width == 2 ? 0x00 : width == 4 ? 0x40 : 0x80;
+}
+
+/* An area of `len` octets with nothing open. */
+static uint8_t *fresh_area(size_t len)
+{
+    uint8_t *area = lend(NULL, len), *want = lend(NULL, len);
+    same_done("fresh area", saratoga_fresh(area, len), (struct saratoga_done){0, 0});
+    memset(want, 0, AREA);
+    same_octets("fresh area", area, want, len);
+    free(want);
+    return area;
+}
+
+/* METADATA, with the size in 64 bits and the path p611. */
+static void open_as(const char *what, uint8_t *area, size_t len, uint64_t id, size_t width, uint64_t size,
+                    struct saratoga_opened want)
+{
+    uint8_t packet[31] = {0x42}, *before = lend(area, len), *lent;
+    packet[1] = width_bits(width);
+    put(packet + 4, id, 4);
+    packet[9] = 0x80;
+    put(packet + 10, size, 8);
+    memcpy(packet + 26, "p611", 5);
+    lent = lend(packet, sizeof packet);
+    same_opened(what, saratoga_open(area, len, lent, sizeof packet), want);
+    same_octets(what, lent, packet, sizeof packet);
+    if (want.number != 0 || want.already_open)
+        same_octets(what, area, before, len);
+    free(before);
+    free(lent);
+}
+
+/* DATA with `payload` octets, with end of data or without. */
+static void record_as(const char *what, uint8_t *area, size_t len, uint64_t id, size_t width, uint64_t offset,
+                      size_t payload, int last, struct saratoga_recorded want)
+{
+    size_t size = 8 + width + payload;
+    uint8_t *packet = lend(NULL, size), *lent, *before = lend(area, len);
+    put(packet, last ? 0x43008000 : 0x43000000, 4);
+    packet[1] = width_bits(width);
+    put(packet + 4, id, 4);
+    put(packet + 8, offset, width);
+    lent = lend(packet, size);
+    same_recorded(what, saratoga_record(area, len, lent, size), want);
+    same_octets(what, lent, packet, size);
+    if (want.number != 0)
+        same_octets(what, area, before, len);
+    free(packet);
+    free(lent);
+    free(before);
+}
+
+/* Records octets of Id 7 at width 16, in an area of AREA octets: the edge, and whether it is complete. */
+static void received(const char *what, uint8_t *area, uint64_t offset, size_t payload, uint64_t edge, uint64_t complete)
+{
+    struct saratoga_recorded want = {.edge = edge, .complete = complete};
+    record_as(what, area, AREA, 7, 2, offset, payload, 0, want);
+}
+
+static void close_as(const char *what, uint8_t *area, size_t len, uint64_t id, struct saratoga_done want)
+{
+    uint8_t *before = lend(area, len);
+    same_done(what, saratoga_close(area, len, id), want);
+    if (want.number != 0)
+        same_octets(what, area, before, len);
+    free(before);
+}
+
+/* The STATUS must be these octets; a refusal has none. */
+static void status_as(const char *what, const uint8_t *area, size_t len, uint64_t id, uint64_t skip, uint64_t unasked,
+                      size_t room, const uint8_t *packet, struct saratoga_written want)
+{
+    uint8_t *out = lend(NULL, room), *before = lend(area, len);
+    same_written(what, saratoga_write_status(area, len, id, skip, unasked, out, room), want);
+    buffer_holds(what, out, room, packet, want.size);
+    same_octets(what, area, before, len);
+    free(out);
+    free(before);
+}
+
+static void list_as(const char *what, const uint8_t *area, size_t len, uint64_t index, struct saratoga_listed want)
+{
+    uint8_t *before = lend(area, len);
+    same_listed(what, saratoga_transfer(area, len, index), want);
+    same_octets(what, area, before, len);
+    free(before);
+}
+
+/* Id 7, width 16, 3,000 octets: a hole, a buffer that is too small, and the octets that were missing. */
+static void page_with_a_hole(void)
+{
+    static const uint8_t hole[] = {0x44, 0, 0, 0, 0, 0, 0, 7, 0x03, 0xE8, 0x0B, 0xB8, 0x03, 0xE8, 0x07, 0xD0};
+    static const uint8_t whole[] = {0x44, 0x01, 0, 0, 0, 0, 0, 7, 0x0B, 0xB8, 0x0B, 0xB8};
+    uint8_t *area = fresh_area(AREA);
+    open_as("page", area, AREA, 7, 2, 3000, (struct saratoga_opened){0, 0, 0, 0, 0});
+    received("0 to 999", area, 0, 1000, 1000, 0);
+    received("2,000 to 2,999", area, 2000, 1000, 3000, 0);
+    status_as("one hole", area, AREA, 7, 0, 0, 16, hole, (struct saratoga_written){.size = 16});
+    status_as("one hole in more room", area, AREA, 7, 0, 0, 99, hole, (struct saratoga_written){.size = 16});
+    status_as("one hole in 15 octets", area, AREA, 7, 0, 0, 15, hole, REFUSED(written, SARATOGA_REFUSED_BUFFER, 0));
+    status_as("one hole, one skipped", area, AREA, 7, 1, 0, 15, hole, REFUSED(written, SARATOGA_REFUSED_INDEX, 0));
+    received("0 to 999 again", area, 0, 1000, 3000, 0);
+    open_as("page again", area, AREA, 7, 2, 3000, (struct saratoga_opened){.edge = 3000, .already_open = 1});
+    received("1,000 to 1,999", area, 1000, 1000, 3000, 1);
+    status_as("whole", area, AREA, 7, 0, 0, 12, whole, (struct saratoga_written){.size = 12});
+    status_as("whole in 11 octets", area, AREA, 7, 0, 0, 11, whole, REFUSED(written, SARATOGA_REFUSED_BUFFER, 0));
+    open_as("whole page again", area, AREA, 7, 2, 3000,
+            (struct saratoga_opened){.edge = 3000, .complete = 1, .already_open = 1});
+    free(area);
+    printf("ctest: a page with a hole\n");
+}
+
+/* Lengths 0 and the longest at width 16. */
+static void lengths(void)
+{
+    static const uint8_t empty[] = {0x44, 0x01, 0, 0, 0, 0, 0, 7, 0, 0, 0, 0};
+    uint8_t *area = fresh_area(AREA);
+    open_as("length 0", area, AREA, 7, 2, 0, (struct saratoga_opened){.complete = 1});
+    record_as("DATA for length 0", area, AREA, 7, 2, 0, 1, 0, REFUSED(recorded, SARATOGA_REFUSED_PAST_END, 0x09));
+    record_as("last DATA for length 0", area, AREA, 7, 2, 0, 1, 1, REFUSED(recorded, SARATOGA_REFUSED_PAST_END, 0x09));
+    status_as("length 0", area, AREA, 7, 0, 0, 12, empty, (struct saratoga_written){.size = 12});
+    open_as("length 65,535", area, AREA, 8, 2, 65535, (struct saratoga_opened){0, 0, 0, 0, 0});
+    open_as("length 65,536", area, AREA, 9, 2, 65536, REFUSED(opened, SARATOGA_REFUSED_SIZE, 0x09));
+    open_as("length 65,536 at width 32", area, AREA, 9, 4, 65536, (struct saratoga_opened){0, 0, 0, 0, 0});
+    free(area);
+    printf("ctest: lengths\n");
+}
+
+/* Touching packets are one run; the start of the file is a hole like any other. */
+static void runs_and_holes(void)
+{
+    static const uint8_t one_run[] = {0x44, 0, 0, 0, 0, 0, 0, 7, 0, 20, 0, 20};
+    static const uint8_t from_5[] = {0x44, 0x01, 0, 0, 0, 0, 0, 7, 0, 0, 0, 10, 0, 0, 0, 5};
+    uint8_t *area = fresh_area(AREA);
+    open_as("touching packets", area, AREA, 7, 2, 3000, (struct saratoga_opened){0, 0, 0, 0, 0});
+    received("0 to 9", area, 0, 10, 10, 0);
+    received("10 to 19", area, 10, 10, 20, 0);
+    list_as("one run", area, AREA, 0,
+            (struct saratoga_listed){.id = 7, .width = 2, .length = 3000, .edge = 20, .runs = 1});
+    status_as("no hole", area, AREA, 7, 0, 0, 99, one_run, (struct saratoga_written){.size = 12});
+    status_as("no hole, one skipped", area, AREA, 7, 1, 0, 99, one_run, REFUSED(written, SARATOGA_REFUSED_INDEX, 0));
+    free(area);
+
+    area = fresh_area(AREA);
+    open_as("only 5 to 9", area, AREA, 7, 2, 3000, (struct saratoga_opened){0, 0, 0, 0, 0});
+    received("5 to 9", area, 5, 5, 10, 0);
+    status_as("hole from 0", area, AREA, 7, 0, UINT64_MAX, 99, from_5, (struct saratoga_written){.size = 16});
+    free(area);
+    printf("ctest: runs and holes\n");
+}
+
+/* 64 runs and no more; of 64 holes, as many as fit. */
+static void sixty_four_runs(void)
+{
+    uint8_t packet[8 + 4 + 4 * 63] = {0x44, 0x02, 0, 0, 0, 0, 0, 7, 0, 0, 0x02, 0x7C};
+    uint8_t *area = fresh_area(AREA);
+    uint64_t run;
+    open_as("64 runs", area, AREA, 7, 2, 3000, (struct saratoga_opened){0, 0, 0, 0, 0});
+    for (run = 0; run < 64; run++)
+        received("a run", area, 10 * run + 5, 1, 10 * run + 6, 0);
+    record_as("a 65th run", area, AREA, 7, 2, 2000, 1, 0, REFUSED(recorded, SARATOGA_REFUSED_RUNS, 0x03));
+    record_as("a 65th run between", area, AREA, 7, 2, 7, 1, 0, REFUSED(recorded, SARATOGA_REFUSED_RUNS, 0x03));
+    record_as("a 65th run, end of data", area, AREA, 7, 2, 2998, 1, 1,
+              REFUSED(recorded, SARATOGA_REFUSED_EARLY_END, 0x01));
+
+    /* 64 holes: from 0 to 5, then from each run's stop to the next start. */
+    for (run = 0; run < 63; run++) {
+        put(packet + 12 + 4 * run, run == 0 ? 0 : 10 * run - 4, 2);
+        put(packet + 14 + 4 * run, 10 * run + 5, 2);
+    }
+    status_as("63 of 64 holes", area, AREA, 7, 0, 0, sizeof packet + 3, packet,
+              (struct saratoga_written){.size = sizeof packet});
+    put(packet + 12, 626, 2);
+    put(packet + 14, 635, 2);
+    status_as("the last hole", area, AREA, 7, 63, 0, 16, packet, (struct saratoga_written){.size = 16});
+    status_as("64 skipped", area, AREA, 7, 64, 0, 16, packet, REFUSED(written, SARATOGA_REFUSED_INDEX, 0));
+
+    received("one that touches", area, 6, 1, 636, 0);
+    received("one that joins two", area, 7, 8, 636, 0);
+    received("one apart again", area, 2000, 1, 2001, 0);
+    list_as("64 runs", area, AREA, 0,
+            (struct saratoga_listed){.id = 7, .width = 2, .length = 3000, .edge = 2001, .runs = 64});
+    free(area);
+    printf("ctest: 64 runs\n");
+}
+
+/* The largest length and offset: no sum wraps. */
+static void largest_numbers(void)
+{
+    static const uint8_t packet[] = {0x44, 0x80, 0, 0, 0xFF, 0xFF, 0xFF, 0xFF, 0, 0, 0, 0, 0, 0, 0, 0, /* Progress */
+                                     0xFF, 0xFF, 0xFF, 0xFF, 0xFF, 0xFF, 0xFF, 0xFF,                   /* the edge */
+                                     0, 0, 0, 0, 0, 0, 0, 0,                                           /* hole */
+                                     0xFF, 0xFF, 0xFF, 0xFF, 0xFF, 0xFF, 0xFF, 0xFE};
+    const uint64_t id = 0xFFFFFFFF;
+    uint8_t *area = fresh_area(AREA);
+    open_as("length 2^64 - 1", area, AREA, id, 8, UINT64_MAX, (struct saratoga_opened){0, 0, 0, 0, 0});
+    record_as("offset 2^64 - 1", area, AREA, id, 8, UINT64_MAX, 1, 0,
+              REFUSED(recorded, SARATOGA_REFUSED_PAST_END, 0x09));
+    record_as("offset 2^64 - 2", area, AREA, id, 8, UINT64_MAX - 1, 2, 0,
+              REFUSED(recorded, SARATOGA_REFUSED_PAST_END, 0x09));
+    record_as("the last octet", area, AREA, id, 8, UINT64_MAX - 1, 1, 1,
+              (struct saratoga_recorded){.edge = UINT64_MAX});
+    status_as("the largest hole", area, AREA, id, 0, 0, 40, packet, (struct saratoga_written){.size = 40});
+    close_as("Id over 32 bits", area, AREA, id + (UINT64_C(1) << 32), REFUSED(done, SARATOGA_REFUSED_NOT_OPEN, 0x06));
+    status_as("Id over 32 bits", area, AREA, UINT64_MAX, 0, 0, 40, packet,
+              REFUSED(written, SARATOGA_REFUSED_NOT_OPEN, 0x06));
+    free(area);
+    printf("ctest: the largest numbers\n");
+}
+
+/* 16 Ids and no more; listing in rising order of Id. */
+static void seventeen_ids(void)
+{
+    uint8_t *area = fresh_area(AREA), *empty;
+    uint64_t id;
+    for (id = 16; id >= 1; id--)
+        open_as("one of 16", area, AREA, id, 4, 10 * id, (struct saratoga_opened){0, 0, 0, 0, 0});
+    open_as("a 17th Id", area, AREA, 17, 4, 170, REFUSED(opened, SARATOGA_REFUSED_TABLE_FULL, 0x03));
+    open_as("another length", area, AREA, 16, 4, 161, REFUSED(opened, SARATOGA_REFUSED_OPEN_OTHER, 0x09));
+    open_as("another width", area, AREA, 16, 8, 160, REFUSED(opened, SARATOGA_REFUSED_OPEN_OTHER, 0x09));
+    open_as("the same", area, AREA, 16, 4, 160, (struct saratoga_opened){.already_open = 1});
+    for (id = 1; id <= 16; id++)
+        list_as("one of 16", area, AREA, id - 1, (struct saratoga_listed){.id = id, .width = 4, .length = 10 * id});
+    list_as("past the last", area, AREA, 16, REFUSED(listed, SARATOGA_REFUSED_NOT_OPEN, 0x06));
+    list_as("index 2^64 - 1", area, AREA, UINT64_MAX, REFUSED(listed, SARATOGA_REFUSED_NOT_OPEN, 0x06));
+    close_as("Id 5", area, AREA, 5, (struct saratoga_done){0, 0});
+    close_as("Id 5 again", area, AREA, 5, REFUSED(done, SARATOGA_REFUSED_NOT_OPEN, 0x06));
+    open_as("the 17th Id after that", area, AREA, 17, 4, 170, (struct saratoga_opened){0, 0, 0, 0, 0});
+    list_as("the 17th Id", area, AREA, 15, (struct saratoga_listed){.id = 17, .width = 4, .length = 170});
+    for (id = 1; id <= 17; id++)
+        close_as("each Id", area, AREA, id,
+                 id == 5 ? REFUSED(done, SARATOGA_REFUSED_NOT_OPEN, 0x06) : (struct saratoga_done){0, 0});
+    empty = fresh_area(AREA);
+    same_octets("nothing open", area, empty, AREA);
+    free(empty);
+    free(area);
+    printf("ctest: 17 Ids\n");
+}
+
+/* What else recording refuses, in its order. */
+static void recording_refused(void)
+{
+    static const uint8_t nothing[] = {0x43, 0, 0, 0, 0, 0, 0, 8, 0, 0};
+    uint8_t *area = fresh_area(AREA);
+    open_as("to be refused", area, AREA, 7, 2, 100, (struct saratoga_opened){0, 0, 0, 0, 0});
+    same_recorded("no payload", saratoga_record(area, AREA, nothing, sizeof nothing),
+                  REFUSED(recorded, SARATOGA_REFUSED_NO_PAYLOAD, 0x01));
+    same_recorded("cut", saratoga_record(area, AREA, nothing, 9), REFUSED(recorded, SARATOGA_REFUSED_TRUNCATED, 0));
+    same_recorded("METADATA", saratoga_record(area, AREA, (const uint8_t[]){0x42, 0, 0, 0, 0, 0, 0, 8}, 8),
+                  REFUSED(recorded, SARATOGA_REFUSED_TYPE, 0x0A));
+    same_opened("opening by DATA", saratoga_open(area, AREA, nothing, sizeof nothing),
+                REFUSED(opened, SARATOGA_REFUSED_TYPE, 0x0A));
+    record_as("Id not open", area, AREA, 8, 4, 100, 1, 1, REFUSED(recorded, SARATOGA_REFUSED_NOT_OPEN, 0x06));
+    record_as("another width", area, AREA, 7, 4, 100, 1, 1, REFUSED(recorded, SARATOGA_REFUSED_OTHER_WIDTH, 0x09));
+    record_as("past the end", area, AREA, 7, 2, 100, 1, 1, REFUSED(recorded, SARATOGA_REFUSED_PAST_END, 0x09));
+    record_as("over the end", area, AREA, 7, 2, 99, 2, 1, REFUSED(recorded, SARATOGA_REFUSED_PAST_END, 0x09));
+    record_as("an early end of data", area, AREA, 7, 2, 98, 1, 1, REFUSED(recorded, SARATOGA_REFUSED_EARLY_END, 0x01));
+    record_as("end of data", area, AREA, 7, 2, 99, 1, 1, (struct saratoga_recorded){.edge = 100});
+    record_as("the last octet without it", area, AREA, 7, 2, 99, 1, 0, (struct saratoga_recorded){.edge = 100});
+    free(area);
+    printf("ctest: recordings refused\n");
+}
+
+/* Every function refuses the area with 22 and leaves it. */
+static void area_refused(const char *what, const uint8_t *octets, size_t len)
+{
+    uint8_t *area = lend(octets, len);
+    open_as(what, area, len, 7, 2, 3000, REFUSED(opened, SARATOGA_REFUSED_AREA, 0));
+    record_as(what, area, len, 7, 2, 0, 1, 0, REFUSED(recorded, SARATOGA_REFUSED_AREA, 0));
+    close_as(what, area, len, 7, REFUSED(done, SARATOGA_REFUSED_AREA, 0));
+    status_as(what, area, len, 7, 0, 0, 16, octets, REFUSED(written, SARATOGA_REFUSED_AREA, 0));
+    list_as(what, area, len, 0, REFUSED(listed, SARATOGA_REFUSED_AREA, 0));
+    free(area);
+}
+
+/* The same with word `word` of the area set to `value`. */
+static void word_refused(const char *what, const uint8_t *octets, size_t word, uint64_t value)
+{
+    uint8_t *area = lend(octets, AREA);
+    put(area + 8 * word, value, 8);
+    area_refused(what, area, AREA);
+    free(area);
+}
+
+/* The example of docs/AREA.md, in an area with octets past it; then areas that are no image. */
+static void areas(void)
+{
+    static const struct {
+        size_t word;
+        uint64_t value;
+    } example[] = {{0, 2},                             /* transfers */
+                   {1, 7},                             /* Ids */
+                   {2, 300},
+                   {17, 2},                            /* widths */
+                   {18, 8},
+                   {33, 3000},                         /* lengths */
+                   {34, UINT64_C(5000000000)},
+                   {49, 2},                            /* numbers of runs */
+                   {50, 1},
+                   {65, 0},                            /* starts */
+                   {66, 2000},
+                   {129, UINT64_C(1) << 32},
+                   {1089, 1000},                       /* stops */
+                   {1090, 3000},
+                   {1153, (UINT64_C(1) << 32) + 500}};
+    const size_t len = AREA + 3;
+    uint8_t *area = fresh_area(len), *want = lend(NULL, len), *short_area;
+    size_t i;
+    open_as("Id 300", area, len, 300, 8, UINT64_C(5000000000), (struct saratoga_opened){0, 0, 0, 0, 0});
+    open_as("Id 7", area, len, 7, 2, 3000, (struct saratoga_opened){0, 0, 0, 0, 0});
+    record_as("Id 7", area, len, 7, 2, 2000, 1000, 1, (struct saratoga_recorded){.edge = 3000});
+    record_as("Id 300", area, len, 300, 8, UINT64_C(1) << 32, 500, 0,
+              (struct saratoga_recorded){.edge = (UINT64_C(1) << 32) + 500});
+    record_as("Id 7 again", area, len, 7, 2, 0, 1000, 0, (struct saratoga_recorded){.edge = 3000});
+    memset(want, 0, AREA);
+    for (i = 0; i < sizeof example / sizeof example[0]; i++)
+        put(want + 8 * example[i].word, example[i].value, 8);
+    same_octets("the example of docs/AREA.md", area, want, len);
+
+    area_refused("no octet", area, 0);
+    area_refused("one octet too few", area, AREA - 1);
+    word_refused("17 transfers", area, 0, 17);
+    word_refused("one transfer too few", area, 0, 1);
+    word_refused("equal Ids", area, 2, 7);
+    word_refused("an Id over 32 bits", area, 2, UINT64_C(1) << 32);
+    word_refused("width 3", area, 17, 3);
+    word_refused("a length over its width", area, 33, 65536);
+    word_refused("a length below the last stop", area, 33, 2999);
+    word_refused("65 runs", area, 49, 65);
+    word_refused("an empty run", area, 1089, 0);
+    word_refused("runs that touch", area, 66, 1000);
+    word_refused("runs that overlap", area, 66, 999);
+    word_refused("an octet where no run is", area, 67, 1);
+    word_refused("an octet where no transfer is", area, 2112, 1);
+
+    short_area = lend(area, AREA - 1);
+    same_done("too short", saratoga_fresh(short_area, AREA - 1), REFUSED(done, SARATOGA_REFUSED_BUFFER, 0));
+    same_octets("too short", short_area, area, AREA - 1);
+    free(short_area);
+    free(area);
+    free(want);
+    printf("ctest: areas\n");
+}
+
+int main(void)
+{
+    page_with_a_hole();
+    lengths();
+    runs_and_holes();
+    sixty_four_runs();
+    largest_numbers();
+    seventeen_ids();
+    recording_refused();
+    areas();
+    return report("ctest receiver");
+}

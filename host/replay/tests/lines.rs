@@ -1,0 +1,354 @@
+//! Passes laid out by hand, each record with the lines that were worked out for it.
+
+use paper_replay::replay;
+
+/// Octets from hexadecimal; spaces don't matter.
+fn hex(text: &str) -> Vec<u8> {
+    let digits: Vec<u32> = text.chars().filter(|c| !c.is_whitespace()).map(|c| c.to_digit(16).unwrap()).collect();
+    assert_eq!(digits.len() % 2, 0, "{text}");
+    digits.chunks(2).map(|pair| (16 * pair[0] + pair[1]) as u8).collect()
+}
+
+fn record(kind: u8, body: &[u8]) -> Vec<u8> {
+    [&[kind][..], &(body.len() as u32).to_be_bytes(), body].concat()
+}
+
+fn printed(pass: &[u8]) -> String {
+    let mut output = vec![];
+    replay(pass, &mut output).unwrap();
+    String::from_utf8(output).unwrap()
+}
+
+/// Replays records, given as kind, body and lines, and compares all lines.
+fn check(records: &[(char, &str, &[&str])]) {
+    let records: Vec<_> = records.iter().map(|&(kind, body, lines)| (kind, hex(body), lines)).collect();
+    check_octets(&records);
+}
+
+fn check_octets(records: &[(char, Vec<u8>, &[&str])]) {
+    let mut pass = vec![];
+    let mut expected = String::new();
+    for (number, (kind, body, lines)) in (1..).zip(records) {
+        pass.extend(record(*kind as u8, body));
+        for line in *lines {
+            expected += &format!("{number} {line}\n");
+        }
+    }
+    assert_eq!(printed(&pass), expected);
+}
+
+/// METADATA of transfer 7, width 16, of 3,000 octets: no checksum, size in 16 bits, times 0, path page611.pla.
+const PAGE: &str = "42000000 00000007  0000 0bb8 00000000 00000000  706167653631312e706c61 00";
+
+/// DATA of transfer 7 at width 16, with these flags.
+fn data(flags: u32, offset: u16, len: usize) -> Vec<u8> {
+    let word = (0x43 << 24) | flags;
+    [&word.to_be_bytes()[..], &hex("00000007"), &offset.to_be_bytes(), &vec![0x61; len]].concat()
+}
+
+const ASKED: u32 = 0x01_0000;
+const END: u32 = 0x00_8000;
+
+#[test]
+fn sample_lines() {
+    check_octets(&[
+        ('F', vec![], &["fresh"]),
+        ('O', hex(PAGE), &["open id=7 width=16 length=3000 edge=0 complete=0 new"]),
+        ('O', hex(PAGE), &["open id=7 width=16 length=3000 edge=0 complete=0 already-open"]),
+        ('D', data(0, 0, 1_000), &["record id=7 offset=0 length=1000 edge=1000 complete=0"]),
+        ('D', data(0, 2_000, 1_000), &["record id=7 offset=2000 length=1000 edge=3000 complete=0"]),
+        ('S', hex("00000007 0000000000000000 00 0000ffff"), &["status 440000000000000703e80bb803e807d0"]),
+        ('D', data(0, 2_500, 501), &["refused 14 code=9"]),
+        ('O', hex(PAGE), &["open id=7 width=16 length=3000 edge=3000 complete=0 already-open"]),
+        ('D', data(0, 1_000, 1_000), &["record id=7 offset=1000 length=1000 edge=3000 complete=1"]),
+        ('S', hex("00000007 0000000000000000 00 0000000c"), &["status 44010000000000070bb80bb8"]),
+        ('C', hex("00000007"), &["close id=7"]),
+        ('C', hex("00000007"), &["refused 12 code=6"]),
+        (
+            'R',
+            hex(PAGE),
+            &["metadata id=7 flags=000000 width=16 checksum= properties=0000 size=3000 mtime=0 ctime=0 \
+               path=706167653631312e706c61"],
+        ),
+        ('R', data(0, 0, 1_000), &["data id=7 flags=000000 width=16 timestamp= offset=0 length=1000"]),
+        (
+            'R',
+            hex("44000000 00000007 03e8 0bb8 03e807d0 09c40a28"),
+            &["success id=7 flags=000000 width=16 timestamp= progress=1000 in-response-to=3000 \
+               holes=1000-2000,2500-2600"],
+        ),
+        ('R', hex("44000006 00000007"), &["failure id=7 status=6 flags=000006"]),
+        ('P', data(0, 0, 1), &["refused 12 code=6", "send 4400000600000007"]),
+        ('X', hex("01 02 03"), &["unknown kind 58"]),
+        ('F', vec![], &["fresh"]),
+    ]);
+}
+
+#[test]
+fn fields_of_every_width() {
+    check(&[
+        // CRC of one word, unruled bits set, size in 64 bits beside a width of 32, times, properties with unruled bits.
+        (
+            'R',
+            "42400711 ffffffff  deadbeef  ac9f 0000000000000009 ffffffff 00000001  61ff 00",
+            &["metadata id=4294967295 flags=400711 width=32 checksum=deadbeef properties=ac9f size=9 mtime=4294967295 \
+               ctime=1 path=61ff"],
+        ),
+        (
+            'R',
+            "42800000 00000000  0080 ffffffffffffffff 00000000 00000000  2f 00",
+            &["metadata id=0 flags=800000 width=64 checksum= properties=0080 size=18446744073709551615 mtime=0 ctime=0 \
+               path=2f"],
+        ),
+        (
+            'R',
+            "43890000 0000000a  000102030405060708090a0b0c0d0e0f ffffffffffffffff 00",
+            &["data id=10 flags=890000 width=64 timestamp=000102030405060708090a0b0c0d0e0f \
+               offset=18446744073709551615 length=1"],
+        ),
+        (
+            'R',
+            "444b0000 0000000a  f0f1f2f3f4f5f6f7f8f9fafbfcfdfeff 00000001 00000100",
+            &["success id=10 flags=4b0000 width=32 timestamp=f0f1f2f3f4f5f6f7f8f9fafbfcfdfeff progress=1 \
+               in-response-to=256 holes="],
+        ),
+        (
+            'R',
+            "44800000 0000000a  0000000000000000 ffffffffffffffff  0000000000000000 fffffffffffffffe",
+            &["success id=10 flags=800000 width=64 timestamp= progress=0 in-response-to=18446744073709551615 \
+               holes=0-18446744073709551614"],
+        ),
+        ('R', "44c000ff 0000000a  99", &["failure id=10 status=255 flags=c000ff"]),
+    ]);
+}
+
+#[test]
+fn opening_and_closing_at_every_width() {
+    check(&[
+        (
+            'O',
+            "42800000 00000001  0080 ffffffffffffffff 00000000 00000000  61 00",
+            &["open id=1 width=64 length=18446744073709551615 edge=0 complete=0 new"],
+        ),
+        (
+            'O',
+            "42400000 00000002  0000 0000 00000000 00000000  61 00",
+            &["open id=2 width=32 length=0 edge=0 complete=1 new"],
+        ),
+        // The same Id with another width; a size over the width.
+        ('O', "42000000 00000002  0000 0000 00000000 00000000  61 00", &["refused 18 code=9"]),
+        ('O', "42000000 00000003  0040 00010000 00000000 00000000  61 00", &["refused 9 code=9"]),
+        ('D', "43800000 00000001  ffffffffffffffff 61", &["refused 14 code=9"]),
+        (
+            'D',
+            "43800000 00000001  fffffffffffffffe 61",
+            &["record id=1 offset=18446744073709551614 length=1 edge=18446744073709551615 complete=0"],
+        ),
+        (
+            'S',
+            "00000001 0000000000000000 00 ffffffff",
+            &[concat!(
+                "status 4480000000000001",
+                "0000000000000000ffffffffffffffff",
+                "0000000000000000fffffffffffffffe"
+            )],
+        ),
+        ('D', "43400000 00000001  00000000 61", &["refused 13 code=9"]),
+        ('C', "00000001", &["close id=1"]),
+        ('C', "00000002", &["close id=2"]),
+        ('C', "00000000", &["refused 12 code=6"]),
+    ]);
+}
+
+#[test]
+fn status_takes_k_unasked_and_room() {
+    let body = |k: u64, unasked: u8, room: u32| {
+        [&hex("00000007")[..], &k.to_be_bytes(), &[unasked], &room.to_be_bytes()].concat()
+    };
+    check_octets(&[
+        ('O', hex(PAGE), &["open id=7 width=16 length=3000 edge=0 complete=0 new"]),
+        ('S', body(0, 0, 12), &["status 440000000000000700000000"]),
+        ('S', body(0, 0, 11), &["refused 20 code=0"]),
+        ('S', body(1, 0, 12), &["refused 19 code=0"]),
+        ('D', data(0, 5, 5), &["record id=7 offset=5 length=5 edge=10 complete=0"]),
+        ('D', data(0, 20, 1), &["record id=7 offset=20 length=1 edge=21 complete=0"]),
+        ('S', body(0, 0, 20), &["status 44000000000000070000001500000005000a0014"]),
+        // One doesn't fit; one is skipped; both with bit 14.
+        ('S', body(0, 0, 19), &["status 44020000000000070000001500000005"]),
+        ('S', body(1, 1, 65_536), &["status 440300000000000700000015000a0014"]),
+        ('S', body(0, 255, 20), &["status 44010000000000070000001500000005000a0014"]),
+        ('S', body(0, 0, 15), &["refused 20 code=0"]),
+        ('S', body(2, 0, 20), &["refused 19 code=0"]),
+        ('S', body(1 << 63, 0, 0), &["refused 19 code=0"]),
+        ('S', hex("00000008 0000000000000005 00 00000000"), &["refused 12 code=6"]),
+    ]);
+}
+
+#[test]
+fn packets_off_the_dish() {
+    check_octets(&[
+        ('P', hex(PAGE), &["open id=7 width=16 length=3000 edge=0 complete=0 new"]),
+        ('P', hex(PAGE), &["open id=7 width=16 length=3000 edge=0 complete=0 already-open"]),
+        ('P', data(0, 0, 1_000), &["record id=7 offset=0 length=1000 edge=1000 complete=0"]),
+        (
+            'P',
+            data(ASKED, 2_000, 500),
+            &["record id=7 offset=2000 length=500 edge=2500 complete=0", "send 440000000000000703e809c403e807d0"],
+        ),
+        ('P', data(ASKED | END, 1_000, 1_000), &["refused 15 code=1", "send 4400000100000007"]),
+        ('P', data(END, 2_500, 500), &["record id=7 offset=2500 length=500 edge=3000 complete=0"]),
+        (
+            'P',
+            data(ASKED, 1_000, 1_000),
+            &["record id=7 offset=1000 length=1000 edge=3000 complete=1", "send 44010000000000070bb80bb8"],
+        ),
+        ('P', data(ASKED, 3_000, 1), &["refused 14 code=9", "send 4400000900000007"]),
+        ('P', data(ASKED, 0, 0), &["refused 10 code=1", "send 4400000100000007"]),
+        // STATUS is read and nothing is sent, also where it is a failure.
+        (
+            'P',
+            hex("44000000 00000007 0000 0000"),
+            &["success id=7 flags=000000 width=16 timestamp= progress=0 in-response-to=0 holes="],
+        ),
+        ('P', hex("4401000a 00000007"), &["failure id=7 status=10 flags=01000a"]),
+        ('P', hex("44000000 00000007 0000 0001"), &["refused 11 code=0"]),
+        ('P', hex("44c00000 fedcba98 0000 0001"), &["refused 5 code=9", "send 44000009fedcba98"]),
+        // BEACON and a type without a name; too short for an Id; another version.
+        ('P', hex("40000000 00000102"), &["refused 4 code=10", "send 4400000a00000102"]),
+        ('P', hex("7fffffff 00000000 33"), &["refused 4 code=10", "send 4400000a00000000"]),
+        ('P', hex("42000000 000007"), &["refused 1 code=0"]),
+        ('P', hex("40"), &["refused 1 code=0"]),
+        ('P', vec![], &["refused 1 code=0"]),
+        ('P', hex("00000000 00000007"), &["refused 3 code=0"]),
+        ('P', hex("83000000 00000007 0000 61"), &["refused 3 code=0"]),
+        ('P', hex("42000000 00000007 00"), &["refused 1 code=0"]),
+        ('P', hex("42000001 00000007 00"), &["refused 7 code=1", "send 4400000100000007"]),
+    ]);
+}
+
+#[test]
+fn all_holes_are_sent() {
+    let mut pass = record(b'P', &hex(PAGE));
+    let mut expected = "1 open id=7 width=16 length=3000 edge=0 complete=0 new\n".to_string();
+    for i in 0..65 {
+        pass.extend(record(b'P', &data(if i < 63 { 0 } else { ASKED }, 2 * i + 1, 1)));
+        let (number, offset, edge) = (i + 2, 2 * i + 1, 2 * i + 2);
+        if i < 64 {
+            expected += &format!("{number} record id=7 offset={offset} length=1 edge={edge} complete=0\n");
+        }
+    }
+    let holes: String = (0..64).map(|i| format!("{:04x}{:04x}", 2 * i, 2 * i + 1)).collect();
+    expected += &format!("65 send 440000000000000700000080{holes}\n");
+    expected += "66 refused 16 code=3\n66 send 4400000300000007\n";
+    assert_eq!(printed(&pass), expected);
+}
+
+#[test]
+fn an_operation_takes_its_own_type() {
+    check_octets(&[
+        ('O', data(0, 0, 1), &["refused 4 code=10"]),
+        ('D', hex(PAGE), &["refused 4 code=10"]),
+        ('D', hex("44000006 00000007"), &["refused 4 code=10"]),
+        ('R', hex("41000000 00000007"), &["refused 4 code=10"]),
+        ('D', data(ASKED, 0, 1), &["refused 12 code=6"]),
+    ]);
+}
+
+#[test]
+fn a_seventeenth_transfer() {
+    let page = |id: u8| [&hex("42000000 000000"), &[id][..], &hex("0000 0bb8 00000000 00000000 61 00")].concat();
+    let mut pass: Vec<u8> = (0..17).flat_map(|id| record(b'O', &page(id))).collect();
+    pass.extend(record(b'C', &hex("00000003")));
+    pass.extend(record(b'O', &page(16)));
+    pass.extend(record(b'F', &[]));
+    pass.extend(record(b'C', &hex("00000003")));
+    let printed = printed(&pass);
+    let last: Vec<&str> = printed.lines().skip(16).collect();
+    assert_eq!(
+        last,
+        [
+            "17 refused 17 code=3",
+            "18 close id=3",
+            "19 open id=16 width=16 length=3000 edge=0 complete=0 new",
+            "20 fresh",
+            "21 refused 12 code=6"
+        ]
+    );
+}
+
+#[test]
+fn bad_lengths() {
+    check_octets(&[
+        ('O', hex(PAGE), &["open id=7 width=16 length=3000 edge=0 complete=0 new"]),
+        ('F', vec![0], &["bad length"]),
+        ('F', vec![0; 65_536], &["bad length"]),
+        ('C', vec![], &["bad length"]),
+        ('C', hex("000007"), &["bad length"]),
+        ('C', hex("0000000007"), &["bad length"]),
+        ('C', vec![0; 65_536], &["bad length"]),
+        ('S', hex("00000007 0000000000000000 00 0000ff"), &["bad length"]),
+        ('S', hex("00000007 0000000000000000 00 0000ffff 00"), &["bad length"]),
+        ('S', vec![], &["bad length"]),
+        ('S', vec![0; 65_536], &["bad length"]),
+        ('C', hex("00000007"), &["close id=7"]),
+    ]);
+}
+
+#[test]
+fn longest_packets() {
+    let longest = [data(ASKED, 0, 1), vec![0x61; 65_535 - 11]].concat();
+    let too_long = [&longest[..], &[0x61]].concat();
+    let read = ["data id=7 flags=010000 width=16 timestamp= offset=0 length=65525"];
+    check_octets(&[
+        ('R', longest.clone(), &read),
+        ('P', longest, &["refused 12 code=6", "send 4400000600000007"]),
+        ('O', too_long.clone(), &["refused 2 code=0"]),
+        ('D', too_long.clone(), &["refused 2 code=0"]),
+        ('R', too_long.clone(), &["refused 2 code=0"]),
+        ('P', too_long.clone(), &["refused 2 code=0"]),
+        ('p', too_long, &["unknown kind 70"]),
+        ('\n', vec![], &["unknown kind 0a"]),
+        ('F', vec![], &["fresh"]),
+    ]);
+}
+
+#[test]
+fn every_other_kind_is_unknown() {
+    for kind in (0..=255).filter(|kind| !b"FODRSCP".contains(kind)) {
+        let pass = [record(kind, b"F\0\0\0\0"), record(b'F', &[])].concat();
+        assert_eq!(printed(&pass), format!("1 unknown kind {kind:02x}\n2 fresh\n"));
+    }
+}
+
+#[test]
+fn cut_short_at_every_place() {
+    assert_eq!(printed(&[]), "");
+    // The first record ends at octet 5, the second at 14, the third at 22, the last at 27.
+    let pass =
+        [record(b'F', &[]), record(b'C', &hex("00000007")), record(b'X', &hex("010203")), record(b'F', &[])].concat();
+    let lines = ["1 fresh\n", "2 refused 12 code=6\n", "3 unknown kind 58\n", "4 fresh\n"];
+    let ends = [0, 5, 14, 22, 27];
+    assert_eq!(pass.len(), 27);
+    for at in 0..=pass.len() {
+        let whole = ends.iter().rposition(|&end| end <= at).unwrap();
+        let mut expected = lines[..whole].concat();
+        if at != ends[whole] {
+            expected += &format!("{} cut short\n", whole + 1);
+        }
+        assert_eq!(printed(&pass[..at]), expected, "cut at {at}");
+    }
+}
+
+#[test]
+fn cut_short_comes_before_all_else() {
+    // Whatever the kind and the length would have given.
+    for kind in *b"FODRSCPX" {
+        for length in [1u32, 6, 18, 65_535, 65_536, u32::MAX] {
+            let head = [&[kind][..], &length.to_be_bytes()].concat();
+            for body in [0, length.min(70_000) as usize - 1] {
+                let pass = [&head[..], &vec![0; body]].concat();
+                assert_eq!(printed(&pass), "1 cut short\n", "{} {length} {body}", kind as char);
+            }
+        }
+    }
+}

@@ -5,15 +5,17 @@
 # make stack    prints the stack that each function needs
 # make bench    measures the library beside plain C and prints the ratios; docs/BENCHMARKS.md
 # make bench-instructions   the same in instructions, by callgrind
-# make install  header and archive below PREFIX (default /usr/local)
+# make link     builds the link program, target/link/saratoga-link (docs/LINK.md)
+# make install  header, archive, pkg-config file and man page below PREFIX (default /usr/local)
 PREFIX ?= /usr/local
+VERSION = 0.1
 ARCHIVE = target/staticlib/libsaratoga.a
 BENCH_FLAGS = -O2 -Wall -Wextra -Iinclude
 
-.PHONY: test lib compare soak stack bench-program bench bench-instructions install clean help
+.PHONY: test lib compare soak stack bench-program bench bench-instructions link install clean help
 
 help:
-	@sed -n 's/^# //p' Makefile | head -n 8
+	@sed -n 's/^# make/make/p' Makefile
 
 test:
 	bash .ci/run
@@ -46,10 +48,17 @@ bench: bench-program
 bench-instructions: bench-program
 	host/bench/instructions
 
+link: lib
+	mkdir -p target/link
+	$(CC) -std=c99 -Wall -Wextra -pedantic -O2 -Iinclude host/link/link.c $(ARCHIVE) -o target/link/saratoga-link
+
 install: lib
-	install -d $(DESTDIR)$(PREFIX)/include $(DESTDIR)$(PREFIX)/lib
+	install -d $(DESTDIR)$(PREFIX)/include $(DESTDIR)$(PREFIX)/lib/pkgconfig $(DESTDIR)$(PREFIX)/share/man/man1
 	install -m 644 include/saratoga.h $(DESTDIR)$(PREFIX)/include/saratoga.h
 	install -m 644 $(ARCHIVE) $(DESTDIR)$(PREFIX)/lib/libsaratoga.a
+	sed 's|@PREFIX@|$(PREFIX)|;s|@VERSION@|$(VERSION)|' host/saratoga.pc.in >$(DESTDIR)$(PREFIX)/lib/pkgconfig/saratoga.pc
+	chmod 644 $(DESTDIR)$(PREFIX)/lib/pkgconfig/saratoga.pc
+	install -m 644 host/man/replay.1 $(DESTDIR)$(PREFIX)/share/man/man1/replay.1
 
 clean:
 	rm -rf target

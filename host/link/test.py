@@ -1,0 +1,628 @@
+#!/usr/bin/env python3
+"""Tests the link program end to end: on passes, cut off at every place between two writes, and over a lossy loopback
+while it is killed again and again. Needs a C compiler, python3 and the archive; under a minute.
+
+    host/link/test.py [SECONDS]     SECONDS bounds the part that kills the program (else 6)
+
+With SHOW_WRONG set it prints how each program with another order of writes was found.
+"""
+import os
+import random
+import signal
+import socket
+import struct
+import subprocess
+import sys
+import tempfile
+import threading
+import time
+
+PLACE = os.path.dirname(os.path.abspath(__file__))
+ROOT = os.path.dirname(os.path.dirname(PLACE))
+sys.dont_write_bytecode = True
+sys.path.insert(0, os.path.join(ROOT, "host", "tools", "tests"))
+from packets import END_OF_DATA, WANTED, data, failure, metadata, record, success  # noqa: E402
+
+ARCHIVE = os.path.join(ROOT, "target", "staticlib", "libsaratoga.a")
+SOURCE = os.path.join(PLACE, "link.c")
+POWERCUT = os.path.join(PLACE, "powercut.c")
+WRAPPED = ["-Wl," + ",".join(f"--wrap={name}" for name in (
+    "openat", "openat64", "pwrite", "pwrite64", "renameat", "fsync"))]
+AREA_OCTETS = 16904
+
+
+def check(holds, what):
+    if not holds:
+        raise AssertionError(what)
+
+
+def build(sources, out, *options):
+    subprocess.run([os.environ.get("CC", "cc"), "-std=c99", "-Wall", "-Wextra", "-Werror", "-pedantic", "-O1", "-g",
+                    *options, "-I" + os.path.join(ROOT, "include"), *sources, ARCHIVE, "-o", out], check=True)
+    return out
+
+
+def run(program, place, *options, octets=b"", **environment):
+    """Lines, messages and exit status of the program."""
+    done = subprocess.run([program, "-d", place, *options], input=octets, capture_output=True, check=False, timeout=20,
+                          env=dict(os.environ, **environment))
+    return done.stdout.decode().splitlines(), done.stderr.decode(), done.returncode
+
+
+def content(*parts):
+    with open(os.path.join(*parts), "rb") as file:
+        return file.read()
+
+
+def holds(place, name, octets):
+    """Whether a file is there and has these octets."""
+    return os.path.exists(os.path.join(place, name)) and content(place, name) == octets
+
+
+def stored(place):
+    """The area on disk as docs/AREA.md lays it out: for each Id its length and runs. None where there is none."""
+    try:
+        octets = content(place, "area")
+    except FileNotFoundError:
+        return None
+    check(len(octets) == AREA_OCTETS, f"an area of {len(octets)} octets")
+    words = struct.unpack(">2113Q", octets)
+    table = {}
+    for i in range(words[0]):
+        runs = [(words[65 + 64 * i + j], words[1089 + 64 * i + j]) for j in range(words[49 + i])]
+        table[words[1 + i]] = words[33 + i], runs
+    return table
+
+
+def nothing_promised_is_missing(place, originals, lines=()):
+    """Each octet that the area on disk holds as received is on disk, and so is each page that was reported."""
+    for ident, (length, runs) in (stored(place) or {}).items():
+        original = originals[ident]
+        check(length == len(original), f"transfer {ident} of {length} octets")
+        names = [name for name in (f"{ident:08x}.part", f"{ident:08x}.page") if name in os.listdir(place)]
+        check(names, f"transfer {ident} is in the area and has no file")
+        kept = content(place, names[0])
+        for start, stop in runs:
+            check(kept[start:stop] == original[start:stop], f"octets {start} to {stop} of {names[0]} aren't on disk")
+    for line in lines:
+        words = line.split()
+        if words[1] == "complete":
+            ident, name = int(words[2][3:]), words[4][5:]
+            check(holds(place, name, originals[ident]), f"{line}: the page isn't on disk")
+    for ident, told in statuses(lines).items():
+        if ident in (stored(place) or {}):
+            for start, stop in told:
+                check(any(first <= start and stop <= last for first, last in stored(place)[ident][1]),
+                      f"a STATUS says that {start} to {stop} of transfer {ident} came, and the area on disk doesn't")
+
+
+def statuses(lines):
+    """For each Id the stretches that its last STATUS among the lines said to be received, at width 16."""
+    told = {}
+    for line in lines:
+        words = line.split()
+        if words[1] == "send" and words[2][6:8] == "00":
+            packet = bytes.fromhex(words[2])
+            ends = [value for value, in struct.iter_unpack(">H", packet[8:])]
+            starts = [0] + ends[3::2]
+            stops = ends[2::2] + [ends[1]]
+            told[packet[7]] = [(start, stop) for start, stop in zip(starts, stops) if start < stop]
+    return told
+
+
+def page(length, seed):
+    return random.Random(seed).randbytes(length)
+
+
+# Passes.
+
+
+def passes(program, place):
+    """The program on a pass: its lines, its files, and what it says of wrong input."""
+    text = page(3000, 1)
+    packets = [metadata(7, 16, 3000), data(7, 16, 0, text[:1000]), data(7, 16, 2000, text[2000:], WANTED | END_OF_DATA),
+               data(7, 16, 2000, text[2000:] + b"x"), data(8, 16, 0, b"x"), b"", success(7, 16, 0, 9, [(0, 4), (5, 6)]),
+               failure(7, 9), data(7, 16, 1000, text[1000:2000], WANTED), data(7, 16, 500, b"other", WANTED),
+               metadata(7, 16, 3000), metadata(9, 16, 0)]
+    passed = b"".join(record(b"P", packet) for packet in packets[:4]) + record(b"F") + record(b"X", b"abc")
+    passed += b"".join(record(b"P", packet) for packet in packets[4:]) + record(b"P", bytes(70000))
+    expected = """\
+1 open id=7 width=16 length=3000 edge=0 complete=0 new
+2 record id=7 offset=0 length=1000 edge=1000 complete=0
+3 record id=7 offset=2000 length=1000 edge=3000 complete=0
+3 send 440000000000000703e80bb803e807d0
+4 refused 14 code=9
+4 send 4400000900000007
+7 refused 12 code=6
+7 send 4400000600000008
+8 refused 1 code=0
+9 success id=7 flags=000000 width=16 timestamp= progress=0 in-response-to=9 holes=0-4,5-6
+10 failure id=7 status=9 flags=000009
+11 record id=7 offset=1000 length=1000 edge=3000 complete=1
+11 complete id=7 length=3000 file=00000007.page
+11 send 44010000000000070bb80bb8
+12 record id=7 offset=500 length=5 edge=3000 complete=1
+12 send 44010000000000070bb80bb8
+13 open id=7 width=16 length=3000 edge=3000 complete=1 already-open
+14 open id=9 width=16 length=0 edge=0 complete=1 new
+14 complete id=9 length=0 file=00000009.page
+15 refused 2 code=0""".splitlines()
+    got = run(program, place, "-", octets=passed)
+    check(got == (expected, "", 0), got)
+    check(content(place, "00000007.page") == text, "the page isn't the original")
+    check(sorted(os.listdir(place)) == ["00000007.page", "00000009.page", "area", "lock"], os.listdir(place))
+
+    # Taken up: what was complete is reported again, unless it was taken away.
+    os.remove(os.path.join(place, "00000009.page"))
+    got = run(program, place, "-")
+    check(got == (["0 taken-up id=7 width=16 length=3000 edge=3000 complete=1",
+                   "0 complete id=7 length=3000 file=00000007.page",
+                   "0 taken-up id=9 width=16 length=0 edge=0 complete=1"], "", 0), got)
+
+    # A pass cut short: what stood before is recorded.
+    short = record(b"P", metadata(1, 16, 4)) + record(b"P", data(1, 16, 0, b"ab"))[:-1]
+    got = run(program, place, "-q", "-", octets=short)
+    check(got[1:] == ("saratoga-link: -: cut short in record 2\n", 1), got)
+    check(stored(place)[1] == (4, []), stored(place))
+
+    # A file that was removed: its transfer begins anew.
+    os.remove(os.path.join(place, "00000001.part"))
+    got = run(program, place, "-q", "-")
+    check("00000001.part: has fewer octets than were recorded; transfer 1 is closed" in got[1], got)
+    check(1 not in stored(place), "transfer 1 is still open")
+
+    # Closing by hand; a second program; areas that are none.
+    got = run(program, place, "--close", "7")
+    check(got[0][-1:] == ["0 close id=7"] and got[2] == 0 and list(stored(place)) == [9], got)
+    got = run(program, place, "--close", "7")
+    check(got[1:] == ("saratoga-link: transfer 7 isn't open\n", 1), got)
+    holder = subprocess.Popen([program, "-d", place, "-"], stdin=subprocess.PIPE, stdout=subprocess.PIPE)
+    holder.stdout.readline()
+    got = run(program, place, "-")
+    check(got[1:] == (f"saratoga-link: {place}: another link program writes there\n", 1), got)
+    holder.communicate()
+    good = content(place, "area")
+    for bad in (b"", good[:-1], good + b"\0", b"\xff" + good[1:]):
+        with open(os.path.join(place, "area"), "wb") as file:
+            file.write(bad)
+        got = run(program, place, "-")
+        check("area: is no image of a transfer table" in got[1] and got[2] == 1, got)
+        check(content(place, "area") == bad, "the area was touched")
+
+    for options in ("", "a b", "--udp 65536", "--udp", "--what", "--idle x -", "- --udp 1", "--close -1"):
+        got = run(program, place, *options.split())
+        check(got[2] == 2 and "see saratoga-link --help" in got[1], got)
+    check(run(program, place, "--help")[0][0].startswith("usage: saratoga-link"), "no help")
+    check(run(program, "/nowhere", "-")[1:] == ("saratoga-link: /nowhere: No such file or directory\n", 1), "/nowhere")
+
+
+def more_than_sixteen(program, place):
+    """A table that is full: complete transfers make room, others don't."""
+    text = page(20, 2)
+    packets = [metadata(ident, 16, 20) for ident in range(16)] + [metadata(16, 16, 20), data(3, 16, 0, text),
+                                                                  metadata(16, 16, 20), data(16, 16, 0, text)]
+    lines, told, status = run(program, place, "-", octets=b"".join(record(b"P", packet) for packet in packets))
+    check((told, status) == ("", 0), told)
+    check(lines[16:] == ["17 refused 17 code=3", "17 send 4400000300000010",
+                         "18 record id=3 offset=0 length=20 edge=20 complete=1",
+                         "18 complete id=3 length=20 file=00000003.page", "19 close id=3",
+                         "19 open id=16 width=16 length=20 edge=0 complete=0 new",
+                         "20 record id=16 offset=0 length=20 edge=20 complete=1",
+                         "20 complete id=16 length=20 file=00000010.page"], lines[16:])
+
+
+def any_octets(program, place):
+    """Damaged packets, and offsets that no file has: every packet gets a line, and the program ends by itself."""
+    chance = random.Random(614)
+    for number in range(8):
+        packets, lengths = [], {ident: chance.choice((0, 1, 40, 2**16 - 1, 2**64 - 1)) for ident in range(20)}
+        for _ in range(300):
+            ident = chance.randrange(20)
+            length = lengths[ident]
+            width = 16 if length < 2**16 else 64
+            packet = metadata(ident, width, length)
+            if chance.random() < 0.8:
+                flags = chance.choice((0, WANTED, WANTED, END_OF_DATA))
+                packet = data(ident, width, max(0, chance.choice((0, 7, length // 2, length - 9))), bytes(9), flags)
+            packet = bytearray(packet)
+            if chance.random() < 0.3:
+                packet[chance.randrange(len(packet))] = chance.randrange(256)
+            packets.append(bytes(packet[:chance.choice((len(packet), len(packet), chance.randrange(len(packet) + 1)))]))
+        here = os.path.join(place, str(number % 2))  # every second run takes up what the one before left
+        os.makedirs(here, exist_ok=True)
+        lines, told, status = run(program, here, "--no-fsync", "-", octets=b"".join(record(b"P", p) for p in packets))
+        check(status == 0, f"status {status}: {told}")
+        answered = {int(line.split()[0]) for line in lines}
+        answered |= {int(line.split()[2][:-1]) for line in told.splitlines() if ": packet " in line}
+        check(answered | {0} == set(range(301)), f"no line for packets {set(range(1, 301)) - answered}")
+        check("File too large" in told or not told, told)
+
+
+# Cut off between two writes.
+
+
+def run_cut(program, place, octets, cut=0):
+    """The program ended at a place. Nothing need be forced to disk: it is not the machine that ends."""
+    return run(program, place, "--no-fsync", "-", octets=octets, LINK_CUT=str(cut))
+
+
+def two_transfers():
+    """Two pages, and a pass of both with repeats, overlaps and one packet late."""
+    originals = {7: page(900, 3), 9: page(700, 4)}
+
+    def sent(ident, *chunks):
+        original = originals[ident]
+        packets = [metadata(ident, 16, len(original))]
+        for at, length, flags in chunks:
+            packets.append(data(ident, 16, at, original[at:at + length], flags))
+        return packets
+
+    packets = sent(7, (600, 300, END_OF_DATA), (0, 300, WANTED)) + sent(9, (0, 350, 0), (350, 350, 0))
+    packets += sent(7, (200, 500, WANTED), (0, 900, WANTED))
+    return originals, b"".join(record(b"P", packet) for packet in packets)
+
+
+def cut_everywhere(program, place):
+    """The program is ended at each place between two writes, and inside each write; then the pass comes again. Gives
+    the number of places."""
+    originals, octets = two_transfers()
+    count = 0
+    while True:
+        count += 1
+        here = os.path.join(place, str(count))
+        os.mkdir(here)
+        reported, cuts = [], 0
+        check(count < 1000, "the program is cut off without end")
+        # Cut off at the same place after each restart, until the whole pass gets through.
+        cut = count
+        while True:
+            lines, told, status = run_cut(program, here, octets, cut)
+            reported += lines
+            check(status in (0, 99), told)
+            nothing_promised_is_missing(here, originals, lines)
+            if status == 0:
+                break
+            cuts += 1
+            cut = count if cuts < 4 else 0
+        for ident, original in originals.items():
+            check(holds(here, f"{ident:08x}.page", original), f"page {ident} after a cut at place {count}")
+            check(any(f"complete id={ident} " in line for line in reported), f"page {ident} was never reported")
+        check(not os.path.exists(os.path.join(here, "00000007.part")), "a part is left")
+        if cuts == 0:
+            return count - 1
+
+
+def cut_while_an_id_is_used_again(program, place):
+    """Sixteen transfers, one complete, which is closed to make room and at once opened anew with another length."""
+    old, new = page(40, 5), page(60, 6)
+    before = [metadata(ident, 16, 40) for ident in range(16)] + [data(7, 16, 0, old), metadata(16, 16, 40)]
+    # Id 16 took the place of 7. It completes, then 7 takes its place with another page.
+    after = [data(16, 16, 0, old), metadata(7, 16, 60), data(7, 16, 0, new[:30], WANTED), data(7, 16, 30, new[30:])]
+    octets = [b"".join(record(b"P", packet) for packet in packets) for packets in (before, after)]
+    count = 0
+    while True:
+        count += 1
+        here = os.path.join(place, str(count))
+        os.mkdir(here)
+        check(run_cut(program, here, octets[0])[2] == 0, "the first pass")
+        lines, told, status = run_cut(program, here, octets[1], count)
+        check(status in (0, 99), told)
+        table = stored(here)
+        kept = {ident: old for ident in range(17)}
+        kept[7] = new
+        nothing_promised_is_missing(here, kept, [line for line in lines if "id=7 length=40" not in line])
+        check(7 not in table or table[7][0] == 60, "transfer 7")
+        if status == 0:
+            return count - 1
+        run_cut(program, here, octets[1])
+        check(content(here, "00000007.page") == new and content(here, "00000010.page") == old, f"a cut at {count}")
+
+
+# Power cuts: what was not forced to disk may be lost, or not.
+
+
+def after_the_cut(disk, place, target, how, chance):
+    """Makes `target` the directory as a power cut leaves it. `how`: which of the things not forced to disk are there
+    all the same: "none", "names" (of files, not their octets), "octets" (not names), or "some"."""
+    def lines(name):
+        path = os.path.join(disk, name)
+        return content(path).decode().splitlines() if os.path.exists(path) else []
+
+    names = {}
+    for line in lines("names"):
+        inode, name = line.split()
+        names[name] = inode
+    for line in lines("changes"):
+        if how == "names" or (how == "some" and chance.random() < 0.5):
+            what, inode, name, *new = line.split()
+            names.pop(name, None)
+            names[new[0] if what == "rename" else name] = inode
+    now = {str(os.stat(os.path.join(place, name)).st_ino): content(place, name) for name in os.listdir(place)}
+    os.mkdir(target)
+    for name, inode in names.items():
+        kept = os.path.join(disk, "octets-" + inode)
+        octets = content(kept) if os.path.exists(kept) else b""
+        if inode in now and (how == "octets" or (how == "some" and chance.random() < 0.5)):
+            octets = now[inode]
+        with open(os.path.join(target, name), "wb") as file:
+            file.write(octets)
+
+
+def power_cuts(program, plain, place):
+    """The power goes at each call that writes, renames or forces to disk. Whatever then is on disk, nothing that was
+    said is missing, and the pass, sent again to the plain program, completes both pages. Gives the number of calls."""
+    originals, octets = two_transfers()
+    chance = random.Random(613)
+    count = 0
+    while True:
+        count += 1
+        here, disk = os.path.join(place, f"{count}"), os.path.join(place, f"{count}-disk")
+        os.mkdir(here)
+        os.mkdir(disk)
+        lines, told, status = run(program, here, "-", octets=octets, POWERCUT=str(count), POWERCUT_DISK=disk)
+        check(status in (0, 98) and count < 1000, f"call {count}: {told}")
+        for number, how in enumerate(("none", "names", "octets", "some", "some", "some")):
+            left = os.path.join(place, f"{count}-{number}")
+            after_the_cut(disk, here, left, how, chance)
+            nothing_promised_is_missing(left, originals, lines)
+            if plain and number < 4:
+                again, told, ended = run(plain, left, "--no-fsync", "-", octets=octets)
+                check((told, ended) == ("", 0), f"call {count}, {how}: {told}")
+                nothing_promised_is_missing(left, originals, again)
+                for ident, original in originals.items():
+                    check(holds(left, f"{ident:08x}.page", original), f"page {ident} after call {count}, {how}")
+        if status == 0:
+            return count - 1
+
+
+# A lossy loopback, and a program that is killed.
+
+
+class Receiver:
+    """The link program on a socket, with a thread that looks at each page at the moment it is reported."""
+
+    def __init__(self, program, place, address, port, originals, options):
+        self.arguments = [program, "-d", place, "--udp", str(port), "--address", address, *options]
+        self.place, self.originals = place, originals
+        self.reported, self.wrong, self.kills = set(), [], 0
+        self.start()
+
+    def start(self):
+        self.process = subprocess.Popen(self.arguments, stdout=subprocess.PIPE, text=True)
+        self.thread = threading.Thread(target=self.listen, args=(self.process,), daemon=True)
+        self.thread.start()
+
+    def listen(self, process):
+        for line in process.stdout:
+            words = line.split()
+            if line.endswith("\n") and words[1] == "complete":
+                ident = int(words[2][3:])
+                if content(self.place, words[4][5:]) != self.originals[ident]:
+                    self.wrong.append(line)
+                self.reported.add(ident)
+
+    def end(self, how):
+        self.process.send_signal(how)
+        status = self.process.wait(timeout=10)
+        self.thread.join(timeout=10)
+        self.process.stdout.close()
+        check(not self.wrong, f"reported complete and not on disk: {self.wrong}")
+        nothing_promised_is_missing(self.place, self.originals)
+        return status
+
+    def kill_and_restart(self):
+        self.kills += 1
+        self.end(signal.SIGKILL)
+        self.start()
+
+
+class Sender:
+    """Sends files over a link that loses, repeats and reorders, until STATUS says that they are complete."""
+
+    def __init__(self, address, port, originals, chance):
+        family = socket.AF_INET6 if ":" in address else socket.AF_INET
+        self.socket = socket.socket(family, socket.SOCK_DGRAM)
+        self.socket.settimeout(0.02)
+        self.target, self.originals, self.chance = (address, port), originals, chance
+        self.missing = {ident: [(0, len(original))] for ident, original in originals.items()}
+        self.sent = self.answers = self.failures = 0
+        self.delayed = []
+
+    def send(self, packet):
+        """Loses one packet in five, sends one in ten twice, and holds one in five back."""
+        if self.chance.random() < 0.2:
+            return
+        for _ in range(2 if self.chance.random() < 0.1 else 1):
+            if self.chance.random() < 0.2:
+                self.delayed.append(packet)
+            else:
+                self.socket.sendto(packet, self.target)
+                self.sent += 1
+
+    def round(self, ident):
+        """One window of a file, and what came back."""
+        original, width = self.originals[ident], 32
+        self.send(metadata(ident, width, len(original), b"../../etc/passwd"))
+        chunks, size = [], self.chance.choice((300, 700, 1300))
+        for start, stop in self.missing[ident]:
+            chunks += [(at, min(at + size, stop)) for at in range(start, stop, size)]
+            if len(chunks) > 24:
+                break
+        chunks = chunks[:24] or [(0, min(size, len(original)))]
+        self.chance.shuffle(chunks)
+        for number, (start, stop) in enumerate(chunks):
+            flags = WANTED if number % 8 == 7 or number == len(chunks) - 1 else 0
+            flags |= END_OF_DATA if stop == len(original) else 0
+            self.send(data(ident, width, start, original[start:stop], flags))
+        self.chance.shuffle(self.delayed)
+        while len(self.delayed) > 5:
+            self.socket.sendto(self.delayed.pop(), self.target)
+        try:
+            while True:
+                self.hear(self.socket.recv(65535))
+        except socket.timeout:
+            pass
+        except ConnectionRefusedError:
+            pass
+
+    def hear(self, packet):
+        self.answers += 1
+        word, ident = struct.unpack(">II", packet[:8])
+        if word & 0xFF:
+            self.failures += 1
+            check(word & 0xFF in (3, 6), f"a failure STATUS {packet.hex()}")
+            return
+        ends = [value for value, in struct.iter_unpack(">I", packet[8:])]
+        missing = list(zip(ends[2::2], ends[3::2]))
+        if ends[1] < len(self.originals[ident]):
+            missing.append((ends[1], len(self.originals[ident])))
+        # What a STATUS said to be received stays so, whatever happened to the program: the area was saved before.
+        before = self.missing[ident]
+        if self.inside(missing, before):
+            self.missing[ident] = missing
+        else:
+            check(self.inside(before, missing), "a STATUS takes back what another said")
+
+    @staticmethod
+    def inside(some, others):
+        return all(any(start >= first and stop <= last for first, last in others) for start, stop in some)
+
+    def done(self):
+        return not any(self.missing.values())
+
+
+def loopback(program, place, address, seconds, options):
+    """Files over a lossy loopback to a program that is killed at random moments; gives what happened."""
+    chance = random.Random(611)
+    originals = {7: page(250000, 7), 0xFFFFFFFF: page(91001, 8), 5: page(1, 9)}
+    with socket.socket(socket.AF_INET6 if ":" in address else socket.AF_INET, socket.SOCK_DGRAM) as probe:
+        probe.bind((address, 0))
+        port = probe.getsockname()[1]
+    receiver = Receiver(program, place, address, port, originals, options)
+    sender = Sender(address, port, originals, chance)
+    begun = time.monotonic()
+    next_kill = begun + 0.1
+    try:
+        # Kills go on for the given time; a file that is complete by then is asked about again and again.
+        while not sender.done() or time.monotonic() < begun + seconds:
+            check(time.monotonic() < begun + seconds + 25, f"not complete in time: {sender.missing}")
+            for ident in originals:
+                sender.round(ident)
+                if next_kill < time.monotonic() < begun + seconds:
+                    receiver.kill_and_restart()
+                    next_kill = time.monotonic() + chance.uniform(0.01, 0.3)
+            if sender.done() and receiver.kills >= 15:
+                break
+        heard = sender.answers
+        while sender.answers == heard:  # the last program started is at work
+            check(time.monotonic() < begun + seconds + 25, "no answer any more")
+            sender.round(7)
+        status = receiver.end(signal.SIGTERM)
+        check(status == 0, f"the program ended with {status}")
+    finally:
+        if receiver.process.poll() is None:
+            receiver.process.kill()
+    check(receiver.reported == set(originals), f"reported: {receiver.reported}")
+    for ident, original in originals.items():
+        check(content(place, f"{ident:08x}.page") == original, f"page {ident} isn't the original")
+    check(os.listdir(os.path.dirname(place)) == [os.path.basename(place)], "something was written elsewhere")
+    return (f"{len(originals)} files on {address} complete after {sender.sent} packets, {sender.answers} STATUS, "
+            f"{sender.failures} of them failures, and {receiver.kills} kills")
+
+
+# Programs that write in another order, which the tests must find.
+
+
+ENDED, CUT = "ended", "power cut"  # which test finds it
+
+WRONG = {
+    "records and saves before the payload is written": (
+        ENDED, "file->written = 1;", "", "        struct file *file = file_of(read->id);",
+        "        saratoga_record(area, sizeof area, packet, packet_len); unsaved++; save();\n"
+        "        struct file *file = file_of(read->id);"),
+    "reports before the last payload is written": (
+        ENDED, "    if (adds) {\n",
+        "    if (adds && recorded.complete) deliver(number, read->id, recorded.edge);\n    if (adds) {\n"),
+    "writes the area in place": (
+        ENDED, 'openat(directory, "area.new", O_WRONLY', 'openat(directory, "area", O_WRONLY',
+        'if (renameat(directory, "area.new", directory, "area") != 0)', "if (0)"),
+    "answers before the area is saved": (ENDED, "if (wanted || recorded.complete ||", "if (recorded.complete ||"),
+    "forces no payload to disk": (CUT, "            force_to_disk(files[i].fd, name);\n", ""),
+    "renames an area that isn't on disk": (CUT, '    force_to_disk(fd, "area.new");\n', ""),
+    "saves an area before the names of new files": (CUT, "    force_directory(); /* the names", "    /* the names"),
+    "reports a page whose new name isn't on disk": (
+        CUT, "        directory_changed = 1;\n        force_directory();\n    } else",
+        "        directory_changed = 1;\n    } else"),
+}
+
+
+def wrong_programs(place):
+    with open(SOURCE, encoding="utf-8") as file:
+        source = file.read()
+    for number, (what, (test, *edits)) in enumerate(WRONG.items()):
+        edited = source
+        for old, new in zip(edits[::2], edits[1::2]):
+            check(edited.count(old) == 1, f"{what}: {old!r} stands {edited.count(old)} times in link.c")
+            edited = edited.replace(old, new)
+        here = os.path.join(place, str(number))
+        os.mkdir(here)
+        path = here + ".c"
+        with open(path, "w", encoding="utf-8") as file:
+            file.write(edited)
+        try:
+            if test == ENDED:
+                cut_everywhere(build([path], here + ".out", "-DLINK_CUT_POINTS", "-Wno-error"), here)
+            else:
+                power_cuts(build([path, POWERCUT], here + ".out", "-Wno-error", *WRAPPED), None, here)
+        except AssertionError as reason:
+            if os.environ.get("SHOW_WRONG"):
+                print(f"link: a program that {what}: {reason}")
+            continue
+        check(False, f"a program that {what} isn't found")
+
+
+def main():
+    seconds = float(sys.argv[1]) if len(sys.argv) > 1 else 6.0
+    begun = time.monotonic()
+    with tempfile.TemporaryDirectory() as place:
+        def fresh(name):
+            path = os.path.join(place, name, "here")
+            os.makedirs(path)
+            return path
+
+        program = build([SOURCE], os.path.join(place, "saratoga-link"))
+        cutting = build([SOURCE], os.path.join(place, "saratoga-link-cut"), "-DLINK_CUT_POINTS")
+        power = build([SOURCE, POWERCUT], os.path.join(place, "saratoga-link-power"), *WRAPPED)
+        passes(program, fresh("passes"))
+        more_than_sixteen(program, fresh("sixteen"))
+        try:
+            checked = build([SOURCE], os.path.join(place, "saratoga-link-sanitized"), "-fsanitize=address,undefined",
+                            "-fno-sanitize-recover=all")
+        except subprocess.CalledProcessError:
+            print("link: skipped with sanitizers: the compiler doesn't support them")
+            checked = program
+        any_octets(checked, fresh("any"))
+        print("link: passes, damaged packets, restarts and wrong input are as expected")
+        places = cut_everywhere(cutting, fresh("cuts")), cut_while_an_id_is_used_again(cutting, fresh("again"))
+        print(f"link: ended at each of {sum(places)} places between and inside writes, nothing promised is missing")
+        calls = power_cuts(power, program, fresh("power"))
+        print(f"link: power cut at each of {calls} calls, whatever of the rest is on disk nothing promised is missing")
+        wrong_programs(fresh("wrong"))
+        print(f"link: {len(WRONG)} programs with another order of writes are found")
+        print("link: " + loopback(program, fresh("four"), "127.0.0.1", seconds, ()))
+        try:
+            socket.socket(socket.AF_INET6, socket.SOCK_DGRAM).bind(("::1", 0))
+        except OSError:
+            print("link: skipped on ::1: there is no IPv6 loopback")
+        else:
+            print("link: " + loopback(program, fresh("six"), "::1", seconds / 2, ("--no-fsync", "--quiet")))
+    print(f"link: tested in {time.monotonic() - begun:.0f} s")
+    return 0
+
+
+if __name__ == "__main__":
+    try:
+        sys.exit(main())
+    except AssertionError as error:
+        print(f"host/link/test.py: FAILED: {error}", file=sys.stderr)
+        sys.exit(1)

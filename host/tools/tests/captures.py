@@ -1,0 +1,92 @@
+"""Capture files for the tests: frames of each link type, in classic pcap and pcapng."""
+import struct
+
+PORT = 7542
+ETHERNET, COOKED, COOKED2, RAW = 1, 113, 276, 101
+
+
+def udp(payload, source=40000, target=PORT, length=None):
+    length = len(payload) + 8 if length is None else length
+    return struct.pack(">HHHH", source, target, length, 0) + payload
+
+
+def checksum(octets):
+    total = sum(struct.unpack(f">{len(octets) // 2}H", octets))
+    while total >> 16:
+        total = (total & 0xFFFF) + (total >> 16)
+    return ~total & 0xFFFF
+
+
+def ipv4(segment, options=b"", fragment=0, protocol=17, total=None, ident=1):
+    header = 20 + len(options)
+    total = header + len(segment) if total is None else total
+    start = struct.pack(">BBHHHBBH4s4s", 0x40 | header // 4, 0, total, ident, fragment, 64, protocol, 0,
+                        bytes([127, 0, 0, 1]), bytes([127, 0, 0, 1])) + options
+    return start[:10] + struct.pack(">H", checksum(start)) + start[12:] + segment
+
+
+def ipv6(segment, extensions=(), following=17):
+    """`extensions`: pairs of the header's number and its octets, without the first, which names the next header."""
+    chain = b""
+    numbers = [number for number, _ in extensions] + [following]
+    for (_, rest), after in zip(extensions, numbers[1:]):
+        chain += bytes([after]) + rest
+    loop = bytes(15) + b"\x01"
+    return struct.pack(">IHBB", 0x60000000, len(chain) + len(segment), numbers[0], 64) + loop + loop + chain + segment
+
+
+def version(packet):
+    return 0x86DD if packet[0] >> 4 == 6 else 0x0800
+
+
+def ethernet(packet, tags=(), padded=True):
+    frame = bytes(12) + b"".join(struct.pack(">HH", tag, 42) for tag in tags)
+    frame += struct.pack(">H", version(packet)) + packet
+    return frame + bytes(max(0, 60 - len(frame))) if padded else frame
+
+
+def cooked(packet):
+    return struct.pack(">HHH8sH", 0, 772, 6, bytes(8), version(packet)) + packet
+
+
+def cooked2(packet):
+    return struct.pack(">HHIHBB8s", version(packet), 0, 1, 772, 0, 6, bytes(8)) + packet
+
+
+def pcap(frames, link=ETHERNET, order="<", magic=0xA1B2C3D4):
+    """`frames`: octets, or a pair of octets and the length that the frame had before it was cut."""
+    out = struct.pack(order + "IHHiIII", magic, 2, 4, 0, 0, 262144, link)
+    for n, frame in enumerate(frames):
+        octets, length = frame if isinstance(frame, tuple) else (frame, len(frame))
+        out += struct.pack(order + "IIII", 1700000000 + n, 5, len(octets), length) + octets
+    return out
+
+
+def block(kind, body, order="<"):
+    body += bytes(-len(body) % 4)
+    total = len(body) + 12
+    return struct.pack(order + "II", kind, total) + body + struct.pack(order + "I", total)
+
+
+def section(order="<"):
+    return block(0x0A0D0D0A, struct.pack(order + "IHHq", 0x1A2B3C4D, 1, 0, -1), order)
+
+
+def interface(link, order="<", limit=262144):
+    resolution = struct.pack(order + "HHB3xHH", 9, 1, 9, 0, 0)  # if_tsresol: nanoseconds; then the end of options
+    return block(1, struct.pack(order + "HHI", link, 0, limit) + resolution, order)
+
+
+def enhanced(octets, order="<", which=0, length=None):
+    length = len(octets) if length is None else length
+    padded = octets + bytes(-len(octets) % 4)
+    comment = struct.pack(order + "HH8sHH", 1, 7, b"comment\0", 0, 0)
+    return block(6, struct.pack(order + "IIIII", which, 0, 0, len(octets), length) + padded + comment, order)
+
+
+def simple(octets, order="<", length=None):
+    return block(3, struct.pack(order + "I", len(octets) if length is None else length) + octets, order)
+
+
+def pcapng(frames, link=ETHERNET, order="<"):
+    return section(order) + interface(link, order) + b"".join(enhanced(frame, order) for frame in frames)

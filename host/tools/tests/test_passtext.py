@@ -1,0 +1,170 @@
+"""passtext: the forms it documents, the round trip of every pass, and the lines that errors name."""
+import random
+import struct
+import subprocess
+import sys
+import unittest
+
+import loading
+from packets import END_OF_DATA, INCOMPLETE, TIMESTAMP, WANTED, data, failure, metadata, page_packets, record, success
+
+passtext = loading.tool("passtext")
+
+
+def text_of(octets):
+    return list(passtext.to_lines(octets))
+
+
+def pass_of(*lines):
+    return passtext.to_pass(lines)
+
+
+class Forms(unittest.TestCase):
+    """Each form and the octets it stands for, both ways."""
+
+    FORMS = [
+        ("fresh", record(b"F")),
+        ("open id=7 width=16 length=3000 path=page611.pla", record(b"O", metadata(7, 16, 3000))),
+        ("open id=4294967295 width=64 length=18446744073709551615 path=a%20b%23%25%ff%00",
+         record(b"O", metadata(2**32 - 1, 64, 2**64 - 1, b"a b#%\xff\0"))),
+        ("open id=7 width=32 length=9 path=p mtime=1 ctime=2 checksum=2:000102030405060708090a0b0c0d0e0f",
+         record(b"O", metadata(7, 32, 9, b"p", 0x42, bytes(range(16)), 1, 2))),
+        ("open id=7 width=16 length=3000 path=p flags=0a0000",
+         record(b"O", metadata(7, 16, 3000, b"p", 0x0A0000))),
+        ("open id=7 width=16 length=70000 path=p properties=0041",
+         record(b"O", struct.pack(">IIHIII", 0x42000000, 7, 0x0041, 70000, 0, 0) + b"p\0")),
+        ("data id=7 width=16 offset=0 length=1000 fill=00", record(b"D", data(7, 16, 0, bytes(1000)))),
+        ("data id=7 width=16 offset=2000 length=1000 fill=2a wanted eod",
+         record(b"D", data(7, 16, 2000, b"*" * 1000, WANTED | END_OF_DATA))),
+        ("data id=7 width=64 offset=18446744073709551615 payload=0001 timestamp=" + "ab" * 16,
+         record(b"D", data(7, 64, 2**64 - 1, b"\0\1", TIMESTAMP, b"\xab" * 16))),
+        ("data id=7 width=16 offset=3 payload=", record(b"D", data(7, 16, 3, b""))),
+        ("data id=7 width=16 offset=3 length=1 fill=07 flags=000001", record(b"D", data(7, 16, 3, b"\7", 1))),
+        ("status id=7 skip=0 unasked=0 room=65535", record(b"S", struct.pack(">IQBI", 7, 0, 0, 65535))),
+        ("status id=7 skip=18446744073709551615 unasked=255 room=4294967295",
+         record(b"S", struct.pack(">IQBI", 7, 2**64 - 1, 255, 2**32 - 1))),
+        ("close id=7", record(b"C", struct.pack(">I", 7))),
+        ("read metadata id=7 width=16 length=3000 path=page611.pla", record(b"R", metadata(7, 16, 3000))),
+        ("link data id=7 width=32 offset=5 length=2 fill=00 wanted", record(b"P", data(7, 32, 5, b"\0\0", WANTED))),
+        ("link success id=7 width=16 progress=1000 in-response-to=3000 holes=1000-2000,2500-2600",
+         record(b"P", success(7, 16, 1000, 3000, [(1000, 2000), (2500, 2600)]))),
+        ("read success id=7 width=64 progress=0 in-response-to=0 holes= incomplete unasked",
+         record(b"R", success(7, 64, 0, 0, flags=INCOMPLETE | 0x010000))),
+        ("read failure id=7 status=6", record(b"R", failure(7, 6))),
+        ("read failure id=7 status=6 flags=c00006", record(b"R", bytes.fromhex("44c0000600000007"))),
+        ("packet O " + data(7, 16, 0, b"x").hex(), record(b"O", data(7, 16, 0, b"x"))),
+        ("packet D 42", record(b"D", b"\x42")),
+        ("packet P", record(b"P")),
+        ("packet F 00", record(b"F", b"\0")),
+        ("packet S 00000007", record(b"S", b"\0\0\0\7")),
+        ("packet C 0000000007", record(b"C", b"\0\0\0\0\7")),
+        ("packet R 43c0000000000007ffff01", record(b"R", bytes.fromhex("43c0000000000007ffff01"))),
+        ("packet R 440000000000000703e8", record(b"R", bytes.fromhex("440000000000000703e8"))),
+        ("packet X 0102", record(b"X", b"\1\2")),
+        ("packet 23", record(b"#")),
+        ("packet 00 ff", record(b"\0", b"\xff")),
+    ]
+
+    def test_both_ways(self):
+        for line, octets in self.FORMS:
+            with self.subTest(line=line):
+                self.assertEqual(pass_of(line), octets)
+                self.assertEqual(text_of(octets), [line])
+
+    def test_cut_short(self):
+        whole = record(b"P", b"page")
+        for cut in range(1, len(whole)):
+            self.assertEqual(text_of(whole + whole[:cut]), ["packet P 70616765", "cut " + whole[:cut].hex()])
+            self.assertEqual(pass_of("packet P 70616765", "cut " + whole[:cut].hex()), whole + whole[:cut])
+
+    def test_what_a_person_may_write(self):
+        self.assertEqual(pass_of("", "# nothing", "  close   id=0x10  # sixteen", "packet P 44 00 0006\t00000007",
+                                 "data id=1 width=16 offset=0 length=5 fill=0102", "status id=1"),
+                         record(b"C", struct.pack(">I", 16)) + record(b"P", failure(7, 6))
+                         + record(b"D", data(1, 16, 0, b"\1\2\1\2\1"))
+                         + record(b"S", struct.pack(">IQBI", 1, 0, 0, 65535)))
+        self.assertEqual(pass_of("open path=p length=3 width=16 id=7"), record(b"O", metadata(7, 16, 3, b"p")))
+
+
+class RoundTrip(unittest.TestCase):
+    def same(self, octets):
+        lines = text_of(octets)
+        self.assertEqual(passtext.to_pass(lines), octets, lines)
+
+    def test_damaged_packets_of_each_kind(self):
+        chance = random.Random(611)
+        packets = page_packets() + [metadata(7, 64, 5, b"p", 0x11, b"abcd"), data(7, 32, 9, b"x", TIMESTAMP, bytes(16))]
+        for _ in range(20000):
+            packet = bytearray(chance.choice(packets)[:chance.choice((8, 12, 40, 2000))])
+            for _ in range(chance.randrange(3)):
+                octet = chance.choice((0, 1, 64, 128, 255, chance.randrange(256)))
+                packet[chance.randrange(min(len(packet), 30))] = octet
+            packet = packet[:chance.randrange(len(packet) + 1)] if chance.random() < 0.3 else packet
+            self.same(record(bytes([chance.choice(b"FODRSCPX\0#")]), bytes(packet)))
+
+    def test_any_octets(self):
+        chance = random.Random(612)
+        for _ in range(3000):
+            octets = b""
+            for _ in range(4):
+                body = chance.randbytes(chance.randrange(30))
+                octets += record(bytes([chance.randrange(256)]), body) if chance.random() < 0.5 else body[:8]
+            self.same(octets)
+
+    def test_a_body_too_long_for_a_packet(self):
+        self.same(record(b"P", bytes(70000)) + record(b"D", data(7, 16, 0, bytes(70000))) + record(b"F"))
+
+
+class Errors(unittest.TestCase):
+    def wrong(self, line, message):
+        with self.assertRaises(passtext.Wrong) as raised:
+            pass_of("fresh", "", line)
+        self.assertEqual(str(raised.exception), "line 3: " + message)
+
+    def test_messages(self):
+        self.wrong("opne id=7", "no line begins with opne; see passtext --help")
+        self.wrong("data id=7 width=16 ofset=0 length=1 fill=00", "data needs offset=")
+        self.wrong("data id=7 width=16 offset=0 length=1 fill=00 want",
+                   "data has no 'want'; it has id= timestamp= wanted eod flags= width= offset= payload= fill= length=")
+        self.wrong("close id=4294967296", "id=4294967296 is over 32 bits")
+        self.wrong("close id=x", "id=x is no number")
+        self.wrong("close id", "id needs a value: id=...")
+        self.wrong("close id=7 id=8", "id stands twice")
+        self.wrong("open id=7 width=16 length=65536 path=p", "length=65536 is over 16 bits")
+        self.wrong("open id=7 width=24 length=6 path=p", "width=24 is not 16, 32 or 64")
+        self.wrong("open id=7 length=6 path=p", "open needs width=")
+        self.wrong("open id=7 width=16 length=6", "open needs path=")
+        self.wrong("open id=7 width=16 length=6 path=a%2", "a % in a path is followed by two hexadecimal digits; "
+                                                           "%25 is the % itself")
+        self.wrong("data id=7 width=32 offset=0 payload=00 flags=000000", "width=32, but flags=000000 say 16")
+        self.wrong("data id=7 width=16 offset=0 payload=00 eod flags=000000",
+                   "flags=000000 lack bits that the other fields set: 008000")
+        self.wrong("data id=7 width=16 offset=0 payload=0", "payload=0 is no sequence of pairs of hexadecimal digits")
+        self.wrong("data id=7 width=16 offset=0", "data needs length= and fill=, or payload=")
+        self.wrong("read", "read is followed by one of metadata, data, success, failure")
+        self.wrong("read success id=7 width=16 progress=0 in-response-to=9 holes=3",
+                   "holes=3: a hole is START-END")
+        self.wrong("packet PP 00", "PP is no kind: one character, or two hexadecimal digits")
+        self.wrong("fresh now", "fresh takes nothing")
+
+    def test_nothing_follows_cut(self):
+        with self.assertRaisesRegex(passtext.Wrong, "line 3: nothing may follow cut, which stands in line 1"):
+            pass_of("cut 50", "# done", "fresh")
+
+    def test_the_program(self):
+        def run(octets, *options):
+            done = subprocess.run([sys.executable, "-B", loading.path_of("passtext"), *options], input=octets,
+                                  capture_output=True, check=False)
+            return done.stdout, done.stderr.decode(), done.returncode
+
+        self.assertEqual(run(b"fresh\nclose id=7\n", "-p"), (record(b"F") + record(b"C", b"\0\0\0\7"), "", 0))
+        self.assertEqual(run(record(b"F") + b"P", "-n"), (b"fresh  # 1\ncut 50  # 2\n", "", 0))
+        self.assertEqual(run(b"fresh\nclose\n", "-p"),
+                         (b"", "passtext: standard input: line 2: close needs id=\n", 1))
+        self.assertEqual(run(b"fresh\n\xff\n", "-p"),
+                         (b"", "passtext: standard input: line 2: not text; is it a pass already?\n", 1))
+        self.assertEqual(run(b"", "/nowhere/pass"), (b"", "passtext: /nowhere/pass: No such file or directory\n", 1))
+
+
+if __name__ == "__main__":
+    unittest.main()

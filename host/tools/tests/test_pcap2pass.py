@@ -1,0 +1,289 @@
+"""pcap2pass on captures made here of the project's own packets, and against tshark or tcpdump where there is one."""
+import io
+import os
+import random
+import re
+import shutil
+import struct
+import subprocess
+import sys
+import tempfile
+import unittest
+
+import captures
+import loading
+from captures import cooked, cooked2, enhanced, ethernet, interface, ipv4, ipv6, pcap, pcapng, section, simple, udp
+from packets import page_packets, record
+
+pcap2pass = loading.tool("pcap2pass")
+PACKETS = page_packets()
+PASS = b"".join(record(b"P", packet) for packet in PACKETS)
+
+HOP = (0, struct.pack(">B6s", 0, bytes(6)))
+ROUTING = (43, struct.pack(">B22s", 2, bytes(22)))
+ATOMIC = (44, struct.pack(">BHI", 0, 0, 9))
+OPTIONS = (60, struct.pack(">B6s", 0, bytes(6)))
+AUTHENTICATION = (51, struct.pack(">B10s", 1, bytes(10)))
+
+WRAPPINGS = {
+    "Ethernet, IPv4": (captures.ETHERNET, lambda p: ethernet(ipv4(udp(p)))),
+    "Ethernet, IPv6": (captures.ETHERNET, lambda p: ethernet(ipv6(udp(p)))),
+    "Ethernet, one tag": (captures.ETHERNET, lambda p: ethernet(ipv4(udp(p)), [0x8100])),
+    "Ethernet, two tags": (captures.ETHERNET, lambda p: ethernet(ipv6(udp(p)), [0x88A8, 0x8100])),
+    "cooked, IPv4": (captures.COOKED, lambda p: cooked(ipv4(udp(p)))),
+    "cooked, IPv6": (captures.COOKED, lambda p: cooked(ipv6(udp(p)))),
+    "cooked 2, IPv4": (captures.COOKED2, lambda p: cooked2(ipv4(udp(p)))),
+    "cooked 2, IPv6": (captures.COOKED2, lambda p: cooked2(ipv6(udp(p)))),
+    "raw, IPv4": (captures.RAW, lambda p: ipv4(udp(p))),
+    "raw, IPv6": (captures.RAW, lambda p: ipv6(udp(p))),
+    "raw 12": (12, lambda p: ipv4(udp(p))),
+    "raw 228": (228, lambda p: ipv4(udp(p))),
+    "raw 229": (229, lambda p: ipv6(udp(p))),
+    "IPv4 options": (captures.ETHERNET, lambda p: ethernet(ipv4(udp(p), options=b"\x94\x04\0\0" + b"\1" * 4))),
+    "IPv6 extensions": (captures.RAW, lambda p: ipv6(udp(p), [HOP, OPTIONS, ROUTING, ATOMIC, AUTHENTICATION])),
+    "source port": (captures.ETHERNET, lambda p: ethernet(ipv4(udp(p, source=7542, target=50000)))),
+}
+
+
+def run(capture):
+    """Output, messages and exit status of pcap2pass on a capture."""
+    out, told = io.BytesIO(), []
+    status = pcap2pass.convert(pcap2pass.Source(io.BytesIO(capture)), captures.PORT, out, told.append)
+    return out.getvalue(), "".join(f"pcap2pass: {message}\n" for message in told), status
+
+
+def run_program(capture, *options):
+    """The same of the program with options."""
+    done = subprocess.run([sys.executable, "-B", loading.path_of("pcap2pass"), *options], input=capture,
+                          capture_output=True, check=False)
+    return done.stdout, done.stderr.decode(), done.returncode
+
+
+class Whole(unittest.TestCase):
+    def test_each_link_type_and_format(self):
+        for name, (link, wrap) in WRAPPINGS.items():
+            frames = [wrap(packet) for packet in PACKETS]
+            files = {f"pcap {order} {magic:x}": pcap(frames, link, order, magic)
+                     for order in "<>" for magic in (0xA1B2C3D4, 0xA1B23C4D)}
+            files.update({f"pcapng {order}": pcapng(frames, link, order) for order in "<>"})
+            for form, octets in files.items():
+                with self.subTest(name=name, form=form):
+                    self.assertEqual(run(octets), (PASS, "", 0))
+
+    def test_simple_blocks_sections_and_unknown_blocks(self):
+        frames = [ethernet(ipv4(udp(packet))) for packet in PACKETS]
+        octets = (section("<") + interface(1, "<") + captures.block(5, bytes(12)) + b"".join(map(simple, frames[:3]))
+                  + section(">") + interface(113, ">") + captures.block(0x0BAD, bytes(3), ">") + interface(1, ">")
+                  + b"".join(enhanced(frame, ">", which=1) for frame in frames[3:]))
+        self.assertEqual(run(octets), (PASS, "", 0))
+
+    def test_a_short_payload_comes_without_the_frame_s_padding(self):
+        self.assertEqual(run(pcap([ethernet(ipv4(udp(b"abc")))])), (record(b"P", b"abc"), "", 0))
+
+    def test_an_empty_payload_and_the_longest(self):
+        longest = bytes(65507)
+        frames = [ethernet(ipv4(udp(b""))), ethernet(ipv4(udp(longest)))]
+        self.assertEqual(run(pcap(frames)), (record(b"P") + record(b"P", longest), "", 0))
+
+    def test_another_port(self):
+        capture = pcap([ethernet(ipv4(udp(b"here", target=9000))), ethernet(ipv4(udp(b"there")))])
+        self.assertEqual(run_program(capture, "--port", "9000"), (record(b"P", b"here"), "", 0))
+
+    def test_out_file_and_named_capture(self):
+        with tempfile.TemporaryDirectory() as place:
+            capture, out = os.path.join(place, "c.pcap"), os.path.join(place, "p.pass")
+            with open(capture, "wb") as file:
+                file.write(pcap([ethernet(ipv4(udp(packet))) for packet in PACKETS]))
+            self.assertEqual(run_program(b"", "-o", out, capture), (b"", "", 0))
+            with open(out, "rb") as file:
+                self.assertEqual(file.read(), PASS)
+
+
+    def test_the_program_s_messages_and_status(self):
+        self.assertEqual(run_program(b"GIF89a"), (b"", "pcap2pass: broken file: neither pcap nor pcapng: the first "
+                                                       "four octets are 47494638\n", 1))
+        out, told, status = run_program(b"", "/nowhere/capture")
+        self.assertEqual((out, told, status), (b"", "pcap2pass: /nowhere/capture: No such file or directory\n", 1))
+        self.assertEqual(run_program(b"", "--port", "65536")[2], 2)
+
+
+class Skipping(unittest.TestCase):
+    def skipped(self, frame, message, link=1, out=b""):
+        """`frame` as frame 2 is skipped with a message, or without one; frames 1 and 3 are taken."""
+        one, three = ethernet(ipv4(udp(b"one"))), ethernet(ipv4(udp(b"three")))
+        if link == captures.RAW:
+            one, three = ipv4(udp(b"one")), ipv4(udp(b"three"))
+        octets, told, status = run(pcap([one, frame, three], link))
+        self.assertEqual((octets, status), (record(b"P", b"one") + out + record(b"P", b"three"), 0))
+        self.assertEqual(told, f"pcap2pass: frame 2: {message}\n" if message else "")
+
+    def test_other_ports_and_protocols_silently(self):
+        self.skipped(ethernet(ipv4(udp(b"dns", target=53))), "")
+        self.skipped(ethernet(ipv4(bytes(20), protocol=6)), "")
+        self.skipped(ethernet(ipv6(bytes(20), following=58)), "")
+        self.skipped(bytes(12) + b"\x08\x06" + bytes(46), "")
+
+    def test_fragments(self):
+        first = "skipped: the first fragment of a UDP packet; fragments are not put together"
+        later = "skipped: a later fragment of a UDP packet; fragments are not put together"
+        self.skipped(ethernet(ipv4(udp(b"x" * 100, length=2000), fragment=0x2000)), first)
+        self.skipped(ethernet(ipv4(b"x" * 100, fragment=5)), later)
+        self.skipped(ethernet(ipv4(udp(b"x" * 100, target=53, length=2000), fragment=0x2000)), "")
+        self.skipped(ethernet(ipv6(udp(b"x" * 100), [(44, struct.pack(">BHI", 0, 1, 9))])), first)
+        self.skipped(ethernet(ipv6(b"x" * 100, [(44, struct.pack(">BHI", 0, 80, 9))])), later)
+
+    def test_later_fragments_of_another_port(self):
+        capture = pcap([ethernet(ipv4(udp(bytes(99), target=53, length=999), fragment=0x2000)),
+                        ethernet(ipv4(bytes(99), fragment=13)), ethernet(ipv4(udp(b"one")))])
+        self.assertEqual(run(capture), (record(b"P", b"one"), "", 0))
+
+    def test_cut_frames(self):
+        frame = ethernet(ipv4(udp(b"x" * 100)))
+        self.skipped((frame[:96], len(frame)), "skipped: a UDP length of 108 where 62 octets are there "
+                     "(the capture cut this frame)")
+        self.skipped((frame[:10], len(frame)), "skipped: the link header is cut short: 10 of 14 octets are there "
+                     "(the capture cut this frame)")
+        self.skipped((frame[:30], len(frame)), "skipped: the IPv4 header is cut short: 16 of 20 octets are there "
+                     "(the capture cut this frame)")
+
+    def test_lengths_that_do_not_fit(self):
+        self.skipped(ethernet(ipv4(udp(b"x" * 50, length=7))), "skipped: a UDP length of 7")
+        self.skipped(ethernet(ipv4(udp(b"x" * 50, length=59))),
+                     "skipped: a UDP length of 59 where 58 octets are there")
+        self.skipped(ethernet(ipv4(udp(b"x" * 50), total=10)),
+                     "skipped: an IPv4 total length of 10, less than the header's 20")
+        self.skipped(b"\x55" + bytes(30), "skipped: an IP packet of version 5", captures.RAW)
+        self.skipped(b"", "skipped: the IP packet is cut short: 0 of 1 octets are there", captures.RAW)
+
+    def test_nothing_of_the_port(self):
+        self.assertEqual(run(pcap([ethernet(ipv4(udp(b"dns", target=53)))])),
+                         (b"", "pcap2pass: no payload of UDP port 7542 in 1 frames\n", 0))
+
+    def test_unknown_link_types(self):
+        told = "pcap2pass: frame 1: link type 105 isn't known; its frames are skipped\n"
+        self.assertEqual(run(pcap([bytes(60)] * 2, 105)),
+                         (b"", told + "pcap2pass: no payload of UDP port 7542 in 2 frames\n", 1))
+        mixed = section() + interface(105) + interface(1) + enhanced(bytes(60)) + enhanced(
+            ethernet(ipv4(udp(b"one"))), which=1)
+        self.assertEqual(run(mixed), (record(b"P", b"one"), told, 0))
+
+
+class Broken(unittest.TestCase):
+    def broken(self, capture, message, out=b""):
+        self.assertEqual(run(capture), (out, f"pcap2pass: broken file: {message}\n", 1))
+
+    def test_no_capture(self):
+        self.broken(b"", "the file is empty")
+        self.broken(b"\xd4\xc3", "the file's first four octets: the file ends after 1 of 3 octets, at octet 2")
+        self.broken(b"GIF89a", "neither pcap nor pcapng: the first four octets are 47494638")
+
+    def test_cut_at_every_octet(self):
+        """What stands whole before the cut is converted, and the message names the frame, or there is none."""
+        frames = [ethernet(ipv4(udp(packet))) for packet in (b"a" * 30, b"b" * 40)]
+        for name, capture in (("pcap", pcap(frames)), ("pcapng", pcapng(frames))):
+            ends = []
+            for count in (0, 1, 2):
+                ends.append(len(pcap(frames[:count]) if name == "pcap" else pcapng(frames[:count])))
+            for cut in range(4, len(capture)):
+                whole = sum(end <= cut for end in ends[1:])
+                boundary = cut in ends or (name == "pcapng" and cut == len(section()))
+                out, told, status = run(capture[:cut])
+                with self.subTest(name=name, cut=cut):
+                    self.assertEqual(out, b"".join(record(b"P", p) for p in (b"a" * 30, b"b" * 40)[:whole]))
+                    self.assertEqual(status, 0 if boundary else 1)
+                    if not boundary:
+                        self.assertIn("the file ends after", told)
+                        if cut > ends[0]:
+                            self.assertIn(f"frame {whole + (name == 'pcap')}", told)
+
+    def test_damaged_lengths(self):
+        capture = pcap([ethernet(ipv4(udp(b"one")))])
+        self.broken(capture[:32] + b"\xff\xff\xff\xff" + capture[36:],
+                    "frame 1: its header says 4294967295 octets; no frame has over 262144")
+        good = pcapng([ethernet(ipv4(udp(b"one")))])
+        self.broken(good + struct.pack("<II", 6, 33) + bytes(33), "block 4, after frame 1: a block of 33 octets",
+                    record(b"P", b"one"))
+        wrong = good[:-4] + struct.pack("<I", 8)
+        self.broken(wrong, f"block 3, after frame 0: its length is {len(good) - len(section() + interface(1))} "
+                           "at its start and 8 at its end")
+        self.broken(section() + enhanced(bytes(60)),
+                    "frame 1: of interface 0, which no block before describes")
+        self.broken(section() + interface(1) + captures.block(6, struct.pack("<IIIII", 0, 0, 0, 99, 99) + bytes(8)),
+                    "frame 1: 99 octets in a block that has room for 8")
+
+    def test_any_octets_give_an_answer(self):
+        """Damaged captures: every one is converted or named as broken, none ends in a traceback."""
+        chance = random.Random(611)
+        base = [pcap([wrap(p) for p in PACKETS[:4]], link) for link, wrap in WRAPPINGS.values()]
+        base += [pcapng([wrap(p) for p in PACKETS[:4]], link) for link, wrap in WRAPPINGS.values()]
+        for _ in range(3000):
+            octets = bytearray(chance.choice(base))
+            for _ in range(chance.randrange(1, 6)):
+                octets[chance.randrange(4, min(len(octets), 200))] = chance.randrange(256)
+            self.assertIn(run(bytes(octets))[2], (0, 1))
+
+
+class OtherReaders(unittest.TestCase):
+    """tshark or tcpdump read the same payloads from the same captures."""
+
+    def setUp(self):
+        self.place = tempfile.TemporaryDirectory()
+        self.addCleanup(self.place.cleanup)
+
+    def captures(self):
+        for name, (link, wrap) in WRAPPINGS.items():
+            frames = [wrap(packet) for packet in PACKETS]
+            for form, octets in (("pcap", pcap(frames, link)), ("pcap >", pcap(frames, link, ">", 0xA1B23C4D)),
+                                 ("pcapng", pcapng(frames, link)), ("pcapng >", pcapng(frames, link, ">"))):
+                path = os.path.join(self.place.name, "capture")
+                with open(path, "wb") as file:
+                    file.write(octets)
+                yield f"{name}, {form}", path, run(octets)[0]
+
+    def test_tcpdump(self):
+        program = os.environ.get("TCPDUMP") or shutil.which("tcpdump")
+        if not program:
+            self.skipTest("tcpdump isn't installed")
+        for name, path, passed in self.captures():
+            with self.subTest(name=name):
+                # -x prints the IP packet; tcpdump finds IP behind links, tags and extensions by its own rules. As
+                # root it would change to a user that may not exist.
+                user = ["-Z", "root"] if os.geteuid() == 0 else []
+                shown = subprocess.run([program, *user, "-n", "-t", "-x", "-r", path], capture_output=True, check=True,
+                                       text=True).stdout
+                octets, lengths = [], []
+                for line in shown.splitlines():
+                    hexes = re.match(r"\s+0x[0-9a-f]+:  ([0-9a-f ]+)$", line)
+                    if hexes:
+                        octets[-1] += bytes.fromhex(hexes.group(1))
+                    else:
+                        octets.append(b"")
+                        lengths.append(int(re.search(r"7542.* UDP, length (\d+)", line).group(1)))
+                records = split(passed)
+                self.assertEqual(lengths, [len(body) for body in records])
+                for packet, body in zip(octets, records):
+                    padding = packet[packet.rfind(body) + len(body):]
+                    self.assertTrue(body in packet and not padding.strip(b"\0"), packet.hex())
+
+    def test_tshark(self):
+        program = shutil.which("tshark")
+        if not program:
+            self.skipTest("tshark isn't installed")
+        for name, path, passed in self.captures():
+            with self.subTest(name=name):
+                shown = subprocess.run([program, "-r", path, "-T", "fields", "-e", "udp.payload", "udp.port==7542"],
+                                       capture_output=True, check=True, text=True).stdout
+                self.assertEqual([bytes.fromhex(line) for line in shown.split()], split(passed))
+
+
+def split(passed):
+    bodies = []
+    while passed:
+        length = int.from_bytes(passed[1:5], "big")
+        bodies.append(passed[5:5 + length])
+        passed = passed[5 + length:]
+    return bodies
+
+
+if __name__ == "__main__":
+    unittest.main()

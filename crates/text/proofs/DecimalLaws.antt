@@ -24,7 +24,7 @@ small (suc k) n r h = rw (lt-ltb n 10 h)
 large : (i n : ℕ) (r : List ℕ) → 0 < i → 10 ≤ n → decimalOnto i n r ≡ decimalOnto (i - 1) (n / 10) ((48 + n % 10) ∷ r)
 unfolding decimalOnto
 large zero n r z h = absurd (not-suc-le-zero z)
-large (suc k) n r z h = rw (le-ltb n 10 h)
+large (suc k) n r z h = let e : suc k - 1 ≡ k = omega arith in rw (le-ltb n 10 h, e)
 
 first : (i n : ℕ) (r : List ℕ) → i ≡ 0 → decimalOnto i n r ≡ (48 + n % 10) ∷ r
 unfolding decimalOnto

@@ -36,7 +36,8 @@ pub fn put_text(out: &mut [u8], at: usize, s: &[u8]) -> usize
 }
 
 // The decimal digits of n, at the end of `text`, and where they start.
-fn spell(n: u64, text: &mut [u8; 20]) -> usize
+fn spell(n: u64, text: &mut [u8]) -> usize
+    requires { ⌜ length (now text) ≡ 20 ⌝ }
     ensures { λ r. ⌜ (r < 20) × (drop r (now (text .exit)) ≡ decimalOf n) ⌝ }
 {
     let mut rest = n;

@@ -26,7 +26,7 @@ shared-slice-read-b : tie.Need-shared-slice-read-b Inv-loop μ-loop
 shared-slice-read-b c = omega arith
 
 digit-requires : tie.Need-digit-requires Inv-loop μ-loop
-digit-requires c κs = omega (arith, c .before .before .shared-slice-known2 .given (c .before .before .before .loop .i))
+digit-requires c κs = omega (arith, c .before .shared-slice-known2 .given (c .before .before .before .loop .i))
 
 push-requires : tie.Need-push-requires Inv-loop μ-loop
 push-requires c κs = c .before .before .before .before .loop .inv .1 .within
@@ -44,7 +44,10 @@ loop-less : tie.Need-loop-less Inv-loop μ-loop
 loop-less c = omega arith
 
 loop-again : tie.Need-loop-again Inv-loop μ-loop
-loop-again c = ?
+loop-again c =
+    let s = now (c .before .before .before .before .before .before .before .before .before .before .before .before .before .before .before .args .s) in
+    let l = c .before .before .before .before .before .before .before .before .before .before .before .before .loop in
+    (omega arith, hex-next s (l .i) _ _ (omega arith) (c .before .before .before .before .before .before .before .before .digit .ensures) (c .before .before .before .digit2 .ensures) (l .inv .1) (c .before .before .before .before .before .before .before .push .ensures) (c .before .before .push2 .ensures))
 
 same-length : tie.Need-same-length Inv-loop μ-loop
 same-length c = c .before .loop .inv .1 .size

@@ -1,38 +1,45 @@
+-- `text::put_number` meets its contract.
+-- Assumes nothing.
+use mathlib.Core.Path.{_≡_, sym, ap, _∙_}
+use lib.ListN.{length, take}
+use lib.Seq.{length-take-le}
+use native.Mathlib.Omega.{arith}
+use Rattle.octets.specs.Numbers.{beDigits}
+use Rattle.octets.proofs.PutLaws.{take-put}
+use Rattle.octets.proofs.NumberLaws.{length-digits}
+use Rattle.text.specs.Hex.{hexOf}
+use Rattle.text.proofs.AddedLaws.{added-as}
 use borrow.Author.Needs.{needs}
 use Rattle.text.proofs.put_number.Statement.{statement}
 use Rattle.text.proofs.put_number.Tie as tie
-use Rattle.text.proofs.put_number.Reads as reads
-use Rattle.text.proofs.put_number.Lts as lts
-use Rattle.octets.proofs.write_number.Reads as write-number-reads
-use Rattle.text.proofs.put_hex.Reads as put-hex-reads
 
--- src/lib.rt:97:26
 slice-aggregate-write-number : tie.Need-slice-aggregate-write-number
 slice-aggregate-write-number c = search needs
 
--- src/lib.rt:97:5
 write-number-requires : tie.Need-write-number-requires
 write-number-requires c κs = search needs
 
--- src/lib.rt:98:22
 array-share-prefix-room : tie.Need-array-share-prefix-room
 array-share-prefix-room c = search needs
 
--- src/lib.rt:98:22
 slice-aggregate-put-hex : tie.Need-slice-aggregate-put-hex
-slice-aggregate-put-hex c = ?
+slice-aggregate-put-hex c =
+    let w = c .before .before .before .write-number in
+    sym (length-take-le (c .before .before .before .before .before .before .args .d) (w .last .0) (omega (arith, w .kept .0)))
 
--- src/lib.rt:98:5
 put-hex-requires : tie.Need-put-hex-requires
 put-hex-requires c κs = search needs
 
--- src/lib.rt:92:1
 same-length : tie.Need-same-length
 same-length c = search needs
 
--- src/lib.rt:92:1
 returns : tie.Need-returns
-returns c = ?
+returns c =
+    let a = c .before .before .before .before .before .before .before .before .before .args in
+    let w = c .before .before .before .before .before .before .write-number in
+    let e : take (a .d) (w .last .0) ≡ beDigits (a .d) (a .v) =
+        ap (take (a .d)) (w .ensures) ∙ take-put (a .d) (beDigits (a .d) (a .v)) _ (length-digits (a .d) (a .v)) in
+    added-as (ap hexOf e) (c .before .before .put-hex .ensures)
 
 pub put-number-spec : {M : Type 1} → statement M
 put-number-spec =

@@ -2,6 +2,7 @@
 mod fields;
 mod lines;
 
+pub use fields::part;
 pub use lines::put_closed;
 pub use lines::put_data;
 pub use lines::put_failure;

@@ -21,7 +21,7 @@ append-nil [] = refl
 append-nil (x ∷ xs) = ap (λ (l : List ℕ). x ∷ l) (append-nil xs)
 
 -- one text, then another
-infixl 4 _then_
+infixr 4 _then_
 pub _then_ : {a b c : List ℕ} {i j k : ℕ} {s t : List ℕ} → Added a i s b j → Added b j t c k → Added a i (s ++ t) c k
 _then_ {a} {b} {c} {i} {j} {k} {s} {t} p q = record {
   size = q .size ∙ p .size;

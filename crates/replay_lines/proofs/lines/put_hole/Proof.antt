@@ -1,38 +1,39 @@
+-- `replay_lines::put_hole` meets its contract.
+-- Assumes nothing.
+use mathlib.Core.Path.{sym, ap, _∙_}
+use native.Mathlib.Omega.{arith}
+use denote.Ref.{now}
+use Rattle.text.proofs.AddedLaws.{added-as, added-none}
+use Rattle.replay_lines.specs.Lines.{holeAfter}
 use borrow.Author.Needs.{needs}
 use Rattle.replay_lines.proofs.lines.put_hole.Statement.{statement}
 use Rattle.replay_lines.proofs.lines.put_hole.Tie as tie
-use Rattle.replay_lines.proofs.lines.put_hole.Reads as reads
-use Rattle.replay_lines.proofs.lines.put_hole.Lts as lts
-use Rattle.packet_status.proofs.read_hole.Reads as read-hole-reads
-use Rattle.replay_lines.proofs.lines.put_next_pair.Reads as put-next-pair-reads
 
--- src/lines.rt:165:9
 read-hole-requires : tie.Need-read-hole-requires
 read-hole-requires c κs = search needs
 
--- src/lines.rt:167:28
 enum-known-h : tie.Need-enum-known-h
 enum-known-h c = search needs
 
--- src/lines.rt:167:37
 put-next-pair-requires : tie.Need-put-next-pair-requires
 put-next-pair-requires c κs = search needs
 
--- src/lines.rt:168:33
 enum-told : tie.Need-enum-told
 enum-told c = search needs
 
--- src/lines.rt:161:1
 same-length : tie.Need-same-length
 same-length c = search needs
 
--- src/lines.rt:161:1
 returns : tie.Need-returns
-returns c = ?
+unfolding holeAfter
+returns c =
+    added-as (ap (holeAfter (c .before .before .before .before .before .before .before .before .before .before .args .index)) (sym (c .before .before .before .before .before .h .given .1) ∙ c .before .before .before .before .before .before .before .read-hole .ensures)) (c .before .before .put-next-pair .ensures)
 
--- src/lines.rt:161:1
 returns-2 : tie.Need-returns-2
-returns-2 c = ?
+unfolding holeAfter
+returns-2 c =
+    let a = c .before .before .before .before .before .args in
+    added-as (ap (holeAfter (a .index)) (sym (c .enum-told .given .1) ∙ c .before .before .read-hole .ensures)) (added-none (now (a .out)) (a .at) (omega arith))
 
 pub put-hole-spec : {M : Type 1} → statement M
 put-hole-spec =

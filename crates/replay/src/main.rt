@@ -38,7 +38,7 @@ fn cut_short(number: u64, out: &mut [u8]) -> bool {
 
 // How many octets of a body are kept: all, but no more than there is room for.
 fn kept(n: u64, room: usize) -> usize
-    ensures { λ r. ⌜ r ≤ room ⌝ }
+    ensures { λ r. ⌜ (r ≤ room) × (r ≤ n) ⌝ }
 {
     if n < room as u64 {
         return n as usize;

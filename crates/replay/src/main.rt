@@ -77,13 +77,7 @@ fn step(
 }
 
 // A proved loop has to end, and nothing says that the input does. So the records are counted, up to a number that no input reaches.
-fn replay(
-    fd: i32,
-    area: &mut [u8],
-    body: &mut [u8],
-    lent: &mut [u8],
-    out: &mut [u8],
-) {
+fn replay(fd: i32, area: &mut [u8], body: &mut [u8], lent: &mut [u8], out: &mut [u8]) {
     area_open::fresh(area);
     let mut number = 1;
     while number < u64::MAX && step(fd, number, area, body, lent, out) {

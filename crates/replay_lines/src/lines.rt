@@ -184,13 +184,7 @@ fn put_holes(out: &mut [u8], at: usize, p: &[u8], count: usize) -> usize
 }
 
 // A success STATUS s read from the packet p.
-pub fn put_success(
-    out: &mut [u8],
-    at: usize,
-    number: u64,
-    p: &[u8],
-    s: SuccessStatus,
-) -> usize
+pub fn put_success(out: &mut [u8], at: usize, number: u64, p: &[u8], s: SuccessStatus) -> usize
     requires { ⌜ at ≤ length (now out) ⌝ }
     ensures { λ r. ⌜ Added (now (out .entry)) at (successLine number (now (p .entry)) s) (now (out .exit)) r ⌝ }
 {

@@ -101,13 +101,7 @@ pub fn put_written(out: &mut [u8], at: usize, number: u64, w: Written, lent: &[u
 {
     match w {
         Written::Size(n) => {
-            replay_lines::put_packet(
-                out,
-                at,
-                number,
-                b" status ",
-                replay_lines::part(lent, 0, n),
-            )
+            replay_lines::put_packet(out, at, number, b" status ", replay_lines::part(lent, 0, n))
         }
         Written::Refused(x) => replay_lines::put_refused(out, at, number, x),
     }
@@ -120,13 +114,7 @@ pub fn put_sent(out: &mut [u8], at: usize, number: u64, w: Written, lent: &[u8])
 {
     match w {
         Written::Size(n) => {
-            replay_lines::put_packet(
-                out,
-                at,
-                number,
-                b" send ",
-                replay_lines::part(lent, 0, n),
-            )
+            replay_lines::put_packet(out, at, number, b" send ", replay_lines::part(lent, 0, n))
         }
         Written::Refused(_) => at,
     }

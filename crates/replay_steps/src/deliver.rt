@@ -128,14 +128,7 @@ fn open(
 }
 
 // Records DATA d, read from p.
-fn record(
-    area: &mut [u8],
-    number: u64,
-    p: &[u8],
-    d: Data,
-    lent: &mut [u8],
-    out: &mut [u8],
-) -> usize
+fn record(area: &mut [u8], number: u64, p: &[u8], d: Data, lent: &mut [u8], out: &mut [u8]) -> usize
     ensures { λ r. ⌜ r ≤ length (now (out .exit)) ⌝ }
 {
     let a = area_record::record(area, p);
@@ -143,13 +136,7 @@ fn record(
 }
 
 // The packet p, by its type.
-pub fn deliver(
-    area: &mut [u8],
-    number: u64,
-    p: &[u8],
-    lent: &mut [u8],
-    out: &mut [u8],
-) -> usize
+pub fn deliver(area: &mut [u8], number: u64, p: &[u8], lent: &mut [u8], out: &mut [u8]) -> usize
     ensures { λ r. ⌜ r ≤ length (now (out .exit)) ⌝ }
 {
     let r = packet::read_packet(p);

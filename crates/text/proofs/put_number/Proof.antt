@@ -38,7 +38,7 @@ returns c =
     let a = c .before .before .before .before .before .before .before .before .before .args in
     let w = c .before .before .before .before .before .before .write-number in
     let e : take (a .d) (w .last .0) ≡ beDigits (a .d) (a .v) =
-        ap (take (a .d)) (w .ensures) ∙ take-put (a .d) (beDigits (a .d) (a .v)) _ (length-digits (a .d) (a .v)) in
+    ap (take (a .d)) (w .ensures) ∙ take-put (a .d) (beDigits (a .d) (a .v)) _ (length-digits (a .d) (a .v)) in
     added-as (ap hexOf e) (c .before .before .put-hex .ensures)
 
 pub put-number-spec : {M : Type 1} → statement M

@@ -1,5 +1,6 @@
 # make test     the gate: proofs, must-fail edits, host tests
 # make lib      proves the library and builds target/staticlib/libsaratoga.a
+# make replay   proves and builds target/bin/replay, and runs it on the pass of page 611, or on PASS=file (docs/REPLAY.md)
 # make compare  compares the archive with the codec and receiver of host/paper; SEED=N and CALLS=N are optional
 # make soak     the same over 3 x 10^8 calls, an hour or more; or for SECONDS=N seconds
 # make stack    prints the stack that each function needs
@@ -12,7 +13,9 @@ VERSION = 0.1
 ARCHIVE = target/staticlib/libsaratoga.a
 BENCH_FLAGS = -O2 -Wall -Wextra -Iinclude
 
-.PHONY: test lib compare soak stack bench-program bench bench-instructions link install clean help
+PASS ?= host/passes/page611.pass
+
+.PHONY: test lib replay compare soak stack bench-program bench bench-instructions link install clean help
 
 help:
 	@sed -n 's/^# make/make/p' Makefile
@@ -51,6 +54,10 @@ bench-instructions: bench-program
 link: lib
 	mkdir -p target/link
 	$(CC) -std=c99 -Wall -Wextra -pedantic -O2 -Iinclude host/link/link.c $(ARCHIVE) -o target/link/saratoga-link
+
+replay:
+	@rt check replay >&2
+	@target/bin/replay "$(PASS)"
 
 install: lib
 	install -d $(DESTDIR)$(PREFIX)/include $(DESTDIR)$(PREFIX)/lib/pkgconfig $(DESTDIR)$(PREFIX)/share/man/man1

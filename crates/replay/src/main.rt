@@ -1,0 +1,115 @@
+// Reads the records of a pass from standard input, or from the file that the first argument names, and writes the answer to each.
+ghost use Prim.Native.Nat.{_≤_};
+use libc::STDIN_FILENO;
+use libc::STDOUT_FILENO;
+
+// Passes over n octets of the input, and says whether they were there.
+fn skip(fd: i32, n: u64) -> bool {
+    let mut left = n;
+    while 0 < left {
+        let got = skip_some(fd, left);
+        if got == 0 {
+            return false;
+        }
+        if left < got {
+            return true;
+        }
+        left -= got;
+    }
+    true
+}
+
+// Passes over some octets, at most n, and says how many; 0 at the end of the input.
+fn skip_some(fd: i32, n: u64) -> u64 {
+    let mut space = io::buffer();
+    if n < 4096 {
+        let room = n as usize;
+        return io::read_full(fd, &mut space[..room]) as u64;
+    }
+    io::read_full(fd, &mut space) as u64
+}
+
+// The last line, of a record inside which the input ends.
+fn cut_short(number: u64, out: &mut [u8]) -> bool {
+    let size = replay_steps::cut_short(number, out);
+    io::write_all(STDOUT_FILENO, &out[..size]);
+    false
+}
+
+// How many octets of a body are kept: all, but no more than there is room for.
+fn kept(n: u64, room: usize) -> usize
+    ensures { λ r. ⌜ (r ≤ room) × (r ≤ n) ⌝ }
+{
+    if n < room as u64 {
+        return n as usize;
+    }
+    room
+}
+
+// Answers one record, and says whether to go on.
+fn step(
+    fd: i32,
+    number: u64,
+    area: &mut [u8],
+    body: &mut [u8],
+    lent: &mut [u8],
+    out: &mut [u8],
+) -> bool {
+    let mut head = [0u8; 5];
+    let got = io::read_full(fd, &mut head);
+    if got == 0 {
+        return false;
+    }
+    if got < 5 {
+        return cut_short(number, out);
+    }
+    let n = replay_steps::body_length(&head);
+    let keep = kept(n, body.len());
+    let had = io::read_full(fd, &mut body[..keep]);
+    if had < keep {
+        return cut_short(number, out);
+    }
+    if !skip(fd, n - keep as u64) {
+        return cut_short(number, out);
+    }
+    let size = replay_steps::answer(area, number, head[0], &body[..keep], lent, out);
+    io::write_all(STDOUT_FILENO, &out[..size])
+}
+
+// A proved loop has to end, and nothing says that the input does. So the records are counted, up to a number that no input reaches.
+fn replay(fd: i32, area: &mut [u8], body: &mut [u8], lent: &mut [u8], out: &mut [u8]) {
+    area_open::fresh(area);
+    let mut number = 1;
+    while number < u64::MAX && step(fd, number, area, body, lent, out) {
+        number += 1;
+    }
+}
+
+// One octet more than a packet may have is kept of a body, so that the reader itself refuses what is too long.
+fn run(fd: i32) {
+    let mut area = [0u8; 16904];
+    let mut body = io::large_buffer();
+    let mut lent = [0u8; 65535];
+    let mut out = [0u8; 262144];
+    replay(fd, &mut area, &mut body, &mut lent, &mut out);
+}
+
+fn main() {
+    if os::arg_count() < 2 {
+        run(STDIN_FILENO);
+        return;
+    }
+    let mut path = io::buffer();
+    let length = os::arg(1, &mut path);
+    if os::errno() != 0 {
+        os::fail(b"path");
+        return;
+    }
+    let fd = os::open_read(&path[..length]);
+    if fd < 0 {
+        os::fail(&path[..length]);
+        return;
+    }
+    run(fd);
+    libc::close(fd);
+}

@@ -1,0 +1,150 @@
+// What a link program does with a packet off the dish: METADATA opens, DATA is recorded, STATUS is read, and what is to be
+// sent is a second line.
+ghost use Prim.Native.Nat.{_≤_};
+ghost use lib.ListN.{length};
+use crate::answers::put_sent;
+use header::Refusal;
+use packet::Read;
+use packet_data::Data;
+use packet_metadata::Metadata;
+use table::Opened;
+use table::Recorded;
+
+// The failure STATUS to send for the packet p; no line where the code is 0 or the packet has no Id.
+fn put_failure_sent(
+    out: &mut [u8],
+    at: usize,
+    number: u64,
+    p: &[u8],
+    code: u64,
+    lent: &mut [u8],
+) -> usize
+    requires { ⌜ at ≤ length (now out) ⌝ }
+    ensures { λ r. ⌜ r ≤ length (now (out .exit)) ⌝ }
+{
+    if code == 0 {
+        return at;
+    }
+    if p.len() < 8 {
+        return at;
+    }
+    let w = packet_status::write_failure(lent, header::id(p), code);
+    put_sent(out, at, number, w, lent)
+}
+
+// A refusal of the packet p, and the failure STATUS to send for it.
+fn put_refusal(
+    out: &mut [u8],
+    at: usize,
+    number: u64,
+    p: &[u8],
+    x: Refusal,
+    lent: &mut [u8],
+) -> usize
+    requires { ⌜ at ≤ length (now out) ⌝ }
+    ensures { λ r. ⌜ r ≤ length (now (out .exit)) ⌝ }
+{
+    let next = replay_lines::put_refused(out, at, number, x);
+    put_failure_sent(out, next, number, p, x.code, lent)
+}
+
+// What opening by METADATA m, read from p, answered.
+fn put_opened(
+    out: &mut [u8],
+    at: usize,
+    number: u64,
+    p: &[u8],
+    m: Metadata,
+    a: Opened,
+    lent: &mut [u8],
+) -> usize
+    requires { ⌜ at ≤ length (now out) ⌝ }
+    ensures { λ r. ⌜ r ≤ length (now (out .exit)) ⌝ }
+{
+    match a {
+        Opened::New(x) => replay_lines::put_opened(out, at, number, m, x, b" new\n"),
+        Opened::AlreadyOpen(x) => {
+            replay_lines::put_opened(out, at, number, m, x, b" already-open\n")
+        }
+        Opened::Refused(x) => put_refusal(out, at, number, p, x, lent),
+    }
+}
+
+// The STATUS to send where DATA d wants one.
+fn put_status_sent(
+    out: &mut [u8],
+    at: usize,
+    number: u64,
+    area: &[u8],
+    d: Data,
+    lent: &mut [u8],
+) -> usize
+    requires { ⌜ at ≤ length (now out) ⌝ }
+    ensures { λ r. ⌜ r ≤ length (now (out .exit)) ⌝ }
+{
+    if d.wanted == 0 {
+        return at;
+    }
+    let w = area_status::write_status(area, d.id, 0, false, lent);
+    put_sent(out, at, number, w, lent)
+}
+
+// What recording DATA d, read from p, answered.
+fn put_recorded(
+    out: &mut [u8],
+    at: usize,
+    number: u64,
+    area: &[u8],
+    p: &[u8],
+    d: Data,
+    a: Recorded,
+    lent: &mut [u8],
+) -> usize
+    requires { ⌜ at ≤ length (now out) ⌝ }
+    ensures { λ r. ⌜ r ≤ length (now (out .exit)) ⌝ }
+{
+    match a {
+        Recorded::Accepted(x) => {
+            let next = replay_lines::put_recorded(out, at, number, d, x);
+            put_status_sent(out, next, number, area, d, lent)
+        }
+        Recorded::Refused(x) => put_refusal(out, at, number, p, x, lent),
+    }
+}
+
+// Opens by METADATA m, read from p.
+fn open(
+    area: &mut [u8],
+    number: u64,
+    p: &[u8],
+    m: Metadata,
+    lent: &mut [u8],
+    out: &mut [u8],
+) -> usize
+    ensures { λ r. ⌜ r ≤ length (now (out .exit)) ⌝ }
+{
+    let a = area_open::open(area, p);
+    put_opened(out, 0, number, p, m, a, lent)
+}
+
+// Records DATA d, read from p.
+fn record(area: &mut [u8], number: u64, p: &[u8], d: Data, lent: &mut [u8], out: &mut [u8]) -> usize
+    ensures { λ r. ⌜ r ≤ length (now (out .exit)) ⌝ }
+{
+    let a = area_record::record(area, p);
+    put_recorded(out, 0, number, area, p, d, a, lent)
+}
+
+// The packet p, by its type.
+pub fn deliver(area: &mut [u8], number: u64, p: &[u8], lent: &mut [u8], out: &mut [u8]) -> usize
+    ensures { λ r. ⌜ r ≤ length (now (out .exit)) ⌝ }
+{
+    let r = packet::read_packet(p);
+    match r {
+        Read::Metadata(m) => open(area, number, p, m, lent, out),
+        Read::Data(d) => record(area, number, p, d, lent, out),
+        Read::Success(s) => replay_lines::put_success(out, 0, number, p, s),
+        Read::Failure(f) => replay_lines::put_failure(out, 0, number, f),
+        Read::Refused(x) => put_refusal(out, 0, number, p, x, lent),
+    }
+}

@@ -1,0 +1,3 @@
+pub mod AddedLaws
+pub mod HexLaws
+pub mod DecimalLaws

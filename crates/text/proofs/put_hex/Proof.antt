@@ -1,0 +1,76 @@
+-- `text::put_hex` meets its contract: before each turn the digits of the first i octets have been put.
+-- Assumes nothing.
+use Prim.Native.Nat.{_-_, _≤_, _<_, _+_}
+use native.Mathlib.Omega.{arith}
+use denote.Ref.{now}
+use lib.ListN.{length, take, getD}
+use lib.Seq.{take-all}
+use Rattle.text.specs.Added.{Added}
+use Rattle.text.specs.Hex.{hexOf}
+use Rattle.text.proofs.AddedLaws.{added-none}
+use Rattle.text.proofs.HexLaws.{hex-next}
+use Rattle.text.proofs.put_hex.Statement.{statement}
+use Rattle.text.proofs.put_hex.Tie as tie
+
+abbrev Inv-loop : tie.InvT-loop
+Inv-loop out₀ at s next₀ i₀ out next i = (i ≤ length s) × Added out₀ at (hexOf (take i s)) out next
+
+abbrev μ-loop : tie.MeasureT-loop
+μ-loop out₀ at s next₀ i₀ out next i = length s - i
+
+loop-holds : tie.Need-loop-holds Inv-loop μ-loop
+unfolding hexOf
+loop-holds c = (omega arith, added-none (now (c .before .before .args .out)) (c .before .before .args .at) (omega arith))
+
+shared-slice-read-b : tie.Need-shared-slice-read-b Inv-loop μ-loop
+shared-slice-read-b c = omega arith
+
+digit-requires : tie.Need-digit-requires Inv-loop μ-loop
+digit-requires c κs = omega (arith, c .before .shared-slice-known2 .given (c .before .before .before .loop .i))
+
+push-requires : tie.Need-push-requires Inv-loop μ-loop
+push-requires c κs = c .before .before .before .before .loop .inv .1 .within
+
+digit-requires-2 : tie.Need-digit-requires-2 Inv-loop μ-loop
+digit-requires-2 c κs = omega arith
+
+push-requires-2 : tie.Need-push-requires-2 Inv-loop μ-loop
+push-requires-2 c κs = c .before .before .before .before .push .ensures .within
+
+add-i : tie.Need-add-i Inv-loop μ-loop
+add-i c = omega arith
+
+loop-less : tie.Need-loop-less Inv-loop μ-loop
+loop-less c = omega arith
+
+loop-again : tie.Need-loop-again Inv-loop μ-loop
+loop-again c =
+    let s = now (c .before .before .before .before .before .before .before .before .before .before .before .before .before .before .before .args .s) in
+    let l = c .before .before .before .before .before .before .before .before .before .before .before .before .loop in
+    (omega arith, hex-next s (l .i) _ _ (omega arith) (c .before .before .before .before .before .before .before .before .digit .ensures) (c .before .before .before .digit2 .ensures) (l .inv .1) (c .before .before .before .before .before .before .before .push .ensures) (c .before .before .push2 .ensures))
+
+same-length : tie.Need-same-length Inv-loop μ-loop
+same-length c = c .before .loop .inv .1 .size
+
+returns : tie.Need-returns Inv-loop μ-loop
+returns c =
+    let s = now (c .before .before .before .before .args .s) in
+    rw (take-all (c .before .loop .i) s (omega arith)) at (c .before .loop .inv .1)
+
+pub put-hex-spec : {M : Type 1} → statement M
+put-hex-spec =
+    tie.close
+    (tie.spec
+    Inv-loop
+    μ-loop
+    loop-holds
+    shared-slice-read-b
+    digit-requires
+    push-requires
+    digit-requires-2
+    push-requires-2
+    add-i
+    loop-less
+    loop-again
+    same-length
+    returns)

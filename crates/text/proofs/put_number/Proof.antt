@@ -1,0 +1,54 @@
+-- `text::put_number` meets its contract.
+-- Assumes nothing.
+use mathlib.Core.Path.{_≡_, sym, ap, _∙_}
+use lib.ListN.{length, take}
+use lib.Seq.{length-take-le}
+use native.Mathlib.Omega.{arith}
+use Rattle.octets.specs.Numbers.{beDigits}
+use Rattle.octets.proofs.PutLaws.{take-put}
+use Rattle.octets.proofs.NumberLaws.{length-digits}
+use Rattle.text.specs.Hex.{hexOf}
+use Rattle.text.proofs.AddedLaws.{added-as}
+use borrow.Author.Needs.{needs}
+use Rattle.text.proofs.put_number.Statement.{statement}
+use Rattle.text.proofs.put_number.Tie as tie
+
+slice-aggregate-write-number : tie.Need-slice-aggregate-write-number
+slice-aggregate-write-number c = search needs
+
+write-number-requires : tie.Need-write-number-requires
+write-number-requires c κs = search needs
+
+array-share-prefix-room : tie.Need-array-share-prefix-room
+array-share-prefix-room c = search needs
+
+slice-aggregate-put-hex : tie.Need-slice-aggregate-put-hex
+slice-aggregate-put-hex c =
+    let w = c .before .before .before .write-number in
+    sym (length-take-le (c .before .before .before .before .before .before .args .d) (w .last .0) (omega (arith, w .kept .0)))
+
+put-hex-requires : tie.Need-put-hex-requires
+put-hex-requires c κs = search needs
+
+same-length : tie.Need-same-length
+same-length c = search needs
+
+returns : tie.Need-returns
+returns c =
+    let a = c .before .before .before .before .before .before .before .before .before .args in
+    let w = c .before .before .before .before .before .before .write-number in
+    let e : take (a .d) (w .last .0) ≡ beDigits (a .d) (a .v) =
+    ap (take (a .d)) (w .ensures) ∙ take-put (a .d) (beDigits (a .d) (a .v)) _ (length-digits (a .d) (a .v)) in
+    added-as (ap hexOf e) (c .before .before .put-hex .ensures)
+
+pub put-number-spec : {M : Type 1} → statement M
+put-number-spec =
+    tie.close
+    (tie.spec
+    slice-aggregate-write-number
+    write-number-requires
+    array-share-prefix-room
+    slice-aggregate-put-hex
+    put-hex-requires
+    same-length
+    returns)

@@ -1,0 +1,55 @@
+-- `text::put_text` meets its contract: before each turn the first i octets of the word have been put.
+-- Assumes nothing.
+use Prim.Native.Nat.{_-_, _≤_, _<_, _+_}
+use mathlib.Core.Path.{_≡_, refl, sym, _∙_}
+use mathlib.Core.List.{List, [], _∷_, _++_}
+use native.Mathlib.Numerals.{add-one}
+use native.Mathlib.Omega.{arith}
+use denote.Ref.{now}
+use lib.ListN.{length, take, getD}
+use lib.Seq.{take-all, take-suc}
+use Rattle.text.specs.Added.{Added}
+use Rattle.text.proofs.AddedLaws.{_then_, added-none, added-as}
+use Rattle.text.proofs.put_text.Statement.{statement}
+use Rattle.text.proofs.put_text.Tie as tie
+
+abbrev Inv-loop : tie.InvT-loop
+Inv-loop out₀ at s next₀ i₀ out next i = (i ≤ length s) × Added out₀ at (take i s) out next
+
+abbrev μ-loop : tie.MeasureT-loop
+μ-loop out₀ at s next₀ i₀ out next i = length s - i
+
+loop-holds : tie.Need-loop-holds Inv-loop μ-loop
+loop-holds c = (omega arith, added-none (now (c .before .before .args .out)) (c .before .before .args .at) (omega arith))
+
+shared-slice-read-push : tie.Need-shared-slice-read-push Inv-loop μ-loop
+shared-slice-read-push c = omega arith
+
+push-requires : tie.Need-push-requires Inv-loop μ-loop
+push-requires c κs = c .before .before .before .loop .inv .1 .within
+
+add-i : tie.Need-add-i Inv-loop μ-loop
+add-i c = omega arith
+
+loop-less : tie.Need-loop-less Inv-loop μ-loop
+loop-less c = omega arith
+
+loop-again : tie.Need-loop-again Inv-loop μ-loop
+loop-again c =
+    let s = now (c .before .before .before .before .before .before .before .before .before .args .s) in
+    let l = c .before .before .before .before .before .before .loop in
+    let f : l .i < length s = omega arith in
+    (omega arith, added-as (sym (rw add-one (take-suc s (l .i) 0 f))) (l .inv .1 then c .before .before .push .ensures))
+
+same-length : tie.Need-same-length Inv-loop μ-loop
+same-length c = c .before .loop .inv .1 .size
+
+returns : tie.Need-returns Inv-loop μ-loop
+returns c =
+    let s = now (c .before .before .before .before .args .s) in
+    rw (take-all (c .before .loop .i) s (omega arith)) at (c .before .loop .inv .1)
+
+pub put-text-spec : {M : Type 1} → statement M
+put-text-spec =
+    tie.close
+    (tie.spec Inv-loop μ-loop loop-holds shared-slice-read-push push-requires add-i loop-less loop-again same-length returns)

@@ -7,7 +7,7 @@
 # make bench    measures the library beside plain C and prints the ratios; docs/BENCHMARKS.md
 # make bench-instructions   the same in instructions, by callgrind
 # make link     builds the link program, target/link/saratoga-link (docs/LINK.md)
-# make install  header, archive, pkg-config file and man page below PREFIX (default /usr/local)
+# make install  header, archive, pkg-config file, and replay with its man page below PREFIX (default /usr/local)
 PREFIX ?= /usr/local
 VERSION = 0.1
 ARCHIVE = target/staticlib/libsaratoga.a
@@ -15,7 +15,7 @@ BENCH_FLAGS = -O2 -Wall -Wextra -Iinclude
 
 PASS ?= host/passes/page611.pass
 
-.PHONY: test lib replay compare soak stack bench-program bench bench-instructions link install clean help
+.PHONY: test lib replay-program replay compare soak stack bench-program bench bench-instructions link install clean help
 
 help:
 	@sed -n 's/^# make/make/p' Makefile
@@ -55,12 +55,15 @@ link: lib
 	mkdir -p target/link
 	$(CC) -std=c99 -Wall -Wextra -pedantic -O2 -Iinclude host/link/link.c $(ARCHIVE) -o target/link/saratoga-link
 
-replay:
+replay-program:
 	@rt check replay >&2
+
+replay: replay-program
 	@target/bin/replay "$(PASS)"
 
-install: lib
-	install -d $(DESTDIR)$(PREFIX)/include $(DESTDIR)$(PREFIX)/lib/pkgconfig $(DESTDIR)$(PREFIX)/share/man/man1
+install: lib replay-program
+	install -d $(DESTDIR)$(PREFIX)/include $(DESTDIR)$(PREFIX)/lib/pkgconfig $(DESTDIR)$(PREFIX)/bin $(DESTDIR)$(PREFIX)/share/man/man1
+	install -m 755 target/bin/replay $(DESTDIR)$(PREFIX)/bin/replay
 	install -m 644 include/saratoga.h $(DESTDIR)$(PREFIX)/include/saratoga.h
 	install -m 644 $(ARCHIVE) $(DESTDIR)$(PREFIX)/lib/libsaratoga.a
 	sed 's|@PREFIX@|$(PREFIX)|;s|@VERSION@|$(VERSION)|' host/saratoga.pc.in >$(DESTDIR)$(PREFIX)/lib/pkgconfig/saratoga.pc

@@ -46,7 +46,7 @@ pub fn word(area: &[u8], k: usize) -> u64
     requires { ⌜ k * 8 + 8 ≤ length (now area) ⌝ }
     ensures { λ r. ⌜ r ≡ wordAt (now (area .entry)) k ⌝ }
 {
-    octets::read_number(area, k * 8, 8)
+    octets::read_eight(area, k * 8)
 }
 
 // The words from word k on, as many as `out` has room for.

@@ -1,6 +1,6 @@
 // Plain octets: numbers of d octets in slices, and copies into a buffer. Nothing here knows of Saratoga.
 ghost use mathlib.Core.Path.{_≡_};
-ghost use Prim.Native.Nat.{_+_, _^_, _≤_};
+ghost use Prim.Native.Nat.{_+_, _^_, _≤_, _<_};
 ghost use lib.Dec.{ltb};
 ghost use lib.ListN.{length, take, drop};
 ghost use Rattle.octets.specs.Numbers.{beValue, beDigits, Width};
@@ -18,6 +18,28 @@ pub fn read_number(s: &[u8], at: usize, d: usize) -> u64
         i += 1;
     }
     v
+}
+
+// One octet as a number.
+fn wide(x: u8) -> u64
+    ensures { λ r. ⌜ (r ≡ x) × (r < 256) ⌝ }
+{
+    x as u64
+}
+
+fn read_four(s: &[u8], at: usize) -> u64
+    requires { ⌜ at + 4 ≤ length (now s) ⌝ }
+    ensures { λ r. ⌜ r ≡ beValue (take 4 (drop at (now (s .entry)))) ⌝ }
+{
+    wide(s[at]) * 16777216 + wide(s[at + 1]) * 65536 + wide(s[at + 2]) * 256 + wide(s[at + 3])
+}
+
+// The number that the eight octets from `at` on stand for, with no loop: the compiler makes few loads of it.
+pub fn read_eight(s: &[u8], at: usize) -> u64
+    requires { ⌜ at + 8 ≤ length (now s) ⌝ }
+    ensures { λ r. ⌜ r ≡ beValue (take 8 (drop at (now (s .entry)))) ⌝ }
+{
+    read_four(s, at) * 4294967296 + read_four(s, at + 4)
 }
 
 // The d octets from `at` on become those of v; the others stay.

@@ -1,14 +1,15 @@
--- The test of an area as the code makes it: one turn of each loop over the places, and the whole.
+-- The test of an area as the code makes it: one turn of each loop over the places, transfer by transfer, and the whole.
 -- Assumes nothing.
-use Prim.Native.Nat.{ℕ, suc, _+_, _-_, _/_, _%_, _<_, _≤_}
-use mathlib.Core.Path.{_≡_, sym, _∙_}
+use Prim.Native.Nat.{ℕ, zero, suc, _+_, _-_, _*_, _/_, _%_, _<_, _≤_}
+use mathlib.Core.Path.{_≡_, refl, sym, _∙_}
 use mathlib.Core.List.{List}
-use mathlib.Core.Bool.{Bool, true, false}
+use mathlib.Core.Bool.{Bool, true, false, cond}
 use native.Mathlib.Omega.{arith}
+use native.Mathlib.Nat.{add-zero}
 use native.Mathlib.Numerals.{add-one}
 use lib.ListN.{length, getD}
 use lib.Dec.{ltb, leb, eqb}
-use borrow.Author.Tests.{leb-true, le-leb, lt-leb}
+use borrow.Author.Tests.{leb-true, eqb-true, eqb-false, lt-ltb, le-ltb, le-leb, lt-leb, eq-eqb, ne-eqb}
 use Rattle.area.specs.Words.{wordAt}
 use Rattle.area.specs.Numbers.{freshTable}
 use Rattle.area.specs.Image.{areaOctets, numbersAt}
@@ -16,7 +17,7 @@ use Rattle.area.specs.Judge.{allFrom, before, slotTest, runTest, slotFin
 use Rattle.area.specs.declared.Table.{Table}
 use Rattle.area.specs.declared.Loaded.{Loaded}
 use Rattle.area.proofs.WordLaws.{part-at}
-use Rattle.area.proofs.TestLaws.{both-true}
+use Rattle.area.proofs.TestLaws.{both-true, all-at, slot-used, slot-unused}
 
 -- ---- a loop over n places, at place i
 module _ (f : ℕ → Bool) (i n : ℕ) (b : Bool) (inv : allFrom f i (n - i) ≡ b) where
@@ -38,6 +39,28 @@ module _ (f : ℕ → Bool) (i n : ℕ) (b : Bool) (inv : allFrom f i (n - i) �
       let e : n - i ≡ 0 = omega arith in
       rw e at inv
 
+-- ---- the first m of n places, and the rest
+all-split : (f : ℕ → Bool) (i m n : ℕ) → m ≤ n → allFrom f i n ≡ cond (allFrom f i m) (allFrom f (i + m) (n - m)) false
+unfolding allFrom
+all-split f i zero n h = let z : n - 0 ≡ n = omega arith in rw (z, add-zero)
+all-split f i (suc m) zero h = absurd (omega arith)
+all-split f i (suc m) (suc n) h =
+    let g : i + suc m ≡ suc i + m = omega arith in
+    let d : suc n - suc m ≡ n - m = omega arith in
+    rw (g, d) (go (f i) (all-split f (suc i) m n (omega arith)))
+  where
+    go : (b : Bool) → allFrom f (suc i) n ≡ cond (allFrom f (suc i) m) (allFrom f (suc i + m) (n - m)) false
+        → cond b (allFrom f (suc i) n) false ≡ cond (cond b (allFrom f (suc i) m) false) (allFrom f (suc i + m) (n - m)) false
+    go true e = e
+    go false e = refl
+
+module _ (f : ℕ → Bool) (i m n : ℕ) (few : m ≤ n) (b : Bool) (is : b ≡ allFrom f i m) where
+  pub rest-decides : b ≡ true → allFrom f (i + m) (n - m) ≡ allFrom f i n
+  rest-decides e = rw (all-split f i m n few, ← is, e)
+
+  pub part-refuses : b ≡ false → false ≡ allFrom f i n
+  part-refuses e = rw (all-split f i m n few, ← is, e)
+
 pub before-next : (xs : List ℕ) (i x : ℕ) → x ≡ getD xs i 0 → x ≡ before xs (i + 1)
 before-next xs i x e = rw add-one e
 
@@ -57,13 +80,64 @@ unfolding numbersAt
 slot-is a b i count last id w n m h c p d e f g t =
     rw (part-at a 1 16 i h, part-at a 17 16 i h, part-at a 33 16 i h, part-at a 49 16 i h) (sym (t ∙ rw (c, p, d, e, f, g)))
 
-pub run-is : (a : List ℕ) (b : Bool) (k last runs length start stop : ℕ) → k < 1024 → last ≡ before (numbersAt a .stops) k
-    → runs ≡ wordAt a (49 + k / 64) → length ≡ wordAt a (33 + k / 64) → start ≡ wordAt a (65 + k) → stop ≡ wordAt a (1089 + k)
-    → b ≡ runTest (ltb (k % 64) runs) (eqb (k % 64) 0) last start stop length → runFine (numbersAt a) k ≡ b
+-- a place of a run of transfer i, by the words of the area
+run-fine-at : (a : List ℕ) (i k : ℕ) → i < 16 → i * 64 ≤ k → k < i * 64 + 64
+    → runFine (numbersAt a) k ≡ runTest (ltb (k % 64) (wordAt a (49 + i))) (eqb (k % 64) 0) (before (numbersAt a .stops) k) (wordAt a (65 + k)) (wordAt a (1089 + k)) (wordAt a (33 + i))
 unfolding numbersAt
-run-is a b k last m n s e h p c d f g t =
-    let q : k / 64 < 16 = omega arith in
-    rw (part-at a 49 16 (k / 64) q, part-at a 33 16 (k / 64) q, part-at a 65 1024 k h, part-at a 1089 1024 k h) (sym (t ∙ rw (c, p, d, f, g)))
+run-fine-at a i k h l m =
+    let q : k / 64 ≡ i = omega arith in
+    rw (q, part-at a 49 16 i h, part-at a 33 16 i h, part-at a 65 1024 k (omega arith), part-at a 1089 1024 k (omega arith))
+
+-- the first place of a transfer, asked by the place
+first-place : (i k : ℕ) → i * 64 ≤ k → k < i * 64 + 64 → eqb (k % 64) 0 ≡ eqb k (i * 64)
+first-place i k l m = go (eqb k (i * 64)) refl
+  where
+    go : (b : Bool) → eqb k (i * 64) ≡ b → eqb (k % 64) 0 ≡ b
+    go true e = let f = eqb-true k (i * 64) e in eq-eqb (k % 64) 0 (omega arith)
+    go false e = let f = eqb-false k (i * 64) e in ne-eqb (k % 64) 0 (λ z. f (omega arith))
+
+-- the stop before the first run of a transfer is not asked for
+run-first : (first : Bool) (last before start stop size : ℕ) → (first ≡ false → last ≡ before)
+    → runTest true first last start stop size ≡ runTest true first before start stop size
+unfolding runTest
+run-first true last before start stop size e = refl
+run-first false last before start stop size e = rw (e refl)
+
+module _ (a : List ℕ) (i k runs start : ℕ) (h : i < 16) (r : runs ≡ wordAt a (49 + i)) (s : start ≡ wordAt a (65 + k)) where
+  pub run-used-is : (b : Bool) (last size stop : ℕ) → runs ≤ 64 → i * 64 ≤ k → k < i * 64 + runs → (i * 64 < k → last ≡ before (numbersAt a .stops) k)
+      → size ≡ wordAt a (33 + i) → stop ≡ wordAt a (1089 + k) → b ≡ runTest true (eqb k (i * 64)) last start stop size → runFine (numbersAt a) k ≡ b
+  run-used-is b last size stop few l m p n e t =
+      run-fine-at a i k h l (omega arith)
+      ∙ rw (← r, ← s, ← e, ← n, lt-ltb (k % 64) runs (omega arith), first-place i k l (omega arith))
+      (sym (t ∙ run-first (eqb k (i * 64)) last _ start stop size (λ f. p (let g = eqb-false k (i * 64) f in omega arith))))
+
+  module _ (l : i * 64 + runs ≤ k) (m : k < i * 64 + 64) where
+    unused-at : runFine (numbersAt a) k ≡ cond (eqb start 0) (eqb (wordAt a (1089 + k)) 0) false
+    unfolding runTest
+    unused-at = run-fine-at a i k h (omega arith) m ∙ rw (← r, ← s, le-ltb (k % 64) runs (omega arith))
+
+    pub unused-start : (start ≡ 0 → ⊥) → runFine (numbersAt a) k ≡ false
+    unused-start n = unused-at ∙ rw (ne-eqb start 0 n)
+
+    pub unused-stop : start ≡ 0 → (stop : ℕ) → stop ≡ wordAt a (1089 + k) → (stop ≡ 0 → ⊥) → runFine (numbersAt a) k ≡ false
+    unused-stop z stop e n = unused-at ∙ rw (eq-eqb start 0 z, ← e, ne-eqb stop 0 n)
+
+    pub unused-zero : start ≡ 0 → (stop : ℕ) → stop ≡ wordAt a (1089 + k) → stop ≡ 0 → runFine (numbersAt a) k ≡ true
+    unused-zero z stop e n = unused-at ∙ rw (eq-eqb start 0 z, ← e, eq-eqb stop 0 n)
+
+-- where the places of transfers are fine, none has more than 64 runs
+pub few-at : (a : List ℕ) (i : ℕ) → i < 16 → allFrom (slotFine (numbersAt a)) 0 16 ≡ true → wordAt a (49 + i) ≤ 64
+unfolding numbersAt
+few-at a i h e =
+    let z : 0 + i ≡ i = omega arith in
+    rw (← part-at a 49 16 i h) (go (ltb i (wordAt a 0)) (rw z at (all-at (slotFine (numbersAt a)) 0 16 i e h)))
+  where
+    n : Table
+    n = numbersAt a
+
+    go : (b : Bool) → slotTest b (eqb i 0) (before (n .ids) i) (getD (n .ids) i 0) (getD (n .widths) i 0) (getD (n .lengths) i 0) (getD (n .counts) i 0) ≡ true → getD (n .counts) i 0 ≤ 64
+    go true t = slot-used _ _ _ _ _ _ t .few
+    go false t = let u = slot-unused _ _ _ _ _ _ t in rw (u .3) (omega arith)
 
 -- ---- the whole
 pub judged-passed : (a : List ℕ) → judged a ≡ true → (areaOctets ≤ length a) × (imageTest (numbersAt a) ≡ true)

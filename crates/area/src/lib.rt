@@ -1,7 +1,8 @@
 // The lent area that holds a transfer table between calls: 2,113 words of 8 octets.
 ghost use mathlib.Core.Path.{_≡_};
+ghost use mathlib.Core.Bool.{true};
 ghost use mathlib.Core.List.{_++_};
-ghost use Prim.Native.Nat.{_+_, _*_, _≤_, _<_};
+ghost use Prim.Native.Nat.{_+_, _-_, _*_, _≤_, _<_};
 ghost use lib.ListN.{length, drop};
 ghost use Rattle.octets.specs.Put.{put};
 ghost use Rattle.area.specs.Words.{wordOctets, wordAt, wordsAt, Below};
@@ -137,26 +138,20 @@ fn slot_ok(used: bool, first: bool, last: u64, id: u64, width: u64, length: u64,
     runs == 0
 }
 
-// A place that holds a run, the first or after the stop before; or an unused place.
-fn run_ok(used: bool, first: bool, last: u64, start: u64, stop: u64, length: u64) -> bool
-    ensures { λ r. ⌜ r ≡ runTest used first last start stop length ⌝ }
+// A place that holds a run, the first or after the stop before.
+fn run_ok(first: bool, last: u64, start: u64, stop: u64, length: u64) -> bool
+    ensures { λ r. ⌜ r ≡ runTest true first last start stop length ⌝ }
 {
-    if used {
-        if stop <= start {
-            return false;
-        }
-        if length < stop {
-            return false;
-        }
-        if first {
-            return true;
-        }
-        return last < start;
-    }
-    if start != 0 {
+    if stop <= start {
         return false;
     }
-    stop == 0
+    if length < stop {
+        return false;
+    }
+    if first {
+        return true;
+    }
+    last < start
 }
 
 // Whether all 16 places of transfers are fine, of which `count` are used.
@@ -181,23 +176,70 @@ fn slots_ok(area: &[u8], count: u64) -> bool
     true
 }
 
-// Whether all 1,024 places of runs are fine.
-fn runs_ok(area: &[u8]) -> bool
-    requires { ⌜ 16904 ≤ length (now area) ⌝ }
-    ensures { λ r. ⌜ r ≡ allFrom (runFine (numbersAt (now (area .entry)))) 0 1024 ⌝ }
+// Whether the used places of runs of transfer i, the first `runs` of its 64, are fine.
+fn used_ok(area: &[u8], i: usize, runs: usize, size: u64) -> bool
+    requires { ⌜ (16904 ≤ length (now area)) × (i < 16) × (runs ≤ 64) × (runs ≡ wordAt (now area) (49 + i)) × (size ≡ wordAt (now area) (33 + i)) ⌝ }
+    ensures { λ r. ⌜ r ≡ allFrom (runFine (numbersAt (now (area .entry)))) (i * 64) runs ⌝ }
 {
+    let first = i * 64;
+    let end = first + runs;
     let mut last: u64 = 0;
-    let mut k: usize = 0;
-    while k < 1024 {
-        let p = k / 64;
-        let j = k % 64;
-        let runs = word(area, 49 + p);
-        let length = word(area, 33 + p);
+    let mut k = first;
+    while k < end {
         let start = word(area, 65 + k);
         let stop = word(area, 1089 + k);
-        if run_ok((j as u64) < runs, j == 0, last, start, stop, length) {
+        if run_ok(k == first, last, start, stop, size) {
             last = stop;
             k += 1;
+        } else {
+            return false;
+        }
+    }
+    true
+}
+
+// Whether the unused places of runs of transfer i, those after the first `runs`, are fine. Start and stop are tested one after
+// the other: where both are read first, the compiler joins the tests and compares octet by octet.
+fn unused_ok(area: &[u8], i: usize, runs: usize) -> bool
+    requires { ⌜ (16904 ≤ length (now area)) × (i < 16) × (runs ≤ 64) × (runs ≡ wordAt (now area) (49 + i)) ⌝ }
+    ensures { λ r. ⌜ r ≡ allFrom (runFine (numbersAt (now (area .entry)))) (i * 64 + runs) (64 - runs) ⌝ }
+{
+    let end = i * 64 + 64;
+    let mut k = i * 64 + runs;
+    while k < end {
+        if word(area, 65 + k) != 0 {
+            return false;
+        }
+        if word(area, 1089 + k) != 0 {
+            return false;
+        }
+        k += 1;
+    }
+    true
+}
+
+// Whether the 64 places of runs of transfer i are fine. Their number and the length are read once for all of them.
+fn places_ok(area: &[u8], i: usize) -> bool
+    requires { ⌜ (16904 ≤ length (now area)) × (i < 16) × (wordAt (now area) (49 + i) ≤ 64) ⌝ }
+    ensures { λ r. ⌜ r ≡ allFrom (runFine (numbersAt (now (area .entry)))) (i * 64) 64 ⌝ }
+{
+    let runs = word(area, 49 + i) as usize;
+    let size = word(area, 33 + i);
+    if used_ok(area, i, runs, size) {
+        return unused_ok(area, i, runs);
+    }
+    false
+}
+
+// Whether all 1,024 places of runs are fine, where those of transfers are.
+fn runs_ok(area: &[u8]) -> bool
+    requires { ⌜ (16904 ≤ length (now area)) × (allFrom (slotFine (numbersAt (now area))) 0 16 ≡ true) ⌝ }
+    ensures { λ r. ⌜ r ≡ allFrom (runFine (numbersAt (now (area .entry)))) 0 1024 ⌝ }
+{
+    let mut i: usize = 0;
+    while i < 16 {
+        if places_ok(area, i) {
+            i += 1;
         } else {
             return false;
         }

@@ -1,4 +1,5 @@
 -- `area::judge` meets its contract: short, too many transfers, a place of a transfer, and then the places of runs. Assumes nothing.
+use mathlib.Core.Path.{sym, _∙_}
 use denote.Ref.{now}
 use Rattle.area.proofs.JudgeLaws.{judged-short, judged-many, judged-slots, judged-runs}
 use native.Mathlib.Omega.{arith}
@@ -19,7 +20,7 @@ slots-ok-requires : tie.Need-slots-ok-requires
 slots-ok-requires c κs = search needs
 
 runs-ok-requires : tie.Need-runs-ok-requires
-runs-ok-requires c κs = search needs
+runs-ok-requires c κs = (omega arith, sym (c .before .slots-ok .ensures) ∙ c .if3 .taken)
 
 returns-3 : tie.Need-returns-3
 returns-3 c =

@@ -6,11 +6,14 @@ ghost use lib.ListN.{length, take, drop};
 ghost use Rattle.octets.specs.Numbers.{beValue, beDigits, Width};
 ghost use Rattle.octets.specs.Put.{put};
 
-// The number that the d octets from `at` on stand for.
+// The number that the d octets from `at` on stand for. Eight go without the loop, which is slow for so many.
 pub fn read_number(s: &[u8], at: usize, d: usize) -> u64
     requires { ⌜ Width d × (at + d ≤ length (now s)) ⌝ }
     ensures { λ r. ⌜ r ≡ beValue (take d (drop at (now (s .entry)))) ⌝ }
 {
+    if d == 8 {
+        return read_eight(s, at);
+    }
     let mut v: u64 = 0;
     let mut i = 0;
     while i < d {

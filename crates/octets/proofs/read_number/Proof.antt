@@ -1,4 +1,5 @@
--- `octets::read_number` meets its contract: the number so far, and the octets that are left, always give the whole number.
+-- `octets::read_number` meets its contract: in the loop the number so far, and the octets that are left, always give the
+-- whole number.
 -- Assumes nothing.
 use Prim.Native.Nat.{_+_, _-_, _^_, _≤_, _<_}
 use mathlib.Core.Path.{_≡_, sym, _∙_}
@@ -18,13 +19,19 @@ Inv-loop s at d v₀ i₀ v i = (i ≤ d) × (v < 256 ^ i) × (beFrom v (take (d
 abbrev μ-loop : tie.MeasureT-loop
 μ-loop s at d v₀ i₀ v i = d - i
 
+read-eight-requires : tie.Need-read-eight-requires Inv-loop μ-loop
+read-eight-requires c κs = omega arith
+
+returns : tie.Need-returns Inv-loop μ-loop
+returns c = let e : c .before .before .before .args .d ≡ 8 = omega arith in rw e (c .read-eight .ensures)
+
 loop-holds : tie.Need-loop-holds Inv-loop μ-loop
 loop-holds c = (omega arith, omega arith, rw (sub-zero, add-zero))
 
 mul-v : tie.Need-mul-v Inv-loop μ-loop
 mul-v c =
     let l = c .before .loop in
-    omega (arith, fits-step (l .i) (l .v) 0 (omega (arith, width-le (c .before .before .pre .0))) (l .inv .1) (omega arith))
+    omega (arith, fits-step (l .i) (l .v) 0 (omega (arith, width-le (c .before .before .before .before .pre .0))) (l .inv .1) (omega arith))
 
 add-v : tie.Need-add-v Inv-loop μ-loop
 add-v c = omega arith
@@ -33,12 +40,12 @@ shared-slice-read-v : tie.Need-shared-slice-read-v Inv-loop μ-loop
 shared-slice-read-v c = omega arith
 
 cast-v : tie.Need-cast-v Inv-loop μ-loop
-cast-v c = let l = c .before .before .loop in omega (arith, c .shared-slice-known .given (c .before .before .before .args .at + l .i))
+cast-v c = let l = c .before .before .loop in omega (arith, c .shared-slice-known2 .given (c .before .before .before .before .before .args .at + l .i))
 
 add-v-2 : tie.Need-add-v-2 Inv-loop μ-loop
 add-v-2 c =
     let l = c .before .before .loop in
-    record { fits = fits-step (l .i) (l .v) _ (omega (arith, width-le (c .before .before .before .pre .0))) (l .inv .1) (c .shared-slice-known .given (c .before .before .before .args .at + l .i) .fits) }
+    record { fits = fits-step (l .i) (l .v) _ (omega (arith, width-le (c .before .before .before .before .before .pre .0))) (l .inv .1) (c .shared-slice-known2 .given (c .before .before .before .before .before .args .at + l .i) .fits) }
 
 add-i : tie.Need-add-i Inv-loop μ-loop
 add-i c = omega arith
@@ -49,16 +56,16 @@ loop-less c = omega arith
 loop-again : tie.Need-loop-again Inv-loop μ-loop
 loop-again c =
     let l = c .before .before .loop in
-    let a = c .before .before .before .args in (
+    let a = c .before .before .before .before .before .args in (
       omega arith,
-      rw add-one (value-step (l .i) (l .v) _ (l .inv .1) (c .shared-slice-known .given (a .at + l .i) .fits)),
+      rw add-one (value-step (l .i) (l .v) _ (l .inv .1) (c .shared-slice-known2 .given (a .at + l .i) .fits)),
       sym (read-step (now (a .s)) (a .at) (a .d) (l .i) (l .v) (omega arith) (omega arith)) ∙ l .inv .2,
     )
 
-returns : tie.Need-returns Inv-loop μ-loop
-returns c =
+returns-2 : tie.Need-returns-2 Inv-loop μ-loop
+returns-2 c =
     let l = c .before .loop in
-    let z : c .before .before .args .d - l .i ≡ 0 = omega arith in
+    let z : c .before .before .before .before .args .d - l .i ≡ 0 = omega arith in
     rw z at (l .inv .2)
 
 pub read-number-spec : {M : Type 1} → statement M
@@ -67,6 +74,8 @@ read-number-spec =
     (tie.spec
     Inv-loop
     μ-loop
+    read-eight-requires
+    returns
     loop-holds
     mul-v
     add-v
@@ -76,4 +85,4 @@ read-number-spec =
     add-i
     loop-less
     loop-again
-    returns)
+    returns-2)

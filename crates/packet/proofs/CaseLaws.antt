@@ -16,10 +16,11 @@ use Rattle.packet_metadata.specs.Metadata.{readMetadata}
 use Rattle.packet_metadata.specs.declared.Metadata.{Metadata}
 use Rattle.packet_metadata.specs.declared.MetadataRead.{MetadataRead}
 use Rattle.packet_metadata.specs.declared.MetadataRead.the-variants as metadata-read
-use Rattle.packet_data.specs.Data.{readData}
+use Rattle.packet_data.specs.Data.{dataRefusal, dataOf, readData}
 use Rattle.packet_data.specs.declared.Data.{Data}
 use Rattle.packet_data.specs.declared.DataRead.{DataRead}
 use Rattle.packet_data.specs.declared.DataRead.the-variants as data-read
+use Rattle.packet_data.proofs.DataLaws.{data-accepted}
 use Rattle.packet_status.specs.declared.StatusRead.{StatusRead}
 use Rattle.packet_status.specs.declared.StatusRead.the-variants as status-read
 use Rattle.packet_status.specs.Status.{readStatus}
@@ -33,6 +34,11 @@ pub read-typed : (t : ℕ) (s : List ℕ) → typeRefusal t s ≡ 0 → readPack
 unfolding typeRefusal
 read-typed t s e =
     sym (read-by-type s (first-none _ _ e) (ap (λ (n : ℕ). readType n s) (sym (type-fine t s e .ptype))))
+
+-- DATA that is not refused is read as DATA, with its fields
+pub data-taken : (s : List ℕ) → dataRefusal s ≡ 0 → readPacket s ≡ read.Data (dataOf s)
+unfolding readType dataRefusal
+data-taken s e = read-typed 3 s (first-none _ _ e) ∙ ap ofData (data-accepted s e)
 
 -- where the answer comes from: one of the three readers, or a refusal before them
 data ReadFrom (s : List ℕ) : Type 0 where

@@ -26,9 +26,9 @@ use Rattle.packet_data.proofs.DataLaws.{data-given}
 use Rattle.packet_data.proofs.RoundTrip as data-trip
 use Rattle.packet_status.specs.WriteFailure.{failureWriteRefusal, failureOctets, failureWritten, failureBuffer}
 use Rattle.packet_status.proofs.RoundTrip as status
-use Rattle.packet.specs.Read.{ofMetadata, ofData, ofStatus, readType, readPacket}
+use Rattle.packet.specs.Read.{ofMetadata, ofStatus, readType, readPacket}
 use Rattle.packet.specs.declared.Read.the-variants as read
-use Rattle.packet.proofs.CaseLaws.{read-typed, packet-metadata, packet-data}
+use Rattle.packet.proofs.CaseLaws.{read-typed, data-taken, packet-metadata, packet-data}
 
 -- a writer that answers a size refused nothing, and left the packet at the start of the buffer
 written-size : (n size m : ℕ) → writtenOf n size ≡ Size m → (n ≡ 0) × (size ≡ m)
@@ -60,12 +60,10 @@ module _ (flags id : ℕ) (timestamp : List ℕ) (offset : ℕ) (payload old : L
     start = payloadAt flags;
     length = length payload;
   })
-  unfolding readType dataRefusal
   data-reads-back =
       let s = dataOctets flags id timestamp offset payload in
-      let r = data-trip.data-read-written flags id timestamp offset payload (length old) (accepted .0) in
-      rw data-packet-written
-      (read-typed 3 s (first-none _ _ (data-given s _ r .0)) ∙ ap ofData r)
+      let g = data-given s _ (data-trip.data-read-written flags id timestamp offset payload (length old) (accepted .0)) in
+      rw data-packet-written (data-taken s (g .0) ∙ ap read.Data (g .1))
 
   pub payload-reads-back : payloadOf (take n (dataBuffer flags id timestamp offset payload old)) ≡ payload
   payload-reads-back = rw data-packet-written (data-trip.payload-read-written flags id timestamp offset payload (length old) (accepted .0))

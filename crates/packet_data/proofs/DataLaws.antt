@@ -50,6 +50,11 @@ pub part-refused : (n : ℕ) (s : List ℕ) → (n ≡ 0 → ⊥) → [] ≡ pay
 part-refused zero s h = absurd (h refl)
 part-refused (suc n) s h = refl
 
+-- a read that is not refused gives the fields of the definition
+pub data-accepted : (s : List ℕ) → dataRefusal s ≡ 0 → readData s ≡ Accepted (dataOf s)
+unfolding readData
+data-accepted s e = rw e
+
 -- an accepted read was not refused, and its fields are those of the definition
 pub data-given : (s : List ℕ) (d : Data) → readData s ≡ Accepted d → (dataRefusal s ≡ 0) × (dataOf s ≡ d)
 unfolding readData

@@ -535,16 +535,18 @@ static double median(double *values, size_t count)
     return values[count / 2];
 }
 
-/* What reading the clock twice takes by itself. */
+/* What reading the clock twice takes by itself, in each repeat: one moment alone may be a busy one. */
+static double clocks[REPEATS_MOST];
+
 static double clock_time(void)
 {
-    static double times[1001];
+    static double readings[101];
     size_t i;
-    for (i = 0; i < 1001; i++) {
+    for (i = 0; i < 101; i++) {
         double start = now();
-        times[i] = now() - start;
+        readings[i] = now() - start;
     }
-    return median(times, 1001);
+    return median(readings, 101);
 }
 
 /*
@@ -553,7 +555,7 @@ static double clock_time(void)
  */
 static double times[CASES_MOST][RECEIVERS][CALLS / PART][REPEATS_MOST];
 
-static void sample(size_t which, struct tables *t, enum receiver receiver, size_t repeat, double clock)
+static void sample(size_t which, struct tables *t, enum receiver receiver, size_t repeat)
 {
     const struct bench_case *c = cases[which];
     size_t i;
@@ -563,18 +565,18 @@ static void sample(size_t which, struct tables *t, enum receiver receiver, size_
     for (i = 0; i < c->count / PART; i++) {
         double start = now();
         kept += runners[receiver](c, t, i * PART, (i + 1) * PART);
-        times[which][receiver][i][repeat] = now() - start - clock;
+        times[which][receiver][i][repeat] = now() - start;
     }
 }
 
-/* Nanoseconds for a call: the medians of the parts, together. */
-static double time_of(size_t which, enum receiver receiver, size_t repeats)
+/* Nanoseconds for a call: the medians of the parts, together, without the clock's own time. */
+static double time_of(size_t which, enum receiver receiver, size_t repeats, double clock)
 {
     const struct bench_case *c = cases[which];
     double sum = 0;
     size_t i;
     for (i = 0; i < c->count / PART; i++)
-        sum += median(times[which][receiver][i], repeats);
+        sum += median(times[which][receiver][i], repeats) - clock;
     return sum / (double)c->count;
 }
 
@@ -596,15 +598,18 @@ static void print_time(double time)
 
 static void measure(size_t repeats)
 {
-    double clock = clock_time(), worst_record = 0, worst_read = 0;
+    double clock, worst_record = 0, worst_read = 0;
     struct tables *t = allocated(sizeof *t);
     size_t i, k, r;
     make_tables(t);
-    for (r = 0; r < repeats; r++)
+    for (r = 0; r < repeats; r++) {
+        clocks[r] = clock_time();
         for (i = 0; i < case_count; i++)
             for (k = 0; k < RECEIVERS; k++)
                 if (measured(cases[i], k))
-                    sample(i, t, k, r, clock);
+                    sample(i, t, k, r);
+    }
+    clock = median(clocks, repeats);
     printf("Nanoseconds a call, medians of %d, and ratios\n", (int)repeats);
     printf("%-31s %8s %8s %8s %8s %7s %7s %7s\n", "", "ours", "(A)", "(B)", "(C)", "ours/A", "ours/B", "ours/C");
     for (i = 0; i < case_count; i++) {
@@ -612,7 +617,7 @@ static void measure(size_t repeats)
         for (k = 0; k < RECEIVERS; k++) {
             if (!measured(cases[i], k))
                 continue;
-            time[k] = time_of(i, k, repeats);
+            time[k] = time_of(i, k, repeats, clock);
             ratio[k] = time[OURS] / time[k];
         }
         printf("%-31s", cases[i]->name);

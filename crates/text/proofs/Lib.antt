@@ -1,3 +1,4 @@
 pub mod AddedLaws
 pub mod HexLaws
 pub mod DecimalLaws
+pub mod ReadingLaws

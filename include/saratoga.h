@@ -125,7 +125,9 @@ struct saratoga_packet {
 struct saratoga_packet saratoga_read(const uint8_t *packet, size_t packet_len);
 
 /*
- * Reads hole `index`, counted from 0, of a success STATUS. The whole packet is judged as by saratoga_read.
+ * Reads hole `index`, counted from 0, of a success STATUS. The whole packet is judged as by saratoga_read, at each call. To
+ * walk a long list in one pass, read it once by saratoga_read: its holes are then the `hole_count` pairs of `width` octets each,
+ * big-endian, from packet + holes_at on.
  *
  * Order of refusals: 2, 1, 3, 4 (any type but STATUS), 11 (a failure STATUS), 5, 1, 11, 19 (`index` is not below
  * the number of holes).

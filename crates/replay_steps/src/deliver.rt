@@ -2,11 +2,11 @@
 // sent is a second line.
 ghost use Prim.Native.Nat.{_≤_};
 ghost use lib.ListN.{length};
-use crate::answers::put_sent;
 use header::Refusal;
 use packet::Read;
 use packet_data::Data;
 use packet_metadata::Metadata;
+use replay_answers::put_sent;
 use table::Opened;
 use table::Recorded;
 

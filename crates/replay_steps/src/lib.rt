@@ -1,5 +1,4 @@
 // What `replay` does for each record: the receiver's operation is called, and its answer becomes a line of text.
-mod answers;
 mod deliver;
 mod records;
 

@@ -1,13 +1,13 @@
 // Records: the kind, the length of the body, and what is answered to each.
 ghost use Prim.Native.Nat.{_≤_};
 ghost use lib.ListN.{length};
-use crate::answers::put_close;
-use crate::answers::put_fresh;
-use crate::answers::put_open;
-use crate::answers::put_read;
-use crate::answers::put_record;
-use crate::answers::put_written;
 use crate::deliver::deliver;
+use replay_answers::put_close;
+use replay_answers::put_fresh;
+use replay_answers::put_open;
+use replay_answers::put_read;
+use replay_answers::put_record;
+use replay_answers::put_written;
 
 // The length of a record's body, by the five octets in front of it.
 pub fn body_length(head: &[u8]) -> u64 {

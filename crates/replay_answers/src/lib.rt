@@ -1,6 +1,8 @@
 // The answer of each operation as a line, by its cases.
 ghost use Prim.Native.Nat.{_≤_};
 ghost use lib.ListN.{length};
+ghost use Rattle.text.specs.Added.{Added};
+ghost use Rattle.replay_answers.specs.Answers.{freshText, closeText, openingText, openText, recordingText, recordText, readText, statusText, sentText};
 use header::Written;
 use packet::Read;
 use packet_data::Data;
@@ -14,7 +16,7 @@ use table::Recorded;
 // What making a table fresh answered.
 pub fn put_fresh(out: &mut [u8], at: usize, number: u64, a: Finished) -> usize
     requires { ⌜ at ≤ length (now out) ⌝ }
-    ensures { λ r. ⌜ r ≤ length (now (out .exit)) ⌝ }
+    ensures { λ r. ⌜ Added (now (out .entry)) at (freshText number a) (now (out .exit)) r ⌝ }
 {
     match a {
         Finished::Done => replay_lines::put_plain(out, at, number, b" fresh\n"),
@@ -25,7 +27,7 @@ pub fn put_fresh(out: &mut [u8], at: usize, number: u64, a: Finished) -> usize
 // What closing answered.
 pub fn put_close(out: &mut [u8], at: usize, number: u64, id: u64, a: Finished) -> usize
     requires { ⌜ at ≤ length (now out) ⌝ }
-    ensures { λ r. ⌜ r ≤ length (now (out .exit)) ⌝ }
+    ensures { λ r. ⌜ Added (now (out .entry)) at (closeText number id a) (now (out .exit)) r ⌝ }
 {
     match a {
         Finished::Done => replay_lines::put_closed(out, at, number, id),
@@ -36,7 +38,7 @@ pub fn put_close(out: &mut [u8], at: usize, number: u64, id: u64, a: Finished) -
 // What opening by METADATA m answered.
 fn put_opening(out: &mut [u8], at: usize, number: u64, m: Metadata, a: Opened) -> usize
     requires { ⌜ at ≤ length (now out) ⌝ }
-    ensures { λ r. ⌜ r ≤ length (now (out .exit)) ⌝ }
+    ensures { λ r. ⌜ Added (now (out .entry)) at (openingText number m a) (now (out .exit)) r ⌝ }
 {
     match a {
         Opened::New(x) => replay_lines::put_opened(out, at, number, m, x, b" new\n"),
@@ -50,7 +52,7 @@ fn put_opening(out: &mut [u8], at: usize, number: u64, m: Metadata, a: Opened) -
 // What opening answered, with what its packet was read as.
 pub fn put_open(out: &mut [u8], at: usize, number: u64, m: MetadataRead, a: Opened) -> usize
     requires { ⌜ at ≤ length (now out) ⌝ }
-    ensures { λ r. ⌜ r ≤ length (now (out .exit)) ⌝ }
+    ensures { λ r. ⌜ Added (now (out .entry)) at (openText number m a) (now (out .exit)) r ⌝ }
 {
     match m {
         MetadataRead::Accepted(f) => put_opening(out, at, number, f, a),
@@ -61,7 +63,7 @@ pub fn put_open(out: &mut [u8], at: usize, number: u64, m: MetadataRead, a: Open
 // What recording DATA d answered.
 fn put_recording(out: &mut [u8], at: usize, number: u64, d: Data, a: Recorded) -> usize
     requires { ⌜ at ≤ length (now out) ⌝ }
-    ensures { λ r. ⌜ r ≤ length (now (out .exit)) ⌝ }
+    ensures { λ r. ⌜ Added (now (out .entry)) at (recordingText number d a) (now (out .exit)) r ⌝ }
 {
     match a {
         Recorded::Accepted(x) => replay_lines::put_recorded(out, at, number, d, x),
@@ -72,7 +74,7 @@ fn put_recording(out: &mut [u8], at: usize, number: u64, d: Data, a: Recorded) -
 // What recording answered, with what its packet was read as.
 pub fn put_record(out: &mut [u8], at: usize, number: u64, d: DataRead, a: Recorded) -> usize
     requires { ⌜ at ≤ length (now out) ⌝ }
-    ensures { λ r. ⌜ r ≤ length (now (out .exit)) ⌝ }
+    ensures { λ r. ⌜ Added (now (out .entry)) at (recordText number d a) (now (out .exit)) r ⌝ }
 {
     match d {
         DataRead::Accepted(f) => put_recording(out, at, number, f, a),
@@ -81,11 +83,11 @@ pub fn put_record(out: &mut [u8], at: usize, number: u64, d: DataRead, a: Record
 }
 
 // What a packet p was read as.
-pub fn put_read(out: &mut [u8], at: usize, number: u64, p: &[u8], r: Read) -> usize
+pub fn put_read(out: &mut [u8], at: usize, number: u64, p: &[u8], a: Read) -> usize
     requires { ⌜ at ≤ length (now out) ⌝ }
-    ensures { λ r. ⌜ r ≤ length (now (out .exit)) ⌝ }
+    ensures { λ r. ⌜ Added (now (out .entry)) at (readText number (now (p .entry)) a) (now (out .exit)) r ⌝ }
 {
-    match r {
+    match a {
         Read::Metadata(m) => replay_lines::put_metadata(out, at, number, p, m),
         Read::Data(d) => replay_lines::put_data(out, at, number, p, d),
         Read::Success(s) => replay_lines::put_success(out, at, number, p, s),
@@ -97,7 +99,7 @@ pub fn put_read(out: &mut [u8], at: usize, number: u64, p: &[u8], r: Read) -> us
 // What writing STATUS into `lent` answered.
 pub fn put_written(out: &mut [u8], at: usize, number: u64, w: Written, lent: &[u8]) -> usize
     requires { ⌜ at ≤ length (now out) ⌝ }
-    ensures { λ r. ⌜ r ≤ length (now (out .exit)) ⌝ }
+    ensures { λ r. ⌜ Added (now (out .entry)) at (statusText number w (now (lent .entry))) (now (out .exit)) r ⌝ }
 {
     match w {
         Written::Size(n) => {
@@ -110,7 +112,7 @@ pub fn put_written(out: &mut [u8], at: usize, number: u64, w: Written, lent: &[u
 // The packet to send that was written into `lent`; no line where none was.
 pub fn put_sent(out: &mut [u8], at: usize, number: u64, w: Written, lent: &[u8]) -> usize
     requires { ⌜ at ≤ length (now out) ⌝ }
-    ensures { λ r. ⌜ r ≤ length (now (out .exit)) ⌝ }
+    ensures { λ r. ⌜ Added (now (out .entry)) at (sentText number w (now (lent .entry))) (now (out .exit)) r ⌝ }
 {
     match w {
         Written::Size(n) => {

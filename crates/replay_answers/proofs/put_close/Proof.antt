@@ -1,0 +1,53 @@
+-- `replay_answers::put_close` meets its contract: a line for each case.
+-- Assumes nothing.
+use mathlib.Core.Path.{sym, ap}
+use Rattle.text.proofs.AddedLaws.{added-as}
+use Rattle.replay_answers.specs.Answers.{closeText}
+use borrow.Author.Needs.{needs}
+use Rattle.replay_answers.proofs.put_close.Statement.{statement}
+use Rattle.replay_answers.proofs.put_close.Tie as tie
+
+enum-told : tie.Need-enum-told
+enum-told c = search needs
+
+put-closed-requires : tie.Need-put-closed-requires
+put-closed-requires c κs = c .before .before .before .before .pre
+
+enum-known-a : tie.Need-enum-known-a
+enum-known-a c = search needs
+
+put-refused-requires : tie.Need-put-refused-requires
+put-refused-requires c κs = c .before .before .before .before .before .pre
+
+same-length : tie.Need-same-length
+same-length c = c .before .before .put-closed .ensures .size
+
+returns : tie.Need-returns
+unfolding closeText
+returns c =
+    let a = c .before .before .before .before .before .before .before .args in
+    added-as (ap (closeText (a .number) (a .id)) (sym (c .before .before .before .before .enum-told .given .1)))
+    (c .before .before .put-closed .ensures)
+
+same-length-2 : tie.Need-same-length-2
+same-length-2 c = c .before .before .put-refused .ensures .size
+
+returns-2 : tie.Need-returns-2
+unfolding closeText
+returns-2 c =
+    let a = c .before .before .before .before .before .before .before .before .args in
+    added-as (ap (closeText (a .number) (a .id)) (sym (c .before .before .before .before .before .a .given .1)))
+    (c .before .before .put-refused .ensures)
+
+pub put-close-spec : {M : Type 1} → statement M
+put-close-spec =
+    tie.close
+    (tie.spec
+    enum-told
+    put-closed-requires
+    enum-known-a
+    put-refused-requires
+    same-length
+    returns
+    same-length-2
+    returns-2)

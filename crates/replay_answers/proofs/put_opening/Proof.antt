@@ -1,0 +1,81 @@
+-- `replay_answers::put_opening` meets its contract: a line for each case.
+-- Assumes nothing.
+use mathlib.Core.Path.{sym, ap}
+use Rattle.text.proofs.AddedLaws.{added-as}
+use Rattle.replay_answers.specs.Answers.{openingText}
+use borrow.Author.Needs.{needs}
+use Rattle.replay_answers.proofs.put_opening.Statement.{statement}
+use Rattle.replay_answers.proofs.put_opening.Tie as tie
+
+enum-known-a : tie.Need-enum-known-a
+enum-known-a c = search needs
+
+slice-aggregate-put-opened : tie.Need-slice-aggregate-put-opened
+slice-aggregate-put-opened c = search needs
+
+put-opened-requires : tie.Need-put-opened-requires
+put-opened-requires c κs = c .before .before .before .before .before .before .pre
+
+enum-known-a-2 : tie.Need-enum-known-a-2
+enum-known-a-2 c = search needs
+
+slice-aggregate-put-opened-2 : tie.Need-slice-aggregate-put-opened-2
+slice-aggregate-put-opened-2 c = search needs
+
+put-opened-requires-2 : tie.Need-put-opened-requires-2
+put-opened-requires-2 c κs = c .before .before .before .before .before .before .pre
+
+enum-known-a-3 : tie.Need-enum-known-a-3
+enum-known-a-3 c = search needs
+
+put-refused-requires : tie.Need-put-refused-requires
+put-refused-requires c κs = c .before .before .before .before .before .pre
+
+same-length : tie.Need-same-length
+same-length c = c .before .before .put-opened .ensures .size
+
+returns : tie.Need-returns
+unfolding openingText
+returns c =
+    let a = c .before .before .before .before .before .before .before .before .before .args in
+    added-as (ap (openingText (a .number) (a .m)) (sym (c .before .before .before .before .before .before .a .given .1)))
+    (c .before .before .put-opened .ensures)
+
+same-length-2 : tie.Need-same-length-2
+same-length-2 c = c .before .before .put-opened2 .ensures .size
+
+returns-2 : tie.Need-returns-2
+unfolding openingText
+returns-2 c =
+    let a = c .before .before .before .before .before .before .before .before .before .args in
+    added-as (ap (openingText (a .number) (a .m)) (sym (c .before .before .before .before .before .before .a2 .given .1)))
+    (c .before .before .put-opened2 .ensures)
+
+same-length-3 : tie.Need-same-length-3
+same-length-3 c = c .before .before .put-refused .ensures .size
+
+returns-3 : tie.Need-returns-3
+unfolding openingText
+returns-3 c =
+    let a = c .before .before .before .before .before .before .before .before .args in
+    added-as (ap (openingText (a .number) (a .m)) (sym (c .before .before .before .before .before .a3 .given .1)))
+    (c .before .before .put-refused .ensures)
+
+pub put-opening-spec : {M : Type 1} → statement M
+put-opening-spec =
+    tie.close
+    (tie.spec
+    enum-known-a
+    slice-aggregate-put-opened
+    put-opened-requires
+    enum-known-a-2
+    slice-aggregate-put-opened-2
+    put-opened-requires-2
+    enum-known-a-3
+    put-refused-requires
+    same-length
+    returns
+    same-length-2
+    returns-2
+    same-length-3
+    returns-3)

@@ -1,0 +1,54 @@
+-- `replay_answers::put_record` meets its contract: a line for each case.
+-- Assumes nothing.
+use mathlib.Core.Path.{sym, ap}
+use Rattle.packet_data.specs.declared.DataRead.{DataRead}
+use Rattle.text.proofs.AddedLaws.{added-as}
+use Rattle.replay_answers.specs.Answers.{recordText}
+use borrow.Author.Needs.{needs}
+use Rattle.replay_answers.proofs.put_record.Statement.{statement}
+use Rattle.replay_answers.proofs.put_record.Tie as tie
+
+enum-known-d : tie.Need-enum-known-d
+enum-known-d c = search needs
+
+put-recording-requires : tie.Need-put-recording-requires
+put-recording-requires c κs = c .before .before .before .before .before .pre
+
+enum-known-d-2 : tie.Need-enum-known-d-2
+enum-known-d-2 c = search needs
+
+put-refused-requires : tie.Need-put-refused-requires
+put-refused-requires c κs = c .before .before .before .before .before .pre
+
+same-length : tie.Need-same-length
+same-length c = c .before .before .put-recording .ensures .size
+
+returns : tie.Need-returns
+unfolding recordText
+returns c =
+    let a = c .before .before .before .before .before .before .before .before .args in
+    added-as (ap (λ (x : DataRead). recordText (a .number) x (a .a)) (sym (c .before .before .before .before .before .d .given .1)))
+    (c .before .before .put-recording .ensures)
+
+same-length-2 : tie.Need-same-length-2
+same-length-2 c = c .before .before .put-refused .ensures .size
+
+returns-2 : tie.Need-returns-2
+unfolding recordText
+returns-2 c =
+    let a = c .before .before .before .before .before .before .before .before .args in
+    added-as (ap (λ (x : DataRead). recordText (a .number) x (a .a)) (sym (c .before .before .before .before .before .d2 .given .1)))
+    (c .before .before .put-refused .ensures)
+
+pub put-record-spec : {M : Type 1} → statement M
+put-record-spec =
+    tie.close
+    (tie.spec
+    enum-known-d
+    put-recording-requires
+    enum-known-d-2
+    put-refused-requires
+    same-length
+    returns
+    same-length-2
+    returns-2)

@@ -1,0 +1,53 @@
+-- `replay_answers::put_recording` meets its contract: a line for each case.
+-- Assumes nothing.
+use mathlib.Core.Path.{sym, ap}
+use Rattle.text.proofs.AddedLaws.{added-as}
+use Rattle.replay_answers.specs.Answers.{recordingText}
+use borrow.Author.Needs.{needs}
+use Rattle.replay_answers.proofs.put_recording.Statement.{statement}
+use Rattle.replay_answers.proofs.put_recording.Tie as tie
+
+enum-known-a : tie.Need-enum-known-a
+enum-known-a c = search needs
+
+put-recorded-requires : tie.Need-put-recorded-requires
+put-recorded-requires c κs = c .before .before .before .before .before .pre
+
+enum-known-a-2 : tie.Need-enum-known-a-2
+enum-known-a-2 c = search needs
+
+put-refused-requires : tie.Need-put-refused-requires
+put-refused-requires c κs = c .before .before .before .before .before .pre
+
+same-length : tie.Need-same-length
+same-length c = c .before .before .put-recorded .ensures .size
+
+returns : tie.Need-returns
+unfolding recordingText
+returns c =
+    let a = c .before .before .before .before .before .before .before .before .args in
+    added-as (ap (recordingText (a .number) (a .d)) (sym (c .before .before .before .before .before .a .given .1)))
+    (c .before .before .put-recorded .ensures)
+
+same-length-2 : tie.Need-same-length-2
+same-length-2 c = c .before .before .put-refused .ensures .size
+
+returns-2 : tie.Need-returns-2
+unfolding recordingText
+returns-2 c =
+    let a = c .before .before .before .before .before .before .before .before .args in
+    added-as (ap (recordingText (a .number) (a .d)) (sym (c .before .before .before .before .before .a2 .given .1)))
+    (c .before .before .put-refused .ensures)
+
+pub put-recording-spec : {M : Type 1} → statement M
+put-recording-spec =
+    tie.close
+    (tie.spec
+    enum-known-a
+    put-recorded-requires
+    enum-known-a-2
+    put-refused-requires
+    same-length
+    returns
+    same-length-2
+    returns-2)

@@ -1,0 +1,57 @@
+-- `replay_answers::put_sent` meets its contract: a line for each case.
+-- Assumes nothing.
+use mathlib.Core.Path.{sym, ap}
+use denote.Ref.{now}
+use Rattle.header.specs.declared.Written.{Written}
+use Rattle.text.proofs.AddedLaws.{added-as, added-none}
+use Rattle.replay_lines.specs.Lines.{octetsLine}
+use Rattle.replay_lines.specs.Words.{w-send}
+use Rattle.replay_answers.specs.Answers.{sentText}
+use borrow.Author.Needs.{needs}
+use Rattle.replay_answers.proofs.put_sent.Statement.{statement}
+use Rattle.replay_answers.proofs.put_sent.Tie as tie
+
+enum-known-w : tie.Need-enum-known-w
+enum-known-w c = search needs
+
+slice-aggregate-put-packet : tie.Need-slice-aggregate-put-packet
+slice-aggregate-put-packet c = search needs
+
+part-requires : tie.Need-part-requires
+part-requires c κs = search needs
+
+put-packet-requires : tie.Need-put-packet-requires
+put-packet-requires c κs = search needs
+
+enum-told : tie.Need-enum-told
+enum-told c = search needs
+
+same-length : tie.Need-same-length
+same-length c = c .before .before .put-packet .ensures .size
+
+returns : tie.Need-returns
+unfolding sentText
+returns c =
+    let a = c .before .before .before .before .before .before .before .before .before .before .before .args in
+    added-as (ap (λ (x : Written). sentText (a .number) x (now (a .lent))) (sym (c .before .before .before .before .before .before .before .w .given .1)))
+    (added-as (ap (octetsLine (a .number) w-send) (c .before .before .before .part .ensures)) (c .before .before .put-packet .ensures))
+
+returns-2 : tie.Need-returns-2
+unfolding sentText
+returns-2 c =
+    let a = c .before .before .before .before .args in
+    added-as (ap (λ (x : Written). sentText (a .number) x (now (a .lent))) (sym (c .enum-told .given .1)))
+    (added-none (now (a .out)) (a .at) (c .before .before .before .before .pre))
+
+pub put-sent-spec : {M : Type 1} → statement M
+put-sent-spec =
+    tie.close
+    (tie.spec
+    enum-known-w
+    slice-aggregate-put-packet
+    part-requires
+    put-packet-requires
+    enum-told
+    same-length
+    returns
+    returns-2)

@@ -1,0 +1,65 @@
+-- `replay_answers::put_written` meets its contract: a line for each case.
+-- Assumes nothing.
+use mathlib.Core.Path.{sym, ap}
+use denote.Ref.{now}
+use Rattle.header.specs.declared.Written.{Written}
+use Rattle.text.proofs.AddedLaws.{added-as}
+use Rattle.replay_lines.specs.Lines.{octetsLine}
+use Rattle.replay_lines.specs.Words.{w-written}
+use Rattle.replay_answers.specs.Answers.{statusText}
+use borrow.Author.Needs.{needs}
+use Rattle.replay_answers.proofs.put_written.Statement.{statement}
+use Rattle.replay_answers.proofs.put_written.Tie as tie
+
+enum-known-w : tie.Need-enum-known-w
+enum-known-w c = search needs
+
+slice-aggregate-put-packet : tie.Need-slice-aggregate-put-packet
+slice-aggregate-put-packet c = search needs
+
+part-requires : tie.Need-part-requires
+part-requires c κs = search needs
+
+put-packet-requires : tie.Need-put-packet-requires
+put-packet-requires c κs = search needs
+
+enum-known-w-2 : tie.Need-enum-known-w-2
+enum-known-w-2 c = search needs
+
+put-refused-requires : tie.Need-put-refused-requires
+put-refused-requires c κs = c .before .before .before .before .before .before .pre
+
+same-length : tie.Need-same-length
+same-length c = c .before .before .put-packet .ensures .size
+
+returns : tie.Need-returns
+unfolding statusText
+returns c =
+    let a = c .before .before .before .before .before .before .before .before .before .before .before .args in
+    added-as (ap (λ (x : Written). statusText (a .number) x (now (a .lent))) (sym (c .before .before .before .before .before .before .before .w .given .1)))
+    (added-as (ap (octetsLine (a .number) w-written) (c .before .before .before .part .ensures)) (c .before .before .put-packet .ensures))
+
+same-length-2 : tie.Need-same-length-2
+same-length-2 c = c .before .before .put-refused .ensures .size
+
+returns-2 : tie.Need-returns-2
+unfolding statusText
+returns-2 c =
+    let a = c .before .before .before .before .before .before .before .before .before .args in
+    added-as (ap (λ (x : Written). statusText (a .number) x (now (a .lent))) (sym (c .before .before .before .before .before .w2 .given .1)))
+    (c .before .before .put-refused .ensures)
+
+pub put-written-spec : {M : Type 1} → statement M
+put-written-spec =
+    tie.close
+    (tie.spec
+    enum-known-w
+    slice-aggregate-put-packet
+    part-requires
+    put-packet-requires
+    enum-known-w-2
+    put-refused-requires
+    same-length
+    returns
+    same-length-2
+    returns-2)

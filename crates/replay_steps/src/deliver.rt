@@ -1,7 +1,12 @@
 // What a link program does with a packet off the dish: METADATA opens, DATA is recorded, STATUS is read, and what is to be
 // sent is a second line.
+ghost use mathlib.Core.Path.{_≡_};
 ghost use Prim.Native.Nat.{_≤_};
 ghost use lib.ListN.{length};
+ghost use Rattle.area.specs.Operations.{openArea, recordArea};
+ghost use Rattle.packet.specs.Read.{readPacket};
+ghost use Rattle.text.specs.Added.{Added};
+ghost use Rattle.replay_steps.specs.Deliver.{failureSent, refusalLines, openingLines, statusSent, recordingLines, deliverLines, deliverArea};
 use header::Refusal;
 use packet::Read;
 use packet_data::Data;
@@ -20,7 +25,7 @@ fn put_failure_sent(
     lent: &mut [u8],
 ) -> usize
     requires { ⌜ at ≤ length (now out) ⌝ }
-    ensures { λ r. ⌜ r ≤ length (now (out .exit)) ⌝ }
+    ensures { λ r. ⌜ Added (now (out .entry)) at (failureSent number (now (p .entry)) code (now (lent .entry))) (now (out .exit)) r ⌝ }
 {
     if code == 0 {
         return at;
@@ -42,7 +47,7 @@ fn put_refusal(
     lent: &mut [u8],
 ) -> usize
     requires { ⌜ at ≤ length (now out) ⌝ }
-    ensures { λ r. ⌜ r ≤ length (now (out .exit)) ⌝ }
+    ensures { λ r. ⌜ Added (now (out .entry)) at (refusalLines number (now (p .entry)) x (now (lent .entry))) (now (out .exit)) r ⌝ }
 {
     let next = replay_lines::put_refused(out, at, number, x);
     put_failure_sent(out, next, number, p, x.code, lent)
@@ -59,7 +64,7 @@ fn put_opened(
     lent: &mut [u8],
 ) -> usize
     requires { ⌜ at ≤ length (now out) ⌝ }
-    ensures { λ r. ⌜ r ≤ length (now (out .exit)) ⌝ }
+    ensures { λ r. ⌜ Added (now (out .entry)) at (openingLines number (now (p .entry)) m a (now (lent .entry))) (now (out .exit)) r ⌝ }
 {
     match a {
         Opened::New(x) => replay_lines::put_opened(out, at, number, m, x, b" new\n"),
@@ -80,7 +85,7 @@ fn put_status_sent(
     lent: &mut [u8],
 ) -> usize
     requires { ⌜ at ≤ length (now out) ⌝ }
-    ensures { λ r. ⌜ r ≤ length (now (out .exit)) ⌝ }
+    ensures { λ r. ⌜ Added (now (out .entry)) at (statusSent number (now (area .entry)) d (now (lent .entry))) (now (out .exit)) r ⌝ }
 {
     if d.wanted == 0 {
         return at;
@@ -101,7 +106,7 @@ fn put_recorded(
     lent: &mut [u8],
 ) -> usize
     requires { ⌜ at ≤ length (now out) ⌝ }
-    ensures { λ r. ⌜ r ≤ length (now (out .exit)) ⌝ }
+    ensures { λ r. ⌜ Added (now (out .entry)) at (recordingLines number (now (p .entry)) d a (now (area .entry)) (now (lent .entry))) (now (out .exit)) r ⌝ }
 {
     match a {
         Recorded::Accepted(x) => {
@@ -121,7 +126,8 @@ fn open(
     lent: &mut [u8],
     out: &mut [u8],
 ) -> usize
-    ensures { λ r. ⌜ r ≤ length (now (out .exit)) ⌝ }
+    ensures { λ r. ⌜ (Added (now (out .entry)) 0 (openingLines number (now (p .entry)) m (openArea (now (area .entry)) (now (p .entry)) .answer) (now (lent .entry))) (now (out .exit)) r)
+        × (now (area .exit) ≡ openArea (now (area .entry)) (now (p .entry)) .area) ⌝ }
 {
     let a = area_open::open(area, p);
     put_opened(out, 0, number, p, m, a, lent)
@@ -129,7 +135,8 @@ fn open(
 
 // Records DATA d, read from p.
 fn record(area: &mut [u8], number: u64, p: &[u8], d: Data, lent: &mut [u8], out: &mut [u8]) -> usize
-    ensures { λ r. ⌜ r ≤ length (now (out .exit)) ⌝ }
+    ensures { λ r. ⌜ (Added (now (out .entry)) 0 (recordingLines number (now (p .entry)) d (recordArea (now (area .entry)) (now (p .entry)) .answer) (recordArea (now (area .entry)) (now (p .entry)) .area) (now (lent .entry))) (now (out .exit)) r)
+        × (now (area .exit) ≡ recordArea (now (area .entry)) (now (p .entry)) .area) ⌝ }
 {
     let a = area_record::record(area, p);
     put_recorded(out, 0, number, area, p, d, a, lent)
@@ -137,7 +144,8 @@ fn record(area: &mut [u8], number: u64, p: &[u8], d: Data, lent: &mut [u8], out:
 
 // The packet p, by its type.
 pub fn deliver(area: &mut [u8], number: u64, p: &[u8], lent: &mut [u8], out: &mut [u8]) -> usize
-    ensures { λ r. ⌜ r ≤ length (now (out .exit)) ⌝ }
+    ensures { λ r. ⌜ (Added (now (out .entry)) 0 (deliverLines number (now (p .entry)) (readPacket (now (p .entry))) (now (area .entry)) (now (lent .entry))) (now (out .exit)) r)
+        × (now (area .exit) ≡ deliverArea (now (p .entry)) (readPacket (now (p .entry))) (now (area .entry))) ⌝ }
 {
     let r = packet::read_packet(p);
     match r {

@@ -1,6 +1,13 @@
 // Records: the kind, the length of the body, and what is answered to each.
-ghost use Prim.Native.Nat.{_≤_};
-ghost use lib.ListN.{length};
+ghost use mathlib.Core.Path.{_≡_};
+ghost use Prim.Native.Nat.{min};
+ghost use Rattle.area.specs.Operations.{openArea, recordArea};
+ghost use Rattle.packet.specs.Read.{readPacket};
+ghost use Rattle.packet_data.specs.Data.{readData};
+ghost use Rattle.packet_metadata.specs.Metadata.{readMetadata};
+ghost use Rattle.text.specs.Added.{Added};
+ghost use Rattle.replay_answers.specs.Answers.{openText, recordText, readText};
+ghost use Rattle.replay_steps.specs.Records.{bodyLength, cutLine, badLine, freshLines, freshAfter, closeLines, closeAfter, writtenLine, statusLines, recordLines, areaAfter};
 use crate::deliver::deliver;
 use replay_answers::put_close;
 use replay_answers::put_fresh;
@@ -10,7 +17,9 @@ use replay_answers::put_record;
 use replay_answers::put_written;
 
 // The length of a record's body, by the five octets in front of it.
-pub fn body_length(head: &[u8]) -> u64 {
+pub fn body_length(head: &[u8]) -> u64
+    ensures { λ r. ⌜ r ≡ bodyLength (now (head .entry)) ⌝ }
+{
     if head.len() < 5 {
         return 0;
     }
@@ -19,20 +28,21 @@ pub fn body_length(head: &[u8]) -> u64 {
 
 // The line of a record inside which the input ends.
 pub fn cut_short(number: u64, out: &mut [u8]) -> usize
-    ensures { λ r. ⌜ r ≤ length (now (out .exit)) ⌝ }
+    ensures { λ r. ⌜ Added (now (out .entry)) 0 (cutLine number) (now (out .exit)) r ⌝ }
 {
     replay_lines::put_plain(out, 0, number, b" cut short\n")
 }
 
 fn bad_length(number: u64, out: &mut [u8]) -> usize
-    ensures { λ r. ⌜ r ≤ length (now (out .exit)) ⌝ }
+    ensures { λ r. ⌜ Added (now (out .entry)) 0 (badLine number) (now (out .exit)) r ⌝ }
 {
     replay_lines::put_plain(out, 0, number, b" bad length\n")
 }
 
 // `F`: makes the table fresh.
 fn fresh(area: &mut [u8], number: u64, body: &[u8], out: &mut [u8]) -> usize
-    ensures { λ r. ⌜ r ≤ length (now (out .exit)) ⌝ }
+    ensures { λ r. ⌜ (Added (now (out .entry)) 0 (freshLines number (now (body .entry)) (now (area .entry))) (now (out .exit)) r)
+        × (now (area .exit) ≡ freshAfter (now (body .entry)) (now (area .entry))) ⌝ }
 {
     if body.len() != 0 {
         return bad_length(number, out);
@@ -43,7 +53,8 @@ fn fresh(area: &mut [u8], number: u64, body: &[u8], out: &mut [u8]) -> usize
 
 // `O`: opens by a packet.
 fn open(area: &mut [u8], number: u64, p: &[u8], out: &mut [u8]) -> usize
-    ensures { λ r. ⌜ r ≤ length (now (out .exit)) ⌝ }
+    ensures { λ r. ⌜ (Added (now (out .entry)) 0 (openText number (readMetadata (now (p .entry))) (openArea (now (area .entry)) (now (p .entry)) .answer)) (now (out .exit)) r)
+        × (now (area .exit) ≡ openArea (now (area .entry)) (now (p .entry)) .area) ⌝ }
 {
     let a = area_open::open(area, p);
     let m = packet_metadata::read_metadata(p);
@@ -52,7 +63,8 @@ fn open(area: &mut [u8], number: u64, p: &[u8], out: &mut [u8]) -> usize
 
 // `D`: records a packet.
 fn record(area: &mut [u8], number: u64, p: &[u8], out: &mut [u8]) -> usize
-    ensures { λ r. ⌜ r ≤ length (now (out .exit)) ⌝ }
+    ensures { λ r. ⌜ (Added (now (out .entry)) 0 (recordText number (readData (now (p .entry))) (recordArea (now (area .entry)) (now (p .entry)) .answer)) (now (out .exit)) r)
+        × (now (area .exit) ≡ recordArea (now (area .entry)) (now (p .entry)) .area) ⌝ }
 {
     let a = area_record::record(area, p);
     let d = packet_data::read_data(p);
@@ -61,7 +73,7 @@ fn record(area: &mut [u8], number: u64, p: &[u8], out: &mut [u8]) -> usize
 
 // `R`: reads a packet.
 fn read(number: u64, p: &[u8], out: &mut [u8]) -> usize
-    ensures { λ r. ⌜ r ≤ length (now (out .exit)) ⌝ }
+    ensures { λ r. ⌜ Added (now (out .entry)) 0 (readText number (now (p .entry)) (readPacket (now (p .entry)))) (now (out .exit)) r ⌝ }
 {
     let r = packet::read_packet(p);
     put_read(out, 0, number, p, r)
@@ -77,7 +89,7 @@ fn write(
     lent: &mut [u8],
     out: &mut [u8],
 ) -> usize
-    ensures { λ r. ⌜ r ≤ length (now (out .exit)) ⌝ }
+    ensures { λ r. ⌜ Added (now (out .entry)) 0 (writtenLine number (now (area .entry)) id skip unasked (now (lent .entry))) (now (out .exit)) r ⌝ }
 {
     let w = area_status::write_status(area, id, skip, unasked, lent);
     put_written(out, 0, number, w, lent)
@@ -85,7 +97,7 @@ fn write(
 
 // The room of a STATUS: what the record says, and at most what is lent.
 fn room_of(asked: u64, most: usize) -> usize
-    ensures { λ r. ⌜ r ≤ most ⌝ }
+    ensures { λ r. ⌜ r ≡ min asked most ⌝ }
 {
     if asked < most as u64 {
         return asked as usize;
@@ -95,7 +107,7 @@ fn room_of(asked: u64, most: usize) -> usize
 
 // `S`: writes STATUS. The body is Id, k, unasked and room, of 4, 8, 1 and 4 octets.
 fn status(area: &[u8], number: u64, body: &[u8], lent: &mut [u8], out: &mut [u8]) -> usize
-    ensures { λ r. ⌜ r ≤ length (now (out .exit)) ⌝ }
+    ensures { λ r. ⌜ Added (now (out .entry)) 0 (statusLines number (now (body .entry)) (now (area .entry)) (now (lent .entry))) (now (out .exit)) r ⌝ }
 {
     if body.len() != 17 {
         return bad_length(number, out);
@@ -109,7 +121,8 @@ fn status(area: &[u8], number: u64, body: &[u8], lent: &mut [u8], out: &mut [u8]
 
 // `C`: closes an Id.
 fn close(area: &mut [u8], number: u64, body: &[u8], out: &mut [u8]) -> usize
-    ensures { λ r. ⌜ r ≤ length (now (out .exit)) ⌝ }
+    ensures { λ r. ⌜ (Added (now (out .entry)) 0 (closeLines number (now (body .entry)) (now (area .entry))) (now (out .exit)) r)
+        × (now (area .exit) ≡ closeAfter (now (body .entry)) (now (area .entry))) ⌝ }
 {
     if body.len() != 4 {
         return bad_length(number, out);
@@ -128,7 +141,8 @@ pub fn answer(
     lent: &mut [u8],
     out: &mut [u8],
 ) -> usize
-    ensures { λ r. ⌜ r ≤ length (now (out .exit)) ⌝ }
+    ensures { λ r. ⌜ (Added (now (out .entry)) 0 (recordLines number kind (now (body .entry)) (now (area .entry)) (now (lent .entry))) (now (out .exit)) r)
+        × (now (area .exit) ≡ areaAfter kind (now (body .entry)) (now (area .entry))) ⌝ }
 {
     if kind == b'F' {
         return fresh(area, number, body, out);

@@ -14,7 +14,7 @@ slice-reshare-prefix-write-all : tie.Need-slice-reshare-prefix-write-all
 slice-reshare-prefix-write-all c = search needs
 
 slice-aggregate-write-all : tie.Need-slice-aggregate-write-all
-slice-aggregate-write-all c = sym (length-take-le (c .before .before .before .cut-short .result) (c .before .before .before .cut-short .last .1 .0) (c .before .before .before .cut-short .ensures))
+slice-aggregate-write-all c = sym (length-take-le (c .before .before .before .cut-short .result) (c .before .before .before .cut-short .last .1 .0) (c .before .before .before .cut-short .ensures .within))
 
 write-all-requires : tie.Need-write-all-requires
 write-all-requires c κs = search needs

@@ -98,7 +98,7 @@ slice-reshare-prefix-write-all : tie.Need-slice-reshare-prefix-write-all
 slice-reshare-prefix-write-all c = search needs
 
 slice-aggregate-write-all : tie.Need-slice-aggregate-write-all
-slice-aggregate-write-all c = sym (length-take-le (c .before .before .before .before .before .before .before .answer .result) (c .before .before .before .before .before .before .before .answer .last .1 .1 .1 .1 .1 .0) (c .before .before .before .before .before .before .before .answer .ensures))
+slice-aggregate-write-all c = sym (length-take-le (c .before .before .before .before .before .before .before .answer .result) (c .before .before .before .before .before .before .before .answer .last .1 .1 .1 .1 .1 .0) (c .before .before .before .before .before .before .before .answer .ensures .0 .within))
 
 write-all-requires : tie.Need-write-all-requires
 write-all-requires c κs = search needs

@@ -1,19 +1,28 @@
--- `replay_steps::body_length` is safe.
+-- `replay_steps::records::body_length` meets its contract: the number that the four octets stand for.
 -- Assumes nothing.
 use native.Mathlib.Omega.{arith}
+use denote.Ref.{now}
+use lib.ListN.{length}
+use borrow.Author.Tests.{lt-ltb, le-ltb}
 use Rattle.octets.specs.Numbers.{four}
-use borrow.Author.Needs.{needs}
+use Rattle.replay_steps.specs.Records.{bodyLength}
 use Rattle.replay_steps.proofs.records.body_length.Statement.{statement}
 use Rattle.replay_steps.proofs.records.body_length.Tie as tie
 
 returns : tie.Need-returns
-returns c = search needs
+unfolding bodyLength
+returns c =
+    let a = c .before .before .args in
+    rw (lt-ltb (length (now (a .head))) 5 (c .if1 .taken))
 
 read-number-requires : tie.Need-read-number-requires
 read-number-requires c κs = (four, omega arith)
 
 returns-2 : tie.Need-returns-2
-returns-2 c = search needs
+unfolding bodyLength
+returns-2 c =
+    let a = c .before .before .before .args in
+    rw (le-ltb (length (now (a .head))) 5 (c .before .if1 .left)) (c .read-number .ensures)
 
 pub body-length-spec : {M : Type 1} → statement M
 body-length-spec = tie.close (tie.spec returns read-number-requires returns-2)

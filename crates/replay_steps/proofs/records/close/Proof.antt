@@ -1,8 +1,17 @@
--- `replay_steps::close` is safe, and its line lies within the buffer.
+-- `replay_steps::records::close` meets its contract: `bad length`, or what closing answers and leaves.
 -- Assumes nothing.
+use mathlib.Core.Path.{ap, _∙_}
+use Prim.Native.Nat.{ℕ}
 use native.Mathlib.Omega.{arith}
-use Rattle.octets.specs.Numbers.{four}
+use denote.Ref.{now}
+use lib.ListN.{length}
+use borrow.Author.Tests.{eq-eqb, ne-eqb}
 use borrow.Author.Needs.{needs}
+use Rattle.octets.specs.Numbers.{four}
+use Rattle.area.specs.Operations.{closeArea}
+use Rattle.text.proofs.AddedLaws.{added-as}
+use Rattle.replay_answers.specs.Answers.{closeText}
+use Rattle.replay_steps.specs.Records.{closeLines, closeAfter}
 use Rattle.replay_steps.proofs.records.close.Statement.{statement}
 use Rattle.replay_steps.proofs.records.close.Tie as tie
 
@@ -13,7 +22,11 @@ same-length : tie.Need-same-length
 same-length c = search needs
 
 returns : tie.Need-returns
-returns c = search needs
+unfolding closeLines closeAfter
+returns c =
+    let a = c .before .before .before .before .before .before .before .before .args in
+    let z = ne-eqb (length (now (a .body))) 4 (c .before .before .before .before .if1 .taken) in
+    (rw z (c .before .before .bad-length .ensures), rw z)
 
 read-number-requires : tie.Need-read-number-requires
 read-number-requires c κs = (four, omega arith)
@@ -31,7 +44,15 @@ same-length-3 : tie.Need-same-length-3
 same-length-3 c = search needs
 
 returns-2 : tie.Need-returns-2
-returns-2 c = search needs
+unfolding closeLines closeAfter
+returns-2 c =
+    let a = c .before .before .before .before .before .before .before .before .before .before .before .before .before .args in
+    let z = eq-eqb (length (now (a .body))) 4 (c .before .before .before .before .before .before .before .before .before .if1 .left) in
+    let i = c .before .before .before .before .before .before .before .before .read-number in
+    let o = c .before .before .before .before .before .before .close .ensures in (
+      rw z (added-as (ap (closeText (a .number) (i .result)) (o .0) ∙ ap (λ (n : ℕ). closeText (a .number) n (closeArea (now (a .area)) n .answer)) (i .ensures)) (c .before .before .put-close .ensures)),
+      rw z (o .1 ∙ ap (λ (n : ℕ). closeArea (now (a .area)) n .area) (i .ensures)),
+    )
 
 pub close-spec : {M : Type 1} → statement M
 close-spec =

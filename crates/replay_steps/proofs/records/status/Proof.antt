@@ -1,11 +1,20 @@
--- `replay_steps::status` is safe, and its line lies within the buffer.
+-- `replay_steps::records::status` meets its contract: `bad length`, or the STATUS by the four numbers of the body.
 -- Assumes nothing.
-use mathlib.Core.Path.{sym}
-use lib.Seq.{length-take-le}
-use denote.Ref.{now}
+use mathlib.Core.Path.{sym, ap, ap₂, _∙_}
+use mathlib.Core.Bool.{not}
+use mathlib.Core.List.{List}
+use Prim.Native.Nat.{ℕ}
 use native.Mathlib.Omega.{arith}
-use Rattle.octets.specs.Numbers.{four, eight}
+use denote.Ref.{now}
+use lib.Dec.{eqb}
+use lib.ListN.{length, take, getD}
+use lib.Seq.{length-take-le}
+use borrow.Author.Tests.{eq-eqb, ne-eqb}
 use borrow.Author.Needs.{needs}
+use Rattle.octets.specs.Numbers.{four, eight}
+use Rattle.text.proofs.AddedLaws.{added-as}
+use Rattle.replay_steps.specs.Records.{numberAt, writtenLine, statusLines}
+use Rattle.replay_steps.proofs.RoomLaws.{take-least}
 use Rattle.replay_steps.proofs.records.status.Statement.{statement}
 use Rattle.replay_steps.proofs.records.status.Tie as tie
 
@@ -16,7 +25,10 @@ same-length : tie.Need-same-length
 same-length c = search needs
 
 returns : tie.Need-returns
-returns c = search needs
+unfolding statusLines
+returns c =
+    let a = c .before .before .before .before .before .before .before .before .before .args in
+    rw (ne-eqb (length (now (a .body))) 17 (c .before .before .before .before .if1 .taken)) (c .before .before .bad-length .ensures)
 
 read-number-requires : tie.Need-read-number-requires
 read-number-requires c κs = (four, omega arith)
@@ -37,7 +49,9 @@ slice-relend-prefix-write : tie.Need-slice-relend-prefix-write
 slice-relend-prefix-write c = search needs
 
 slice-aggregate-write : tie.Need-slice-aggregate-write
-slice-aggregate-write c = sym (length-take-le (c .before .room-of .result) (now (c .before .before .before .before .before .before .before .before .before .before .before .args .lent)) (omega arith))
+slice-aggregate-write c =
+    let a = c .before .before .before .before .before .before .before .before .before .before .before .args in
+    sym (length-take-le (c .before .room-of .result) (now (a .lent)) (omega (arith, c .before .room-of .ensures)))
 
 write-requires : tie.Need-write-requires
 write-requires c κs = search needs
@@ -49,7 +63,19 @@ same-length-3 : tie.Need-same-length-3
 same-length-3 c = search needs
 
 returns-2 : tie.Need-returns-2
-returns-2 c = search needs
+unfolding statusLines
+returns-2 c =
+    let a = c .before .before .before .before .before .before .before .before .before .before .before .before .before .before .before .before .before .args in
+    let id = c .before .before .before .before .before .before .before .before .before .before .before .read-number in
+    let k = c .before .before .before .before .before .before .before .before .before .before .read-number2 in
+    let n = c .before .before .before .before .before .before .before .before .read-number3 in
+    let room = c .before .before .before .before .before .before .before .room-of in
+    let unasked = not (eqb (getD (now (a .body)) 12 0) 0) in
+    let l = ap (λ (r : ℕ). take r (now (a .lent))) (room .ensures) ∙ take-least (n .result) (now (a .lent)) ∙ ap (λ (r : ℕ). take r (now (a .lent))) (n .ensures) in
+    rw (eq-eqb (length (now (a .body))) 17 (c .before .before .before .before .before .before .before .before .before .before .before .before .if1 .left))
+    (added-as (ap (λ (x : ℕ). writtenLine (a .number) (now (a .area)) x (k .result) unasked (take (room .result) (now (a .lent)))) (id .ensures)
+    ∙ ap₂ (λ (x : ℕ) (y : List ℕ). writtenLine (a .number) (now (a .area)) (numberAt 0 4 (now (a .body))) x unasked y) (k .ensures) l)
+    (c .before .before .before .before .write .ensures))
 
 pub status-spec : {M : Type 1} → statement M
 status-spec =

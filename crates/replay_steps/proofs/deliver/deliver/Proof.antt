@@ -1,0 +1,139 @@
+-- `replay_steps::deliver::deliver` meets its contract: what each type of packet gets.
+-- Assumes nothing.
+use mathlib.Core.Path.{sym, ap, _∙_}
+use denote.Ref.{now}
+use borrow.Author.Needs.{needs}
+use Rattle.packet.specs.declared.Read.{Read}
+use Rattle.text.proofs.AddedLaws.{added-as}
+use Rattle.replay_steps.specs.Deliver.{deliverLines, deliverArea}
+use Rattle.replay_steps.proofs.deliver.deliver.Statement.{statement}
+use Rattle.replay_steps.proofs.deliver.deliver.Tie as tie
+
+read-packet-requires : tie.Need-read-packet-requires
+read-packet-requires c κs = search needs
+
+enum-known-r : tie.Need-enum-known-r
+enum-known-r c = search needs
+
+open-requires : tie.Need-open-requires
+open-requires c κs = search needs
+
+enum-known-r-2 : tie.Need-enum-known-r-2
+enum-known-r-2 c = search needs
+
+record-requires : tie.Need-record-requires
+record-requires c κs = search needs
+
+enum-known-r-3 : tie.Need-enum-known-r-3
+enum-known-r-3 c = search needs
+
+put-success-requires : tie.Need-put-success-requires
+put-success-requires c κs = search needs
+
+enum-known-r-4 : tie.Need-enum-known-r-4
+enum-known-r-4 c = search needs
+
+put-failure-requires : tie.Need-put-failure-requires
+put-failure-requires c κs = search needs
+
+enum-known-r-5 : tie.Need-enum-known-r-5
+enum-known-r-5 c = search needs
+
+put-refusal-requires : tie.Need-put-refusal-requires
+put-refusal-requires c κs = search needs
+
+same-length : tie.Need-same-length
+same-length c = search needs
+
+same-length-2 : tie.Need-same-length-2
+same-length-2 c = search needs
+
+same-length-3 : tie.Need-same-length-3
+same-length-3 c = search needs
+
+returns : tie.Need-returns
+unfolding deliverLines deliverArea
+returns c =
+    let a = c .before .before .before .before .before .before .before .before .before .before .before .before .before .before .before .before .before .before .args in
+    let e = sym (c .before .before .before .before .before .before .before .before .before .before .before .r .given .1) ∙ c .before .before .before .before .before .before .before .before .before .before .before .before .before .read-packet .ensures in
+    (added-as (ap (λ (x : Read). deliverLines (a .number) (now (a .p)) x (now (a .area)) (now (a .lent))) e) (c .before .before .before .before .before .before .«open» .ensures .0), c .before .before .before .before .before .before .«open» .ensures .1 ∙ ap (λ (x : Read). deliverArea (now (a .p)) x (now (a .area))) e)
+
+same-length-4 : tie.Need-same-length-4
+same-length-4 c = search needs
+
+same-length-5 : tie.Need-same-length-5
+same-length-5 c = search needs
+
+same-length-6 : tie.Need-same-length-6
+same-length-6 c = search needs
+
+returns-2 : tie.Need-returns-2
+unfolding deliverLines deliverArea
+returns-2 c =
+    let a = c .before .before .before .before .before .before .before .before .before .before .before .before .before .before .before .before .before .before .args in
+    let e = sym (c .before .before .before .before .before .before .before .before .before .before .before .r2 .given .1) ∙ c .before .before .before .before .before .before .before .before .before .before .before .before .before .read-packet .ensures in
+    (added-as (ap (λ (x : Read). deliverLines (a .number) (now (a .p)) x (now (a .area)) (now (a .lent))) e) (c .before .before .before .before .before .before .«record» .ensures .0), c .before .before .before .before .before .before .«record» .ensures .1 ∙ ap (λ (x : Read). deliverArea (now (a .p)) x (now (a .area))) e)
+
+same-length-7 : tie.Need-same-length-7
+same-length-7 c = search needs
+
+returns-3 : tie.Need-returns-3
+unfolding deliverLines deliverArea
+returns-3 c =
+    let a = c .before .before .before .before .before .before .before .before .before .before .before .before .args in
+    let e = sym (c .before .before .before .before .before .r3 .given .1) ∙ c .before .before .before .before .before .before .before .read-packet .ensures in
+    (added-as (ap (λ (x : Read). deliverLines (a .number) (now (a .p)) x (now (a .area)) (now (a .lent))) e) (c .before .before .put-success .ensures), ap (λ (x : Read). deliverArea (now (a .p)) x (now (a .area))) e)
+
+same-length-8 : tie.Need-same-length-8
+same-length-8 c = search needs
+
+returns-4 : tie.Need-returns-4
+unfolding deliverLines deliverArea
+returns-4 c =
+    let a = c .before .before .before .before .before .before .before .before .before .before .before .before .args in
+    let e = sym (c .before .before .before .before .before .r4 .given .1) ∙ c .before .before .before .before .before .before .before .read-packet .ensures in
+    (added-as (ap (λ (x : Read). deliverLines (a .number) (now (a .p)) x (now (a .area)) (now (a .lent))) e) (c .before .before .put-failure .ensures), ap (λ (x : Read). deliverArea (now (a .p)) x (now (a .area))) e)
+
+same-length-9 : tie.Need-same-length-9
+same-length-9 c = search needs
+
+same-length-10 : tie.Need-same-length-10
+same-length-10 c = search needs
+
+returns-5 : tie.Need-returns-5
+unfolding deliverLines deliverArea
+returns-5 c =
+    let a = c .before .before .before .before .before .before .before .before .before .before .before .before .before .before .before .args in
+    let e = sym (c .before .before .before .before .before .before .before .before .r5 .given .1) ∙ c .before .before .before .before .before .before .before .before .before .before .read-packet .ensures in
+    (added-as (ap (λ (x : Read). deliverLines (a .number) (now (a .p)) x (now (a .area)) (now (a .lent))) e) (c .before .before .before .before .put-refusal .ensures), ap (λ (x : Read). deliverArea (now (a .p)) x (now (a .area))) e)
+
+pub deliver-spec : {M : Type 1} → statement M
+deliver-spec =
+    tie.close
+    (tie.spec
+    read-packet-requires
+    enum-known-r
+    open-requires
+    enum-known-r-2
+    record-requires
+    enum-known-r-3
+    put-success-requires
+    enum-known-r-4
+    put-failure-requires
+    enum-known-r-5
+    put-refusal-requires
+    same-length
+    same-length-2
+    same-length-3
+    returns
+    same-length-4
+    same-length-5
+    same-length-6
+    returns-2
+    same-length-7
+    returns-3
+    same-length-8
+    returns-4
+    same-length-9
+    same-length-10
+    returns-5)

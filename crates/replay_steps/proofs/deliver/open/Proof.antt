@@ -1,0 +1,36 @@
+-- `replay_steps::deliver::open` meets its contract: what opening answers and leaves.
+-- Assumes nothing.
+use mathlib.Core.Path.{ap}
+use denote.Ref.{now}
+use borrow.Author.Needs.{needs}
+use Rattle.table.specs.declared.Opened.{Opened}
+use Rattle.text.proofs.AddedLaws.{added-as}
+use Rattle.replay_steps.specs.Deliver.{openingLines}
+use Rattle.replay_steps.proofs.deliver.open.Statement.{statement}
+use Rattle.replay_steps.proofs.deliver.open.Tie as tie
+
+open-requires : tie.Need-open-requires
+open-requires c κs = search needs
+
+put-opened-requires : tie.Need-put-opened-requires
+put-opened-requires c κs = search needs
+
+same-length : tie.Need-same-length
+same-length c = search needs
+
+same-length-2 : tie.Need-same-length-2
+same-length-2 c = search needs
+
+same-length-3 : tie.Need-same-length-3
+same-length-3 c = search needs
+
+returns : tie.Need-returns
+returns c =
+    let a = c .before .before .before .before .before .before .before .before .before .before .before .before .before .before .before .args in
+    let o = c .before .before .before .before .before .before .before .before .before .«open» .ensures in
+    (added-as (ap (λ (x : Opened). openingLines (a .number) (now (a .p)) (a .m) x (now (a .lent))) (o .0)) (c .before .before .before .before .put-opened .ensures), o .1)
+
+pub open-spec : {M : Type 1} → statement M
+open-spec =
+    tie.close
+    (tie.spec open-requires put-opened-requires same-length same-length-2 same-length-3 returns)

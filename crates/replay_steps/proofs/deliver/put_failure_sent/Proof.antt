@@ -1,0 +1,64 @@
+-- `replay_steps::deliver::put_failure_sent` meets its contract: a code of 0 and a packet with no Id get no line.
+-- Assumes nothing.
+use mathlib.Core.Path.{ap, ap₂, _∙_}
+use Prim.Native.Nat.{ℕ}
+use denote.Ref.{now}
+use lib.ListN.{length}
+use borrow.Author.Tests.{eq-eqb, ne-eqb, lt-ltb, le-ltb}
+use borrow.Author.Needs.{needs}
+use Rattle.packet_status.specs.WriteFailure.{failureWritten, failureBuffer}
+use Rattle.text.proofs.AddedLaws.{added-as, added-none}
+use Rattle.replay_answers.specs.Answers.{sentText}
+use Rattle.replay_steps.specs.Deliver.{failureSent}
+use Rattle.replay_steps.proofs.deliver.put_failure_sent.Statement.{statement}
+use Rattle.replay_steps.proofs.deliver.put_failure_sent.Tie as tie
+
+returns : tie.Need-returns
+unfolding failureSent
+returns c =
+    let a = c .before .before .before .before .args in
+    rw (eq-eqb (a .code) 0 (c .if1 .taken)) (added-none (now (a .out)) (a .at) (c .before .before .before .before .pre))
+
+returns-2 : tie.Need-returns-2
+unfolding failureSent
+returns-2 c =
+    let a = c .before .before .before .before .before .args in
+    rw (ne-eqb (a .code) 0 (c .before .if1 .left), lt-ltb (length (now (a .p))) 8 (c .if2 .taken)) (added-none (now (a .out)) (a .at) (c .before .before .before .before .before .pre))
+
+id-requires : tie.Need-id-requires
+id-requires c κs = search needs
+
+write-failure-requires : tie.Need-write-failure-requires
+write-failure-requires c κs = search needs
+
+put-sent-requires : tie.Need-put-sent-requires
+put-sent-requires c κs = search needs
+
+same-length : tie.Need-same-length
+same-length c = search needs
+
+same-length-2 : tie.Need-same-length-2
+same-length-2 c = search needs
+
+returns-3 : tie.Need-returns-3
+unfolding failureSent
+returns-3 c =
+    let a = c .before .before .before .before .before .before .before .before .before .before .before .before .before .before .before .args in
+    let i = c .before .before .before .before .before .before .before .before .id .ensures in
+    let w = c .before .before .before .before .before .before .before .write-failure .ensures in
+    rw (ne-eqb (a .code) 0 (c .before .before .before .before .before .before .before .before .before .before .before .if1 .left), le-ltb (length (now (a .p))) 8 (c .before .before .before .before .before .before .before .before .before .before .if2 .left))
+    (added-as (ap₂ (sentText (a .number)) (w .0 ∙ ap (λ (n : ℕ). failureWritten n (a .code) (now (a .lent))) i) (w .1 ∙ ap (λ (n : ℕ). failureBuffer n (a .code) (now (a .lent))) i))
+    (c .before .before .put-sent .ensures))
+
+pub put-failure-sent-spec : {M : Type 1} → statement M
+put-failure-sent-spec =
+    tie.close
+    (tie.spec
+    returns
+    returns-2
+    id-requires
+    write-failure-requires
+    put-sent-requires
+    same-length
+    same-length-2
+    returns-3)

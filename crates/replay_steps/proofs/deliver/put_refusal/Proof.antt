@@ -1,0 +1,29 @@
+-- `replay_steps::deliver::put_refusal` meets its contract: one line, then the other.
+-- Assumes nothing.
+use borrow.Author.Needs.{needs}
+use Rattle.text.proofs.AddedLaws.{_then_}
+use Rattle.replay_steps.specs.Deliver.{refusalLines}
+use Rattle.replay_steps.proofs.deliver.put_refusal.Statement.{statement}
+use Rattle.replay_steps.proofs.deliver.put_refusal.Tie as tie
+
+put-refused-requires : tie.Need-put-refused-requires
+put-refused-requires c κs = search needs
+
+put-failure-sent-requires : tie.Need-put-failure-sent-requires
+put-failure-sent-requires c κs = search needs
+
+same-length : tie.Need-same-length
+same-length c = search needs
+
+same-length-2 : tie.Need-same-length-2
+same-length-2 c = search needs
+
+returns : tie.Need-returns
+unfolding refusalLines
+returns c =
+    c .before .before .before .before .before .before .before .before .before .put-refused .ensures then c .before .before .before .before .put-failure-sent .ensures
+
+pub put-refusal-spec : {M : Type 1} → statement M
+put-refusal-spec =
+    tie.close
+    (tie.spec put-refused-requires put-failure-sent-requires same-length same-length-2 returns)

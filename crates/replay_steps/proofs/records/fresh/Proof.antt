@@ -1,0 +1,58 @@
+-- `replay_steps::records::fresh` meets its contract: `bad length`, or what making fresh answers and leaves.
+-- Assumes nothing.
+use mathlib.Core.Path.{ap}
+use denote.Ref.{now}
+use lib.ListN.{length}
+use borrow.Author.Tests.{eq-eqb, ne-eqb}
+use borrow.Author.Needs.{needs}
+use Rattle.text.proofs.AddedLaws.{added-as}
+use Rattle.replay_answers.specs.Answers.{freshText}
+use Rattle.replay_steps.specs.Records.{freshLines, freshAfter}
+use Rattle.replay_steps.proofs.records.fresh.Statement.{statement}
+use Rattle.replay_steps.proofs.records.fresh.Tie as tie
+
+bad-length-requires : tie.Need-bad-length-requires
+bad-length-requires c κs = search needs
+
+same-length : tie.Need-same-length
+same-length c = search needs
+
+returns : tie.Need-returns
+unfolding freshLines freshAfter
+returns c =
+    let a = c .before .before .before .before .before .before .before .before .args in
+    let z = ne-eqb (length (now (a .body))) 0 (c .before .before .before .before .if1 .taken) in
+    (rw z (c .before .before .bad-length .ensures), rw z)
+
+fresh-requires : tie.Need-fresh-requires
+fresh-requires c κs = search needs
+
+put-fresh-requires : tie.Need-put-fresh-requires
+put-fresh-requires c κs = search needs
+
+same-length-2 : tie.Need-same-length-2
+same-length-2 c = search needs
+
+same-length-3 : tie.Need-same-length-3
+same-length-3 c = search needs
+
+returns-2 : tie.Need-returns-2
+unfolding freshLines freshAfter
+returns-2 c =
+    let a = c .before .before .before .before .before .before .before .before .before .before .before .before .args in
+    let z = eq-eqb (length (now (a .body))) 0 (c .before .before .before .before .before .before .before .before .if1 .left) in
+    let o = c .before .before .before .before .before .before .fresh .ensures in
+    (rw z (added-as (ap (freshText (a .number)) (o .0)) (c .before .before .put-fresh .ensures)), rw z (o .1))
+
+pub fresh-spec : {M : Type 1} → statement M
+fresh-spec =
+    tie.close
+    (tie.spec
+    bad-length-requires
+    same-length
+    returns
+    fresh-requires
+    put-fresh-requires
+    same-length-2
+    same-length-3
+    returns-2)

@@ -1,0 +1,40 @@
+-- `replay_steps::records::open` meets its contract: what opening answers and leaves.
+-- Assumes nothing.
+use mathlib.Core.Path.{ap₂}
+use borrow.Author.Needs.{needs}
+use Rattle.text.proofs.AddedLaws.{added-as}
+use Rattle.replay_answers.specs.Answers.{openText}
+use Rattle.replay_steps.proofs.records.open.Statement.{statement}
+use Rattle.replay_steps.proofs.records.open.Tie as tie
+
+open-requires : tie.Need-open-requires
+open-requires c κs = search needs
+
+read-metadata-requires : tie.Need-read-metadata-requires
+read-metadata-requires c κs = search needs
+
+put-open-requires : tie.Need-put-open-requires
+put-open-requires c κs = search needs
+
+same-length : tie.Need-same-length
+same-length c = search needs
+
+same-length-2 : tie.Need-same-length-2
+same-length-2 c = search needs
+
+returns : tie.Need-returns
+returns c =
+    let a = c .before .before .before .before .before .before .before .before .before .before .before .before .args in
+    let o = c .before .before .before .before .before .before .before .«open» .ensures in
+    (added-as (ap₂ (openText (a .number)) (c .before .before .before .before .read-metadata .ensures) (o .0)) (c .before .before .put-open .ensures), o .1)
+
+pub open-spec : {M : Type 1} → statement M
+open-spec =
+    tie.close
+    (tie.spec
+    open-requires
+    read-metadata-requires
+    put-open-requires
+    same-length
+    same-length-2
+    returns)

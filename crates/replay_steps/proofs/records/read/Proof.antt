@@ -1,0 +1,26 @@
+-- `replay_steps::records::read` meets its contract: what the packet is read as.
+-- Assumes nothing.
+use mathlib.Core.Path.{ap}
+use denote.Ref.{now}
+use borrow.Author.Needs.{needs}
+use Rattle.text.proofs.AddedLaws.{added-as}
+use Rattle.replay_answers.specs.Answers.{readText}
+use Rattle.replay_steps.proofs.records.read.Statement.{statement}
+use Rattle.replay_steps.proofs.records.read.Tie as tie
+
+read-packet-requires : tie.Need-read-packet-requires
+read-packet-requires c κs = search needs
+
+put-read-requires : tie.Need-put-read-requires
+put-read-requires c κs = search needs
+
+same-length : tie.Need-same-length
+same-length c = search needs
+
+returns : tie.Need-returns
+returns c =
+    let a = c .before .before .before .before .before .before .before .args in
+    added-as (ap (readText (a .number) (now (a .p))) (c .before .before .before .before .read-packet .ensures)) (c .before .before .put-read .ensures)
+
+pub read-spec : {M : Type 1} → statement M
+read-spec = tie.close (tie.spec read-packet-requires put-read-requires same-length returns)

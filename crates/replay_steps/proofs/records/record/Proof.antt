@@ -1,0 +1,40 @@
+-- `replay_steps::records::record` meets its contract: what recording answers and leaves.
+-- Assumes nothing.
+use mathlib.Core.Path.{ap₂}
+use borrow.Author.Needs.{needs}
+use Rattle.text.proofs.AddedLaws.{added-as}
+use Rattle.replay_answers.specs.Answers.{recordText}
+use Rattle.replay_steps.proofs.records.record.Statement.{statement}
+use Rattle.replay_steps.proofs.records.record.Tie as tie
+
+record-requires : tie.Need-record-requires
+record-requires c κs = search needs
+
+read-data-requires : tie.Need-read-data-requires
+read-data-requires c κs = search needs
+
+put-record-requires : tie.Need-put-record-requires
+put-record-requires c κs = search needs
+
+same-length : tie.Need-same-length
+same-length c = search needs
+
+same-length-2 : tie.Need-same-length-2
+same-length-2 c = search needs
+
+returns : tie.Need-returns
+returns c =
+    let a = c .before .before .before .before .before .before .before .before .before .before .before .before .args in
+    let o = c .before .before .before .before .before .before .before .«record» .ensures in
+    (added-as (ap₂ (recordText (a .number)) (c .before .before .before .before .read-data .ensures) (o .0)) (c .before .before .put-record .ensures), o .1)
+
+pub record-spec : {M : Type 1} → statement M
+record-spec =
+    tie.close
+    (tie.spec
+    record-requires
+    read-data-requires
+    put-record-requires
+    same-length
+    same-length-2
+    returns)

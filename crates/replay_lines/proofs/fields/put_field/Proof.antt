@@ -11,16 +11,13 @@ put-text-requires c κs = search needs
 put-decimal-requires : tie.Need-put-decimal-requires
 put-decimal-requires c κs = c .before .before .before .put-text .ensures .within
 
-same-length : tie.Need-same-length
-same-length c =
-    (c .before .before .before .before .before .before .put-text .ensures
-    then c .before .before .put-decimal .ensures)
-    .size
-
 returns : tie.Need-returns
 returns c =
     c .before .before .before .before .before .before .put-text .ensures
     then c .before .before .put-decimal .ensures
+
+same-length : tie.Need-same-length
+same-length c = returns c .size
 
 pub put-field-spec : {M : Type 1} → statement M
 put-field-spec = tie.close (tie.spec put-text-requires put-decimal-requires same-length returns)

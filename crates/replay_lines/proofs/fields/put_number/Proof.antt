@@ -11,16 +11,13 @@ put-text-requires c κs = search needs
 put-number-requires : tie.Need-put-number-requires
 put-number-requires c κs = (c .before .before .before .put-text .ensures .within, search needs)
 
-same-length : tie.Need-same-length
-same-length c =
-    (c .before .before .before .before .before .before .put-text .ensures
-    then c .before .before .put-number .ensures)
-    .size
-
 returns : tie.Need-returns
 returns c =
     c .before .before .before .before .before .before .put-text .ensures
     then c .before .before .put-number .ensures
+
+same-length : tie.Need-same-length
+same-length c = returns c .size
 
 pub put-number-spec : {M : Type 1} → statement M
 put-number-spec = tie.close (tie.spec put-text-requires put-number-requires same-length returns)

@@ -11,16 +11,13 @@ put-text-requires c κs = search needs
 put-hex-requires : tie.Need-put-hex-requires
 put-hex-requires c κs = c .before .before .before .put-text .ensures .within
 
-same-length : tie.Need-same-length
-same-length c =
-    (c .before .before .before .before .before .before .put-text .ensures
-    then c .before .before .put-hex .ensures)
-    .size
-
 returns : tie.Need-returns
 returns c =
     c .before .before .before .before .before .before .put-text .ensures
     then c .before .before .put-hex .ensures
+
+same-length : tie.Need-same-length
+same-length c = returns c .size
 
 pub put-octets-spec : {M : Type 1} → statement M
 put-octets-spec = tie.close (tie.spec put-text-requires put-hex-requires same-length returns)

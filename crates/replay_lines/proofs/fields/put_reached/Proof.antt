@@ -23,16 +23,13 @@ flag-of-requires c κs = search needs
 put-field-requires-2 : tie.Need-put-field-requires-2
 put-field-requires-2 c κs = c .before .before .before .before .before .put-field .ensures .within
 
-same-length : tie.Need-same-length
-same-length c =
-    (c .before .before .before .before .before .before .before .before .put-field .ensures
-    then added-as (ap (field w-complete) (c .before .before .before .flag-of .ensures)) (c .before .before .put-field2 .ensures))
-    .size
-
 returns : tie.Need-returns
 returns c =
     c .before .before .before .before .before .before .before .before .put-field .ensures
     then added-as (ap (field w-complete) (c .before .before .before .flag-of .ensures)) (c .before .before .put-field2 .ensures)
+
+same-length : tie.Need-same-length
+same-length c = returns c .size
 
 pub put-reached-spec : {M : Type 1} → statement M
 put-reached-spec =

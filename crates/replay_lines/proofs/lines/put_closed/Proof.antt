@@ -18,19 +18,15 @@ put-field-requires c κs = c .before .before .before .before .put-decimal .ensur
 push-requires : tie.Need-push-requires
 push-requires c κs = c .before .before .before .put-field .ensures .within
 
-same-length : tie.Need-same-length
-same-length c =
-    (c .before .before .before .before .before .before .before .before .before .before .before .put-decimal .ensures
-    then c .before .before .before .before .before .before .put-field .ensures
-    then c .before .before .push .ensures)
-    .size
-
 returns : tie.Need-returns
 unfolding closeLine
 returns c =
     c .before .before .before .before .before .before .before .before .before .before .before .put-decimal .ensures
     then c .before .before .before .before .before .before .put-field .ensures
     then c .before .before .push .ensures
+
+same-length : tie.Need-same-length
+same-length c = returns c .size
 
 pub put-closed-spec : {M : Type 1} → statement M
 put-closed-spec =

@@ -30,15 +30,6 @@ put-number-requires c κs = (c .before .before .before .before .put-field2 .ensu
 push-requires : tie.Need-push-requires
 push-requires c κs = c .before .before .before .put-number .ensures .within
 
-same-length : tie.Need-same-length
-same-length c =
-    (c .before .before .before .before .before .before .before .before .before .before .before .before .before .before .before .before .before .before .before .before .before .put-decimal .ensures
-    then c .before .before .before .before .before .before .before .before .before .before .before .before .before .before .before .before .put-field .ensures
-    then c .before .before .before .before .before .before .before .before .before .before .before .put-field2 .ensures
-    then c .before .before .before .before .before .before .put-number .ensures
-    then c .before .before .push .ensures)
-    .size
-
 returns : tie.Need-returns
 unfolding failureLine
 returns c =
@@ -47,6 +38,9 @@ returns c =
     then c .before .before .before .before .before .before .before .before .before .before .before .put-field2 .ensures
     then c .before .before .before .before .before .before .put-number .ensures
     then c .before .before .push .ensures
+
+same-length : tie.Need-same-length
+same-length c = returns c .size
 
 pub put-failure-spec : {M : Type 1} → statement M
 put-failure-spec =

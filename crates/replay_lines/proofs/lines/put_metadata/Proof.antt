@@ -78,21 +78,6 @@ put-octets-requires-2 c κs = c .before .before .before .before .before .put-fie
 push-requires : tie.Need-push-requires
 push-requires c κs = c .before .before .before .put-octets2 .ensures .within
 
-same-length : tie.Need-same-length
-same-length c =
-    (c .before .before .before .before .before .before .before .before .before .before .before .before .before .before .before .before .before .before .before .before .before .before .before .before .before .before .before .before .before .before .before .before .before .before .before .before .before .before .before .before .before .before .before .before .before .before .before .before .before .before .before .before .before .before .put-decimal .ensures
-    then c .before .before .before .before .before .before .before .before .before .before .before .before .before .before .before .before .before .before .before .before .before .before .before .before .before .before .before .before .before .before .before .before .before .before .before .before .before .before .before .before .before .before .before .before .before .before .before .before .before .put-field .ensures
-    then c .before .before .before .before .before .before .before .before .before .before .before .before .before .before .before .before .before .before .before .before .before .before .before .before .before .before .before .before .before .before .before .before .before .before .before .before .before .before .before .before .before .before .before .before .put-number .ensures
-    then added-as (ap (field w-width) (c .before .before .before .before .before .before .before .before .before .before .before .before .before .before .before .before .before .before .before .before .before .before .before .before .before .before .before .before .before .before .before .before .before .before .before .before .before .before .before .bits-of .ensures)) (c .before .before .before .before .before .before .before .before .before .before .before .before .before .before .before .before .before .before .before .before .before .before .before .before .before .before .before .before .before .before .before .before .before .before .before .before .before .before .put-field2 .ensures)
-    then added-as (ap (octetsField w-checksum) (c .before .before .before .before .before .before .before .before .before .before .before .before .before .before .before .before .before .before .before .before .before .before .before .before .before .before .before .before .before .before .before .before .before .part .ensures)) (c .before .before .before .before .before .before .before .before .before .before .before .before .before .before .before .before .before .before .before .before .before .before .before .before .before .before .before .before .before .before .before .before .put-octets .ensures)
-    then c .before .before .before .before .before .before .before .before .before .before .before .before .before .before .before .before .before .before .before .before .before .before .before .before .before .before .before .put-number2 .ensures
-    then c .before .before .before .before .before .before .before .before .before .before .before .before .before .before .before .before .before .before .before .before .before .before .put-field3 .ensures
-    then c .before .before .before .before .before .before .before .before .before .before .before .before .before .before .before .before .before .put-field4 .ensures
-    then c .before .before .before .before .before .before .before .before .before .before .before .before .put-field5 .ensures
-    then added-as (ap (octetsField w-path) (c .before .before .before .before .before .before .before .part2 .ensures)) (c .before .before .before .before .before .before .put-octets2 .ensures)
-    then c .before .before .push .ensures)
-    .size
-
 returns : tie.Need-returns
 unfolding metadataLine
 returns c =
@@ -107,6 +92,9 @@ returns c =
     then c .before .before .before .before .before .before .before .before .before .before .before .before .put-field5 .ensures
     then added-as (ap (octetsField w-path) (c .before .before .before .before .before .before .before .part2 .ensures)) (c .before .before .before .before .before .before .put-octets2 .ensures)
     then c .before .before .push .ensures
+
+same-length : tie.Need-same-length
+same-length c = returns c .size
 
 pub put-metadata-spec : {M : Type 1} → statement M
 put-metadata-spec =

@@ -39,16 +39,6 @@ put-reached-requires c κs = c .before .before .before .put-field3 .ensures .wit
 put-text-requires : tie.Need-put-text-requires
 put-text-requires c κs = c .before .before .before .put-reached .ensures .within
 
-same-length : tie.Need-same-length
-same-length c =
-    (c .before .before .before .before .before .before .before .before .before .before .before .before .before .before .before .before .before .before .before .before .before .before .before .before .before .before .put-decimal .ensures
-    then c .before .before .before .before .before .before .before .before .before .before .before .before .before .before .before .before .before .before .before .before .before .put-field .ensures
-    then added-as (ap (field w-width) (c .before .before .before .before .before .before .before .before .before .before .before .before .before .before .before .before .bits-of .ensures)) (c .before .before .before .before .before .before .before .before .before .before .before .before .before .before .before .put-field2 .ensures)
-    then c .before .before .before .before .before .before .before .before .before .before .put-field3 .ensures
-    then c .before .before .before .before .before .before .put-reached .ensures
-    then c .before .before .put-text .ensures)
-    .size
-
 returns : tie.Need-returns
 unfolding openedLine
 returns c =
@@ -58,6 +48,9 @@ returns c =
     then c .before .before .before .before .before .before .before .before .before .before .put-field3 .ensures
     then c .before .before .before .before .before .before .put-reached .ensures
     then c .before .before .put-text .ensures
+
+same-length : tie.Need-same-length
+same-length c = returns c .size
 
 pub put-opened-spec : {M : Type 1} → statement M
 put-opened-spec =

@@ -15,19 +15,15 @@ put-octets-requires c κs = c .before .before .before .put-decimal .ensures .wit
 push-requires : tie.Need-push-requires
 push-requires c κs = c .before .before .before .put-octets .ensures .within
 
-same-length : tie.Need-same-length
-same-length c =
-    (c .before .before .before .before .before .before .before .before .before .before .put-decimal .ensures
-    then c .before .before .before .before .before .before .put-octets .ensures
-    then c .before .before .push .ensures)
-    .size
-
 returns : tie.Need-returns
 unfolding octetsLine
 returns c =
     c .before .before .before .before .before .before .before .before .before .before .put-decimal .ensures
     then c .before .before .before .before .before .before .put-octets .ensures
     then c .before .before .push .ensures
+
+same-length : tie.Need-same-length
+same-length c = returns c .size
 
 pub put-packet-spec : {M : Type 1} → statement M
 put-packet-spec =

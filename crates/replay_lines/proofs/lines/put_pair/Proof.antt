@@ -14,16 +14,13 @@ slice-aggregate-put-field c = search needs
 put-field-requires : tie.Need-put-field-requires
 put-field-requires c κs = c .before .before .before .before .put-decimal .ensures .within
 
-same-length : tie.Need-same-length
-same-length c =
-    (c .before .before .before .before .before .before .before .put-decimal .ensures
-    then c .before .before .put-field .ensures)
-    .size
-
 returns : tie.Need-returns
 returns c =
     c .before .before .before .before .before .before .before .put-decimal .ensures
     then c .before .before .put-field .ensures
+
+same-length : tie.Need-same-length
+same-length c = returns c .size
 
 pub put-pair-spec : {M : Type 1} → statement M
 put-pair-spec =

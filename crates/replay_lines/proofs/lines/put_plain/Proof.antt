@@ -12,17 +12,14 @@ put-decimal-requires c κs = search needs
 put-text-requires : tie.Need-put-text-requires
 put-text-requires c κs = c .before .before .before .put-decimal .ensures .within
 
-same-length : tie.Need-same-length
-same-length c =
-    (c .before .before .before .before .before .before .put-decimal .ensures
-    then c .before .before .put-text .ensures)
-    .size
-
 returns : tie.Need-returns
 unfolding plainLine
 returns c =
     c .before .before .before .before .before .before .put-decimal .ensures
     then c .before .before .put-text .ensures
+
+same-length : tie.Need-same-length
+same-length c = returns c .size
 
 pub put-plain-spec : {M : Type 1} → statement M
 put-plain-spec = tie.close (tie.spec put-decimal-requires put-text-requires same-length returns)

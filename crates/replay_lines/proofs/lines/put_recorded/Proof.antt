@@ -33,16 +33,6 @@ put-reached-requires c κs = c .before .before .before .put-field3 .ensures .wit
 push-requires : tie.Need-push-requires
 push-requires c κs = c .before .before .before .put-reached .ensures .within
 
-same-length : tie.Need-same-length
-same-length c =
-    (c .before .before .before .before .before .before .before .before .before .before .before .before .before .before .before .before .before .before .before .before .before .before .before .before .before .put-decimal .ensures
-    then c .before .before .before .before .before .before .before .before .before .before .before .before .before .before .before .before .before .before .before .before .put-field .ensures
-    then c .before .before .before .before .before .before .before .before .before .before .before .before .before .before .before .put-field2 .ensures
-    then c .before .before .before .before .before .before .before .before .before .before .put-field3 .ensures
-    then c .before .before .before .before .before .before .put-reached .ensures
-    then c .before .before .push .ensures)
-    .size
-
 returns : tie.Need-returns
 unfolding recordLine
 returns c =
@@ -52,6 +42,9 @@ returns c =
     then c .before .before .before .before .before .before .before .before .before .before .put-field3 .ensures
     then c .before .before .before .before .before .before .put-reached .ensures
     then c .before .before .push .ensures
+
+same-length : tie.Need-same-length
+same-length c = returns c .size
 
 pub put-recorded-spec : {M : Type 1} → statement M
 put-recorded-spec =

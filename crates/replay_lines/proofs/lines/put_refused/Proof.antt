@@ -24,14 +24,6 @@ put-field-requires-2 c κs = c .before .before .before .before .put-field .ensur
 push-requires : tie.Need-push-requires
 push-requires c κs = c .before .before .before .put-field2 .ensures .within
 
-same-length : tie.Need-same-length
-same-length c =
-    (c .before .before .before .before .before .before .before .before .before .before .before .before .before .before .before .before .put-decimal .ensures
-    then c .before .before .before .before .before .before .before .before .before .before .before .put-field .ensures
-    then c .before .before .before .before .before .before .put-field2 .ensures
-    then c .before .before .push .ensures)
-    .size
-
 returns : tie.Need-returns
 unfolding refusedLine
 returns c =
@@ -39,6 +31,9 @@ returns c =
     then c .before .before .before .before .before .before .before .before .before .before .before .put-field .ensures
     then c .before .before .before .before .before .before .put-field2 .ensures
     then c .before .before .push .ensures
+
+same-length : tie.Need-same-length
+same-length c = returns c .size
 
 pub put-refused-spec : {M : Type 1} → statement M
 put-refused-spec =

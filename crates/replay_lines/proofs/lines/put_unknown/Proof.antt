@@ -18,19 +18,15 @@ put-number-requires c κs = (c .before .before .before .before .put-decimal .ens
 push-requires : tie.Need-push-requires
 push-requires c κs = c .before .before .before .put-number .ensures .within
 
-same-length : tie.Need-same-length
-same-length c =
-    (c .before .before .before .before .before .before .before .before .before .before .before .put-decimal .ensures
-    then c .before .before .before .before .before .before .put-number .ensures
-    then c .before .before .push .ensures)
-    .size
-
 returns : tie.Need-returns
 unfolding unknownLine
 returns c =
     c .before .before .before .before .before .before .before .before .before .before .before .put-decimal .ensures
     then c .before .before .before .before .before .before .put-number .ensures
     then c .before .before .push .ensures
+
+same-length : tie.Need-same-length
+same-length c = returns c .size
 
 pub put-unknown-spec : {M : Type 1} → statement M
 put-unknown-spec =

@@ -1,4 +1,5 @@
--- The answer of each operation as a line, by its cases.
+-- The answer of each operation as a line, by its cases: docs/REPLAY.md, "The lines". "`refused`, with the number and the code of
+-- the refusal" is the line of every refusal.
 -- Assumes nothing.
 use Prim.Native.Nat.{ℕ}
 use mathlib.Core.List.{List, []}
@@ -22,9 +23,7 @@ use Rattle.table.specs.declared.Recorded.the-variants as recorded
 use Rattle.replay_lines.specs.Lines.{plainLine, refusedLine, closeLine, octetsLine, openedLine, recordLine, metadataLine, dataLine, successLine, failureLine}
 use Rattle.replay_lines.specs.Words.{w-already, w-fresh, w-new, w-send, w-written}
 
--- each "`refused`, with the number and the code of the refusal": "all but `F`" by the records of replay's own area, which is
--- never too short; a shorter one is refused here as well
--- "`fresh`"
+-- "`fresh`"; refused where the area is too short, as replay's own never is
 unfoldable pub freshText : ℕ → Finished → List ℕ
 freshText n finished.Done = plainLine n w-fresh
 freshText n (finished.Refused x) = refusedLine n x

@@ -36,7 +36,7 @@ pub fn put_close(out: &mut [u8], at: usize, number: u64, id: u64, a: Finished) -
 }
 
 // What opening by METADATA m answered.
-fn put_opening(out: &mut [u8], at: usize, number: u64, m: Metadata, a: Opened) -> usize
+pub fn put_opening(out: &mut [u8], at: usize, number: u64, m: Metadata, a: Opened) -> usize
     requires { ⌜ at ≤ length (now out) ⌝ }
     ensures { λ r. ⌜ Added (now (out .entry)) at (openingText number m a) (now (out .exit)) r ⌝ }
 {
@@ -61,7 +61,7 @@ pub fn put_open(out: &mut [u8], at: usize, number: u64, m: MetadataRead, a: Open
 }
 
 // What recording DATA d answered.
-fn put_recording(out: &mut [u8], at: usize, number: u64, d: Data, a: Recorded) -> usize
+pub fn put_recording(out: &mut [u8], at: usize, number: u64, d: Data, a: Recorded) -> usize
     requires { ⌜ at ≤ length (now out) ⌝ }
     ensures { λ r. ⌜ Added (now (out .entry)) at (recordingText number d a) (now (out .exit)) r ⌝ }
 {

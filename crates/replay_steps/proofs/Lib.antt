@@ -1,1 +1,3 @@
+pub mod CaseLaws
+pub mod Examples
 pub mod RoomLaws

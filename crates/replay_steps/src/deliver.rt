@@ -6,11 +6,13 @@ ghost use lib.ListN.{length};
 ghost use Rattle.area.specs.Operations.{openArea, recordArea};
 ghost use Rattle.packet.specs.Read.{readPacket};
 ghost use Rattle.text.specs.Added.{Added};
-ghost use Rattle.replay_steps.specs.Deliver.{failureSent, refusalLines, openingLines, statusSent, recordingLines, deliverLines, deliverArea};
+ghost use Rattle.replay_steps.specs.Deliver.{failureSent, refusalLines, openedCode, openedLines, wantedSent, recordedSent, recordedLines, deliverLines, deliverArea};
 use header::Refusal;
 use packet::Read;
 use packet_data::Data;
 use packet_metadata::Metadata;
+use replay_answers::put_opening;
+use replay_answers::put_recording;
 use replay_answers::put_sent;
 use table::Opened;
 use table::Recorded;
@@ -53,6 +55,17 @@ fn put_refusal(
     put_failure_sent(out, next, number, p, x.code, lent)
 }
 
+// The code of a refusal to open, and 0 where it was accepted.
+fn opened_code(a: Opened) -> u64
+    ensures { λ r. ⌜ r ≡ openedCode a ⌝ }
+{
+    match a {
+        Opened::New(_) => 0,
+        Opened::AlreadyOpen(_) => 0,
+        Opened::Refused(x) => x.code,
+    }
+}
+
 // What opening by METADATA m, read from p, answered.
 fn put_opened(
     out: &mut [u8],
@@ -64,19 +77,14 @@ fn put_opened(
     lent: &mut [u8],
 ) -> usize
     requires { ⌜ at ≤ length (now out) ⌝ }
-    ensures { λ r. ⌜ Added (now (out .entry)) at (openingLines number (now (p .entry)) m a (now (lent .entry))) (now (out .exit)) r ⌝ }
+    ensures { λ r. ⌜ Added (now (out .entry)) at (openedLines number (now (p .entry)) m a (now (lent .entry))) (now (out .exit)) r ⌝ }
 {
-    match a {
-        Opened::New(x) => replay_lines::put_opened(out, at, number, m, x, b" new\n"),
-        Opened::AlreadyOpen(x) => {
-            replay_lines::put_opened(out, at, number, m, x, b" already-open\n")
-        }
-        Opened::Refused(x) => put_refusal(out, at, number, p, x, lent),
-    }
+    let next = put_opening(out, at, number, m, a);
+    put_failure_sent(out, next, number, p, opened_code(a), lent)
 }
 
 // The STATUS to send where DATA d wants one.
-fn put_status_sent(
+fn put_wanted_sent(
     out: &mut [u8],
     at: usize,
     number: u64,
@@ -85,13 +93,33 @@ fn put_status_sent(
     lent: &mut [u8],
 ) -> usize
     requires { ⌜ at ≤ length (now out) ⌝ }
-    ensures { λ r. ⌜ Added (now (out .entry)) at (statusSent number (now (area .entry)) d (now (lent .entry))) (now (out .exit)) r ⌝ }
+    ensures { λ r. ⌜ Added (now (out .entry)) at (wantedSent number (now (area .entry)) d (now (lent .entry))) (now (out .exit)) r ⌝ }
 {
     if d.wanted == 0 {
         return at;
     }
     let w = area_status::write_status(area, d.id, 0, false, lent);
     put_sent(out, at, number, w, lent)
+}
+
+// What is to be sent where recording DATA d, read from p, answered a.
+fn put_recorded_sent(
+    out: &mut [u8],
+    at: usize,
+    number: u64,
+    area: &[u8],
+    p: &[u8],
+    d: Data,
+    a: Recorded,
+    lent: &mut [u8],
+) -> usize
+    requires { ⌜ at ≤ length (now out) ⌝ }
+    ensures { λ r. ⌜ Added (now (out .entry)) at (recordedSent number (now (p .entry)) d a (now (area .entry)) (now (lent .entry))) (now (out .exit)) r ⌝ }
+{
+    match a {
+        Recorded::Accepted(_) => put_wanted_sent(out, at, number, area, d, lent),
+        Recorded::Refused(x) => put_failure_sent(out, at, number, p, x.code, lent),
+    }
 }
 
 // What recording DATA d, read from p, answered.
@@ -106,15 +134,10 @@ fn put_recorded(
     lent: &mut [u8],
 ) -> usize
     requires { ⌜ at ≤ length (now out) ⌝ }
-    ensures { λ r. ⌜ Added (now (out .entry)) at (recordingLines number (now (p .entry)) d a (now (area .entry)) (now (lent .entry))) (now (out .exit)) r ⌝ }
+    ensures { λ r. ⌜ Added (now (out .entry)) at (recordedLines number (now (p .entry)) d a (now (area .entry)) (now (lent .entry))) (now (out .exit)) r ⌝ }
 {
-    match a {
-        Recorded::Accepted(x) => {
-            let next = replay_lines::put_recorded(out, at, number, d, x);
-            put_status_sent(out, next, number, area, d, lent)
-        }
-        Recorded::Refused(x) => put_refusal(out, at, number, p, x, lent),
-    }
+    let next = put_recording(out, at, number, d, a);
+    put_recorded_sent(out, next, number, area, p, d, a, lent)
 }
 
 // Opens by METADATA m, read from p.
@@ -126,7 +149,7 @@ fn open(
     lent: &mut [u8],
     out: &mut [u8],
 ) -> usize
-    ensures { λ r. ⌜ (Added (now (out .entry)) 0 (openingLines number (now (p .entry)) m (openArea (now (area .entry)) (now (p .entry)) .answer) (now (lent .entry))) (now (out .exit)) r)
+    ensures { λ r. ⌜ (Added (now (out .entry)) 0 (openedLines number (now (p .entry)) m (openArea (now (area .entry)) (now (p .entry)) .answer) (now (lent .entry))) (now (out .exit)) r)
         × (now (area .exit) ≡ openArea (now (area .entry)) (now (p .entry)) .area) ⌝ }
 {
     let a = area_open::open(area, p);
@@ -135,7 +158,7 @@ fn open(
 
 // Records DATA d, read from p.
 fn record(area: &mut [u8], number: u64, p: &[u8], d: Data, lent: &mut [u8], out: &mut [u8]) -> usize
-    ensures { λ r. ⌜ (Added (now (out .entry)) 0 (recordingLines number (now (p .entry)) d (recordArea (now (area .entry)) (now (p .entry)) .answer) (recordArea (now (area .entry)) (now (p .entry)) .area) (now (lent .entry))) (now (out .exit)) r)
+    ensures { λ r. ⌜ (Added (now (out .entry)) 0 (recordedLines number (now (p .entry)) d (recordArea (now (area .entry)) (now (p .entry)) .answer) (recordArea (now (area .entry)) (now (p .entry)) .area) (now (lent .entry))) (now (out .exit)) r)
         × (now (area .exit) ≡ recordArea (now (area .entry)) (now (p .entry)) .area) ⌝ }
 {
     let a = area_record::record(area, p);

@@ -1,11 +1,10 @@
 -- `replay_steps::deliver::deliver` meets its contract: what each type of packet gets.
 -- Assumes nothing.
-use mathlib.Core.Path.{sym, ap, _∙_}
+use mathlib.Core.Path.{refl, sym, _∙_}
 use denote.Ref.{now}
 use borrow.Author.Needs.{needs}
-use Rattle.packet.specs.declared.Read.{Read}
-use Rattle.text.proofs.AddedLaws.{added-as}
 use Rattle.replay_steps.specs.Deliver.{deliverLines, deliverArea}
+use Rattle.replay_steps.proofs.CaseLaws.{of-packet}
 use Rattle.replay_steps.proofs.deliver.deliver.Statement.{statement}
 use Rattle.replay_steps.proofs.deliver.deliver.Tie as tie
 
@@ -55,8 +54,8 @@ returns : tie.Need-returns
 unfolding deliverLines deliverArea
 returns c =
     let a = c .before .before .before .before .before .before .before .before .before .before .before .before .before .before .before .before .before .before .args in
-    let e = sym (c .before .before .before .before .before .before .before .before .before .before .before .r .given .1) ∙ c .before .before .before .before .before .before .before .before .before .before .before .before .before .read-packet .ensures in
-    (added-as (ap (λ (x : Read). deliverLines (a .number) (now (a .p)) x (now (a .area)) (now (a .lent))) e) (c .before .before .before .before .before .before .«open» .ensures .0), c .before .before .before .before .before .before .«open» .ensures .1 ∙ ap (λ (x : Read). deliverArea (now (a .p)) x (now (a .area))) e)
+    of-packet (a .number) (now (a .p)) (now (a .area)) (now (a .lent)) (sym (c .before .before .before .before .before .before .before .before .before .before .before .r .given .1) ∙ c .before .before .before .before .before .before .before .before .before .before .before .before .before .read-packet .ensures)
+    (c .before .before .before .before .before .before .«open» .ensures)
 
 same-length-4 : tie.Need-same-length-4
 same-length-4 c = search needs
@@ -71,8 +70,8 @@ returns-2 : tie.Need-returns-2
 unfolding deliverLines deliverArea
 returns-2 c =
     let a = c .before .before .before .before .before .before .before .before .before .before .before .before .before .before .before .before .before .before .args in
-    let e = sym (c .before .before .before .before .before .before .before .before .before .before .before .r2 .given .1) ∙ c .before .before .before .before .before .before .before .before .before .before .before .before .before .read-packet .ensures in
-    (added-as (ap (λ (x : Read). deliverLines (a .number) (now (a .p)) x (now (a .area)) (now (a .lent))) e) (c .before .before .before .before .before .before .«record» .ensures .0), c .before .before .before .before .before .before .«record» .ensures .1 ∙ ap (λ (x : Read). deliverArea (now (a .p)) x (now (a .area))) e)
+    of-packet (a .number) (now (a .p)) (now (a .area)) (now (a .lent)) (sym (c .before .before .before .before .before .before .before .before .before .before .before .r2 .given .1) ∙ c .before .before .before .before .before .before .before .before .before .before .before .before .before .read-packet .ensures)
+    (c .before .before .before .before .before .before .«record» .ensures)
 
 same-length-7 : tie.Need-same-length-7
 same-length-7 c = search needs
@@ -81,8 +80,8 @@ returns-3 : tie.Need-returns-3
 unfolding deliverLines deliverArea
 returns-3 c =
     let a = c .before .before .before .before .before .before .before .before .before .before .before .before .args in
-    let e = sym (c .before .before .before .before .before .r3 .given .1) ∙ c .before .before .before .before .before .before .before .read-packet .ensures in
-    (added-as (ap (λ (x : Read). deliverLines (a .number) (now (a .p)) x (now (a .area)) (now (a .lent))) e) (c .before .before .put-success .ensures), ap (λ (x : Read). deliverArea (now (a .p)) x (now (a .area))) e)
+    of-packet (a .number) (now (a .p)) (now (a .area)) (now (a .lent)) (sym (c .before .before .before .before .before .r3 .given .1) ∙ c .before .before .before .before .before .before .before .read-packet .ensures)
+    (c .before .before .put-success .ensures, refl)
 
 same-length-8 : tie.Need-same-length-8
 same-length-8 c = search needs
@@ -91,8 +90,8 @@ returns-4 : tie.Need-returns-4
 unfolding deliverLines deliverArea
 returns-4 c =
     let a = c .before .before .before .before .before .before .before .before .before .before .before .before .args in
-    let e = sym (c .before .before .before .before .before .r4 .given .1) ∙ c .before .before .before .before .before .before .before .read-packet .ensures in
-    (added-as (ap (λ (x : Read). deliverLines (a .number) (now (a .p)) x (now (a .area)) (now (a .lent))) e) (c .before .before .put-failure .ensures), ap (λ (x : Read). deliverArea (now (a .p)) x (now (a .area))) e)
+    of-packet (a .number) (now (a .p)) (now (a .area)) (now (a .lent)) (sym (c .before .before .before .before .before .r4 .given .1) ∙ c .before .before .before .before .before .before .before .read-packet .ensures)
+    (c .before .before .put-failure .ensures, refl)
 
 same-length-9 : tie.Need-same-length-9
 same-length-9 c = search needs
@@ -104,8 +103,8 @@ returns-5 : tie.Need-returns-5
 unfolding deliverLines deliverArea
 returns-5 c =
     let a = c .before .before .before .before .before .before .before .before .before .before .before .before .before .before .before .args in
-    let e = sym (c .before .before .before .before .before .before .before .before .r5 .given .1) ∙ c .before .before .before .before .before .before .before .before .before .before .read-packet .ensures in
-    (added-as (ap (λ (x : Read). deliverLines (a .number) (now (a .p)) x (now (a .area)) (now (a .lent))) e) (c .before .before .before .before .put-refusal .ensures), ap (λ (x : Read). deliverArea (now (a .p)) x (now (a .area))) e)
+    of-packet (a .number) (now (a .p)) (now (a .area)) (now (a .lent)) (sym (c .before .before .before .before .before .before .before .before .r5 .given .1) ∙ c .before .before .before .before .before .before .before .before .before .before .read-packet .ensures)
+    (c .before .before .before .before .put-refusal .ensures, refl)
 
 pub deliver-spec : {M : Type 1} → statement M
 deliver-spec =

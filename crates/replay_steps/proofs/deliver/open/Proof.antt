@@ -5,7 +5,7 @@ use denote.Ref.{now}
 use borrow.Author.Needs.{needs}
 use Rattle.table.specs.declared.Opened.{Opened}
 use Rattle.text.proofs.AddedLaws.{added-as}
-use Rattle.replay_steps.specs.Deliver.{openingLines}
+use Rattle.replay_steps.specs.Deliver.{openedLines}
 use Rattle.replay_steps.proofs.deliver.open.Statement.{statement}
 use Rattle.replay_steps.proofs.deliver.open.Tie as tie
 
@@ -28,7 +28,7 @@ returns : tie.Need-returns
 returns c =
     let a = c .before .before .before .before .before .before .before .before .before .before .before .before .before .before .before .args in
     let o = c .before .before .before .before .before .before .before .before .before .«open» .ensures in
-    (added-as (ap (λ (x : Opened). openingLines (a .number) (now (a .p)) (a .m) x (now (a .lent))) (o .0)) (c .before .before .before .before .put-opened .ensures), o .1)
+    (added-as (ap (λ (x : Opened). openedLines (a .number) (now (a .p)) (a .m) x (now (a .lent))) (o .0)) (c .before .before .before .before .put-opened .ensures), o .1)
 
 pub open-spec : {M : Type 1} → statement M
 open-spec =

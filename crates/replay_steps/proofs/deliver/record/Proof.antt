@@ -7,7 +7,7 @@ use denote.Ref.{now}
 use borrow.Author.Needs.{needs}
 use Rattle.table.specs.declared.Recorded.{Recorded}
 use Rattle.text.proofs.AddedLaws.{added-as}
-use Rattle.replay_steps.specs.Deliver.{recordingLines}
+use Rattle.replay_steps.specs.Deliver.{recordedLines}
 use Rattle.replay_steps.proofs.deliver.record.Statement.{statement}
 use Rattle.replay_steps.proofs.deliver.record.Tie as tie
 
@@ -30,7 +30,7 @@ returns : tie.Need-returns
 returns c =
     let a = c .before .before .before .before .before .before .before .before .before .before .before .before .before .before .before .before .args in
     let o = c .before .before .before .before .before .before .before .before .before .before .«record» .ensures in
-    (added-as (ap₂ (λ (x : Recorded) (l : List ℕ). recordingLines (a .number) (now (a .p)) (a .d) x l (now (a .lent))) (o .0) (o .1)) (c .before .before .before .before .put-recorded .ensures), o .1)
+    (added-as (ap₂ (λ (x : Recorded) (l : List ℕ). recordedLines (a .number) (now (a .p)) (a .d) x l (now (a .lent))) (o .0) (o .1)) (c .before .before .before .before .put-recorded .ensures), o .1)
 
 pub record-spec : {M : Type 1} → statement M
 record-spec =

@@ -1,12 +1,11 @@
 -- `replay_steps::records::answer` meets its contract: a return for each kind.
 -- Assumes nothing.
-use mathlib.Core.Path.{sym, ap, _∙_}
-use Prim.Native.Nat.{ℕ}
+use mathlib.Core.Path.{refl}
 use denote.Ref.{now}
 use borrow.Author.Tests.{ne-eqb}
 use borrow.Author.Needs.{needs}
-use Rattle.text.proofs.AddedLaws.{added-as}
 use Rattle.replay_steps.specs.Records.{recordLines, areaAfter}
+use Rattle.replay_steps.proofs.CaseLaws.{of-kind}
 use Rattle.replay_steps.proofs.records.answer.Statement.{statement}
 use Rattle.replay_steps.proofs.records.answer.Tie as tie
 
@@ -23,8 +22,8 @@ returns : tie.Need-returns
 unfolding recordLines areaAfter
 returns c =
     let a = c .before .before .before .before .before .before .before .before .before .before .before .before .args in
-    let e = sym (c .before .before .before .before .before .before .before .if1 .taken) in
-    (added-as (ap (λ (k : ℕ). recordLines (a .number) k (now (a .body)) (now (a .area)) (now (a .lent))) e) (c .before .before .before .before .fresh .ensures .0), c .before .before .before .before .fresh .ensures .1 ∙ ap (λ (k : ℕ). areaAfter k (now (a .body)) (now (a .area))) e)
+    of-kind (a .number) (now (a .body)) (now (a .area)) (now (a .lent)) (c .before .before .before .before .before .before .before .if1 .taken)
+    (c .before .before .before .before .fresh .ensures)
 
 open-requires : tie.Need-open-requires
 open-requires c κs = search needs
@@ -39,8 +38,8 @@ returns-2 : tie.Need-returns-2
 unfolding recordLines areaAfter
 returns-2 c =
     let a = c .before .before .before .before .before .before .before .before .before .before .before .before .before .args in
-    let e = sym (c .before .before .before .before .before .before .before .if2 .taken) in
-    (added-as (ap (λ (k : ℕ). recordLines (a .number) k (now (a .body)) (now (a .area)) (now (a .lent))) e) (c .before .before .before .before .«open» .ensures .0), c .before .before .before .before .«open» .ensures .1 ∙ ap (λ (k : ℕ). areaAfter k (now (a .body)) (now (a .area))) e)
+    of-kind (a .number) (now (a .body)) (now (a .area)) (now (a .lent)) (c .before .before .before .before .before .before .before .if2 .taken)
+    (c .before .before .before .before .«open» .ensures)
 
 record-requires : tie.Need-record-requires
 record-requires c κs = search needs
@@ -55,8 +54,8 @@ returns-3 : tie.Need-returns-3
 unfolding recordLines areaAfter
 returns-3 c =
     let a = c .before .before .before .before .before .before .before .before .before .before .before .before .before .before .args in
-    let e = sym (c .before .before .before .before .before .before .before .if3 .taken) in
-    (added-as (ap (λ (k : ℕ). recordLines (a .number) k (now (a .body)) (now (a .area)) (now (a .lent))) e) (c .before .before .before .before .«record» .ensures .0), c .before .before .before .before .«record» .ensures .1 ∙ ap (λ (k : ℕ). areaAfter k (now (a .body)) (now (a .area))) e)
+    of-kind (a .number) (now (a .body)) (now (a .area)) (now (a .lent)) (c .before .before .before .before .before .before .before .if3 .taken)
+    (c .before .before .before .before .«record» .ensures)
 
 read-requires : tie.Need-read-requires
 read-requires c κs = search needs
@@ -68,8 +67,8 @@ returns-4 : tie.Need-returns-4
 unfolding recordLines areaAfter
 returns-4 c =
     let a = c .before .before .before .before .before .before .before .before .before .before .before .before .args in
-    let e = sym (c .before .before .before .before .if4 .taken) in
-    (added-as (ap (λ (k : ℕ). recordLines (a .number) k (now (a .body)) (now (a .area)) (now (a .lent))) e) (c .before .before .read .ensures), ap (λ (k : ℕ). areaAfter k (now (a .body)) (now (a .area))) e)
+    of-kind (a .number) (now (a .body)) (now (a .area)) (now (a .lent)) (c .before .before .before .before .if4 .taken)
+    (c .before .before .read .ensures, refl)
 
 status-requires : tie.Need-status-requires
 status-requires c κs = search needs
@@ -87,8 +86,8 @@ returns-5 : tie.Need-returns-5
 unfolding recordLines areaAfter
 returns-5 c =
     let a = c .before .before .before .before .before .before .before .before .before .before .before .before .before .before .before .before .before .args in
-    let e = sym (c .before .before .before .before .before .before .before .before .if5 .taken) in
-    (added-as (ap (λ (k : ℕ). recordLines (a .number) k (now (a .body)) (now (a .area)) (now (a .lent))) e) (c .before .before .before .before .status .ensures), ap (λ (k : ℕ). areaAfter k (now (a .body)) (now (a .area))) e)
+    of-kind (a .number) (now (a .body)) (now (a .area)) (now (a .lent)) (c .before .before .before .before .before .before .before .before .if5 .taken)
+    (c .before .before .before .before .status .ensures, refl)
 
 close-requires : tie.Need-close-requires
 close-requires c κs = search needs
@@ -103,8 +102,8 @@ returns-6 : tie.Need-returns-6
 unfolding recordLines areaAfter
 returns-6 c =
     let a = c .before .before .before .before .before .before .before .before .before .before .before .before .before .before .before .before .before .args in
-    let e = sym (c .before .before .before .before .before .before .before .if6 .taken) in
-    (added-as (ap (λ (k : ℕ). recordLines (a .number) k (now (a .body)) (now (a .area)) (now (a .lent))) e) (c .before .before .before .before .close .ensures .0), c .before .before .before .before .close .ensures .1 ∙ ap (λ (k : ℕ). areaAfter k (now (a .body)) (now (a .area))) e)
+    of-kind (a .number) (now (a .body)) (now (a .area)) (now (a .lent)) (c .before .before .before .before .before .before .before .if6 .taken)
+    (c .before .before .before .before .close .ensures)
 
 deliver-requires : tie.Need-deliver-requires
 deliver-requires c κs = search needs
@@ -122,8 +121,8 @@ returns-7 : tie.Need-returns-7
 unfolding recordLines areaAfter
 returns-7 c =
     let a = c .before .before .before .before .before .before .before .before .before .before .before .before .before .before .before .before .before .before .before .before .before .args in
-    let e = sym (c .before .before .before .before .before .before .before .before .before .before .if7 .taken) in
-    (added-as (ap (λ (k : ℕ). recordLines (a .number) k (now (a .body)) (now (a .area)) (now (a .lent))) e) (c .before .before .before .before .before .before .deliver .ensures .0), c .before .before .before .before .before .before .deliver .ensures .1 ∙ ap (λ (k : ℕ). areaAfter k (now (a .body)) (now (a .area))) e)
+    of-kind (a .number) (now (a .body)) (now (a .area)) (now (a .lent)) (c .before .before .before .before .before .before .before .before .before .before .if7 .taken)
+    (c .before .before .before .before .before .before .deliver .ensures)
 
 put-unknown-requires : tie.Need-put-unknown-requires
 put-unknown-requires c κs = search needs

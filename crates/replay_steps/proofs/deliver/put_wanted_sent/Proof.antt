@@ -1,20 +1,21 @@
--- `replay_steps::deliver::put_status_sent` meets its contract: no line where no STATUS is wanted.
+-- `replay_steps::deliver::put_wanted_sent` meets its contract: no line where no STATUS is wanted.
 -- Assumes nothing.
 use mathlib.Core.Path.{ap₂}
+use native.Mathlib.Omega.{arith}
 use denote.Ref.{now}
 use borrow.Author.Tests.{eq-eqb, ne-eqb}
 use borrow.Author.Needs.{needs}
 use Rattle.text.proofs.AddedLaws.{added-as, added-none}
 use Rattle.replay_answers.specs.Answers.{sentText}
-use Rattle.replay_steps.specs.Deliver.{statusSent}
-use Rattle.replay_steps.proofs.deliver.put_status_sent.Statement.{statement}
-use Rattle.replay_steps.proofs.deliver.put_status_sent.Tie as tie
+use Rattle.replay_steps.specs.Deliver.{wantedSent}
+use Rattle.replay_steps.proofs.deliver.put_wanted_sent.Statement.{statement}
+use Rattle.replay_steps.proofs.deliver.put_wanted_sent.Tie as tie
 
 returns : tie.Need-returns
-unfolding statusSent
+unfolding wantedSent
 returns c =
     let a = c .before .before .before .before .before .args in
-    rw (eq-eqb (a .d .wanted) 0 (c .if1 .taken)) (added-none (now (a .out)) (a .at) (c .before .before .before .before .before .pre))
+    rw (eq-eqb (a .d .wanted) 0 (omega arith)) (added-none (now (a .out)) (a .at) (c .before .before .before .before .before .pre))
 
 write-status-requires : tie.Need-write-status-requires
 write-status-requires c κs = search needs
@@ -29,13 +30,13 @@ same-length-2 : tie.Need-same-length-2
 same-length-2 c = search needs
 
 returns-2 : tie.Need-returns-2
-unfolding statusSent
+unfolding wantedSent
 returns-2 c =
     let a = c .before .before .before .before .before .before .before .before .before .before .before .before .before .before .args in
     let w = c .before .before .before .before .before .before .before .write-status .ensures in
     rw (ne-eqb (a .d .wanted) 0 (c .before .before .before .before .before .before .before .before .before .if1 .left)) (added-as (ap₂ (sentText (a .number)) (w .0) (w .1)) (c .before .before .put-sent .ensures))
 
-pub put-status-sent-spec : {M : Type 1} → statement M
-put-status-sent-spec =
+pub put-wanted-sent-spec : {M : Type 1} → statement M
+put-wanted-sent-spec =
     tie.close
     (tie.spec returns write-status-requires put-sent-requires same-length same-length-2 returns-2)

@@ -1,0 +1,61 @@
+-- `replay_steps::deliver::put_recorded_sent` meets its contract: by the two cases of the answer.
+-- Assumes nothing.
+use mathlib.Core.Path.{sym, ap}
+use denote.Ref.{now}
+use borrow.Author.Needs.{needs}
+use Rattle.table.specs.declared.Recorded.{Recorded}
+use Rattle.text.proofs.AddedLaws.{added-as}
+use Rattle.replay_steps.specs.Deliver.{recordedSent}
+use Rattle.replay_steps.proofs.deliver.put_recorded_sent.Statement.{statement}
+use Rattle.replay_steps.proofs.deliver.put_recorded_sent.Tie as tie
+
+enum-told : tie.Need-enum-told
+enum-told c = search needs
+
+put-wanted-sent-requires : tie.Need-put-wanted-sent-requires
+put-wanted-sent-requires c κs = search needs
+
+enum-known-a : tie.Need-enum-known-a
+enum-known-a c = search needs
+
+put-failure-sent-requires : tie.Need-put-failure-sent-requires
+put-failure-sent-requires c κs = search needs
+
+same-length : tie.Need-same-length
+same-length c = search needs
+
+same-length-2 : tie.Need-same-length-2
+same-length-2 c = search needs
+
+returns : tie.Need-returns
+unfolding recordedSent
+returns c =
+    let a = c .before .before .before .before .before .before .before .before .before .before .before .before .before .args in
+    added-as (ap (λ (x : Recorded). recordedSent (a .number) (now (a .p)) (a .d) x (now (a .area)) (now (a .lent))) (sym (c .before .before .before .before .before .before .before .enum-told .given .1))) (c .before .before .before .before .put-wanted-sent .ensures)
+
+same-length-3 : tie.Need-same-length-3
+same-length-3 c = search needs
+
+same-length-4 : tie.Need-same-length-4
+same-length-4 c = search needs
+
+returns-2 : tie.Need-returns-2
+unfolding recordedSent
+returns-2 c =
+    let a = c .before .before .before .before .before .before .before .before .before .before .before .before .before .before .args in
+    added-as (ap (λ (x : Recorded). recordedSent (a .number) (now (a .p)) (a .d) x (now (a .area)) (now (a .lent))) (sym (c .before .before .before .before .before .before .before .before .a .given .1))) (c .before .before .before .before .put-failure-sent .ensures)
+
+pub put-recorded-sent-spec : {M : Type 1} → statement M
+put-recorded-sent-spec =
+    tie.close
+    (tie.spec
+    enum-told
+    put-wanted-sent-requires
+    enum-known-a
+    put-failure-sent-requires
+    same-length
+    same-length-2
+    returns
+    same-length-3
+    same-length-4
+    returns-2)

@@ -7,6 +7,7 @@ use lib.Dec.{eqb}
 use lib.ListN.{length, take, drop}
 use Rattle.header.specs.declared.Hole.{Hole}
 use Rattle.header.specs.declared.Refusal.{Refusal}
+use Rattle.directory_entry.specs.declared.Entry.{Entry}
 use Rattle.packet_metadata.specs.declared.Metadata.{Metadata}
 use Rattle.packet_data.specs.Data.{payloadOf}
 use Rattle.packet_data.specs.declared.Data.{Data}
@@ -60,32 +61,34 @@ recordLine n d x =
     ++ (reachedText x
     ++ newline))))
 
+-- `8 metadata id=7 flags=000000 width=16`: how the line of a packet that was read begins
+abbrev pub headText : ℕ → List ℕ → ℕ → ℕ → ℕ → List ℕ
+headText n name id flags width =
+    decimalOf n ++ (field name id ++ (numberField w-flags 3 flags ++ field w-width (bitsOf width)))
+
+-- ` properties=0000 size=3000 mtime=0 ctime=0 path=70..`
+abbrev pub entryText : List ℕ → Entry → List ℕ
+entryText p e =
+    numberField w-properties 2 (e .properties)
+    ++ (field w-size (e .size)
+    ++ (field w-mtime (e .mtime)
+    ++ (field w-ctime (e .ctime)
+    ++ octetsField w-path (take (e .length) (drop (e .path) p)))))
+
 -- `8 metadata id=7 flags=000000 width=16 checksum= properties=0000 size=3000 mtime=0 ctime=0 path=70..`
 unfoldable pub metadataLine : ℕ → List ℕ → Metadata → List ℕ
 metadataLine n p m =
-    decimalOf n
-    ++ (field w-metadata (m .id)
-    ++ (numberField w-flags 3 (m .flags)
-    ++ (field w-width (bitsOf (m .width))
-    ++ (octetsField w-checksum (take (m .checksum) (drop 8 p))
-    ++ (numberField w-properties 2 (m .entry .properties)
-    ++ (field w-size (m .entry .size)
-    ++ (field w-mtime (m .entry .mtime)
-    ++ (field w-ctime (m .entry .ctime)
-    ++ (octetsField w-path (take (m .entry .length) (drop (m .entry .path) p))
-    ++ newline)))))))))
+    headText n w-metadata (m .id) (m .flags) (m .width)
+    ++ (octetsField w-checksum (take (m .checksum) (drop 8 p)) ++ (entryText p (m .entry) ++ newline))
 
 -- `9 data id=7 flags=000000 width=16 timestamp= offset=0 length=1000`
 unfoldable pub dataLine : ℕ → List ℕ → Data → List ℕ
 dataLine n p d =
-    decimalOf n
-    ++ (field w-data (d .id)
-    ++ (numberField w-flags 3 (d .flags)
-    ++ (field w-width (bitsOf (d .width))
+    headText n w-data (d .id) (d .flags) (d .width)
     ++ (octetsField w-timestamp (take (d .timestamp) (drop 8 p))
     ++ (field w-offset (d .offset)
     ++ (field w-length (length (payloadOf p))
-    ++ newline))))))
+    ++ newline)))
 
 -- `1000-2000`
 abbrev pub holeText : Hole → List ℕ
@@ -107,16 +110,13 @@ holesText p (suc k) = holesText p k ++ holeAfter k (readHole k p)
 -- `10 success id=7 flags=000000 width=16 timestamp= progress=1000 in-response-to=3000 holes=1000-2000,2500-2600`
 unfoldable pub successLine : ℕ → List ℕ → SuccessStatus → List ℕ
 successLine n p s =
-    decimalOf n
-    ++ (field w-success (s .id)
-    ++ (numberField w-flags 3 (s .flags)
-    ++ (field w-width (bitsOf (s .width))
+    headText n w-success (s .id) (s .flags) (s .width)
     ++ (octetsField w-timestamp (take (s .timestamp) (drop 8 p))
     ++ (field w-progress (s .progress)
     ++ (field w-response (s .response)
     ++ (w-holes
     ++ (holesText p (s .count)
-    ++ newline))))))))
+    ++ newline)))))
 
 -- `11 failure id=7 status=6 flags=000006`
 unfoldable pub failureLine : ℕ → FailureStatus → List ℕ

@@ -3,13 +3,14 @@ ghost use Prim.Native.Nat.{_≤_};
 ghost use lib.ListN.{length};
 ghost use Rattle.packet_status.specs.Status.{readHole};
 ghost use Rattle.text.specs.Added.{Added};
-ghost use Rattle.replay_lines.specs.Lines.{plainLine, refusedLine, closeLine, octetsLine, unknownLine, openedLine, recordLine, metadataLine, dataLine, holeText, nextHole, holeAfter, holesText, successLine, failureLine};
+ghost use Rattle.replay_lines.specs.Lines.{plainLine, refusedLine, closeLine, octetsLine, unknownLine, openedLine, recordLine, headText, entryText, metadataLine, dataLine, holeText, nextHole, holeAfter, holesText, successLine, failureLine};
 use crate::fields::bits_of;
 use crate::fields::part;
 use crate::fields::put_field;
 use crate::fields::put_number;
 use crate::fields::put_octets;
 use crate::fields::put_reached;
+use directory_entry::Entry;
 use header::Hole;
 use header::Refusal;
 use packet_data::Data;
@@ -102,22 +103,46 @@ pub fn put_recorded(out: &mut [u8], at: usize, number: u64, d: Data, x: Reached)
     text::push(out, f, 10)
 }
 
+// How the line of a packet that was read begins: a name with its Id, the flags and the width.
+fn put_head(
+    out: &mut [u8],
+    at: usize,
+    number: u64,
+    name: &[u8],
+    id: u64,
+    flags: u64,
+    width: usize,
+) -> usize
+    requires { ⌜ at ≤ length (now out) ⌝ }
+    ensures { λ r. ⌜ Added (now (out .entry)) at (headText number (now (name .entry)) id flags width) (now (out .exit)) r ⌝ }
+{
+    let a = text::put_decimal(out, at, number);
+    let b = put_field(out, a, name, id);
+    let c = put_number(out, b, b" flags=", 3, flags);
+    put_field(out, c, b" width=", bits_of(width))
+}
+
+// The directory entry e of the packet p.
+fn put_entry(out: &mut [u8], at: usize, p: &[u8], e: Entry) -> usize
+    requires { ⌜ at ≤ length (now out) ⌝ }
+    ensures { λ r. ⌜ Added (now (out .entry)) at (entryText (now (p .entry)) e) (now (out .exit)) r ⌝ }
+{
+    let a = put_number(out, at, b" properties=", 2, e.properties);
+    let b = put_field(out, a, b" size=", e.size);
+    let c = put_field(out, b, b" mtime=", e.mtime);
+    let d = put_field(out, c, b" ctime=", e.ctime);
+    put_octets(out, d, b" path=", part(p, e.path, e.length))
+}
+
 // METADATA m read from the packet p.
 pub fn put_metadata(out: &mut [u8], at: usize, number: u64, p: &[u8], m: Metadata) -> usize
     requires { ⌜ at ≤ length (now out) ⌝ }
     ensures { λ r. ⌜ Added (now (out .entry)) at (metadataLine number (now (p .entry)) m) (now (out .exit)) r ⌝ }
 {
-    let a = text::put_decimal(out, at, number);
-    let b = put_field(out, a, b" metadata id=", m.id);
-    let c = put_number(out, b, b" flags=", 3, m.flags);
-    let d = put_field(out, c, b" width=", bits_of(m.width));
-    let e = put_octets(out, d, b" checksum=", part(p, 8, m.checksum));
-    let f = put_number(out, e, b" properties=", 2, m.entry.properties);
-    let g = put_field(out, f, b" size=", m.entry.size);
-    let h = put_field(out, g, b" mtime=", m.entry.mtime);
-    let i = put_field(out, h, b" ctime=", m.entry.ctime);
-    let j = put_octets(out, i, b" path=", part(p, m.entry.path, m.entry.length));
-    text::push(out, j, 10)
+    let a = put_head(out, at, number, b" metadata id=", m.id, m.flags, m.width);
+    let b = put_octets(out, a, b" checksum=", part(p, 8, m.checksum));
+    let c = put_entry(out, b, p, m.entry);
+    text::push(out, c, 10)
 }
 
 // DATA d read from the packet p.
@@ -126,14 +151,11 @@ pub fn put_data(out: &mut [u8], at: usize, number: u64, p: &[u8], d: Data) -> us
     ensures { λ r. ⌜ Added (now (out .entry)) at (dataLine number (now (p .entry)) d) (now (out .exit)) r ⌝ }
 {
     let size = packet_data::payload(p).len();
-    let a = text::put_decimal(out, at, number);
-    let b = put_field(out, a, b" data id=", d.id);
-    let c = put_number(out, b, b" flags=", 3, d.flags);
-    let e = put_field(out, c, b" width=", bits_of(d.width));
-    let f = put_octets(out, e, b" timestamp=", part(p, 8, d.timestamp));
-    let g = put_field(out, f, b" offset=", d.offset);
-    let h = put_field(out, g, b" length=", size as u64);
-    text::push(out, h, 10)
+    let a = put_head(out, at, number, b" data id=", d.id, d.flags, d.width);
+    let b = put_octets(out, a, b" timestamp=", part(p, 8, d.timestamp));
+    let c = put_field(out, b, b" offset=", d.offset);
+    let e = put_field(out, c, b" length=", size as u64);
+    text::push(out, e, 10)
 }
 
 // A hole.
@@ -188,16 +210,13 @@ pub fn put_success(out: &mut [u8], at: usize, number: u64, p: &[u8], s: SuccessS
     requires { ⌜ at ≤ length (now out) ⌝ }
     ensures { λ r. ⌜ Added (now (out .entry)) at (successLine number (now (p .entry)) s) (now (out .exit)) r ⌝ }
 {
-    let a = text::put_decimal(out, at, number);
-    let b = put_field(out, a, b" success id=", s.id);
-    let c = put_number(out, b, b" flags=", 3, s.flags);
-    let d = put_field(out, c, b" width=", bits_of(s.width));
-    let e = put_octets(out, d, b" timestamp=", part(p, 8, s.timestamp));
-    let f = put_field(out, e, b" progress=", s.progress);
-    let g = put_field(out, f, b" in-response-to=", s.response);
-    let h = text::put_text(out, g, b" holes=");
-    let i = put_holes(out, h, p, s.count);
-    text::push(out, i, 10)
+    let a = put_head(out, at, number, b" success id=", s.id, s.flags, s.width);
+    let b = put_octets(out, a, b" timestamp=", part(p, 8, s.timestamp));
+    let c = put_field(out, b, b" progress=", s.progress);
+    let d = put_field(out, c, b" in-response-to=", s.response);
+    let e = text::put_text(out, d, b" holes=");
+    let f = put_holes(out, e, p, s.count);
+    text::push(out, f, 10)
 }
 
 // A failure STATUS.

@@ -1,37 +1,19 @@
 -- `replay_lines::put_success` meets its contract: one part after the other.
 -- Assumes nothing.
-use borrow.Author.Needs.{needs}
 use mathlib.Core.Path.{ap}
+use borrow.Author.Needs.{needs}
 use Rattle.text.proofs.AddedLaws.{_then_, added-as}
-use Rattle.replay_lines.specs.Fields.{field, octetsField}
-use Rattle.replay_lines.specs.Words.{w-width, w-timestamp}
+use Rattle.replay_lines.specs.Fields.{octetsField}
+use Rattle.replay_lines.specs.Words.{w-timestamp}
 use Rattle.replay_lines.specs.Lines.{successLine}
 use Rattle.replay_lines.proofs.lines.put_success.Statement.{statement}
 use Rattle.replay_lines.proofs.lines.put_success.Tie as tie
 
-put-decimal-requires : tie.Need-put-decimal-requires
-put-decimal-requires c κs = search needs
+slice-aggregate-put-head : tie.Need-slice-aggregate-put-head
+slice-aggregate-put-head c = search needs
 
-slice-aggregate-put-field : tie.Need-slice-aggregate-put-field
-slice-aggregate-put-field c = search needs
-
-put-field-requires : tie.Need-put-field-requires
-put-field-requires c κs = c .before .before .before .before .put-decimal .ensures .within
-
-slice-aggregate-put-number : tie.Need-slice-aggregate-put-number
-slice-aggregate-put-number c = search needs
-
-put-number-requires : tie.Need-put-number-requires
-put-number-requires c κs = (c .before .before .before .before .put-field .ensures .within, search needs)
-
-slice-aggregate-put-field-2 : tie.Need-slice-aggregate-put-field-2
-slice-aggregate-put-field-2 c = search needs
-
-bits-of-requires : tie.Need-bits-of-requires
-bits-of-requires c κs = search needs
-
-put-field-requires-2 : tie.Need-put-field-requires-2
-put-field-requires-2 c κs = c .before .before .before .before .before .put-number .ensures .within
+put-head-requires : tie.Need-put-head-requires
+put-head-requires c κs = search needs
 
 slice-aggregate-put-octets : tie.Need-slice-aggregate-put-octets
 slice-aggregate-put-octets c = search needs
@@ -40,42 +22,39 @@ part-requires : tie.Need-part-requires
 part-requires c κs = search needs
 
 put-octets-requires : tie.Need-put-octets-requires
-put-octets-requires c κs = c .before .before .before .before .before .put-field2 .ensures .within
+put-octets-requires c κs = search needs
 
-slice-aggregate-put-field-3 : tie.Need-slice-aggregate-put-field-3
-slice-aggregate-put-field-3 c = search needs
+slice-aggregate-put-field : tie.Need-slice-aggregate-put-field
+slice-aggregate-put-field c = search needs
 
-put-field-requires-3 : tie.Need-put-field-requires-3
-put-field-requires-3 c κs = c .before .before .before .before .put-octets .ensures .within
+put-field-requires : tie.Need-put-field-requires
+put-field-requires c κs = search needs
 
-slice-aggregate-put-field-4 : tie.Need-slice-aggregate-put-field-4
-slice-aggregate-put-field-4 c = search needs
+slice-aggregate-put-field-2 : tie.Need-slice-aggregate-put-field-2
+slice-aggregate-put-field-2 c = search needs
 
-put-field-requires-4 : tie.Need-put-field-requires-4
-put-field-requires-4 c κs = c .before .before .before .before .put-field3 .ensures .within
+put-field-requires-2 : tie.Need-put-field-requires-2
+put-field-requires-2 c κs = search needs
 
 slice-aggregate-put-text : tie.Need-slice-aggregate-put-text
 slice-aggregate-put-text c = search needs
 
 put-text-requires : tie.Need-put-text-requires
-put-text-requires c κs = c .before .before .before .before .put-field4 .ensures .within
+put-text-requires c κs = search needs
 
 put-holes-requires : tie.Need-put-holes-requires
-put-holes-requires c κs = c .before .before .before .put-text .ensures .within
+put-holes-requires c κs = search needs
 
 push-requires : tie.Need-push-requires
-push-requires c κs = c .before .before .before .put-holes .ensures .within
+push-requires c κs = search needs
 
 returns : tie.Need-returns
 unfolding successLine
 returns c =
-    c .before .before .before .before .before .before .before .before .before .before .before .before .before .before .before .before .before .before .before .before .before .before .before .before .before .before .before .before .before .before .before .before .before .before .before .before .before .before .before .before .before .before .before .before .before .before .before .put-decimal .ensures
-    then c .before .before .before .before .before .before .before .before .before .before .before .before .before .before .before .before .before .before .before .before .before .before .before .before .before .before .before .before .before .before .before .before .before .before .before .before .before .before .before .before .before .before .put-field .ensures
-    then c .before .before .before .before .before .before .before .before .before .before .before .before .before .before .before .before .before .before .before .before .before .before .before .before .before .before .before .before .before .before .before .before .before .before .before .before .before .put-number .ensures
-    then added-as (ap (field w-width) (c .before .before .before .before .before .before .before .before .before .before .before .before .before .before .before .before .before .before .before .before .before .before .before .before .before .before .before .before .before .before .before .before .bits-of .ensures)) (c .before .before .before .before .before .before .before .before .before .before .before .before .before .before .before .before .before .before .before .before .before .before .before .before .before .before .before .before .before .before .before .put-field2 .ensures)
+    c .before .before .before .before .before .before .before .before .before .before .before .before .before .before .before .before .before .before .before .before .before .before .before .before .before .before .before .before .before .before .before .put-head .ensures
     then added-as (ap (octetsField w-timestamp) (c .before .before .before .before .before .before .before .before .before .before .before .before .before .before .before .before .before .before .before .before .before .before .before .before .before .before .part .ensures)) (c .before .before .before .before .before .before .before .before .before .before .before .before .before .before .before .before .before .before .before .before .before .before .before .before .before .put-octets .ensures)
-    then c .before .before .before .before .before .before .before .before .before .before .before .before .before .before .before .before .before .before .before .before .put-field3 .ensures
-    then c .before .before .before .before .before .before .before .before .before .before .before .before .before .before .before .put-field4 .ensures
+    then c .before .before .before .before .before .before .before .before .before .before .before .before .before .before .before .before .before .before .before .before .put-field .ensures
+    then c .before .before .before .before .before .before .before .before .before .before .before .before .before .before .before .put-field2 .ensures
     then c .before .before .before .before .before .before .before .before .before .before .put-text .ensures
     then c .before .before .before .before .before .before .put-holes .ensures
     then c .before .before .push .ensures
@@ -87,21 +66,15 @@ pub put-success-spec : {M : Type 1} → statement M
 put-success-spec =
     tie.close
     (tie.spec
-    put-decimal-requires
-    slice-aggregate-put-field
-    put-field-requires
-    slice-aggregate-put-number
-    put-number-requires
-    slice-aggregate-put-field-2
-    bits-of-requires
-    put-field-requires-2
+    slice-aggregate-put-head
+    put-head-requires
     slice-aggregate-put-octets
     part-requires
     put-octets-requires
-    slice-aggregate-put-field-3
-    put-field-requires-3
-    slice-aggregate-put-field-4
-    put-field-requires-4
+    slice-aggregate-put-field
+    put-field-requires
+    slice-aggregate-put-field-2
+    put-field-requires-2
     slice-aggregate-put-text
     put-text-requires
     put-holes-requires

@@ -1,3 +1,2 @@
 pub mod CaseLaws
 pub mod Examples
-pub mod RoomLaws

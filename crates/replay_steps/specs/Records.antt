@@ -1,6 +1,6 @@
 -- What a record gets: its lines, and the area after it. `room` is the buffer that is lent for STATUS, as it stands before.
 -- Assumes nothing.
-use Prim.Native.Nat.{ℕ}
+use Prim.Native.Nat.{ℕ, min}
 use mathlib.Core.Bool.{Bool, not, cond}
 use mathlib.Core.List.{List}
 use lib.Dec.{eqb, ltb}
@@ -56,7 +56,7 @@ writtenLine n area id k unasked room =
 unfoldable pub statusLines : ℕ → List ℕ → List ℕ → List ℕ → List ℕ
 statusLines n body area room =
     cond (eqb (length body) 17)
-    (writtenLine n area (numberAt 0 4 body) (numberAt 4 8 body) (not (eqb (getD body 12 0) 0)) (take (numberAt 13 4 body) room))
+    (writtenLine n area (numberAt 0 4 body) (numberAt 4 8 body) (not (eqb (getD body 12 0) 0)) (take (min (numberAt 13 4 body) (length room)) room))
     (badLine n)
 
 -- the lines of a record, by its kind: `F` 46, `O` 4f, `D` 44, `R` 52, `S` 53, `C` 43, `P` 50 (hex)

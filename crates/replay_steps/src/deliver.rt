@@ -66,7 +66,7 @@ fn opened_code(a: Opened) -> u64
     }
 }
 
-// What opening by METADATA m, read from p, answered.
+// What opening by METADATA m, read from p, answered, and what is to be sent.
 fn put_opened(
     out: &mut [u8],
     at: usize,
@@ -122,7 +122,7 @@ fn put_recorded_sent(
     }
 }
 
-// What recording DATA d, read from p, answered.
+// What recording DATA d, read from p, answered, and what is to be sent.
 fn put_recorded(
     out: &mut [u8],
     at: usize,

@@ -3,7 +3,7 @@
 use mathlib.Core.Path.{sym, ap, ap₂, _∙_}
 use mathlib.Core.Bool.{not}
 use mathlib.Core.List.{List}
-use Prim.Native.Nat.{ℕ}
+use Prim.Native.Nat.{ℕ, min}
 use native.Mathlib.Omega.{arith}
 use denote.Ref.{now}
 use lib.Dec.{eqb}
@@ -14,7 +14,6 @@ use borrow.Author.Needs.{needs}
 use Rattle.octets.specs.Numbers.{four, eight}
 use Rattle.text.proofs.AddedLaws.{added-as}
 use Rattle.replay_steps.specs.Records.{numberAt, writtenLine, statusLines}
-use Rattle.replay_steps.proofs.RoomLaws.{take-least}
 use Rattle.replay_steps.proofs.records.status.Statement.{statement}
 use Rattle.replay_steps.proofs.records.status.Tie as tie
 
@@ -71,7 +70,7 @@ returns-2 c =
     let n = c .before .before .before .before .before .before .before .before .read-number3 in
     let room = c .before .before .before .before .before .before .before .room-of in
     let unasked = not (eqb (getD (now (a .body)) 12 0) 0) in
-    let l = ap (λ (r : ℕ). take r (now (a .lent))) (room .ensures) ∙ take-least (n .result) (now (a .lent)) ∙ ap (λ (r : ℕ). take r (now (a .lent))) (n .ensures) in
+    let l = ap (λ (r : ℕ). take r (now (a .lent))) (room .ensures ∙ ap (λ (r : ℕ). min r (length (now (a .lent)))) (n .ensures)) in
     rw (eq-eqb (length (now (a .body))) 17 (c .before .before .before .before .before .before .before .before .before .before .before .before .if1 .left))
     (added-as (ap (λ (x : ℕ). writtenLine (a .number) (now (a .area)) x (k .result) unasked (take (room .result) (now (a .lent)))) (id .ensures)
     ∙ ap₂ (λ (x : ℕ) (y : List ℕ). writtenLine (a .number) (now (a .area)) (numberAt 0 4 (now (a .body))) x unasked y) (k .ensures) l)

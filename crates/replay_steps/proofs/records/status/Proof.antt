@@ -1,6 +1,6 @@
 -- `replay_steps::records::status` meets its contract: `bad length`, or the STATUS by the four numbers of the body.
 -- Assumes nothing.
-use mathlib.Core.Path.{sym, ap, ap₂, _∙_}
+use mathlib.Core.Path.{_≡_, sym, ap, ap₂, _∙_}
 use mathlib.Core.Bool.{not}
 use mathlib.Core.List.{List}
 use Prim.Native.Nat.{ℕ, min}
@@ -70,7 +70,8 @@ returns-2 c =
     let n = c .before .before .before .before .before .before .before .before .read-number3 in
     let room = c .before .before .before .before .before .before .before .room-of in
     let unasked = not (eqb (getD (now (a .body)) 12 0) 0) in
-    let l = ap (λ (r : ℕ). take r (now (a .lent))) (room .ensures ∙ ap (λ (r : ℕ). min r (length (now (a .lent)))) (n .ensures)) in
+    let asked : n .result ≡ numberAt 13 4 (now (a .body)) = n .ensures in
+    let l = ap (λ (r : ℕ). take r (now (a .lent))) (room .ensures ∙ ap (λ (r : ℕ). min r (length (now (a .lent)))) asked) in
     rw (eq-eqb (length (now (a .body))) 17 (c .before .before .before .before .before .before .before .before .before .before .before .before .if1 .left))
     (added-as (ap (λ (x : ℕ). writtenLine (a .number) (now (a .area)) x (k .result) unasked (take (room .result) (now (a .lent)))) (id .ensures)
     ∙ ap₂ (λ (x : ℕ) (y : List ℕ). writtenLine (a .number) (now (a .area)) (numberAt 0 4 (now (a .body))) x unasked y) (k .ensures) l)

@@ -4,7 +4,7 @@ ghost use Prim.Native.Nat.{_+_, _-_, _≤_, _<_, min, max};
 ghost use lib.ListN.{length, getD};
 ghost use Rattle.runs.specs.Runs.{Canonical};
 ghost use Rattle.runs.specs.Holes.{edge, hole, holes, progress, complete};
-ghost use Rattle.run_set.specs.RunSets.{heldRuns, laterRuns, freshSet, pushOf, pushAll, insertedOf, finishedOf};
+ghost use Rattle.run_set.specs.RunSets.{heldRuns, laterRuns, freshSet, pushAll, insertedOf, finishedOf};
 use header::Hole;
 
 // Run i goes from `starts[i]` on, and `stops[i]` is the first offset after it. Places from `count` on are unused.
@@ -31,19 +31,6 @@ pub fn fresh() -> RunSet
     }
 }
 
-// The set with one run more, at the end.
-fn pushed(r: RunSet, start: u64, stop: u64) -> RunSet
-    requires { ⌜ r .count < 64 ⌝ }
-    ensures { λ q. ⌜ q ≡ pushOf r start stop ⌝ }
-{
-    let mut q = r;
-    let at = r.count;
-    q.starts[at] = start;
-    q.stops[at] = stop;
-    q.count = at + 1;
-    q
-}
-
 // `out` with the runs of `all` from place `from` on.
 fn copied(all: RunSet, from: usize, out: RunSet) -> RunSet
     requires { ⌜ (from ≤ all .count) × (all .count ≤ 64) × (out .count + (all .count - from) ≤ 64) ⌝ }
@@ -55,7 +42,10 @@ fn copied(all: RunSet, from: usize, out: RunSet) -> RunSet
     while i < n {
         let s = all.starts[i];
         let e = all.stops[i];
-        o = pushed(o, s, e);
+        let at = o.count;
+        o.starts[at] = s;
+        o.stops[at] = e;
+        o.count = at + 1;
         i += 1;
     }
     o
@@ -86,7 +76,10 @@ fn finished(all: RunSet, from: usize, out: RunSet, lo: u64, hi: u64) -> Insertio
             runs: all,
         };
     }
-    let p = pushed(out, lo, hi);
+    let mut p = out;
+    p.starts[k] = lo;
+    p.stops[k] = hi;
+    p.count = k + 1;
     let q = copied(all, from, p);
     Insertion { ok: true, runs: q }
 }
@@ -105,7 +98,10 @@ pub fn inserted(all: RunSet, a: u64, b: u64) -> Insertion
         let s = all.starts[i];
         let e = all.stops[i];
         if e < lo {
-            out = pushed(out, s, e);
+            let at = out.count;
+            out.starts[at] = s;
+            out.stops[at] = e;
+            out.count = at + 1;
         } else {
             if hi < s {
                 return finished(all, i, out, lo, hi);

@@ -1,9 +1,8 @@
 -- `run_set::copied` meets its contract. The loop's invariant: the runs still to come, put after those that are there, give the
 -- set in the end. Assumes nothing.
 use Prim.Native.Nat.{_+_, _-_, _≤_}
-use mathlib.Core.Path.{_≡_, ap}
+use mathlib.Core.Path.{_≡_, refl}
 use Rattle.run_set.specs.RunSets.{runsAt, pushAll}
-use Rattle.run_set.specs.declared.RunSet.{RunSet}
 use Rattle.run_set.proofs.InsertSteps.{push-step, push-end}
 use borrow.Author.Needs.{needs}
 use native.Mathlib.Omega.{arith}
@@ -33,8 +32,20 @@ mul-e c = search needs
 element-copy-out-e : tie.Need-element-copy-out-e Inv-loop μ-loop
 element-copy-out-e c = search needs
 
-pushed-requires : tie.Need-pushed-requires Inv-loop μ-loop
-pushed-requires c κs = search needs
+mul-o : tie.Need-mul-o Inv-loop μ-loop
+mul-o c = search needs
+
+element-write-o : tie.Need-element-write-o Inv-loop μ-loop
+element-write-o c = search needs
+
+mul-o-2 : tie.Need-mul-o-2 Inv-loop μ-loop
+mul-o-2 c = search needs
+
+element-write-o-2 : tie.Need-element-write-o-2 Inv-loop μ-loop
+element-write-o-2 c = search needs
+
+add-o : tie.Need-add-o Inv-loop μ-loop
+add-o c = search needs
 
 add-i : tie.Need-add-i Inv-loop μ-loop
 add-i c = search needs
@@ -44,12 +55,11 @@ loop-less c = search needs
 
 loop-again : tie.Need-loop-again Inv-loop μ-loop
 loop-again c =
-    let at = c .before .before .before .before .loop in
-    let n : c .pushed .result .count ≡ at .o .count + 1 = ap (λ (r : RunSet). r .count) (c .pushed .ensures) in (
+    let at = c .before .before .before .loop in (
       omega arith,
       omega arith,
       omega arith,
-      push-step _ _ _ _ _ _ _ (omega arith) (c .pushed .ensures) (at .inv .3),
+      push-step _ _ _ _ _ _ _ (omega arith) refl (at .inv .3),
     )
 
 returns : tie.Need-returns Inv-loop μ-loop
@@ -66,7 +76,11 @@ copied-spec =
     element-copy-out-s
     mul-e
     element-copy-out-e
-    pushed-requires
+    mul-o
+    element-write-o
+    mul-o-2
+    element-write-o-2
+    add-o
     add-i
     loop-less
     loop-again

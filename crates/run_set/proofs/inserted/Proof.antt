@@ -41,8 +41,20 @@ mul-e c = search needs
 element-copy-out-e : tie.Need-element-copy-out-e Inv-loop μ-loop
 element-copy-out-e c = search needs
 
-pushed-requires : tie.Need-pushed-requires Inv-loop μ-loop
-pushed-requires c κs = search needs
+mul-out : tie.Need-mul-out Inv-loop μ-loop
+mul-out c = search needs
+
+element-write-out : tie.Need-element-write-out Inv-loop μ-loop
+element-write-out c = search needs
+
+mul-out-2 : tie.Need-mul-out-2 Inv-loop μ-loop
+mul-out-2 c = search needs
+
+element-write-out-2 : tie.Need-element-write-out-2 Inv-loop μ-loop
+element-write-out-2 c = search needs
+
+add-out : tie.Need-add-out Inv-loop μ-loop
+add-out c = search needs
 
 finished-requires : tie.Need-finished-requires Inv-loop μ-loop
 finished-requires c κs = search needs
@@ -70,11 +82,11 @@ loop-again c =
     let at = c .before .before .before .before .loop in
     ⊎-elim
     (λ w.
-    let k : c .if1 .out .count ≡ at .out .count + 1 = ap (λ (r : RunSet). r .count) (w .2 ∙ w .1 .ensures) in (
+    let k : c .if1 .out .count ≡ at .out .count + 1 = ap (λ (r : RunSet). r .count) (w .1) in (
       omega arith,
       omega arith,
       omega arith,
-      step-after _ _ _ _ _ _ _ _ (at .inv .3) _ _ _ (omega arith) (omega arith) (w .2 ∙ w .1 .ensures) (w .3) (w .4),
+      step-after _ _ _ _ _ _ _ _ (at .inv .3) _ _ _ (omega arith) (omega arith) (w .1) (w .2) (w .3),
     ))
     (λ w.
     let k : c .if1 .out .count ≡ at .out .count = ap (λ (r : RunSet). r .count) (w .4) in (
@@ -105,7 +117,11 @@ inserted-spec =
     element-copy-out-s
     mul-e
     element-copy-out-e
-    pushed-requires
+    mul-out
+    element-write-out
+    mul-out-2
+    element-write-out-2
+    add-out
     finished-requires
     returns
     lesser-requires

@@ -1,6 +1,6 @@
 -- How the numbers of a run set hold a list of runs, and what the operations on run sets leave.
 -- Assumes nothing.
-use Prim.Native.Nat.{ℕ, zero, suc, _+_, _-_}
+use Prim.Native.Nat.{ℕ, zero, suc, _+_}
 use mathlib.Core.Bool.{true, false, cond}
 use mathlib.Core.List.{List, [], _∷_}
 use lib.ListN.{length, getD, set, replicate}
@@ -18,9 +18,9 @@ runsAt starts stops i (suc n) = run (getD starts i 0) (getD stops i 0) ∷ runsA
 abbrev pub heldRuns : RunSet → List Run
 heldRuns r = runsAt (r .starts) (r .stops) 0 (r .count)
 
--- those of them from place i on
-abbrev pub laterRuns : RunSet → ℕ → List Run
-laterRuns r i = runsAt (r .starts) (r .stops) i (r .count - i)
+-- the set with these numbers
+abbrev pub setAt : List ℕ → List ℕ → ℕ → RunSet
+setAt starts stops n = record { starts = starts; stops = stops; count = n }
 
 -- no runs, and zero at every place
 abbrev pub freshSet : RunSet
@@ -50,10 +50,7 @@ insertedOf all a b =
     let rs = insert a b (heldRuns all) in
     cond (leb (length rs) 64) (record { ok = true; runs = setOf rs }) (record { ok = false; runs = all })
 
--- the end of an insertion: `out`, then the run from lo to hi, then the runs of `all` from place i on; refused where they are
--- more than 64
-unfoldable pub finishedOf : RunSet → ℕ → RunSet → ℕ → ℕ → Insertion
-finishedOf all i out lo hi =
-    cond (leb (out .count + (all .count - i) + 1) 64)
-    (record { ok = true; runs = pushAll out (run lo hi ∷ laterRuns all i) })
-    (record { ok = false; runs = all })
+-- a list with the n numbers of another from place i on, put in from place `at` on
+unfoldable pub copiedTo : List ℕ → ℕ → List ℕ → ℕ → ℕ → List ℕ
+copiedTo out at s i zero = out
+copiedTo out at s i (suc n) = copiedTo (set out at (getD s i 0)) (at + 1) s (suc i) n

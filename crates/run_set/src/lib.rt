@@ -4,7 +4,7 @@ ghost use Prim.Native.Nat.{_+_, _-_, _≤_, _<_, min, max};
 ghost use lib.ListN.{length, getD};
 ghost use Rattle.runs.specs.Runs.{Canonical};
 ghost use Rattle.runs.specs.Holes.{edge, hole, holes, progress, complete};
-ghost use Rattle.run_set.specs.RunSets.{heldRuns, laterRuns, freshSet, pushAll, insertedOf, finishedOf};
+ghost use Rattle.run_set.specs.RunSets.{heldRuns, freshSet, copiedTo, insertedOf};
 use header::Hole;
 
 // Run i goes from `starts[i]` on, and `stops[i]` is the first offset after it. Places from `count` on are unused.
@@ -31,26 +31,6 @@ pub fn fresh() -> RunSet
     }
 }
 
-// `out` with the runs of `all` from place `from` on.
-fn copied(all: RunSet, from: usize, out: RunSet) -> RunSet
-    requires { ⌜ (from ≤ all .count) × (all .count ≤ 64) × (out .count + (all .count - from) ≤ 64) ⌝ }
-    ensures { λ r. ⌜ r ≡ pushAll out (laterRuns all from) ⌝ }
-{
-    let mut o = out;
-    let n = all.count;
-    let mut i = from;
-    while i < n {
-        let s = all.starts[i];
-        let e = all.stops[i];
-        let at = o.count;
-        o.starts[at] = s;
-        o.stops[at] = e;
-        o.count = at + 1;
-        i += 1;
-    }
-    o
-}
-
 fn lesser(x: u64, y: u64) -> u64
     ensures { λ r. ⌜ r ≡ min x y ⌝ }
 {
@@ -63,55 +43,64 @@ fn greater(x: u64, y: u64) -> u64
     if x < y { y } else { x }
 }
 
-// `out`, the run from `lo` to `hi`, and the runs of `all` from place `from` on.
-fn finished(all: RunSet, from: usize, out: RunSet, lo: u64, hi: u64) -> Insertion
-    requires { ⌜ (from ≤ all .count) × (all .count ≤ 64) × (out .count ≤ from) ⌝ }
-    ensures { λ r. ⌜ r ≡ finishedOf all from out lo hi ⌝ }
+// The numbers of `all` from place `from` on, below place `n`, put into `out` from place `at` on.
+fn copied(all: &[u64; 64], from: usize, n: usize, out: &mut [u64; 64], at: usize)
+    requires { ⌜ (from ≤ n) × (n ≤ 64) × (at + (n - from) ≤ 64) ⌝ }
+    ensures { λ _. ⌜ now (out .exit) ≡ copiedTo (now (out .entry)) at (now (all .entry)) from (n - from) ⌝ }
 {
-    let n = all.count;
-    let k = out.count;
-    if 64 < k + (n - from) + 1 {
-        return Insertion {
-            ok: false,
-            runs: all,
-        };
+    let mut i = from;
+    let mut k = at;
+    while i < n {
+        out[k] = all[i];
+        i += 1;
+        k += 1;
     }
-    let mut p = out;
-    p.starts[k] = lo;
-    p.stops[k] = hi;
-    p.count = k + 1;
-    let q = copied(all, from, p);
-    Insertion { ok: true, runs: q }
 }
 
-// The set with the offsets from `a` on added, where `b` is the first after them.
+// The set with the offsets from `a` on added, where `b` is the first after them. It is made in one place: `k` runs are in `out`,
+// and those from `i` on are still to come. The loop ends before the first run that lies above the stretch from `lo` to `hi`.
 pub fn inserted(all: RunSet, a: u64, b: u64) -> Insertion
     requires { ⌜ all .count ≤ 64 ⌝ }
     ensures { λ r. ⌜ r ≡ insertedOf all a b ⌝ }
 {
     let n = all.count;
     let mut out = fresh();
+    let mut k = 0;
     let mut lo = a;
     let mut hi = b;
     let mut i = 0;
-    while i < n {
+    let mut end = n;
+    while i < end {
         let s = all.starts[i];
         let e = all.stops[i];
         if e < lo {
-            let at = out.count;
-            out.starts[at] = s;
-            out.stops[at] = e;
-            out.count = at + 1;
+            out.starts[k] = s;
+            out.stops[k] = e;
+            k += 1;
+            i += 1;
+        } else if hi < s {
+            end = i;
         } else {
-            if hi < s {
-                return finished(all, i, out, lo, hi);
-            }
             lo = lesser(lo, s);
             hi = greater(hi, e);
+            i += 1;
         }
-        i += 1;
     }
-    finished(all, i, out, lo, hi)
+    if 64 < k + (n - i) + 1 {
+        return Insertion {
+            ok: false,
+            runs: all,
+        };
+    }
+    out.starts[k] = lo;
+    out.stops[k] = hi;
+    copied(&all.starts, i, n, &mut out.starts, k + 1);
+    copied(&all.stops, i, n, &mut out.stops, k + 1);
+    out.count = k + 1 + (n - i);
+    Insertion {
+        ok: true,
+        runs: out,
+    }
 }
 
 // One more than the highest received offset; 0 where there is none.

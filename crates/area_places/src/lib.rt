@@ -29,29 +29,24 @@ pub fn find_place(area: &[u8], id: u64) -> usize
 }
 
 // The 64 words from word k on.
-fn words64(area: &[u8], k: usize) -> [u64; 64]
+fn words64(area: &[u8], k: usize, out: &mut [u64; 64])
     requires { ⌜ k * 8 + 512 ≤ length (now area) ⌝ }
-    ensures { λ r. ⌜ r ≡ wordsAt (now (area .entry)) k 64 ⌝ }
+    ensures { λ _. ⌜ now (out .exit) ≡ wordsAt (now (area .entry)) k 64 ⌝ }
 {
-    let mut r: [u64; 64] = [0; 64];
-    area::words_into(area, k, &mut r);
-    r
+    area::words_into(area, k, out);
 }
 
-// The runs at a place.
+// The runs at a place, read straight into the set.
 pub fn runs_at(area: &[u8], place: usize) -> RunSet
     requires { ⌜ (16904 ≤ length (now area)) × (place < 16) ⌝ }
     ensures { λ r. ⌜ r ≡ runSetAt (now (area .entry)) place ⌝ }
 {
-    let starts = words64(area, 65 + place * 64);
-    let stops = words64(area, 1089 + place * 64);
+    let mut r = run_set::fresh();
+    words64(area, 65 + place * 64, &mut r.starts);
+    words64(area, 1089 + place * 64, &mut r.stops);
     let n = area::word(area, 49 + place);
-    let count = n as usize;
-    RunSet {
-        starts,
-        stops,
-        count,
-    }
+    r.count = n as usize;
+    r
 }
 
 // The runs at a place become these; the rest of the area stays.

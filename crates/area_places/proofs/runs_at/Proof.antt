@@ -4,6 +4,9 @@ use borrow.Author.Needs.{needs}
 use Rattle.area_places.proofs.runs_at.Statement.{statement}
 use Rattle.area_places.proofs.runs_at.Tie as tie
 
+fresh-requires : tie.Need-fresh-requires
+fresh-requires c κs = search needs
+
 mul-words64 : tie.Need-mul-words64
 mul-words64 c = search needs
 
@@ -30,12 +33,13 @@ word-requires c κs = search needs
 
 returns : tie.Need-returns
 unfolding runSetAt
-returns c = rw (c .before .before .words64 .ensures, c .before .words642 .ensures, c .word .ensures)
+returns c = rw (c .before .before .before .words64 .ensures, c .before .words642 .ensures, c .word .ensures)
 
 pub runs-at-spec : {M : Type 1} → statement M
 runs-at-spec =
     tie.close
     (tie.spec
+    fresh-requires
     mul-words64
     add-words64
     words64-requires

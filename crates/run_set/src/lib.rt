@@ -4,7 +4,7 @@ ghost use Prim.Native.Nat.{_+_, _-_, _≤_, _<_, min, max};
 ghost use lib.ListN.{length, getD};
 ghost use Rattle.runs.specs.Runs.{Canonical};
 ghost use Rattle.runs.specs.Holes.{edge, hole, holes, progress, complete};
-ghost use Rattle.run_set.specs.RunSets.{heldRuns, freshSet, copiedTo, insertedOf};
+ghost use Rattle.run_set.specs.RunSets.{runsAt, heldRuns, freshSet, copiedTo, insertedOf};
 use header::Hole;
 
 // Run i goes from `starts[i]` on, and `stops[i]` is the first offset after it. Places from `count` on are unused.
@@ -156,16 +156,16 @@ pub fn hole_count(r: RunSet) -> usize
     n
 }
 
-// Hole j, from the lowest.
-pub fn hole_at(r: RunSet, j: usize) -> Hole
-    requires { ⌜ (r .count ≤ 64) × Canonical (heldRuns r) × (j < length (holes (heldRuns r))) ⌝ }
-    ensures { λ x. ⌜ x ≡ getD (holes (heldRuns r)) j (hole 0 0) ⌝ }
+// Hole j, from the lowest, of the set of these numbers. The arrays are lent, so that no set is copied for each hole.
+pub fn hole_in<'a>(starts: &'a [u64; 64], stops: &'a [u64; 64], count: usize, j: usize) -> Hole
+    requires { ⌜ (count ≤ 64) × Canonical (runsAt (now starts) (now stops) 0 count) × (j < length (holes (runsAt (now starts) (now stops) 0 count))) ⌝ }
+    ensures { λ x. ⌜ x ≡ getD (holes (runsAt (now (starts .entry)) (now (stops .entry)) 0 count)) j (hole 0 0) ⌝ }
 {
-    let s = r.starts[0];
+    let s = starts[0];
     if s == 0 {
         let next = j + 1;
-        let from = r.stops[j];
-        let to = r.starts[next];
+        let from = stops[j];
+        let to = starts[next];
         return Hole {
             start: from,
             end: to,
@@ -175,8 +175,8 @@ pub fn hole_at(r: RunSet, j: usize) -> Hole
         return Hole { start: 0, end: s };
     }
     let at = j - 1;
-    let from = r.stops[at];
-    let to = r.starts[j];
+    let from = stops[at];
+    let to = starts[j];
     Hole {
         start: from,
         end: to,

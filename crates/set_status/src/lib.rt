@@ -126,11 +126,12 @@ fn put_holes(out: &mut [u8], from: usize, r: RunSet, width: usize, first: usize,
     requires { ⌜ SetFine r × (first + count ≤ length (holes (heldRuns r))) × (from + 2 * width * count ≤ length (now out)) ⌝ }
     ensures { λ _. ⌜ now (out .exit) ≡ put from (pairs width (holesPart r first count)) (now (out .entry)) ⌝ }
 {
+    let runs = r.count;
     let mut at = from;
     let mut j = first;
     let mut left = count;
     while 0 < left {
-        let h = run_set::hole_at(r, j);
+        let h = run_set::hole_in(&r.starts, &r.stops, runs, j);
         put_hole(out, at, width, h);
         at = at + 2 * width;
         j += 1;

@@ -17,32 +17,41 @@ use Rattle.set_status.proofs.put_holes.Statement.{statement}
 use Rattle.set_status.proofs.put_holes.Tie as tie
 
 abbrev Inv-loop : tie.InvT-loop
-Inv-loop out₀ from r width first count at₀ j₀ left₀ out at j left =
+Inv-loop out₀ from width first count r runs at₀ j₀ left₀ out at j left =
     (length out ≡ length out₀) × (at + 2 * width * left ≤ length out₀) × (j + left ≤ length (holes (heldRuns r)))
     × (put at (pairs width (holesPart r j left)) out ≡ put from (pairs width (holesPart r first count)) out₀)
 
 abbrev μ-loop : tie.MeasureT-loop
-μ-loop out₀ from r width first count at₀ j₀ left₀ out at j left = left
+μ-loop out₀ from width first count r runs at₀ j₀ left₀ out at j left = left
 
 loop-holds : tie.Need-loop-holds Inv-loop μ-loop
 loop-holds c = (refl, c .before .pre .2, c .before .pre .1, refl)
 
-hole-at-requires : tie.Need-hole-at-requires Inv-loop μ-loop
-hole-at-requires c κs = (c .before .before .before .pre .0 .few, c .before .before .before .pre .0 .canonical, omega arith)
+hole-in-requires : tie.Need-hole-in-requires Inv-loop μ-loop
+hole-in-requires c κs =
+    let s = c .before .before .before .before .before .before in
+    (s .pre .0 .few, s .pre .0 .canonical, omega arith)
 
 put-hole-requires : tie.Need-put-hole-requires Inv-loop μ-loop
-put-hole-requires c κs = omega (arith, one-less (2 * c .before .before .before .before .before .args .width) (c .before .before .before .loop .left) (omega arith))
+put-hole-requires c κs =
+    let l = c .before .before .before .before .before .before in
+    omega (arith, one-less (2 * l .before .before .args .width) (l .loop .left) (omega arith))
 
 mul-at : tie.Need-mul-at Inv-loop μ-loop
-mul-at c = omega (arith, one-less (2 * c .before .before .before .before .before .before .before .before .args .width) (c .before .before .before .before .before .before .loop .left) (omega arith))
+mul-at c =
+    let l = c .before .before .before .before .before .before .before .before .before in
+    omega (arith, one-less (2 * l .before .before .args .width) (l .loop .left) (omega arith))
 
 add-at : tie.Need-add-at Inv-loop μ-loop
-add-at c = omega (arith, one-less (2 * c .before .before .before .before .before .before .before .before .args .width) (c .before .before .before .before .before .before .loop .left) (omega arith))
+add-at c =
+    let l = c .before .before .before .before .before .before .before .before .before in
+    omega (arith, one-less (2 * l .before .before .args .width) (l .loop .left) (omega arith))
 
 add-j : tie.Need-add-j Inv-loop μ-loop
 add-j c =
-    let r = c .before .before .before .before .before .before .before .before .args .r in
-    omega (arith, length-held r, holes-few (heldRuns r) (c .before .before .before .before .before .before .before .before .pre .0 .canonical), c .before .before .before .before .before .before .before .before .pre .0 .few)
+    let s = c .before .before .before .before .before .before .before .before .before .before .before in
+    let r = s .args .t3 in
+    omega (arith, length-held r, holes-few (heldRuns r) (s .pre .0 .canonical), s .pre .0 .few)
 
 sub-left : tie.Need-sub-left Inv-loop μ-loop
 sub-left c = omega arith
@@ -52,13 +61,14 @@ loop-less c = omega arith
 
 loop-again : tie.Need-loop-again Inv-loop μ-loop
 loop-again c =
-    let a = c .before .before .before .before .before .before .before .before .args in
-    let l = c .before .before .before .before .before .before .loop in (
+    let p = c .before .before .before .before .before .before .before .before .before in
+    let a = p .before .before .args in
+    let l = p .loop in (
       c .before .before .put-hole .kept .0 ∙ l .inv .0,
       omega (arith, one-less (2 * a .width) (l .left) (omega arith)),
       omega arith,
-      pairs-step (a .width) (holes (heldRuns (a .r))) (c .before .before .before .before .hole-at .result) (l .j) (l .left) (l .at) (l .out) _ _ (omega arith) (l .inv .2) (omega arith)
-          (c .before .before .before .before .hole-at .ensures) (c .before .before .put-hole .ensures) (l .inv .3),
+      pairs-step (a .width) (holes (heldRuns (a .t3))) (c .before .before .before .before .hole-in .result) (l .j) (l .left) (l .at) (l .out) _ _ (omega arith) (l .inv .2) (omega arith)
+          (c .before .before .before .before .hole-in .ensures) (c .before .before .put-hole .ensures) (l .inv .3),
     )
 
 same-length : tie.Need-same-length Inv-loop μ-loop
@@ -67,7 +77,8 @@ same-length c = c .before .loop .inv .0
 returns : tie.Need-returns Inv-loop μ-loop
 returns c =
     let l = c .before .loop in
-    pairs-end (c .before .before .before .args .width) (holes (heldRuns (c .before .before .before .args .r))) (l .j) (l .left) (l .at) (l .out) _ (omega arith) (l .inv .3)
+    let a = c .before .before .before .args in
+    pairs-end (a .width) (holes (heldRuns (a .t3))) (l .j) (l .left) (l .at) (l .out) _ (omega arith) (l .inv .3)
 
 pub put-holes-spec : {M : Type 1} → statement M
 put-holes-spec =
@@ -76,7 +87,7 @@ put-holes-spec =
     Inv-loop
     μ-loop
     loop-holds
-    hole-at-requires
+    hole-in-requires
     put-hole-requires
     mul-at
     add-at

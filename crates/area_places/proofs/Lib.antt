@@ -2,3 +2,4 @@ pub mod PlaceLaws
 pub mod HeldLaws
 pub mod PutLaws
 pub mod ChangeLaws
+pub mod UsedLaws

@@ -124,7 +124,7 @@ module _ (a vs : List ℕ) (k : ℕ) (fits : (k + length vs) * 8 ≤ length a) w
   array-before : (q n : ℕ) → q + n ≤ k → wordsAt (put (k * 8) (wordOctets vs) a) q n ≡ wordsAt a q n
   array-before q n h = same-words a _ q n (λ i l. word-below a vs k fits (q + i) (omega arith))
 
-  array-after : (q n : ℕ) → k + length vs ≤ q → wordsAt (put (k * 8) (wordOctets vs) a) q n ≡ wordsAt a q n
+  pub array-after : (q n : ℕ) → k + length vs ≤ q → wordsAt (put (k * 8) (wordOctets vs) a) q n ≡ wordsAt a q n
   array-after q n h = same-words a _ q n (λ i l. word-above a vs k fits (q + i) (omega arith))
 
   array-in : Below vs → (q n p : ℕ) → k ≡ q + p → p + length vs ≤ n

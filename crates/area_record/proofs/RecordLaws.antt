@@ -37,7 +37,8 @@ use Rattle.area.proofs.AreaLaws.{decode-only, judged-unheld, held-valid}
 use Rattle.area_places.specs.Places.{placeOf, withRuns}
 use Rattle.area_places.specs.Change.{runSetAt, withRunSet}
 use Rattle.area_places.proofs.PlaceLaws.{place-le, place-found, place-id, place-missing, place-runs, place-set}
-use Rattle.area_places.proofs.HeldLaws.{judged-holds, width-word, length-word, few-runs, run-set-at, runs-held}
+use Rattle.area_places.proofs.HeldLaws.{judged-holds, width-word, length-word, run-set-at, runs-held}
+use Rattle.area_places.proofs.UsedLaws.{starts-alike, stops-alike, place-small}
 use Rattle.area_places.proofs.ChangeLaws.{stored-runs}
 use Rattle.area_record.specs.Record.{keyFrom, recordedIn, extended}
 
@@ -134,22 +135,15 @@ module _ (a : List ℕ) (t : List Transfer) (d : Data) (o : Octets a) (e : table
 
 -- ---- the runs of a place, with new offsets
 module _ (a : List ℕ) (t : List Transfer) (p : ℕ) (e : tableOf a ≡ some t) (h : p < length t) where
-  pub place-small : p < 16
-  place-small = omega (arith, held-valid a t e .few)
-
-  pub count-few : runSetAt a p .count ≤ 64
-  count-few =
-      omega (arith, ap (λ (r : RunSet). r .count) (run-set-at a t e p place-small), set-count (nth t p .runs), few-runs a t e p)
-
   module _ (from to : ℕ) (i : Insertion) (f : i ≡ insertedOf (runSetAt a p) from to) where
     abbrev new : List Run
     new = insert from to (nth t p .runs)
 
     fits : length new ≤ 64 → i ≡ record { ok = true; runs = setOf new }
-    fits m = f ∙ (rw (runs-held a t e p place-small) at (inserted-fits (runSetAt a p) from to)) m
+    fits m = f ∙ (rw (runs-held a t e p (place-small a t p e h)) at (inserted-fits (runSetAt a p) from to)) m
 
     over : 64 < length new → i .ok ≡ false
-    over m = ap (λ (x : Insertion). x .ok) (f ∙ (rw (runs-held a t e p place-small) at (inserted-over (runSetAt a p) from to)) m)
+    over m = ap (λ (x : Insertion). x .ok) (f ∙ (rw (runs-held a t e p (place-small a t p e h)) at (inserted-over (runSetAt a p) from to)) m)
 
     done : i .ok ≡ true → (length new ≤ 64) × (i .runs ≡ setOf new)
     done g =
@@ -159,6 +153,19 @@ module _ (a : List ℕ) (t : List Transfer) (p : ℕ) (e : tableOf a ≡ some t)
 
     pub extend-few : i .ok ≡ true → i .runs .count ≤ 64
     extend-few g = let k = done g in omega (arith, ap (λ (r : RunSet). r .count) (k .1), set-count new)
+
+    -- from a place on after which neither the old set nor the new one has a run, they are alike
+    pub extend-alike : (n : ℕ) → i .ok ≡ true → runSetAt a p .count ≤ n → i .runs .count ≤ n
+        → (drop n (runSetAt a p .starts) ≡ drop n (i .runs .starts)) × (drop n (runSetAt a p .stops) ≡ drop n (i .runs .stops))
+    extend-alike n g c d =
+        let rs : List Run = nth t p .runs in
+        let s : runSetAt a p ≡ setOf rs = run-set-at a t e p (place-small a t p e h) in
+        let q : i .runs ≡ setOf new = done g .1 in
+        let l : length rs ≤ n = omega (arith, ap (λ (r : RunSet). r .count) s, set-count rs) in
+        let m : length new ≤ n = omega (arith, ap (λ (r : RunSet). r .count) q, set-count new) in (
+          ap (λ (r : RunSet). drop n (r .starts)) s ∙ starts-alike rs new n l m ∙ ap (λ (r : RunSet). drop n (r .starts)) (sym q),
+          ap (λ (r : RunSet). drop n (r .stops)) s ∙ stops-alike rs new n l m ∙ ap (λ (r : RunSet). drop n (r .stops)) (sym q),
+        )
 
     pub extend-over : (L : ℕ) → i .ok ≡ false → record { answer = Refused (refusalOf 16); area = a } ≡ extended a t p L from to
     unfolding extended

@@ -2,7 +2,7 @@
 ghost use mathlib.Core.Path.{_≡_};
 ghost use mathlib.Core.Bool.{true};
 ghost use mathlib.Core.Option.{some};
-ghost use Prim.Native.Nat.{_<_};
+ghost use Prim.Native.Nat.{_<_, max};
 ghost use lib.ListN.{length};
 ghost use Rattle.table.specs.Record.{dataJudged};
 ghost use Rattle.area.specs.Numbers.{transfersOf};
@@ -37,18 +37,26 @@ fn judged_at(width: u64, length: u64, d: Data) -> u64
     0
 }
 
+fn greater(x: usize, y: usize) -> usize
+    ensures { λ r. ⌜ r ≡ max x y ⌝ }
+{
+    if x < y { y } else { x }
+}
+
 // The offsets from `from` on, with `to` the first after them, added at a place, whose transfer has the length `size`; or refused with 16.
 fn extend(area: &mut [u8], place: usize, size: u64, from: u64, to: u64) -> Recorded
     requires { ⌜ (judged (now area) ≡ true) × (place < length (transfersOf (numbersAt (now area)))) ⌝ }
     ensures { λ r. ⌜ (r ≡ extended (now (area .entry)) (transfersOf (numbersAt (now (area .entry)))) place size from to .answer)
         × (now (area .exit) ≡ extended (now (area .entry)) (transfersOf (numbersAt (now (area .entry)))) place size from to .area) ⌝ }
 {
-    let old = area_places::runs_at(area, place);
+    let old = area_places::used_runs(area, place);
+    let before = old.count;
     let i = run_set::inserted(old, from, to);
     let ok = i.ok;
     if ok {
         let new = i.runs;
-        area_places::put_runs(area, place, new);
+        let after = new.count;
+        area_places::put_used_runs(area, place, new, greater(before, after));
         let edge = run_set::edge_of(new);
         let complete = run_set::is_complete(new, size);
         return Recorded::Accepted(Reached { edge, complete });

@@ -14,7 +14,8 @@ use Rattle.area.specs.Judge.{tableOf}
 use Rattle.area.proofs.AreaLaws.{held-long}
 use Rattle.area_places.specs.Change.{runSetAt}
 use Rattle.area_places.proofs.HeldLaws.{judged-holds}
-use Rattle.area_record.proofs.RecordLaws.{both, place-small, count-few, extend-few, extend-over, extend-done}
+use Rattle.area_places.proofs.UsedLaws.{place-small, count-few}
+use Rattle.area_record.proofs.RecordLaws.{both, extend-few, extend-alike, extend-over, extend-done}
 use borrow.Author.Needs.{needs}
 use native.Mathlib.Omega.{arith}
 use Rattle.area_record.proofs.extend.Statement.{statement}
@@ -29,25 +30,18 @@ fits c =
     let a = now (c .args .area) in
     (held-long a _ (held c), place-small a _ (c .args .place) (held c) (c .pre .1))
 
-runs-at-requires : tie.Need-runs-at-requires
-runs-at-requires c κs =
-    let k = fits (c .before .before) in
-    (k .0, omega (arith, k))
+used-runs-requires : tie.Need-used-runs-requires
+used-runs-requires c κs = search needs
 
 -- the runs that stand there are few
-old-few : (c : tie.After-runs-at) → c .runs-at .result .count ≤ 64
+old-few : (c : tie.After-used-runs) → c .used-runs .result .count ≤ 64
 old-few c =
     let s = c .before .before .before in
     let n = count-few (now (s .args .area)) _ (s .args .place) (held s) (s .pre .1) in
-    omega (arith, ap (λ (r : RunSet). r .count) (c .runs-at .ensures))
+    omega (arith, ap (λ (r : RunSet). r .count) (c .used-runs .ensures))
 
 inserted-requires : tie.Need-inserted-requires
 inserted-requires c κs = omega (arith, old-few c)
-
-put-runs-requires : tie.Need-put-runs-requires
-put-runs-requires c κs =
-    let k = fits (c .before .before .before .before .before .before .before) in
-    (k .0, omega (arith, k))
 
 -- what is inserted into is what stands at the place, and what comes of it has room
 inserted-is : (c : tie.After-inserted)
@@ -55,33 +49,53 @@ inserted-is : (c : tie.After-inserted)
     c .inserted .result ≡ insertedOf (runSetAt (now (s .args .area)) (s .args .place)) (s .args .from) (s .args .to)
 inserted-is c =
     let s = c .before .before .before .before in
-    c .inserted .ensures ∙ ap (λ (r : RunSet). insertedOf r (s .args .from) (s .args .to)) (c .before .runs-at .ensures)
+    c .inserted .ensures ∙ ap (λ (r : RunSet). insertedOf r (s .args .from) (s .args .to)) (c .before .used-runs .ensures)
 
 few : (c : tie.After-inserted) → c .inserted .result .ok ≡ true → c .inserted .result .runs .count ≤ 64
 few c =
     let s = c .before .before .before .before in
     extend-few (now (s .args .area)) _ (s .args .place) (held s) (s .pre .1) (s .args .from) (s .args .to) (c .inserted .result) (inserted-is c)
 
+greater-requires : tie.Need-greater-requires
+greater-requires c κs = search needs
+
+-- what is not put is zero before and after
+put-used-runs-requires : tie.Need-put-used-runs-requires
+put-used-runs-requires c κs =
+    let s = c .before .before .before .before .before .before .before .before in
+    let p = c .before .before .before .before in
+    let t = c .before .before .before .if1 .taken in
+    let k = fits s in
+    let o = old-few (p .before) in
+    let m = few p t in
+    let g = c .greater .ensures in
+    let u : runSetAt (now (s .args .area)) (s .args .place) .count ≤ c .greater .result
+    = omega (arith, ap (λ (r : RunSet). r .count) (p .before .used-runs .ensures)) in
+    let l =
+    extend-alike (now (s .args .area)) _ (s .args .place) (held s) (s .pre .1) (s .args .from) (s .args .to) (p .inserted .result) (inserted-is p)
+    (c .greater .result) t u (omega arith) in
+    (k .0, omega (arith, k), omega arith, l .0, l .1)
+
 edge-of-requires : tie.Need-edge-of-requires
 edge-of-requires c κs =
-    let t = c .before .before .before .before .before .if1 .taken in
-    omega (arith, few (c .before .before .before .before .before .before) t, old-few (c .before .before .before .before .before .before .before))
+    let t = c .before .before .before .before .before .before .if1 .taken in
+    omega (arith, few (c .before .before .before .before .before .before .before) t, old-few (c .before .before .before .before .before .before .before .before))
 
 is-complete-requires : tie.Need-is-complete-requires
 is-complete-requires c κs =
-    let t = c .before .before .before .before .before .before .if1 .taken in
-    omega (arith, few (c .before .before .before .before .before .before .before) t, old-few (c .before .before .before .before .before .before .before .before))
+    let t = c .before .before .before .before .before .before .before .if1 .taken in
+    omega (arith, few (c .before .before .before .before .before .before .before .before) t, old-few (c .before .before .before .before .before .before .before .before .before))
 
 same-length : tie.Need-same-length
 same-length c = search needs
 
 returns : tie.Need-returns
 returns c =
-    let s = c .before .before .before .before .before .before .before .before .before .before .before .before in
-    let p = c .before .before .before .before .before .before .before .before in
+    let s = c .before .before .before .before .before .before .before .before .before .before .before .before .before in
+    let p = c .before .before .before .before .before .before .before .before .before in
     both refl
     (extend-done (now (s .args .area)) _ (s .args .place) (held s) (s .pre .1) (s .args .from) (s .args .to) (p .inserted .result) (inserted-is p)
-    (s .args .size) (c .before .before .before .before .before .before .before .if1 .taken) _ (c .before .edge-of .result) (c .is-complete .result) (c .before .before .before .before .put-runs .ensures) (c .before .edge-of .ensures)
+    (s .args .size) (c .before .before .before .before .before .before .before .before .if1 .taken) _ (c .before .edge-of .result) (c .is-complete .result) (c .before .before .before .before .put-used-runs .ensures) (c .before .edge-of .ensures)
     (c .is-complete .ensures))
 
 refuse-requires : tie.Need-refuse-requires
@@ -102,9 +116,10 @@ pub extend-spec : {M : Type 1} → statement M
 extend-spec =
     tie.close
     (tie.spec
-    runs-at-requires
+    used-runs-requires
     inserted-requires
-    put-runs-requires
+    greater-requires
+    put-used-runs-requires
     edge-of-requires
     is-complete-requires
     same-length

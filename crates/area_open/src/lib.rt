@@ -49,7 +49,7 @@ fn reached_at(area: &[u8], place: usize) -> Reached
     ensures { λ r. ⌜ r ≡ reached (nth (heldIn (now (area .entry))) place .key) (nth (heldIn (now (area .entry))) place .runs) ⌝ }
 {
     let size = area::word(area, 33 + place);
-    let runs = area_places::runs_at(area, place);
+    let runs = area_places::used_runs(area, place);
     let edge = run_set::edge_of(runs);
     let complete = run_set::is_complete(runs, size);
     Reached { edge, complete }

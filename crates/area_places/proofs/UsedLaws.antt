@@ -21,7 +21,6 @@ use Rattle.area.specs.Words.{wordOctets, wordAt, wordsAt}
 use Rattle.area.specs.Numbers.{nth}
 use Rattle.area.specs.Judge.{tableOf}
 use Rattle.area.proofs.WordLaws.{length-words, length-octets, octets-append, octets-words, parts}
-use Rattle.area.proofs.AreaLaws.{held-valid}
 use Rattle.area_places.specs.Change.{runSetAt}
 use Rattle.area_places.proofs.HeldLaws.{few-runs, run-set-at}
 
@@ -43,14 +42,9 @@ module _ (rs qs : List Run) (n : ℕ) (h : length rs ≤ n) (g : length qs ≤ n
       zeros (setOf rs .stops) (setOf qs .stops) n (stops-length rs ∙ sym (stops-length qs))
       (λ j o. stops-unused rs j (omega arith)) (λ j o. stops-unused qs j (omega arith))
 
--- ---- the place of a transfer is one of 16, and at most 64 runs stand there
-module _ (a : List ℕ) (t : List Transfer) (p : ℕ) (e : tableOf a ≡ some t) (h : p < length t) where
-  pub place-small : p < 16
-  place-small = omega (arith, held-valid a t e .few)
-
-  pub count-few : runSetAt a p .count ≤ 64
-  count-few =
-      omega (arith, ap (λ (r : RunSet). r .count) (run-set-at a t e p place-small), set-count (nth t p .runs), few-runs a t e p)
+-- ---- at most 64 runs stand at a place
+pub count-few : (a : List ℕ) (t : List Transfer) (p : ℕ) → tableOf a ≡ some t → p < 16 → runSetAt a p .count ≤ 64
+count-few a t p e h = omega (arith, ap (λ (r : RunSet). r .count) (run-set-at a t e p h), set-count (nth t p .runs), few-runs a t e p)
 
 -- ---- reading: a list into which the first n of W are put, and that is like W from there on, is W
 filled : (x W r : List ℕ) (n : ℕ) → x ≡ paste r 0 W n → drop n r ≡ drop n W → x ≡ W

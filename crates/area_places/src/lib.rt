@@ -30,27 +30,6 @@ pub fn find_place(area: &[u8], id: u64) -> usize
     i
 }
 
-// The 64 words from word k on.
-fn words64(area: &[u8], k: usize, out: &mut [u64; 64])
-    requires { ⌜ k * 8 + 512 ≤ length (now area) ⌝ }
-    ensures { λ _. ⌜ now (out .exit) ≡ wordsAt (now (area .entry)) k 64 ⌝ }
-{
-    area::words_into(area, k, out);
-}
-
-// The runs at a place, read straight into the set.
-pub fn runs_at(area: &[u8], place: usize) -> RunSet
-    requires { ⌜ (16904 ≤ length (now area)) × (place < 16) ⌝ }
-    ensures { λ r. ⌜ r ≡ runSetAt (now (area .entry)) place ⌝ }
-{
-    let mut r = run_set::fresh();
-    words64(area, 65 + place * 64, &mut r.starts);
-    words64(area, 1089 + place * 64, &mut r.stops);
-    let n = area::word(area, 49 + place);
-    r.count = n as usize;
-    r
-}
-
 // The first m words from word k on, into the first places of `out`.
 fn words_some(area: &[u8], k: usize, m: usize, out: &mut [u64; 64])
     requires { ⌜ (k * 8 + m * 8 ≤ length (now area)) × (m ≤ 64) × (length (now out) ≡ 64) ⌝ }
@@ -63,9 +42,9 @@ fn words_some(area: &[u8], k: usize, m: usize, out: &mut [u64; 64])
     }
 }
 
-// The runs at a place that holds a transfer: its used places alone are read, since the others are zero.
+// The runs at a place: those that it has are read alone, since the other numbers there are zero.
 pub fn used_runs(area: &[u8], place: usize) -> RunSet
-    requires { ⌜ (judged (now area) ≡ true) × (place < length (transfersOf (numbersAt (now area)))) ⌝ }
+    requires { ⌜ (judged (now area) ≡ true) × (place < 16) ⌝ }
     ensures { λ r. ⌜ r ≡ runSetAt (now (area .entry)) place ⌝ }
 {
     let n = area::word(area, 49 + place) as usize;

@@ -38,7 +38,7 @@ use Rattle.area_places.specs.Places.{placeOf, withRuns}
 use Rattle.area_places.specs.Change.{runSetAt, withRunSet}
 use Rattle.area_places.proofs.PlaceLaws.{place-le, place-found, place-id, place-missing, place-runs, place-set}
 use Rattle.area_places.proofs.HeldLaws.{judged-holds, width-word, length-word, run-set-at, runs-held}
-use Rattle.area_places.proofs.UsedLaws.{starts-alike, stops-alike, place-small}
+use Rattle.area_places.proofs.UsedLaws.{starts-alike, stops-alike}
 use Rattle.area_places.proofs.ChangeLaws.{stored-runs}
 use Rattle.area_record.specs.Record.{keyFrom, recordedIn, extended}
 
@@ -135,15 +135,18 @@ module _ (a : List ℕ) (t : List Transfer) (d : Data) (o : Octets a) (e : table
 
 -- ---- the runs of a place, with new offsets
 module _ (a : List ℕ) (t : List Transfer) (p : ℕ) (e : tableOf a ≡ some t) (h : p < length t) where
+  pub place-small : p < 16
+  place-small = omega (arith, held-valid a t e .few)
+
   module _ (from to : ℕ) (i : Insertion) (f : i ≡ insertedOf (runSetAt a p) from to) where
     abbrev new : List Run
     new = insert from to (nth t p .runs)
 
     fits : length new ≤ 64 → i ≡ record { ok = true; runs = setOf new }
-    fits m = f ∙ (rw (runs-held a t e p (place-small a t p e h)) at (inserted-fits (runSetAt a p) from to)) m
+    fits m = f ∙ (rw (runs-held a t e p place-small) at (inserted-fits (runSetAt a p) from to)) m
 
     over : 64 < length new → i .ok ≡ false
-    over m = ap (λ (x : Insertion). x .ok) (f ∙ (rw (runs-held a t e p (place-small a t p e h)) at (inserted-over (runSetAt a p) from to)) m)
+    over m = ap (λ (x : Insertion). x .ok) (f ∙ (rw (runs-held a t e p place-small) at (inserted-over (runSetAt a p) from to)) m)
 
     done : i .ok ≡ true → (length new ≤ 64) × (i .runs ≡ setOf new)
     done g =
@@ -159,7 +162,7 @@ module _ (a : List ℕ) (t : List Transfer) (p : ℕ) (e : tableOf a ≡ some t)
         → (drop n (runSetAt a p .starts) ≡ drop n (i .runs .starts)) × (drop n (runSetAt a p .stops) ≡ drop n (i .runs .stops))
     extend-alike n g c d =
         let rs : List Run = nth t p .runs in
-        let s : runSetAt a p ≡ setOf rs = run-set-at a t e p (place-small a t p e h) in
+        let s : runSetAt a p ≡ setOf rs = run-set-at a t e p place-small in
         let q : i .runs ≡ setOf new = done g .1 in
         let l : length rs ≤ n = omega (arith, ap (λ (r : RunSet). r .count) s, set-count rs) in
         let m : length new ≤ n = omega (arith, ap (λ (r : RunSet). r .count) q, set-count new) in (

@@ -41,7 +41,7 @@ fn status_at(
     ensures { λ r. ⌜ (r ≡ areaStatusWritten (now (area .entry)) id skip unasked (now (out .entry)))
         × (now (out .exit) ≡ areaStatusBuffer (now (area .entry)) id skip unasked (now (out .entry))) ⌝ }
 {
-    let runs = area_places::runs_at(area, place);
+    let runs = area_places::used_runs(area, place);
     let width = area::word(area, 17 + place);
     let whole = area::word(area, 33 + place);
     set_status::write_set_status(out, runs, id, width as usize, whole, skip, unasked)
@@ -67,7 +67,7 @@ fn listing_at(area: &[u8], place: usize) -> Listing
     requires { ⌜ (judged (now area) ≡ true) × (place < length (transfersOf (numbersAt (now area)))) ⌝ }
     ensures { λ r. ⌜ r ≡ listingOf (nth (transfersOf (numbersAt (now (area .entry)))) place) ⌝ }
 {
-    let r = area_places::runs_at(area, place);
+    let r = area_places::used_runs(area, place);
     let id = area::word(area, 1 + place);
     let width = area::word(area, 17 + place);
     let whole = area::word(area, 33 + place);

@@ -14,26 +14,24 @@ word-requires c κs =
     let s = c .before in
     omega (arith, long (now (s .args .area)) (s .pre .0))
 
-runs-at-requires : tie.Need-runs-at-requires
-runs-at-requires c κs =
-    let s = c .before .before in
-    (long (now (s .args .area)) (s .pre .0), s .pre .1)
+used-runs-requires : tie.Need-used-runs-requires
+used-runs-requires c κs = c .before .before .pre
 
 edge-of-requires : tie.Need-edge-of-requires
 edge-of-requires c κs =
     let s = c .before .before .before in
-    rw (c .runs-at .ensures) (few-runs-held (now (s .args .area)) (s .pre .0) (s .args .place) (s .pre .1))
+    rw (c .used-runs .ensures) (few-runs-held (now (s .args .area)) (s .pre .0) (s .args .place) (s .pre .1))
 
 is-complete-requires : tie.Need-is-complete-requires
 is-complete-requires c κs =
     let s = c .before .before .before .before in
-    rw (c .before .runs-at .ensures) (few-runs-held (now (s .args .area)) (s .pre .0) (s .args .place) (s .pre .1))
+    rw (c .before .used-runs .ensures) (few-runs-held (now (s .args .area)) (s .pre .0) (s .args .place) (s .pre .1))
 
 returns : tie.Need-returns
 returns c =
     let s = c .before .before .before .before .before in
-    reached-held (now (s .args .area)) (s .pre .0) (s .args .place) (s .pre .1) (c .before .before .runs-at .result) (c .before .before .before .word .result) (c .before .edge-of .result) (c .is-complete .result)
-    (c .before .before .runs-at .ensures) (c .before .before .before .word .ensures) (c .before .edge-of .ensures) (c .is-complete .ensures)
+    reached-held (now (s .args .area)) (s .pre .0) (s .args .place) (s .pre .1) (c .before .before .used-runs .result) (c .before .before .before .word .result) (c .before .edge-of .result) (c .is-complete .result)
+    (c .before .before .used-runs .ensures) (c .before .before .before .word .ensures) (c .before .edge-of .ensures) (c .is-complete .ensures)
 
 pub reached-at-spec : {M : Type 1} → statement M
 reached-at-spec =
@@ -41,7 +39,7 @@ reached-at-spec =
     (tie.spec
     add-word
     word-requires
-    runs-at-requires
+    used-runs-requires
     edge-of-requires
     is-complete-requires
     returns)

@@ -13,7 +13,7 @@ use Rattle.area.specs.Judge.{tableOf}
 use Rattle.area.proofs.AreaLaws.{held-long}
 use Rattle.area_places.specs.Change.{runSetAt}
 use Rattle.area_places.proofs.HeldLaws.{judged-holds}
-use Rattle.area_places.proofs.UsedLaws.{place-small, count-few, runs-read}
+use Rattle.area_places.proofs.UsedLaws.{count-few, runs-read}
 use borrow.Author.Needs.{needs}
 use native.Mathlib.Omega.{arith}
 use Rattle.area_places.proofs.used_runs.Statement.{statement}
@@ -28,7 +28,7 @@ known : (c : tie.Start)
 unfolding runSetAt
 known c =
     let a = now (c .args .area) in
-    (held-long a _ (held c), place-small a _ (c .args .place) (held c) (c .pre .1), count-few a _ (c .args .place) (held c) (c .pre .1))
+    (held-long a _ (held c), c .pre .1, count-few a _ (c .args .place) (held c) (c .pre .1))
 
 add-word : tie.Need-add-word
 add-word c = omega (arith, known (c .before))

@@ -14,8 +14,8 @@ use Rattle.area.specs.Judge.{tableOf}
 use Rattle.area.proofs.AreaLaws.{held-long}
 use Rattle.area_places.specs.Change.{runSetAt}
 use Rattle.area_places.proofs.HeldLaws.{judged-holds}
-use Rattle.area_places.proofs.UsedLaws.{place-small, count-few}
-use Rattle.area_record.proofs.RecordLaws.{both, extend-few, extend-alike, extend-over, extend-done}
+use Rattle.area_places.proofs.UsedLaws.{count-few}
+use Rattle.area_record.proofs.RecordLaws.{both, place-small, extend-few, extend-alike, extend-over, extend-done}
 use borrow.Author.Needs.{needs}
 use native.Mathlib.Omega.{arith}
 use Rattle.area_record.proofs.extend.Statement.{statement}
@@ -31,13 +31,13 @@ fits c =
     (held-long a _ (held c), place-small a _ (c .args .place) (held c) (c .pre .1))
 
 used-runs-requires : tie.Need-used-runs-requires
-used-runs-requires c κs = search needs
+used-runs-requires c κs = let s = c .before .before in (s .pre .0, fits s .1)
 
 -- the runs that stand there are few
 old-few : (c : tie.After-used-runs) → c .used-runs .result .count ≤ 64
 old-few c =
     let s = c .before .before .before in
-    let n = count-few (now (s .args .area)) _ (s .args .place) (held s) (s .pre .1) in
+    let n = count-few (now (s .args .area)) _ (s .args .place) (held s) (fits s .1) in
     omega (arith, ap (λ (r : RunSet). r .count) (c .used-runs .ensures))
 
 inserted-requires : tie.Need-inserted-requires
@@ -58,23 +58,6 @@ few c =
 
 greater-requires : tie.Need-greater-requires
 greater-requires c κs = search needs
-
--- what is not put is zero before and after
-put-used-runs-requires : tie.Need-put-used-runs-requires
-put-used-runs-requires c κs =
-    let s = c .before .before .before .before .before .before .before .before in
-    let p = c .before .before .before .before in
-    let t = c .before .before .before .if1 .taken in
-    let k = fits s in
-    let o = old-few (p .before) in
-    let m = few p t in
-    let g = c .greater .ensures in
-    let u : runSetAt (now (s .args .area)) (s .args .place) .count ≤ c .greater .result
-    = omega (arith, ap (λ (r : RunSet). r .count) (p .before .used-runs .ensures)) in
-    let l =
-    extend-alike (now (s .args .area)) _ (s .args .place) (held s) (s .pre .1) (s .args .from) (s .args .to) (p .inserted .result) (inserted-is p)
-    (c .greater .result) t u (omega arith) in
-    (k .0, omega (arith, k), omega arith, l .0, l .1)
 
 edge-of-requires : tie.Need-edge-of-requires
 edge-of-requires c κs =
@@ -111,6 +94,23 @@ returns-2 c =
     both (ap Refused (c .refuse .ensures))
     (extend-over (now (s .args .area)) _ (s .args .place) (held s) (s .pre .1) (s .args .from) (s .args .to) (p .inserted .result) (inserted-is p)
     (s .args .size) (c .before .if1 .left))
+
+-- what is not put is zero before and after (the last here, so that a wrong store is refused at `returns`)
+put-used-runs-requires : tie.Need-put-used-runs-requires
+put-used-runs-requires c κs =
+    let s = c .before .before .before .before .before .before .before .before in
+    let p = c .before .before .before .before in
+    let t = c .before .before .before .if1 .taken in
+    let k = fits s in
+    let o = old-few (p .before) in
+    let m = few p t in
+    let g = c .greater .ensures in
+    let u : runSetAt (now (s .args .area)) (s .args .place) .count ≤ c .greater .result
+    = omega (arith, ap (λ (r : RunSet). r .count) (p .before .used-runs .ensures)) in
+    let l =
+    extend-alike (now (s .args .area)) _ (s .args .place) (held s) (s .pre .1) (s .args .from) (s .args .to) (p .inserted .result) (inserted-is p)
+    (c .greater .result) t u (omega arith) in
+    (k .0, omega (arith, k), omega arith, l .0, l .1)
 
 pub extend-spec : {M : Type 1} → statement M
 extend-spec =

@@ -1,6 +1,6 @@
 -- `run_set::inserted` meets its contract. The loop's invariant: what is still to be inserted among the later runs, put after the
 -- runs that are there, gives the set in the end; and where the loop ends early, the stretch's place is found. Assumes nothing.
-use Prim.Native.Nat.{_+_, _-_, _≤_}
+use Prim.Native.Nat.{_-_, _≤_}
 use mathlib.Core.Path.{_≡_, refl}
 use mathlib.Core.List.{_∷_}
 use mathlib.Core.Logic.{_⊎_, inl, inr, ⊎-elim}

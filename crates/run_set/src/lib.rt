@@ -57,14 +57,14 @@ fn copied(all: &[u64; 64], from: usize, n: usize, out: &mut [u64; 64], at: usize
     }
 }
 
-// The set with the offsets from `a` on added, where `b` is the first after them. It is made in one place: `k` runs are in `out`,
+// The set with the offsets from `a` on added, where `b` is the first after them. It is made in one place: `k` runs are in `q`,
 // and those from `i` on are still to come. The loop ends before the first run that lies above the stretch from `lo` to `hi`.
 pub fn inserted(all: RunSet, a: u64, b: u64) -> Insertion
     requires { ⌜ all .count ≤ 64 ⌝ }
     ensures { λ r. ⌜ r ≡ insertedOf all a b ⌝ }
 {
     let n = all.count;
-    let mut out = fresh();
+    let mut q = fresh();
     let mut k = 0;
     let mut lo = a;
     let mut hi = b;
@@ -74,8 +74,8 @@ pub fn inserted(all: RunSet, a: u64, b: u64) -> Insertion
         let s = all.starts[i];
         let e = all.stops[i];
         if e < lo {
-            out.starts[k] = s;
-            out.stops[k] = e;
+            q.starts[k] = s;
+            q.stops[k] = e;
             k += 1;
             i += 1;
         } else if hi < s {
@@ -92,15 +92,12 @@ pub fn inserted(all: RunSet, a: u64, b: u64) -> Insertion
             runs: all,
         };
     }
-    out.starts[k] = lo;
-    out.stops[k] = hi;
-    copied(&all.starts, i, n, &mut out.starts, k + 1);
-    copied(&all.stops, i, n, &mut out.stops, k + 1);
-    out.count = k + 1 + (n - i);
-    Insertion {
-        ok: true,
-        runs: out,
-    }
+    q.starts[k] = lo;
+    q.stops[k] = hi;
+    copied(&all.starts, i, n, &mut q.starts, k + 1);
+    copied(&all.stops, i, n, &mut q.stops, k + 1);
+    q.count = k + 1 + (n - i);
+    Insertion { ok: true, runs: q }
 }
 
 // One more than the highest received offset; 0 where there is none.

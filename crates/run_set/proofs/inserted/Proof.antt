@@ -14,15 +14,15 @@ use Rattle.run_set.proofs.inserted.Statement.{statement}
 use Rattle.run_set.proofs.inserted.Tie as tie
 
 abbrev Inv-loop : tie.InvT-loop
-Inv-loop a b all n out₀ k₀ lo₀ hi₀ i₀ end₀ out k lo hi i end =
+Inv-loop a b all n q₀ k₀ lo₀ hi₀ i₀ end₀ q k lo hi i end =
     let later = runsAt (all .starts) (all .stops) i (n - i) in
-    let q = setOf (insert a b (runsAt (all .starts) (all .stops) 0 n)) in
+    let whole = setOf (insert a b (runsAt (all .starts) (all .stops) 0 n)) in
     (i ≤ end) × (end ≤ n) × (n ≤ 64) × (k ≤ i)
-    × (pushAll (setAt (out .starts) (out .stops) k) (insert lo hi later) ≡ q)
-    × ((end ≡ n) ⊎ ((i ≡ end) × (pushAll (setAt (out .starts) (out .stops) k) (run lo hi ∷ later) ≡ q)))
+    × (pushAll (setAt (q .starts) (q .stops) k) (insert lo hi later) ≡ whole)
+    × ((end ≡ n) ⊎ ((i ≡ end) × (pushAll (setAt (q .starts) (q .stops) k) (run lo hi ∷ later) ≡ whole)))
 
 abbrev μ-loop : tie.MeasureT-loop
-μ-loop a b all n out₀ k₀ lo₀ hi₀ i₀ end₀ out k lo hi i end = end - i
+μ-loop a b all n q₀ k₀ lo₀ hi₀ i₀ end₀ q k lo hi i end = end - i
 
 -- in the loop the place isn't found yet
 goes-on : (c : tie.In-loop Inv-loop μ-loop) → c .before .loop .end ≡ c .before .before .before .args .t1 .count
@@ -46,17 +46,17 @@ mul-e c = search needs
 element-copy-out-e : tie.Need-element-copy-out-e Inv-loop μ-loop
 element-copy-out-e c = search needs
 
-mul-out : tie.Need-mul-out Inv-loop μ-loop
-mul-out c = search needs
+mul-q : tie.Need-mul-q Inv-loop μ-loop
+mul-q c = search needs
 
-element-write-out : tie.Need-element-write-out Inv-loop μ-loop
-element-write-out c = search needs
+element-write-q : tie.Need-element-write-q Inv-loop μ-loop
+element-write-q c = search needs
 
-mul-out-2 : tie.Need-mul-out-2 Inv-loop μ-loop
-mul-out-2 c = search needs
+mul-q-2 : tie.Need-mul-q-2 Inv-loop μ-loop
+mul-q-2 c = search needs
 
-element-write-out-2 : tie.Need-element-write-out-2 Inv-loop μ-loop
-element-write-out-2 c = search needs
+element-write-q-2 : tie.Need-element-write-q-2 Inv-loop μ-loop
+element-write-q-2 c = search needs
 
 add-k : tie.Need-add-k Inv-loop μ-loop
 add-k c = search needs
@@ -116,7 +116,7 @@ add-if3-2 c = search needs
 found : (c : tie.After-loop Inv-loop μ-loop)
     → let at = c .before .loop in
     let s = c .before .before .before .args in
-    pushAll (setAt (at .out .starts) (at .out .stops) (at .k))
+    pushAll (setAt (at .q .starts) (at .q .stops) (at .k))
     (run (at .lo) (at .hi) ∷ runsAt (s .t1 .starts) (s .t1 .stops) (at .i) (s .t1 .count - at .i))
     ≡ setOf (insert (s .a) (s .b) (runsAt (s .t1 .starts) (s .t1 .stops) 0 (s .t1 .count)))
 found c =
@@ -126,17 +126,17 @@ found c =
 returns : tie.Need-returns Inv-loop μ-loop
 returns c = end-over _ _ _ _ _ _ _ _ _ (found (c .before)) (omega arith)
 
-mul-out-3 : tie.Need-mul-out-3 Inv-loop μ-loop
-mul-out-3 c = search needs
+mul-q-3 : tie.Need-mul-q-3 Inv-loop μ-loop
+mul-q-3 c = search needs
 
-element-write-out-3 : tie.Need-element-write-out-3 Inv-loop μ-loop
-element-write-out-3 c = search needs
+element-write-q-3 : tie.Need-element-write-q-3 Inv-loop μ-loop
+element-write-q-3 c = search needs
 
-mul-out-4 : tie.Need-mul-out-4 Inv-loop μ-loop
-mul-out-4 c = search needs
+mul-q-4 : tie.Need-mul-q-4 Inv-loop μ-loop
+mul-q-4 c = search needs
 
-element-write-out-4 : tie.Need-element-write-out-4 Inv-loop μ-loop
-element-write-out-4 c = search needs
+element-write-q-4 : tie.Need-element-write-q-4 Inv-loop μ-loop
+element-write-q-4 c = search needs
 
 add-copied : tie.Need-add-copied Inv-loop μ-loop
 add-copied c = search needs
@@ -150,14 +150,14 @@ add-copied-2 c = search needs
 copied-requires-2 : tie.Need-copied-requires-2 Inv-loop μ-loop
 copied-requires-2 c κs = search needs
 
-add-out : tie.Need-add-out Inv-loop μ-loop
-add-out c = search needs
+add-q : tie.Need-add-q Inv-loop μ-loop
+add-q c = search needs
 
-sub-out : tie.Need-sub-out Inv-loop μ-loop
-sub-out c = search needs
+sub-q : tie.Need-sub-q Inv-loop μ-loop
+sub-q c = search needs
 
-add-out-2 : tie.Need-add-out-2 Inv-loop μ-loop
-add-out-2 c = search needs
+add-q-2 : tie.Need-add-q-2 Inv-loop μ-loop
+add-q-2 c = search needs
 
 returns-2 : tie.Need-returns-2 Inv-loop μ-loop
 returns-2 c =
@@ -176,10 +176,10 @@ inserted-spec =
     element-copy-out-s
     mul-e
     element-copy-out-e
-    mul-out
-    element-write-out
-    mul-out-2
-    element-write-out-2
+    mul-q
+    element-write-q
+    mul-q-2
+    element-write-q-2
     add-k
     add-i
     loop-less
@@ -195,15 +195,15 @@ inserted-spec =
     add-if3
     add-if3-2
     returns
-    mul-out-3
-    element-write-out-3
-    mul-out-4
-    element-write-out-4
+    mul-q-3
+    element-write-q-3
+    mul-q-4
+    element-write-q-4
     add-copied
     copied-requires
     add-copied-2
     copied-requires-2
-    add-out
-    sub-out
-    add-out-2
+    add-q
+    sub-q
+    add-q-2
     returns-2)

@@ -17,7 +17,7 @@ use Rattle.table.specs.Transfers.{Transfer, Valid}
 use Rattle.area.specs.Words.{wordOctets}
 use Rattle.area.specs.Numbers.{numbers, transfersOf, freshTable}
 use Rattle.area.specs.Image.{wordsOf, image, areaOctets, storedIn, numbersAt}
-use Rattle.area.specs.Judge.{judged, tableOf, loadedOf}
+use Rattle.area.specs.Judge.{judged, tableOf}
 use Rattle.area.specs.declared.Table.{Table}
 use Rattle.area.proofs.WordLaws.{length-octets, append-octets, words-octets-fit}
 use Rattle.area.proofs.LayoutLaws.{numbers-octets, octets-numbers, length-wordsOf, numbersAt-sized}
@@ -143,15 +143,7 @@ pub judged-unheld : (a : List ℕ) → judged a ≡ false → tableOf a ≡ none
 unfolding tableOf
 judged-unheld a e = rw e
 
-pub unheld-judged : (a : List ℕ) → tableOf a ≡ none → judged a ≡ false
-unfolding tableOf
-unheld-judged a e = go (judged a) refl e
-  where
-    go : (b : Bool) → judged a ≡ b → cond b (some (transfersOf (numbersAt a))) none ≡ none → judged a ≡ false
-    go true p q = absurd (let z : _≡_ {A = ℕ} 0 1 = cc in omega arith)
-    go false p q = p
-
--- ---- the fresh table, and what is loaded
+-- ---- the fresh table
 pub fresh-image : wordOctets (wordsOf freshTable) ≡ image []
 unfolding image
 fresh-image = ap (λ (s : Table). wordOctets (wordsOf s)) fresh-numbers
@@ -163,13 +155,3 @@ fresh-holds a = stored-holds a [] fresh-valid
 pub stored-numbers : (a : List ℕ) (t : List Transfer) → wordOctets (wordsOf (numbers t)) ++ drop areaOctets a ≡ storedIn a t
 unfolding storedIn image
 stored-numbers a t = refl
-
-pub loaded-numbers : (a : List ℕ) (t : List Transfer) → tableOf a ≡ some t → loadedOf a ≡ record { ok = true; table = numbers t }
-unfolding loadedOf
-loaded-numbers a t e =
-    let p = held-passed a t e in
-    rw (p .0, ← p .1, passed-numbers (numbersAt a) (numbersAt-sized a) (judged-passed a (p .0) .1))
-
-pub loaded-none : (a : List ℕ) → tableOf a ≡ none → loadedOf a ≡ record { ok = false; table = freshTable }
-unfolding loadedOf
-loaded-none a e = rw (unheld-judged a e)

@@ -11,11 +11,9 @@ use lib.ListN.{length, getD}
 use lib.Dec.{ltb, leb, eqb}
 use borrow.Author.Tests.{leb-true, eqb-true, eqb-false, lt-ltb, le-ltb, le-leb, lt-leb, eq-eqb, ne-eqb}
 use Rattle.area.specs.Words.{wordAt}
-use Rattle.area.specs.Numbers.{freshTable}
 use Rattle.area.specs.Image.{areaOctets, numbersAt}
-use Rattle.area.specs.Judge.{allFrom, before, slotTest, runTest, slotFine, runFine, imageTest, judged, loadedOf}
+use Rattle.area.specs.Judge.{allFrom, before, slotTest, runTest, slotFine, runFine, imageTest, judged}
 use Rattle.area.specs.declared.Table.{Table}
-use Rattle.area.specs.declared.Loaded.{Loaded}
 use Rattle.area.proofs.WordLaws.{part-at}
 use Rattle.area.proofs.TestLaws.{both-true, all-at, slot-used, slot-unused}
 
@@ -167,11 +165,3 @@ module _ (a : List ℕ) (n : ℕ) (long : 16904 ≤ length a) (is : n ≡ wordAt
   judged-runs h b r e f g =
       let c : numbersAt a .count ≡ n = unfold numbersAt in sym is in
       rw (le-leb _ _ long, le-leb (numbersAt a .count) 16 (rw c h), ← e, f, ← g)
-
-pub loaded-no : (a : List ℕ) (f : Table) → false ≡ judged a → f ≡ freshTable → _≡_ {A = Loaded} (record { ok = false; table = f }) (loadedOf a)
-unfolding loadedOf
-loaded-no a f e g = rw (g, ← e)
-
-pub loaded-yes : (a : List ℕ) (t : Table) → true ≡ judged a → t ≡ numbersAt a → _≡_ {A = Loaded} (record { ok = true; table = t }) (loadedOf a)
-unfolding loadedOf
-loaded-yes a t e g = rw (g, ← e)

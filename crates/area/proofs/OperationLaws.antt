@@ -16,7 +16,6 @@ use Rattle.packet_data.specs.declared.DataRead.the-variants as data-read
 use Rattle.runs.proofs.NumberLaws.{le-or-lt}
 use Rattle.table.specs.Transfers.{Transfer}
 use Rattle.table.specs.Open.{openPacket}
-use Rattle.table.specs.Open.Verdict.{already}
 use Rattle.table.specs.Record.{recordPacket}
 use Rattle.table.specs.Close.{closeId}
 use Rattle.table.specs.declared.Opened.the-variants as opened

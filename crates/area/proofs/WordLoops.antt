@@ -1,12 +1,12 @@
--- One turn of the loop that reads words into an array, and of the one that puts words into an area; arrays put one after the other.
+-- One turn of a loop that reads words into an array, and of the one that puts words into an area; arrays put one after the other.
 -- Assumes nothing.
 use Prim.Native.Nat.{ℕ, _+_, _*_, _<_, _≤_}
 use mathlib.Core.Path.{_≡_, sym, ap, _∙_}
-use mathlib.Core.List.{List, [], _∷_, _++_, append-nil}
+use mathlib.Core.List.{List, [], _∷_, _++_}
 use native.Mathlib.Omega.{arith}
 use native.Mathlib.Numerals.{add-one}
 use native.Mathlib.Nat.{zero-add, add-zero}
-use lib.ListN.{length, getD, take, drop, set, drop-of-length-le, take-append-drop}
+use lib.ListN.{length, getD, take, drop, set, take-append-drop}
 use lib.Seq.{paste, paste-suc, take-suc, take-all, length-take-le}
 use Rattle.octets.specs.Numbers.{beDigits}
 use Rattle.octets.specs.Put.{put}
@@ -23,13 +23,6 @@ fill-step a r r₀ k i w h e f =
     rw (e, f, ← part-at a k n i h, add-one)
     (ap (λ (x : ℕ). set (paste r₀ 0 (wordsAt a k n) i) x (getD (wordsAt a k n) i 0)) (sym (zero-add i))
     ∙ paste-suc r₀ 0 (wordsAt a k n) i 0 (omega arith) (omega (arith, length-words n (drop (k * 8) a))))
-
-pub fill-end : (a r r₀ : List ℕ) (k i : ℕ) → length r₀ ≤ i → r ≡ paste r₀ 0 (wordsAt a k (length r₀)) i → r ≡ wordsAt a k (length r₀)
-fill-end a r r₀ k i h e =
-    let n = length r₀ in
-    let t : take i (wordsAt a k n) ≡ wordsAt a k n = take-all i (wordsAt a k n) (omega (arith, length-words n (drop (k * 8) a))) in
-    let d : drop i r₀ ≡ [] = drop-of-length-le r₀ {i = i} h in
-    e ∙ rw (zero-add, t, d) (append-nil (wordsAt a k n))
 
 -- putting: x is the area so far, into which i words are put, and y the area with one word more
 pub put-start : (k : ℕ) (ws old : List ℕ) → k * 8 ≤ length old → old ≡ put (k * 8) (wordOctets (take 0 ws)) old

@@ -7,10 +7,9 @@ use mathlib.Core.Option.{Option, none, some}
 use lib.ListN.{length, getD}
 use lib.Dec.{ltb, leb, eqb}
 use Rattle.table.specs.Transfers.{Transfer}
-use Rattle.area.specs.Numbers.{transfersOf, freshTable}
+use Rattle.area.specs.Numbers.{transfersOf}
 use Rattle.area.specs.Image.{areaOctets, numbersAt}
 use Rattle.area.specs.declared.Table.{Table}
-use Rattle.area.specs.declared.Loaded.{Loaded}
 
 -- f holds from i on, at n places
 unfoldable pub allFrom : (ℕ → Bool) → ℕ → ℕ → Bool
@@ -58,6 +57,3 @@ judged a = cond (leb areaOctets (length a)) (imageTest (numbersAt a)) false
 -- the table that an area holds; none is 22
 unfoldable pub tableOf : List ℕ → Option (List Transfer)
 tableOf a = cond (judged a) (some (transfersOf (numbersAt a))) none
-
-unfoldable pub loadedOf : List ℕ → Loaded
-loadedOf a = cond (judged a) (record { ok = true; table = numbersAt a }) (record { ok = false; table = freshTable })

@@ -5,10 +5,10 @@ ghost use mathlib.Core.List.{_++_};
 ghost use Prim.Native.Nat.{_+_, _-_, _*_, _≤_, _<_};
 ghost use lib.ListN.{length, drop};
 ghost use Rattle.octets.specs.Put.{put};
-ghost use Rattle.area.specs.Words.{wordOctets, wordAt, wordsAt, Below};
+ghost use Rattle.area.specs.Words.{wordOctets, wordAt, Below};
 ghost use Rattle.area.specs.Numbers.{freshTable};
 ghost use Rattle.area.specs.Image.{wordsOf, numbersAt};
-ghost use Rattle.area.specs.Judge.{allFrom, lengthTest, slotTest, runTest, slotFine, runFine, judged, loadedOf};
+ghost use Rattle.area.specs.Judge.{allFrom, lengthTest, slotTest, runTest, slotFine, runFine, judged};
 
 // A table as numbers, place by place. Transfer i has place i, and its runs have the places 64 i to 64 i + 63.
 pub struct Table {
@@ -19,12 +19,6 @@ pub struct Table {
     pub counts: [u64; 16],
     pub starts: [u64; 1024],
     pub stops: [u64; 1024],
-}
-
-// What an area holds; `ok` is false where it is no image of a table, and the table is then fresh.
-pub struct Loaded {
-    pub ok: bool,
-    pub table: Table,
 }
 
 // No transfer.
@@ -48,47 +42,6 @@ pub fn word(area: &[u8], k: usize) -> u64
     ensures { λ r. ⌜ r ≡ wordAt (now (area .entry)) k ⌝ }
 {
     octets::read_eight(area, k * 8)
-}
-
-// The words from word k on, as many as `out` has room for.
-pub fn words_into(area: &[u8], k: usize, out: &mut [u64])
-    requires { ⌜ k * 8 + length (now out) * 8 ≤ length (now area) ⌝ }
-    ensures { λ _. ⌜ now (out .exit) ≡ wordsAt (now (area .entry)) k (length (now (out .entry))) ⌝ }
-{
-    let mut i = 0;
-    while i < out.len() {
-        out[i] = word(area, k + i);
-        i += 1;
-    }
-}
-
-// All numbers of the area, whatever they are.
-fn numbers_at(area: &[u8]) -> Table
-    requires { ⌜ 16904 ≤ length (now area) ⌝ }
-    ensures { λ r. ⌜ r ≡ numbersAt (now (area .entry)) ⌝ }
-{
-    let count = word(area, 0);
-    let mut ids: [u64; 16] = [0; 16];
-    words_into(area, 1, &mut ids);
-    let mut widths: [u64; 16] = [0; 16];
-    words_into(area, 17, &mut widths);
-    let mut lengths: [u64; 16] = [0; 16];
-    words_into(area, 33, &mut lengths);
-    let mut counts: [u64; 16] = [0; 16];
-    words_into(area, 49, &mut counts);
-    let mut starts: [u64; 1024] = [0; 1024];
-    words_into(area, 65, &mut starts);
-    let mut stops: [u64; 1024] = [0; 1024];
-    words_into(area, 1089, &mut stops);
-    Table {
-        count,
-        ids,
-        widths,
-        lengths,
-        counts,
-        starts,
-        stops,
-    }
 }
 
 // Whether the width is one of the three and the length fits it.
@@ -262,18 +215,6 @@ pub fn judge(area: &[u8]) -> bool
         return runs_ok(area);
     }
     false
-}
-
-// The table that the area holds, by value.
-pub fn load(area: &[u8]) -> Loaded
-    ensures { λ r. ⌜ r ≡ loadedOf (now (area .entry)) ⌝ }
-{
-    if judge(area) {
-        let table = numbers_at(area);
-        return Loaded { ok: true, table };
-    }
-    let table = fresh();
-    Loaded { ok: false, table }
 }
 
 // The words ws from word k on. That each of them fits 8 octets is what their type says.

@@ -2,7 +2,6 @@
 ghost use mathlib.Core.Path.{_≡_};
 ghost use Prim.Native.Nat.{_+_, _<_, _≤_, _^_};
 ghost use lib.ListN.{length};
-ghost use Rattle.octets.specs.Numbers.{Width};
 ghost use Rattle.octets.specs.Put.{put};
 ghost use Rattle.directory_entry.specs.Properties.{PropertiesOf, propertyRefusal, sizeOctets};
 ghost use Rattle.directory_entry.specs.Path.{zeroAt, pathRefusal, pathWriteRefusal};

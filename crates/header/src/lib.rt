@@ -1,8 +1,8 @@
 // The first word of a packet by shifts and masks, the refusals with their codes, and what all readers and writers share.
 ghost use mathlib.Core.Path.{_≡_};
-ghost use Prim.Native.Nat.{_+_, _*_, _<_, _≤_, _^_};
+ghost use Prim.Native.Nat.{_*_, _<_, _≤_, _^_};
 ghost use lib.ListN.{length};
-ghost use Rattle.header.specs.Refusals.{codeOf, refusalOf};
+ghost use Rattle.header.specs.Refusals.{refusalOf};
 ghost use Rattle.header.specs.Word.{Splits, descriptorOctets, timestampOctets, wordFor};
 ghost use Rattle.header.specs.Start.{wordOf, idOf, startRefusal, typeRefusal, fileRefusal};
 ghost use Rattle.header.specs.Writing.{roomRefusal};

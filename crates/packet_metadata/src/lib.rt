@@ -1,6 +1,6 @@
 // METADATA packets: read and written.
 ghost use mathlib.Core.Path.{_≡_};
-ghost use Prim.Native.Nat.{_+_, _<_, _≤_, _^_};
+ghost use Prim.Native.Nat.{_+_, _<_, _^_};
 ghost use lib.ListN.{length};
 ghost use Rattle.octets.specs.Put.{put};
 ghost use Rattle.packet_metadata.specs.Checksum.{pairAllowed, pairRefusal, checksumOctets};

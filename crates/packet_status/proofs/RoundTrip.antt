@@ -6,12 +6,12 @@ use mathlib.Core.List.{List}
 use native.Mathlib.Omega.{arith}
 use lib.ListN.{length, take, drop}
 use lib.Seq.{length-take-le, take-at, take-take, take-add, drop-at}
-use borrow.Author.Tests.{le-ltb, eq-eqb, ne-eqb}
+use borrow.Author.Tests.{ne-eqb}
 use Rattle.octets.specs.Numbers.{beValue}
 use Rattle.octets.specs.Put.{put}
 use Rattle.octets.proofs.NumberLaws.{value-digits}
-use Rattle.header.specs.Word.{markOf, typeOf, statusOf, wordFor}
-use Rattle.header.specs.Start.{wordOf, idOf, startRefusal, typeRefusal}
+use Rattle.header.specs.Word.{statusOf, wordFor}
+use Rattle.header.specs.Start.{wordOf, idOf, typeRefusal}
 use Rattle.header.proofs.WordLaws.{mark-for, type-for, flags-for}
 use Rattle.header.proofs.StartLaws.{TypeFine, type-fine, type-none}
 use Rattle.packet_status.specs.Status.{statusRefusal, failureOf, readStatus}

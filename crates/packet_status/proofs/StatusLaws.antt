@@ -10,7 +10,6 @@ use lib.ListN.{length, getD}
 use lib.Dec.{ltb, eqb}
 use borrow.Author.Tests.{ltb-true, ltb-false, eqb-true, eqb-false, lt-ltb, le-ltb, eq-eqb, ne-eqb, not-false}
 use Rattle.octets.specs.Numbers.{Width}
-use Rattle.octets.specs.Numbers.Width.{two, four, eight}
 use Rattle.header.specs.Refusals.{when, refusalOf}
 use Rattle.header.specs.Word.{widthOf, descriptorOctets, partialOf, statusOf}
 use Rattle.header.specs.Start.{wordOf, typeRefusal}

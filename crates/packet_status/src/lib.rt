@@ -4,7 +4,7 @@ ghost use Prim.Native.Nat.{_+_, _*_, _<_, _≤_};
 ghost use lib.ListN.{length};
 ghost use Rattle.octets.specs.Numbers.{Width};
 ghost use Rattle.packet_status.specs.Holes.{holeAt, holesOf, holesAfter, startsWell, holesWell};
-ghost use Rattle.packet_status.specs.Status.{successRefusal, statusRefusal, successOf, failureOf, readStatus, holeRefusal, readHole};
+ghost use Rattle.packet_status.specs.Status.{successRefusal, statusRefusal, successOf, readStatus, holeRefusal, readHole};
 ghost use Rattle.packet_status.specs.WriteFailure.{failureWriteRefusal, failureWritten, failureBuffer};
 use header::Hole;
 use header::Refusal;

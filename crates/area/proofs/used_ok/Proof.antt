@@ -1,7 +1,7 @@
 -- `area::used_ok` meets its contract. The loop's invariant: the used places from k on decide, and `last` is the stop before
 -- place k, where there is a run before it. The measure is what is left of them. Assumes nothing.
 use Prim.Native.Nat.{_+_, _-_, _*_, _≤_, _<_}
-use mathlib.Core.Path.{_≡_, refl, _∙_}
+use mathlib.Core.Path.{_≡_, _∙_}
 use denote.Ref.{now}
 use Rattle.area.specs.Image.{numbersAt}
 use Rattle.area.specs.Judge.{before, runFine, allFrom}

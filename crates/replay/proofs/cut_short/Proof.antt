@@ -1,7 +1,6 @@
 -- `replay::cut_short` is safe.
 -- Assumes nothing.
 use mathlib.Core.Path.{sym}
-use native.Mathlib.Omega.{arith}
 use lib.Seq.{length-take-le}
 use borrow.Author.Needs.{needs}
 use Rattle.replay.proofs.cut_short.Statement.{statement}

@@ -1,6 +1,5 @@
 -- `replay::step` is safe: each part that is lent lies within its buffer.
 -- Assumes nothing.
-use Prim.Native.Nat.{_≤_}
 use mathlib.Core.Path.{_≡_, sym}
 use mathlib.Core.List.{_++_}
 use native.Mathlib.Omega.{arith}

@@ -1,7 +1,6 @@
 -- `text::push` meets its contract.
 -- Assumes nothing.
 use borrow.Author.Needs.{needs}
-use denote.Ref.{now}
 use native.Mathlib.Omega.{arith}
 use Rattle.text.proofs.AddedLaws.{added-one, added-full}
 use Rattle.text.proofs.push.Statement.{statement}

@@ -1,11 +1,10 @@
 -- `text::put_decimal` meets its contract.
 -- Assumes nothing.
 use Prim.Native.Nat.{_-_, _≤_}
-use mathlib.Core.Path.{_≡_, _∙_}
-use lib.ListN.{length, take, drop, length-drop}
+use mathlib.Core.Path.{_∙_}
+use lib.ListN.{length, drop, length-drop}
 use lib.Seq.{take-all}
 use native.Mathlib.Omega.{arith}
-use Rattle.text.specs.Decimal.{decimalOf}
 use Rattle.text.proofs.AddedLaws.{added-as}
 use borrow.Author.Needs.{needs}
 use Rattle.text.proofs.put_decimal.Statement.{statement}

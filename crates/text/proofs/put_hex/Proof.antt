@@ -1,9 +1,9 @@
 -- `text::put_hex` meets its contract: before each turn the digits of the first i octets have been put.
 -- Assumes nothing.
-use Prim.Native.Nat.{_-_, _≤_, _<_, _+_}
+use Prim.Native.Nat.{_-_, _≤_}
 use native.Mathlib.Omega.{arith}
 use denote.Ref.{now}
-use lib.ListN.{length, take, getD}
+use lib.ListN.{length, take}
 use lib.Seq.{take-all}
 use Rattle.text.specs.Added.{Added}
 use Rattle.text.specs.Hex.{hexOf}

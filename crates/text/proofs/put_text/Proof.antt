@@ -1,12 +1,11 @@
 -- `text::put_text` meets its contract: before each turn the first i octets of the word have been put.
 -- Assumes nothing.
-use Prim.Native.Nat.{_-_, _≤_, _<_, _+_}
-use mathlib.Core.Path.{_≡_, refl, sym, _∙_}
-use mathlib.Core.List.{List, [], _∷_, _++_}
+use Prim.Native.Nat.{_-_, _≤_, _<_}
+use mathlib.Core.Path.{sym}
 use native.Mathlib.Numerals.{add-one}
 use native.Mathlib.Omega.{arith}
 use denote.Ref.{now}
-use lib.ListN.{length, take, getD}
+use lib.ListN.{length, take}
 use lib.Seq.{take-all, take-suc}
 use Rattle.text.specs.Added.{Added}
 use Rattle.text.proofs.AddedLaws.{_then_, added-none, added-as}

@@ -1,10 +1,9 @@
 -- `text::spell` meets its contract: what is left to spell, in front of the digits that stand behind i, are the digits of n.
 -- Assumes nothing.
-use Prim.Native.Nat.{_+_, _<_, _≤_}
-use mathlib.Core.Path.{_≡_, refl, sym, _∙_}
+use Prim.Native.Nat.{_+_, _<_}
+use mathlib.Core.Path.{_≡_, sym, _∙_}
 use mathlib.Core.List.{[]}
 use native.Mathlib.Omega.{arith}
-use borrow.Author.Needs.{needs}
 use denote.Ref.{now}
 use lib.ListN.{length, drop, length-set, drop-of-length-le}
 use Rattle.text.specs.Decimal.{decimalOnto, decimalOf}

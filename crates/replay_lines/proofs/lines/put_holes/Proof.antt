@@ -1,11 +1,10 @@
 -- `replay_lines::put_holes` meets its contract: before each turn the first i holes have been put.
 -- Assumes nothing.
-use Prim.Native.Nat.{_+_, _-_, _≤_}
+use Prim.Native.Nat.{_-_, _≤_}
 use mathlib.Core.Path.{_≡_}
 use native.Mathlib.Numerals.{add-one}
 use native.Mathlib.Omega.{arith}
 use denote.Ref.{now}
-use lib.ListN.{length}
 use Rattle.text.specs.Added.{Added}
 use Rattle.text.proofs.AddedLaws.{_then_, added-none}
 use Rattle.replay_lines.specs.Lines.{holesText}

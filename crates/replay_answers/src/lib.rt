@@ -9,6 +9,7 @@ use packet_data::Data;
 use packet_data::DataRead;
 use packet_metadata::Metadata;
 use packet_metadata::MetadataRead;
+use replay_fields::part;
 use table::Finished;
 use table::Opened;
 use table::Recorded;
@@ -103,7 +104,7 @@ pub fn put_written(out: &mut [u8], at: usize, number: u64, w: Written, lent: &[u
 {
     match w {
         Written::Size(n) => {
-            replay_lines::put_packet(out, at, number, b" status ", replay_lines::part(lent, 0, n))
+            replay_lines::put_packet(out, at, number, b" status ", part(lent, 0, n))
         }
         Written::Refused(x) => replay_lines::put_refused(out, at, number, x),
     }
@@ -116,7 +117,7 @@ pub fn put_sent(out: &mut [u8], at: usize, number: u64, w: Written, lent: &[u8])
 {
     match w {
         Written::Size(n) => {
-            replay_lines::put_packet(out, at, number, b" send ", replay_lines::part(lent, 0, n))
+            replay_lines::put_packet(out, at, number, b" send ", part(lent, 0, n))
         }
         Written::Refused(_) => at,
     }

@@ -5,7 +5,7 @@ use denote.Ref.{now}
 use Rattle.header.specs.declared.Written.{Written}
 use Rattle.text.proofs.AddedLaws.{added-as, added-none}
 use Rattle.replay_lines.specs.Lines.{octetsLine}
-use Rattle.replay_lines.specs.Words.{w-send}
+use Rattle.replay_fields.specs.Words.{w-send}
 use Rattle.replay_answers.specs.Answers.{sentText}
 use borrow.Author.Needs.{needs}
 use Rattle.replay_answers.proofs.put_sent.Statement.{statement}

@@ -1,0 +1,17 @@
+-- `replay_fields::bits_of` meets its contract.
+-- Assumes nothing.
+use borrow.Author.Tests.{eq-eqb, ne-eqb}
+use Rattle.replay_fields.proofs.bits_of.Statement.{statement}
+use Rattle.replay_fields.proofs.bits_of.Tie as tie
+
+returns : tie.Need-returns
+returns c = rw (eq-eqb (c .before .args .width) 2 (c .if1 .taken))
+
+returns-2 : tie.Need-returns-2
+returns-2 c = rw (ne-eqb (c .before .before .args .width) 2 (c .before .if1 .left), eq-eqb (c .before .before .args .width) 4 (c .if2 .taken))
+
+returns-3 : tie.Need-returns-3
+returns-3 c = rw (ne-eqb (c .before .before .args .width) 2 (c .before .if1 .left), ne-eqb (c .before .before .args .width) 4 (c .if2 .left))
+
+pub bits-of-spec : {M : Type 1} → statement M
+bits-of-spec = tie.close (tie.spec returns returns-2 returns-3)

@@ -1,0 +1,23 @@
+-- `replay_fields::put_number` meets its contract: one part after the other.
+-- Assumes nothing.
+use borrow.Author.Needs.{needs}
+use Rattle.text.proofs.AddedLaws.{_then_}
+use Rattle.replay_fields.proofs.put_number.Statement.{statement}
+use Rattle.replay_fields.proofs.put_number.Tie as tie
+
+put-text-requires : tie.Need-put-text-requires
+put-text-requires c κs = search needs
+
+put-number-requires : tie.Need-put-number-requires
+put-number-requires c κs = (c .before .before .before .put-text .ensures .within, search needs)
+
+returns : tie.Need-returns
+returns c =
+    c .before .before .before .before .before .before .put-text .ensures
+    then c .before .before .put-number .ensures
+
+same-length : tie.Need-same-length
+same-length c = returns c .size
+
+pub put-number-spec : {M : Type 1} → statement M
+put-number-spec = tie.close (tie.spec put-text-requires put-number-requires same-length returns)

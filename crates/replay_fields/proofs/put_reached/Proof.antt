@@ -1,0 +1,44 @@
+-- `replay_fields::put_reached` meets its contract: one part after the other.
+-- Assumes nothing.
+use borrow.Author.Needs.{needs}
+use mathlib.Core.Path.{ap}
+use Rattle.text.proofs.AddedLaws.{_then_, added-as}
+use Rattle.replay_fields.specs.Fields.{field}
+use Rattle.replay_fields.specs.Words.{w-complete}
+use Rattle.replay_fields.proofs.put_reached.Statement.{statement}
+use Rattle.replay_fields.proofs.put_reached.Tie as tie
+
+slice-aggregate-put-field : tie.Need-slice-aggregate-put-field
+slice-aggregate-put-field c = search needs
+
+put-field-requires : tie.Need-put-field-requires
+put-field-requires c κs = search needs
+
+slice-aggregate-put-field-2 : tie.Need-slice-aggregate-put-field-2
+slice-aggregate-put-field-2 c = search needs
+
+flag-of-requires : tie.Need-flag-of-requires
+flag-of-requires c κs = search needs
+
+put-field-requires-2 : tie.Need-put-field-requires-2
+put-field-requires-2 c κs = c .before .before .before .before .before .put-field .ensures .within
+
+returns : tie.Need-returns
+returns c =
+    c .before .before .before .before .before .before .before .before .put-field .ensures
+    then added-as (ap (field w-complete) (c .before .before .before .flag-of .ensures)) (c .before .before .put-field2 .ensures)
+
+same-length : tie.Need-same-length
+same-length c = returns c .size
+
+pub put-reached-spec : {M : Type 1} → statement M
+put-reached-spec =
+    tie.close
+    (tie.spec
+    slice-aggregate-put-field
+    put-field-requires
+    slice-aggregate-put-field-2
+    flag-of-requires
+    put-field-requires-2
+    same-length
+    returns)

@@ -1,0 +1,34 @@
+-- The parts of a line.
+-- Assumes nothing.
+use Prim.Native.Nat.{ℕ}
+use mathlib.Core.Bool.{Bool, cond}
+use mathlib.Core.List.{List, _++_}
+use lib.Dec.{eqb}
+use Rattle.octets.specs.Numbers.{beDigits}
+use Rattle.table.specs.declared.Reached.{Reached}
+use Rattle.text.specs.Decimal.{decimalOf}
+use Rattle.text.specs.Hex.{hexOf}
+use Rattle.replay_fields.specs.Words.{w-edge, w-complete}
+
+-- a name and a number in decimal
+abbrev pub field : List ℕ → ℕ → List ℕ
+field name v = name ++ decimalOf v
+
+-- a name and octets in hex
+abbrev pub octetsField : List ℕ → List ℕ → List ℕ
+octetsField name s = name ++ hexOf s
+
+-- a name and the last d octets of a number in hex
+abbrev pub numberField : List ℕ → ℕ → ℕ → List ℕ
+numberField name d v = name ++ hexOf (beDigits d v)
+
+-- the bits of a descriptor, by its octets: 2, 4 or 8
+abbrev pub bitsOf : ℕ → ℕ
+bitsOf d = cond (eqb d 2) 16 (cond (eqb d 4) 32 64)
+
+abbrev pub flagOf : Bool → ℕ
+flagOf b = cond b 1 0
+
+-- how far a transfer has come
+abbrev pub reachedText : Reached → List ℕ
+reachedText x = field w-edge (x .edge) ++ field w-complete (flagOf (x .complete))

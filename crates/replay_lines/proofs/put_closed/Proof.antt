@@ -1,0 +1,40 @@
+-- `replay_lines::put_closed` meets its contract: one part after the other.
+-- Assumes nothing.
+use borrow.Author.Needs.{needs}
+use Rattle.text.proofs.AddedLaws.{_then_}
+use Rattle.replay_lines.specs.Lines.{closeLine}
+use Rattle.replay_lines.proofs.put_closed.Statement.{statement}
+use Rattle.replay_lines.proofs.put_closed.Tie as tie
+
+put-decimal-requires : tie.Need-put-decimal-requires
+put-decimal-requires c κs = search needs
+
+slice-aggregate-put-field : tie.Need-slice-aggregate-put-field
+slice-aggregate-put-field c = search needs
+
+put-field-requires : tie.Need-put-field-requires
+put-field-requires c κs = c .before .before .before .before .put-decimal .ensures .within
+
+push-requires : tie.Need-push-requires
+push-requires c κs = c .before .before .before .put-field .ensures .within
+
+returns : tie.Need-returns
+unfolding closeLine
+returns c =
+    c .before .before .before .before .before .before .before .before .before .before .before .put-decimal .ensures
+    then c .before .before .before .before .before .before .put-field .ensures
+    then c .before .before .push .ensures
+
+same-length : tie.Need-same-length
+same-length c = returns c .size
+
+pub put-closed-spec : {M : Type 1} → statement M
+put-closed-spec =
+    tie.close
+    (tie.spec
+    put-decimal-requires
+    slice-aggregate-put-field
+    put-field-requires
+    push-requires
+    same-length
+    returns)

@@ -1,0 +1,54 @@
+-- `replay_lines::put_head` meets its contract: one part after the other.
+-- Assumes nothing.
+use mathlib.Core.Path.{ap}
+use borrow.Author.Needs.{needs}
+use Rattle.text.proofs.AddedLaws.{_then_, added-as}
+use Rattle.replay_fields.specs.Fields.{field}
+use Rattle.replay_fields.specs.Words.{w-width}
+use Rattle.replay_lines.proofs.put_head.Statement.{statement}
+use Rattle.replay_lines.proofs.put_head.Tie as tie
+
+put-decimal-requires : tie.Need-put-decimal-requires
+put-decimal-requires c κs = search needs
+
+put-field-requires : tie.Need-put-field-requires
+put-field-requires c κs = search needs
+
+slice-aggregate-put-number : tie.Need-slice-aggregate-put-number
+slice-aggregate-put-number c = search needs
+
+put-number-requires : tie.Need-put-number-requires
+put-number-requires c κs = search needs
+
+slice-aggregate-put-field : tie.Need-slice-aggregate-put-field
+slice-aggregate-put-field c = search needs
+
+bits-of-requires : tie.Need-bits-of-requires
+bits-of-requires c κs = search needs
+
+put-field-requires-2 : tie.Need-put-field-requires-2
+put-field-requires-2 c κs = search needs
+
+returns : tie.Need-returns
+returns c =
+    c .before .before .before .before .before .before .before .before .before .before .before .before .before .before .before .before .before .put-decimal .ensures
+    then c .before .before .before .before .before .before .before .before .before .before .before .before .before .put-field .ensures
+    then c .before .before .before .before .before .before .before .before .put-number .ensures
+    then added-as (ap (field w-width) (c .before .before .before .bits-of .ensures)) (c .before .before .put-field2 .ensures)
+
+same-length : tie.Need-same-length
+same-length c = returns c .size
+
+pub put-head-spec : {M : Type 1} → statement M
+put-head-spec =
+    tie.close
+    (tie.spec
+    put-decimal-requires
+    put-field-requires
+    slice-aggregate-put-number
+    put-number-requires
+    slice-aggregate-put-field
+    bits-of-requires
+    put-field-requires-2
+    same-length
+    returns)

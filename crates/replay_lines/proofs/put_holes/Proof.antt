@@ -1,0 +1,57 @@
+-- `replay_lines::put_holes` meets its contract: before each turn the first i holes have been put.
+-- Assumes nothing.
+use Prim.Native.Nat.{_-_, _≤_}
+use mathlib.Core.Path.{_≡_}
+use native.Mathlib.Numerals.{add-one}
+use native.Mathlib.Omega.{arith}
+use denote.Ref.{now}
+use Rattle.text.specs.Added.{Added}
+use Rattle.text.proofs.AddedLaws.{_then_, added-none}
+use Rattle.replay_lines.specs.Lines.{holesText}
+use Rattle.replay_lines.proofs.put_holes.Statement.{statement}
+use Rattle.replay_lines.proofs.put_holes.Tie as tie
+
+abbrev Inv-loop : tie.InvT-loop
+Inv-loop out₀ at p count next₀ i₀ out next i = (i ≤ count) × Added out₀ at (holesText p i) out next
+
+abbrev μ-loop : tie.MeasureT-loop
+μ-loop out₀ at p count next₀ i₀ out next i = count - i
+
+loop-holds : tie.Need-loop-holds Inv-loop μ-loop
+unfolding holesText
+loop-holds c = (omega arith, added-none (now (c .before .before .args .out)) (c .before .before .args .at) (omega arith))
+
+put-hole-requires : tie.Need-put-hole-requires Inv-loop μ-loop
+put-hole-requires c κs = c .before .before .loop .inv .1 .within
+
+add-i : tie.Need-add-i Inv-loop μ-loop
+add-i c = omega arith
+
+loop-less : tie.Need-loop-less Inv-loop μ-loop
+loop-less c = omega arith
+
+loop-again : tie.Need-loop-again Inv-loop μ-loop
+unfolding holesText
+loop-again c = (omega arith, rw add-one (c .before .before .before .before .before .loop .inv .1 then c .before .before .put-hole .ensures))
+
+same-length : tie.Need-same-length Inv-loop μ-loop
+same-length c = c .before .loop .inv .1 .size
+
+returns : tie.Need-returns Inv-loop μ-loop
+returns c =
+    let e : c .before .loop .i ≡ c .before .before .before .before .args .count = omega arith in
+    rw e at (c .before .loop .inv .1)
+
+pub put-holes-spec : {M : Type 1} → statement M
+put-holes-spec =
+    tie.close
+    (tie.spec
+    Inv-loop
+    μ-loop
+    loop-holds
+    put-hole-requires
+    add-i
+    loop-less
+    loop-again
+    same-length
+    returns)

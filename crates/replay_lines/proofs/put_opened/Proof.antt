@@ -1,0 +1,70 @@
+-- `replay_lines::put_opened` meets its contract: one part after the other.
+-- Assumes nothing.
+use borrow.Author.Needs.{needs}
+use mathlib.Core.Path.{ap}
+use Rattle.text.proofs.AddedLaws.{_then_, added-as}
+use Rattle.replay_fields.specs.Fields.{field}
+use Rattle.replay_fields.specs.Words.{w-width}
+use Rattle.replay_lines.specs.Lines.{openedLine}
+use Rattle.replay_lines.proofs.put_opened.Statement.{statement}
+use Rattle.replay_lines.proofs.put_opened.Tie as tie
+
+put-decimal-requires : tie.Need-put-decimal-requires
+put-decimal-requires c κs = search needs
+
+slice-aggregate-put-field : tie.Need-slice-aggregate-put-field
+slice-aggregate-put-field c = search needs
+
+put-field-requires : tie.Need-put-field-requires
+put-field-requires c κs = c .before .before .before .before .put-decimal .ensures .within
+
+slice-aggregate-put-field-2 : tie.Need-slice-aggregate-put-field-2
+slice-aggregate-put-field-2 c = search needs
+
+bits-of-requires : tie.Need-bits-of-requires
+bits-of-requires c κs = search needs
+
+put-field-requires-2 : tie.Need-put-field-requires-2
+put-field-requires-2 c κs = c .before .before .before .before .before .put-field .ensures .within
+
+slice-aggregate-put-field-3 : tie.Need-slice-aggregate-put-field-3
+slice-aggregate-put-field-3 c = search needs
+
+put-field-requires-3 : tie.Need-put-field-requires-3
+put-field-requires-3 c κs = c .before .before .before .before .put-field2 .ensures .within
+
+put-reached-requires : tie.Need-put-reached-requires
+put-reached-requires c κs = c .before .before .before .put-field3 .ensures .within
+
+put-text-requires : tie.Need-put-text-requires
+put-text-requires c κs = c .before .before .before .put-reached .ensures .within
+
+returns : tie.Need-returns
+unfolding openedLine
+returns c =
+    c .before .before .before .before .before .before .before .before .before .before .before .before .before .before .before .before .before .before .before .before .before .before .before .before .before .before .put-decimal .ensures
+    then c .before .before .before .before .before .before .before .before .before .before .before .before .before .before .before .before .before .before .before .before .before .put-field .ensures
+    then added-as (ap (field w-width) (c .before .before .before .before .before .before .before .before .before .before .before .before .before .before .before .before .bits-of .ensures)) (c .before .before .before .before .before .before .before .before .before .before .before .before .before .before .before .put-field2 .ensures)
+    then c .before .before .before .before .before .before .before .before .before .before .put-field3 .ensures
+    then c .before .before .before .before .before .before .put-reached .ensures
+    then c .before .before .put-text .ensures
+
+same-length : tie.Need-same-length
+same-length c = returns c .size
+
+pub put-opened-spec : {M : Type 1} → statement M
+put-opened-spec =
+    tie.close
+    (tie.spec
+    put-decimal-requires
+    slice-aggregate-put-field
+    put-field-requires
+    slice-aggregate-put-field-2
+    bits-of-requires
+    put-field-requires-2
+    slice-aggregate-put-field-3
+    put-field-requires-3
+    put-reached-requires
+    put-text-requires
+    same-length
+    returns)

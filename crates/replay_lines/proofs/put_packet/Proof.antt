@@ -1,0 +1,30 @@
+-- `replay_lines::put_packet` meets its contract: one part after the other.
+-- Assumes nothing.
+use borrow.Author.Needs.{needs}
+use Rattle.text.proofs.AddedLaws.{_then_}
+use Rattle.replay_lines.specs.Lines.{octetsLine}
+use Rattle.replay_lines.proofs.put_packet.Statement.{statement}
+use Rattle.replay_lines.proofs.put_packet.Tie as tie
+
+put-decimal-requires : tie.Need-put-decimal-requires
+put-decimal-requires c κs = search needs
+
+put-octets-requires : tie.Need-put-octets-requires
+put-octets-requires c κs = c .before .before .before .put-decimal .ensures .within
+
+push-requires : tie.Need-push-requires
+push-requires c κs = c .before .before .before .put-octets .ensures .within
+
+returns : tie.Need-returns
+unfolding octetsLine
+returns c =
+    c .before .before .before .before .before .before .before .before .before .before .put-decimal .ensures
+    then c .before .before .before .before .before .before .put-octets .ensures
+    then c .before .before .push .ensures
+
+same-length : tie.Need-same-length
+same-length c = returns c .size
+
+pub put-packet-spec : {M : Type 1} → statement M
+put-packet-spec =
+    tie.close (tie.spec put-decimal-requires put-octets-requires push-requires same-length returns)

@@ -1,0 +1,33 @@
+-- `replay_lines::put_pair` meets its contract: one part after the other.
+-- Assumes nothing.
+use borrow.Author.Needs.{needs}
+use Rattle.text.proofs.AddedLaws.{_then_}
+use Rattle.replay_lines.proofs.put_pair.Statement.{statement}
+use Rattle.replay_lines.proofs.put_pair.Tie as tie
+
+put-decimal-requires : tie.Need-put-decimal-requires
+put-decimal-requires c κs = search needs
+
+slice-aggregate-put-field : tie.Need-slice-aggregate-put-field
+slice-aggregate-put-field c = search needs
+
+put-field-requires : tie.Need-put-field-requires
+put-field-requires c κs = c .before .before .before .before .put-decimal .ensures .within
+
+returns : tie.Need-returns
+returns c =
+    c .before .before .before .before .before .before .before .put-decimal .ensures
+    then c .before .before .put-field .ensures
+
+same-length : tie.Need-same-length
+same-length c = returns c .size
+
+pub put-pair-spec : {M : Type 1} → statement M
+put-pair-spec =
+    tie.close
+    (tie.spec
+    put-decimal-requires
+    slice-aggregate-put-field
+    put-field-requires
+    same-length
+    returns)

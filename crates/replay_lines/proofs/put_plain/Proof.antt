@@ -1,0 +1,25 @@
+-- `replay_lines::put_plain` meets its contract: one part after the other.
+-- Assumes nothing.
+use borrow.Author.Needs.{needs}
+use Rattle.text.proofs.AddedLaws.{_then_}
+use Rattle.replay_lines.specs.Lines.{plainLine}
+use Rattle.replay_lines.proofs.put_plain.Statement.{statement}
+use Rattle.replay_lines.proofs.put_plain.Tie as tie
+
+put-decimal-requires : tie.Need-put-decimal-requires
+put-decimal-requires c κs = search needs
+
+put-text-requires : tie.Need-put-text-requires
+put-text-requires c κs = c .before .before .before .put-decimal .ensures .within
+
+returns : tie.Need-returns
+unfolding plainLine
+returns c =
+    c .before .before .before .before .before .before .put-decimal .ensures
+    then c .before .before .put-text .ensures
+
+same-length : tie.Need-same-length
+same-length c = returns c .size
+
+pub put-plain-spec : {M : Type 1} → statement M
+put-plain-spec = tie.close (tie.spec put-decimal-requires put-text-requires same-length returns)

@@ -1,0 +1,63 @@
+-- `replay_lines::put_recorded` meets its contract: one part after the other.
+-- Assumes nothing.
+use borrow.Author.Needs.{needs}
+use Rattle.text.proofs.AddedLaws.{_then_}
+use Rattle.replay_lines.specs.Lines.{recordLine}
+use Rattle.replay_lines.proofs.put_recorded.Statement.{statement}
+use Rattle.replay_lines.proofs.put_recorded.Tie as tie
+
+put-decimal-requires : tie.Need-put-decimal-requires
+put-decimal-requires c κs = search needs
+
+slice-aggregate-put-field : tie.Need-slice-aggregate-put-field
+slice-aggregate-put-field c = search needs
+
+put-field-requires : tie.Need-put-field-requires
+put-field-requires c κs = c .before .before .before .before .put-decimal .ensures .within
+
+slice-aggregate-put-field-2 : tie.Need-slice-aggregate-put-field-2
+slice-aggregate-put-field-2 c = search needs
+
+put-field-requires-2 : tie.Need-put-field-requires-2
+put-field-requires-2 c κs = c .before .before .before .before .put-field .ensures .within
+
+slice-aggregate-put-field-3 : tie.Need-slice-aggregate-put-field-3
+slice-aggregate-put-field-3 c = search needs
+
+put-field-requires-3 : tie.Need-put-field-requires-3
+put-field-requires-3 c κs = c .before .before .before .before .put-field2 .ensures .within
+
+put-reached-requires : tie.Need-put-reached-requires
+put-reached-requires c κs = c .before .before .before .put-field3 .ensures .within
+
+push-requires : tie.Need-push-requires
+push-requires c κs = c .before .before .before .put-reached .ensures .within
+
+returns : tie.Need-returns
+unfolding recordLine
+returns c =
+    c .before .before .before .before .before .before .before .before .before .before .before .before .before .before .before .before .before .before .before .before .before .before .before .before .before .put-decimal .ensures
+    then c .before .before .before .before .before .before .before .before .before .before .before .before .before .before .before .before .before .before .before .before .put-field .ensures
+    then c .before .before .before .before .before .before .before .before .before .before .before .before .before .before .before .put-field2 .ensures
+    then c .before .before .before .before .before .before .before .before .before .before .put-field3 .ensures
+    then c .before .before .before .before .before .before .put-reached .ensures
+    then c .before .before .push .ensures
+
+same-length : tie.Need-same-length
+same-length c = returns c .size
+
+pub put-recorded-spec : {M : Type 1} → statement M
+put-recorded-spec =
+    tie.close
+    (tie.spec
+    put-decimal-requires
+    slice-aggregate-put-field
+    put-field-requires
+    slice-aggregate-put-field-2
+    put-field-requires-2
+    slice-aggregate-put-field-3
+    put-field-requires-3
+    put-reached-requires
+    push-requires
+    same-length
+    returns)

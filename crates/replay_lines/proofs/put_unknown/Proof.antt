@@ -1,0 +1,40 @@
+-- `replay_lines::put_unknown` meets its contract: one part after the other.
+-- Assumes nothing.
+use borrow.Author.Needs.{needs}
+use Rattle.text.proofs.AddedLaws.{_then_}
+use Rattle.replay_lines.specs.Lines.{unknownLine}
+use Rattle.replay_lines.proofs.put_unknown.Statement.{statement}
+use Rattle.replay_lines.proofs.put_unknown.Tie as tie
+
+put-decimal-requires : tie.Need-put-decimal-requires
+put-decimal-requires c κs = search needs
+
+slice-aggregate-put-number : tie.Need-slice-aggregate-put-number
+slice-aggregate-put-number c = search needs
+
+put-number-requires : tie.Need-put-number-requires
+put-number-requires c κs = (c .before .before .before .before .put-decimal .ensures .within, search needs)
+
+push-requires : tie.Need-push-requires
+push-requires c κs = c .before .before .before .put-number .ensures .within
+
+returns : tie.Need-returns
+unfolding unknownLine
+returns c =
+    c .before .before .before .before .before .before .before .before .before .before .before .put-decimal .ensures
+    then c .before .before .before .before .before .before .put-number .ensures
+    then c .before .before .push .ensures
+
+same-length : tie.Need-same-length
+same-length c = returns c .size
+
+pub put-unknown-spec : {M : Type 1} → statement M
+put-unknown-spec =
+    tie.close
+    (tie.spec
+    put-decimal-requires
+    slice-aggregate-put-number
+    put-number-requires
+    push-requires
+    same-length
+    returns)

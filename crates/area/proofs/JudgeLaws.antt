@@ -37,6 +37,11 @@ module _ (f : ℕ → Bool) (i n : ℕ) (b : Bool) (inv : allFrom f i (n - i) �
       let e : n - i ≡ 0 = omega arith in
       rw e at inv
 
+-- the last place decides alone
+pub all-last : (f : ℕ → Bool) (i n : ℕ) (b : Bool) → allFrom f i (n - i) ≡ b → (t : Bool) → i < n → n ≤ i + 1 → f i ≡ t → t ≡ b
+all-last f i n b inv true h l e = all-end f (i + 1) n b (all-more f i n b inv h e) l
+all-last f i n b inv false h l e = all-not f i n b inv h e
+
 -- ---- the first m of n places, and the rest
 all-split : (f : ℕ → Bool) (i m n : ℕ) → m ≤ n → allFrom f i n ≡ cond (allFrom f i m) (allFrom f (i + m) (n - m)) false
 unfolding allFrom
@@ -101,27 +106,19 @@ unfolding runTest
 run-first true last before start stop size e = refl
 run-first false last before start stop size e = rw (e refl)
 
-module _ (a : List ℕ) (i k runs start : ℕ) (h : i < 16) (r : runs ≡ wordAt a (49 + i)) (s : start ≡ wordAt a (65 + k)) where
-  pub run-used-is : (b : Bool) (last size stop : ℕ) → runs ≤ 64 → i * 64 ≤ k → k < i * 64 + runs → (i * 64 < k → last ≡ before (numbersAt a .stops) k)
-      → size ≡ wordAt a (33 + i) → stop ≡ wordAt a (1089 + k) → b ≡ runTest true (eqb k (i * 64)) last start stop size → runFine (numbersAt a) k ≡ b
-  run-used-is b last size stop few l m p n e t =
+module _ (a : List ℕ) (b : Bool) (i k runs : ℕ) (h : i < 16) (r : runs ≡ wordAt a (49 + i)) where
+  pub run-used-is : (last size start stop : ℕ) → runs ≤ 64 → i * 64 ≤ k → k < i * 64 + runs → (i * 64 < k → last ≡ before (numbersAt a .stops) k)
+      → size ≡ wordAt a (33 + i) → start ≡ wordAt a (65 + k) → stop ≡ wordAt a (1089 + k) → b ≡ runTest true (eqb k (i * 64)) last start stop size
+      → runFine (numbersAt a) k ≡ b
+  run-used-is last size start stop few l m p n s e t =
       run-fine-at a i k h l (omega arith)
       ∙ rw (← r, ← s, ← e, ← n, lt-ltb (k % 64) runs (omega arith), first-place i k l (omega arith))
       (sym (t ∙ run-first (eqb k (i * 64)) last _ start stop size (λ f. p (let g = eqb-false k (i * 64) f in omega arith))))
 
-  module _ (l : i * 64 + runs ≤ k) (m : k < i * 64 + 64) where
-    unused-at : runFine (numbersAt a) k ≡ cond (eqb start 0) (eqb (wordAt a (1089 + k)) 0) false
-    unfolding runTest
-    unused-at = run-fine-at a i k h (omega arith) m ∙ rw (← r, ← s, le-ltb (k % 64) runs (omega arith))
-
-    pub unused-start : (start ≡ 0 → ⊥) → runFine (numbersAt a) k ≡ false
-    unused-start n = unused-at ∙ rw (ne-eqb start 0 n)
-
-    pub unused-stop : start ≡ 0 → (stop : ℕ) → stop ≡ wordAt a (1089 + k) → (stop ≡ 0 → ⊥) → runFine (numbersAt a) k ≡ false
-    unused-stop z stop e n = unused-at ∙ rw (eq-eqb start 0 z, ← e, ne-eqb stop 0 n)
-
-    pub unused-zero : start ≡ 0 → (stop : ℕ) → stop ≡ wordAt a (1089 + k) → stop ≡ 0 → runFine (numbersAt a) k ≡ true
-    unused-zero z stop e n = unused-at ∙ rw (eq-eqb start 0 z, ← e, eq-eqb stop 0 n)
+  pub run-unused-is : i * 64 + runs ≤ k → k < i * 64 + 64 → b ≡ runTest false false 0 (wordAt a (65 + k)) (wordAt a (1089 + k)) 0
+      → runFine (numbersAt a) k ≡ b
+  unfolding runTest
+  run-unused-is l m t = run-fine-at a i k h (omega arith) m ∙ rw (← r, le-ltb (k % 64) runs (omega arith)) (sym t)
 
 -- where the places of transfers are fine, none has more than 64 runs
 pub few-at : (a : List ℕ) (i : ℕ) → i < 16 → allFrom (slotFine (numbersAt a)) 0 16 ≡ true → wordAt a (49 + i) ≤ 64

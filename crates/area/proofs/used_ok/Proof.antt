@@ -58,8 +58,8 @@ tested c =
     let p = c .before .before .before .before .before .before in
     let l = c .before .before .before .before .loop in
     let a = p .args in
-    run-used-is (now (a .area)) (a .i) (l .k) (a .runs) (c .before .before .word .result) (omega arith) (p .pre .3) (c .before .before .word .ensures)
-    (c .run-ok .result) (l .last) (a .size) (c .before .word2 .result) (omega arith) (l .inv .0) (omega arith) (l .inv .2) (p .pre .4) (c .before .word2 .ensures) (c .run-ok .ensures)
+    run-used-is (now (a .area)) (c .run-ok .result) (a .i) (l .k) (a .runs) (omega arith) (p .pre .3)
+    (l .last) (a .size) (c .before .before .word .result) (c .before .word2 .result) (omega arith) (l .inv .0) (omega arith) (l .inv .2) (p .pre .4) (c .before .before .word .ensures) (c .before .word2 .ensures) (c .run-ok .ensures)
 
 loop-again : tie.Need-loop-again Inv-loop μ-loop
 loop-again c =

@@ -1,5 +1,6 @@
 // Reads the records of a pass from standard input, or from the file that the first argument names, and writes the answer to each.
-ghost use Prim.Native.Nat.{_≤_};
+ghost use mathlib.Core.Path.{_≡_};
+ghost use Prim.Native.Nat.{_≤_, min};
 use libc::STDIN_FILENO;
 use libc::STDOUT_FILENO;
 
@@ -38,7 +39,7 @@ fn cut_short(number: u64, out: &mut [u8]) -> bool {
 
 // How many octets of a body are kept: all, but no more than there is room for.
 fn kept(n: u64, room: usize) -> usize
-    ensures { λ r. ⌜ (r ≤ room) × (r ≤ n) ⌝ }
+    ensures { λ r. ⌜ (r ≤ room) × (r ≤ n) × (r ≡ min n room) ⌝ }
 {
     if n < room as u64 {
         return n as usize;

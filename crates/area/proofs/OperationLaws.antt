@@ -9,8 +9,8 @@ use mathlib.Core.Logic.{⊎-elim}
 use lib.ListN.{length, drop}
 use borrow.Author.Tests.{le-ltb, lt-ltb}
 use Rattle.octets.specs.Numbers.{Octets}
-use Rattle.header.specs.Refusals.{refusalOf}
-use Rattle.header.specs.declared.Refusal.{Refusal}
+use Rattle.refusals.specs.Refusals.{refusalOf}
+use Rattle.refusals.specs.declared.Refusal.{Refusal}
 use Rattle.packet_metadata.specs.declared.MetadataRead.the-variants as metadata-read
 use Rattle.packet_data.specs.declared.DataRead.the-variants as data-read
 use Rattle.runs.proofs.NumberLaws.{le-or-lt}

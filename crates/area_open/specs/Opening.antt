@@ -4,7 +4,7 @@ use Prim.Native.Nat.{ℕ}
 use mathlib.Core.Bool.{cond, _&&_}
 use mathlib.Core.List.{List}
 use lib.Dec.{eqb}
-use Rattle.header.specs.Refusals.{refusalOf}
+use Rattle.refusals.specs.Refusals.{refusalOf}
 use Rattle.table.specs.Transfers.{Transfer}
 use Rattle.table.specs.Tables.{reached}
 use Rattle.table.specs.declared.Opened.{Opened}

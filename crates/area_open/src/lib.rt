@@ -21,7 +21,7 @@ pub fn fresh(area: &mut [u8]) -> Finished
     ensures { λ r. ⌜ (r ≡ freshArea (now (area .entry)) .answer) × (now (area .exit) ≡ freshArea (now (area .entry)) .area) ⌝ }
 {
     if area.len() < 16904 {
-        return Finished::Refused(header::refuse(20));
+        return Finished::Refused(refusals::refuse(20));
     }
     area::store(area::fresh(), area);
     Finished::Done
@@ -61,10 +61,10 @@ fn met(area: &[u8], place: usize, width: u64, size: u64) -> Opened
     ensures { λ r. ⌜ r ≡ metAnswer (nth (heldIn (now (area .entry))) place) width size ⌝ }
 {
     if area::word(area, 17 + place) != width {
-        return Opened::Refused(header::refuse(18));
+        return Opened::Refused(refusals::refuse(18));
     }
     if area::word(area, 33 + place) != size {
-        return Opened::Refused(header::refuse(18));
+        return Opened::Refused(refusals::refuse(18));
     }
     Opened::AlreadyOpen(reached_at(area, place))
 }
@@ -91,7 +91,7 @@ fn open_key(area: &mut [u8], id: u64, width: u64, size: u64) -> Opened
         return met(area, place, width, size);
     }
     if 16 <= n {
-        return Opened::Refused(header::refuse(17));
+        return Opened::Refused(refusals::refuse(17));
     }
     add_key(area, id, width, size);
     Opened::New(Reached {
@@ -108,7 +108,7 @@ pub fn open(area: &mut [u8], packet: &[u8]) -> Opened
     if area::judge(area) {
         let n = packet_metadata::metadata_refusal(packet);
         if n != 0 {
-            return Opened::Refused(header::refuse(n));
+            return Opened::Refused(refusals::refuse(n));
         }
         let m = packet_metadata::metadata_fields(packet);
         let id = m.id;
@@ -116,7 +116,7 @@ pub fn open(area: &mut [u8], packet: &[u8]) -> Opened
         let size = m.entry.size;
         return open_key(area, id, width, size);
     }
-    Opened::Refused(header::refuse(22))
+    Opened::Refused(refusals::refuse(22))
 }
 
 // Closes an Id; its place is used again.
@@ -127,11 +127,11 @@ pub fn close(area: &mut [u8], id: u64) -> Finished
         let n = area::word(area, 0);
         let place = area_places::find_place(area, id);
         if n <= (place as u64) {
-            return Finished::Refused(header::refuse(12));
+            return Finished::Refused(refusals::refuse(12));
         }
         let t = area_slots::numbers_without(area, place);
         area::store(t, area);
         return Finished::Done;
     }
-    Finished::Refused(header::refuse(22))
+    Finished::Refused(refusals::refuse(22))
 }

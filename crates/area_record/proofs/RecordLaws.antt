@@ -12,8 +12,8 @@ use lib.ListN.{length, drop}
 use lib.Dec.{ltb, eqb}
 use borrow.Author.Tests.{lt-ltb, le-ltb, ltb-false}
 use Rattle.octets.specs.Numbers.{Octets}
-use Rattle.header.specs.Refusals.{when, refusalOf}
-use Rattle.header.proofs.RefusalLaws.{stays, first-none, rest-none, failed}
+use Rattle.refusals.specs.Refusals.{when, refusalOf}
+use Rattle.refusals.proofs.RefusalLaws.{stays, first-none, rest-none, failed}
 use Rattle.packet_data.specs.Data.{dataRefusal, dataOf, readData}
 use Rattle.packet_data.specs.declared.Data.{Data}
 use Rattle.runs.specs.Runs.{Run, insert}

@@ -61,7 +61,7 @@ fn extend(area: &mut [u8], place: usize, size: u64, from: u64, to: u64) -> Recor
         let complete = run_set::is_complete(new, size);
         return Recorded::Accepted(Reached { edge, complete });
     }
-    Recorded::Refused(header::refuse(16))
+    Recorded::Refused(refusals::refuse(16))
 }
 
 // The fields of a packet recorded in an area that holds a table.
@@ -74,13 +74,13 @@ fn record_fields(area: &mut [u8], d: Data) -> Recorded
     let place = area_places::find_place(area, id);
     let count = area::word(area, 0);
     if count <= (place as u64) {
-        return Recorded::Refused(header::refuse(12));
+        return Recorded::Refused(refusals::refuse(12));
     }
     let width = area::word(area, 17 + place);
     let length = area::word(area, 33 + place);
     let n = judged_at(width, length, d);
     if n != 0 {
-        return Recorded::Refused(header::refuse(n));
+        return Recorded::Refused(refusals::refuse(n));
     }
     let from = d.offset;
     let octets = d.length as u64;
@@ -95,10 +95,10 @@ pub fn record(area: &mut [u8], packet: &[u8]) -> Recorded
     let held = area::judge(area);
     let unread = packet_data::data_refusal(packet);
     if !held {
-        return Recorded::Refused(header::refuse(22));
+        return Recorded::Refused(refusals::refuse(22));
     }
     if unread != 0 {
-        return Recorded::Refused(header::refuse(unread));
+        return Recorded::Refused(refusals::refuse(unread));
     }
     let d = packet_data::data_fields(packet);
     record_fields(area, d)

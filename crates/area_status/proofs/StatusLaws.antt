@@ -8,10 +8,10 @@ use mathlib.Core.Option.{Option, none, some}
 use native.Mathlib.Omega.{arith}
 use lib.ListN.{length}
 use Rattle.octets.specs.Numbers.{Width}
-use Rattle.header.specs.Refusals.{refusalOf}
-use Rattle.header.specs.Writing.{writtenOf, bufferAfter}
-use Rattle.header.specs.declared.Written.{Written}
-use Rattle.header.specs.declared.Written.the-variants.{Refused}
+use Rattle.refusals.specs.Refusals.{refusalOf}
+use Rattle.refusals.specs.Writing.{writtenOf, bufferAfter}
+use Rattle.refusals.specs.declared.Written.{Written}
+use Rattle.refusals.specs.declared.Written.the-variants.{Refused}
 use Rattle.runs.specs.Runs.{Run}
 use Rattle.runs.specs.Holes.{holes}
 use Rattle.run_set.specs.RunSets.{heldRuns}

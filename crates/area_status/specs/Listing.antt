@@ -7,7 +7,7 @@ use mathlib.Core.List.{List}
 use mathlib.Core.Option.{Option, none, some}
 use lib.ListN.{length}
 use lib.Dec.{ltb}
-use Rattle.header.specs.Refusals.{refusalOf}
+use Rattle.refusals.specs.Refusals.{refusalOf}
 use Rattle.runs.specs.Holes.{edge, complete}
 use Rattle.table.specs.Transfers.{Transfer}
 use Rattle.area.specs.Numbers.{nth}

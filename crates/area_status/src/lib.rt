@@ -9,8 +9,8 @@ ghost use Rattle.area.specs.Judge.{judged};
 ghost use Rattle.area.specs.Operations.{areaStatusWritten, areaStatusBuffer};
 ghost use Rattle.area_places.specs.Places.{placeOf};
 ghost use Rattle.area_status.specs.Listing.{listingOf, listedArea};
-use header::Refusal;
-use header::Written;
+use refusals::Refusal;
+use refusals::Written;
 
 // A transfer that is open. `width` counts octets, `runs` its runs.
 pub struct Listing {
@@ -53,11 +53,11 @@ pub fn write_status(area: &[u8], id: u64, skip: u64, unasked: bool, out: &mut [u
         × (now (out .exit) ≡ areaStatusBuffer (now (area .entry)) id skip unasked (now (out .entry))) ⌝ }
 {
     if !area::judge(area) {
-        return Written::Refused(header::refuse(22));
+        return Written::Refused(refusals::refuse(22));
     }
     let place = area_places::find_place(area, id);
     if area::word(area, 0) <= place as u64 {
-        return Written::Refused(header::refuse(12));
+        return Written::Refused(refusals::refuse(12));
     }
     status_at(area, place, id, skip, unasked, out)
 }
@@ -86,10 +86,10 @@ pub fn transfer(area: &[u8], index: u64) -> Listed
     ensures { λ r. ⌜ r ≡ listedArea (now (area .entry)) index ⌝ }
 {
     if !area::judge(area) {
-        return Listed::Refused(header::refuse(22));
+        return Listed::Refused(refusals::refuse(22));
     }
     if area::word(area, 0) <= index {
-        return Listed::Refused(header::refuse(12));
+        return Listed::Refused(refusals::refuse(12));
     }
     Listed::Open(listing_at(area, index as usize))
 }

@@ -8,7 +8,7 @@ use mathlib.Core.Option.{Option, some}
 use native.Mathlib.Omega.{arith}
 use lib.ListN.{length}
 use borrow.Author.Tests.{le-ltb}
-use Rattle.header.specs.Refusals.{refusalOf}
+use Rattle.refusals.specs.Refusals.{refusalOf}
 use Rattle.table.specs.Transfers.{Transfer, Valid}
 use Rattle.table.specs.declared.Finished.the-variants.{Done, Refused}
 use Rattle.area.specs.Image.{areaOctets, storedIn}

@@ -12,8 +12,8 @@ use borrow.Author.Tests.{ltb-true, not-false, lt-ltb, le-ltb}
 use Rattle.octets.specs.Numbers.{beValue, beDigits, Octets}
 use Rattle.octets.proofs.PutLaws.{refold}
 use Rattle.octets.proofs.NumberLaws.{value-digits, length-digits, part-digits, part-lt}
-use Rattle.header.specs.Refusals.{when}
-use Rattle.header.proofs.RefusalLaws.{first-none, rest-none, failed}
+use Rattle.refusals.specs.Refusals.{when}
+use Rattle.refusals.proofs.RefusalLaws.{first-none, rest-none, failed}
 use Rattle.directory_entry.specs.Properties.{sizeOctets, pathAt, propertyRefusal}
 use Rattle.directory_entry.specs.Path.{zeroAt, pathWriteRefusal}
 use Rattle.directory_entry.specs.Entry.{propertiesOf, sizeOf, afterTimes, entryRefusal, entryOf}

@@ -6,7 +6,7 @@ use mathlib.Core.List.{List}
 use lib.ListN.{length, take, drop}
 use lib.Dec.{ltb}
 use Rattle.octets.specs.Numbers.{beValue}
-use Rattle.header.specs.Refusals.{_▹_, when}
+use Rattle.refusals.specs.Refusals.{_▹_, when}
 use Rattle.directory_entry.specs.Properties.{sizeOctets, pathAt, propertyRefusal}
 use Rattle.directory_entry.specs.Path.{pathRefusal}
 use Rattle.directory_entry.specs.declared.Entry.{Entry}

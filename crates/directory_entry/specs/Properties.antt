@@ -4,7 +4,7 @@ use Prim.Native.Nat.{ℕ, _+_, _*_, _^_}
 use mathlib.Core.Path.{_≡_}
 use mathlib.Core.Bool.{not}
 use lib.Dec.{eqb}
-use Rattle.header.specs.Refusals.{_▹_, when}
+use Rattle.refusals.specs.Refusals.{_▹_, when}
 use Rattle.header.specs.Word.{bits}
 use Rattle.directory_entry.specs.declared.Properties.{Properties}
 

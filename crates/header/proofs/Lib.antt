@@ -1,4 +1,2 @@
-pub mod RefusalLaws
 pub mod StartLaws
 pub mod WordLaws
-pub mod WritingLaws

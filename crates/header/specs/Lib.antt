@@ -1,4 +1,2 @@
-pub mod Refusals
 pub mod Word
 pub mod Start
-pub mod Writing

@@ -6,11 +6,11 @@ use mathlib.Core.Bool.{Bool, true, false, cond}
 use mathlib.Core.List.{List}
 use native.Mathlib.Omega.{arith}
 use lib.Dec.{eqb}
-use Rattle.header.specs.Refusals.{refusalOf}
-use Rattle.header.specs.declared.Refusal.{Refusal}
+use Rattle.refusals.specs.Refusals.{refusalOf}
+use Rattle.refusals.specs.declared.Refusal.{Refusal}
 use Rattle.header.specs.Word.{typeOf}
 use Rattle.header.specs.Start.{wordOf, startRefusal, typeRefusal}
-use Rattle.header.proofs.RefusalLaws.{first-none}
+use Rattle.refusals.proofs.RefusalLaws.{first-none}
 use Rattle.header.proofs.StartLaws.{type-fine}
 use Rattle.packet_metadata.specs.Metadata.{readMetadata}
 use Rattle.packet_metadata.specs.declared.Metadata.{Metadata}

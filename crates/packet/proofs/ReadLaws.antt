@@ -3,7 +3,7 @@
 use Prim.Native.Nat.{ℕ, zero, suc}
 use mathlib.Core.Path.{_≡_, refl, _∙_}
 use mathlib.Core.List.{List}
-use Rattle.header.specs.Refusals.{refusalOf}
+use Rattle.refusals.specs.Refusals.{refusalOf}
 use Rattle.header.specs.Word.{typeOf}
 use Rattle.header.specs.Start.{wordOf, startRefusal}
 use Rattle.packet.specs.Read.{readType, readAfter, readPacket}

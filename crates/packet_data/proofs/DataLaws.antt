@@ -7,9 +7,9 @@ use native.Mathlib.Omega.{arith}
 use lib.ListN.{length}
 use lib.Dec.{ltb, eqb}
 use borrow.Author.Tests.{ltb-false, eqb-false}
-use Rattle.header.specs.Refusals.{when, refusalOf}
+use Rattle.refusals.specs.Refusals.{when, refusalOf}
 use Rattle.header.specs.Start.{wordOf, typeRefusal, fileRefusal}
-use Rattle.header.proofs.RefusalLaws.{first-none, rest-none, failed}
+use Rattle.refusals.proofs.RefusalLaws.{first-none, rest-none, failed}
 use Rattle.header.proofs.StartLaws.{TypeFine, type-fine, FileFine, file-fine}
 use Rattle.header.proofs.WordLaws.{octets-le}
 use Rattle.packet_data.specs.Data.{payloadAt, dataRefusal, dataOf, readData, dataAnswer, payloadPart}

@@ -13,8 +13,8 @@ use Rattle.octets.proofs.PutLaws.{refold}
 use Rattle.octets.proofs.NumberLaws.{value-digits, length-digits, part-digits, part-lt}
 use Rattle.header.specs.Word.{flagsOf, descriptorOctets, timestampOctets, wantedOf, eodOf, markOf, typeOf, wordFor}
 use Rattle.header.specs.Start.{wordOf, idOf, startRefusal, typeRefusal}
-use Rattle.header.specs.Writing.{roomRefusal}
-use Rattle.header.specs.declared.Written.the-variants.{Size}
+use Rattle.refusals.specs.Writing.{roomRefusal}
+use Rattle.refusals.specs.declared.Written.the-variants.{Size}
 use Rattle.header.proofs.WordLaws.{mark-for, type-for, flags-for, octets-for, timestamp-for, file-for, octets-flags, timestamp-flags, file-flags, flags-lt, word-again}
 use Rattle.packet_data.specs.Data.{offsetAt, payloadAt, dataRefusal, dataOf, readData, payloadOf}
 use Rattle.packet_data.specs.WriteData.{dataExcess, dataWriteRefusal, dataOctets, dataWritten, dataBuffer}

@@ -5,7 +5,7 @@ use mathlib.Core.List.{List, []}
 use lib.ListN.{length, take, drop}
 use lib.Dec.{ltb, eqb}
 use Rattle.octets.specs.Numbers.{beValue}
-use Rattle.header.specs.Refusals.{_▹_, when, refusalOf}
+use Rattle.refusals.specs.Refusals.{_▹_, when, refusalOf}
 use Rattle.header.specs.Word.{flagsOf, descriptorOctets, timestampOctets, wantedOf, eodOf}
 use Rattle.header.specs.Start.{wordOf, idOf, typeRefusal, fileRefusal}
 use Rattle.packet_data.specs.declared.Data.{Data}

@@ -7,10 +7,10 @@ use native.Mathlib.Omega.{arith}
 use lib.ListN.{length, drop}
 use lib.Dec.{ltb}
 use borrow.Author.Tests.{ltb-false}
-use Rattle.header.specs.Refusals.{when, refusalOf}
+use Rattle.refusals.specs.Refusals.{when, refusalOf}
 use Rattle.header.specs.Word.{descriptorOctets}
 use Rattle.header.specs.Start.{wordOf, typeRefusal, fileRefusal}
-use Rattle.header.proofs.RefusalLaws.{first-none, rest-none, failed}
+use Rattle.refusals.proofs.RefusalLaws.{first-none, rest-none, failed}
 use Rattle.header.proofs.StartLaws.{TypeFine, type-fine}
 use Rattle.directory_entry.specs.Entry.{entryRefusal}
 use Rattle.packet_metadata.specs.Checksum.{pairRefusal}

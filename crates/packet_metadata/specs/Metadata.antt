@@ -4,7 +4,7 @@ use Prim.Native.Nat.{ℕ, zero, suc, _+_}
 use mathlib.Core.List.{List}
 use lib.ListN.{length, drop}
 use lib.Dec.{ltb}
-use Rattle.header.specs.Refusals.{_▹_, when, refusalOf}
+use Rattle.refusals.specs.Refusals.{_▹_, when, refusalOf}
 use Rattle.header.specs.Word.{flagsOf, descriptorOctets}
 use Rattle.header.specs.Start.{wordOf, idOf, typeRefusal, fileRefusal}
 use Rattle.directory_entry.specs.Entry.{entryRefusal, entryOf}

@@ -7,7 +7,7 @@ use native.Mathlib.Nat.{suc-mul}
 use native.Mathlib.Omega.{arith}
 use lib.ListN.{length, getD}
 use Rattle.packet_status.specs.Holes.{holeAt, holesOf}
-use Rattle.header.specs.declared.Hole.{Hole}
+use Rattle.runs.specs.declared.Hole.{Hole}
 
 -- one element less
 pub less-one : (n e : ℕ) → 0 < n → n * e ≡ (n - 1) * e + e

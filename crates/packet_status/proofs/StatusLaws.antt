@@ -10,13 +10,13 @@ use lib.ListN.{length, getD}
 use lib.Dec.{ltb, eqb}
 use borrow.Author.Tests.{ltb-true, ltb-false, eqb-true, eqb-false, lt-ltb, le-ltb, eq-eqb, ne-eqb, not-false}
 use Rattle.octets.specs.Numbers.{Width}
-use Rattle.header.specs.Refusals.{when, refusalOf}
+use Rattle.refusals.specs.Refusals.{when, refusalOf}
 use Rattle.header.specs.Word.{widthOf, descriptorOctets, partialOf, statusOf}
 use Rattle.header.specs.Start.{wordOf, typeRefusal}
-use Rattle.header.proofs.RefusalLaws.{first-none, rest-none, failed}
+use Rattle.refusals.proofs.RefusalLaws.{first-none, rest-none, failed}
 use Rattle.header.proofs.StartLaws.{StartFine, TypeFine, type-fine, narrow-octets}
 use Rattle.packet_status.specs.Status.{holesAt, progressOf, responseOf, listOctets, holeCount, holeList, listRefusal, successRefusal, statusRefusal, holeRefusal, indexedHole, readHole, failureOf, acceptedStatus, statusAnswer, holeAnswer}
-use Rattle.header.specs.declared.Hole.{Hole}
+use Rattle.runs.specs.declared.Hole.{Hole}
 use Rattle.packet_status.specs.declared.HoleRead.the-variants as hole-read
 use Rattle.packet_status.specs.declared.StatusRead.the-variants.{Failure, Refused}
 use Rattle.packet_status.proofs.HoleLaws.{length-holes, hole-of-list}

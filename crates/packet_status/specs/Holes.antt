@@ -6,7 +6,7 @@ use mathlib.Core.List.{List, [], _∷_}
 use lib.ListN.{take, drop}
 use lib.Dec.{ltb, leb, eqb}
 use Rattle.octets.specs.Numbers.{beValue}
-use Rattle.header.specs.declared.Hole.{Hole}
+use Rattle.runs.specs.declared.Hole.{Hole}
 
 -- "A hole's end ... is the first offset after what it closes."
 -- The pair of descriptors of d octets that stands at the place `at`

@@ -6,11 +6,11 @@ use mathlib.Core.List.{List}
 use lib.ListN.{length, take, drop}
 use lib.Dec.{ltb, eqb}
 use Rattle.octets.specs.Numbers.{beValue}
-use Rattle.header.specs.Refusals.{_▹_, when, refusalOf}
+use Rattle.refusals.specs.Refusals.{_▹_, when, refusalOf}
 use Rattle.header.specs.Word.{flagsOf, widthOf, descriptorOctets, timestampOctets, partialOf, statusOf}
 use Rattle.header.specs.Start.{wordOf, idOf, typeRefusal}
 use Rattle.packet_status.specs.Holes.{holeAt, holesOf, holesWell}
-use Rattle.header.specs.declared.Hole.{Hole}
+use Rattle.runs.specs.declared.Hole.{Hole}
 use Rattle.packet_status.specs.declared.HoleRead.{HoleRead}
 use Rattle.packet_status.specs.declared.HoleRead.the-variants as hole-read
 use Rattle.packet_status.specs.declared.SuccessStatus.{SuccessStatus}

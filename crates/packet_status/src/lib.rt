@@ -6,9 +6,9 @@ ghost use Rattle.octets.specs.Numbers.{Width};
 ghost use Rattle.packet_status.specs.Holes.{holeAt, holesOf, holesAfter, startsWell, holesWell};
 ghost use Rattle.packet_status.specs.Status.{successRefusal, statusRefusal, successOf, readStatus, holeRefusal, readHole};
 ghost use Rattle.packet_status.specs.WriteFailure.{failureWriteRefusal, failureWritten, failureBuffer};
-use header::Hole;
-use header::Refusal;
-use header::Written;
+use refusals::Refusal;
+use refusals::Written;
+use runs::Hole;
 
 // The fields of a success STATUS. `width` and `timestamp` count octets; `count` holes stand from the place `holes` on.
 pub struct SuccessStatus {
@@ -189,7 +189,7 @@ pub fn read_status(p: &[u8]) -> StatusRead
 {
     let n = status_refusal(p);
     if n != 0 {
-        return StatusRead::Refused(header::refuse(n));
+        return StatusRead::Refused(refusals::refuse(n));
     }
     let h = header::split(header::word(p));
     let code = h.status;
@@ -228,7 +228,7 @@ pub fn read_hole(p: &[u8], index: u64) -> HoleRead
 {
     let n = hole_refusal(p, index);
     if n != 0 {
-        return HoleRead::Refused(header::refuse(n));
+        return HoleRead::Refused(refusals::refuse(n));
     }
     let w = header::word(p);
     let d = header::descriptor_octets(w);
@@ -262,7 +262,7 @@ pub fn write_failure(out: &mut [u8], id: u64, status: u64) -> Written
 {
     let n = failure_write_refusal(id, status, out.len());
     if n != 0 {
-        return Written::Refused(header::refuse(n));
+        return Written::Refused(refusals::refuse(n));
     }
     octets::write_number(out, 0, 4, header::join(4, status));
     octets::write_number(out, 4, 4, id);

@@ -5,8 +5,8 @@ use mathlib.Core.Bool.{cond}
 use mathlib.Core.List.{List, [], _++_}
 use lib.Dec.{eqb}
 use lib.ListN.{length, take, drop}
-use Rattle.header.specs.declared.Hole.{Hole}
-use Rattle.header.specs.declared.Refusal.{Refusal}
+use Rattle.runs.specs.declared.Hole.{Hole}
+use Rattle.refusals.specs.declared.Refusal.{Refusal}
 use Rattle.directory_entry.specs.declared.Entry.{Entry}
 use Rattle.packet_metadata.specs.declared.Metadata.{Metadata}
 use Rattle.packet_data.specs.Data.{payloadOf}

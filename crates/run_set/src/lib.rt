@@ -5,7 +5,7 @@ ghost use lib.ListN.{length, getD};
 ghost use Rattle.runs.specs.Runs.{Canonical};
 ghost use Rattle.runs.specs.Holes.{edge, hole, holes, progress, complete};
 ghost use Rattle.run_set.specs.RunSets.{runsAt, heldRuns, freshSet, copiedTo, insertedOf};
-use header::Hole;
+use runs::Hole;
 
 // Run i goes from `starts[i]` on, and `stops[i]` is the first offset after it. Places from `count` on are unused.
 pub struct RunSet {

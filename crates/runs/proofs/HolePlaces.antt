@@ -12,7 +12,7 @@ use lib.Dec.{eqb}
 use borrow.Author.Tests.{eq-eqb, ne-eqb}
 use Rattle.runs.specs.Runs.{Run, CanonicalFrom, Canonical}
 use Rattle.runs.specs.Holes.{hole, holesFrom, holes}
-use Rattle.header.specs.declared.Hole.{Hole}
+use Rattle.runs.specs.declared.Hole.{Hole}
 use Rattle.runs.proofs.NumberLaws.{le-or-lt}
 use Rattle.runs.proofs.HoleLaws.{holes-before, holes-after}
 

@@ -1,7 +1,7 @@
 -- What C gets of a packet that was read: "a definition gives this paper's number and values for each case".
 -- A field that the packet's type lacks is 0. Places count octets from the packet's start.
 -- Assumes nothing.
-use Rattle.header.specs.declared.Refusal.{Refusal}
+use Rattle.refusals.specs.declared.Refusal.{Refusal}
 use Rattle.packet_metadata.specs.declared.Metadata.{Metadata}
 use Rattle.packet_data.specs.declared.Data.{Data}
 use Rattle.packet_status.specs.declared.SuccessStatus.{SuccessStatus}

@@ -7,14 +7,14 @@ ghost use Rattle.packet_status.specs.Status.{readHole};
 ghost use Rattle.packet_status.specs.WriteFailure.{failureWritten, failureBuffer};
 ghost use Rattle.saratoga.specs.PacketAnswers.{metadataPacket, dataPacket, successPacket, failurePacket, refusedPacket, packetAnswer};
 ghost use Rattle.saratoga.specs.Answers.{holeAnswer, writtenAnswer};
-use header::Refusal;
-use header::Written;
 use packet::Read;
 use packet_data::Data;
 use packet_metadata::Metadata;
 use packet_status::FailureStatus;
 use packet_status::HoleRead;
 use packet_status::SuccessStatus;
+use refusals::Refusal;
+use refusals::Written;
 
 // struct saratoga_packet; `ptype` is its field `type`.
 #[repr(C)]

@@ -12,10 +12,10 @@ use lib.Seq.{take-all}
 use Rattle.octets.specs.Numbers.{Width}
 use Rattle.octets.specs.Put.{put}
 use Rattle.octets.proofs.NumberLaws.{width-some}
-use Rattle.header.specs.declared.Hole.{Hole}
-use Rattle.header.specs.declared.Written.the-variants.{Size, Refused}
-use Rattle.header.specs.Refusals.{refusalOf}
-use Rattle.header.proofs.WritingLaws.{written-refused, buffer-refused}
+use Rattle.runs.specs.declared.Hole.{Hole}
+use Rattle.refusals.specs.declared.Written.the-variants.{Size, Refused}
+use Rattle.refusals.specs.Refusals.{refusalOf}
+use Rattle.refusals.proofs.WritingLaws.{written-refused, buffer-refused}
 use Rattle.runs.specs.Runs.{Run}
 use Rattle.runs.specs.Holes.{edge, holes, progress, complete}
 use Rattle.runs.proofs.NumberLaws.{le-or-lt}

@@ -13,7 +13,7 @@ use Rattle.octets.specs.Put.{put}
 use Rattle.octets.proofs.NumberLaws.{length-digits}
 use Rattle.octets.proofs.PutLaws.{put-next}
 use Rattle.header.specs.Word.{wordFor}
-use Rattle.header.specs.declared.Hole.{Hole}
+use Rattle.runs.specs.declared.Hole.{Hole}
 use Rattle.packet_data.proofs.WriteDataLaws.{puts}
 use Rattle.runs.specs.Holes.{hole}
 use Rattle.table.specs.Status.{pairs, statusOctets}

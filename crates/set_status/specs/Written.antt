@@ -7,10 +7,10 @@ use mathlib.Core.Option.{some}
 use lib.ListN.{length, take, drop}
 use lib.Dec.{ltb, eqb}
 use Rattle.octets.specs.Numbers.{beDigits, Width}
-use Rattle.header.specs.Refusals.{_▹_, when}
-use Rattle.header.specs.Writing.{writtenOf, bufferAfter}
-use Rattle.header.specs.declared.Hole.{Hole}
-use Rattle.header.specs.declared.Written.{Written}
+use Rattle.refusals.specs.Refusals.{_▹_, when}
+use Rattle.refusals.specs.Writing.{writtenOf, bufferAfter}
+use Rattle.runs.specs.declared.Hole.{Hole}
+use Rattle.refusals.specs.declared.Written.{Written}
 use Rattle.runs.specs.Runs.{Run, Canonical}
 use Rattle.runs.specs.Holes.{holes}
 use Rattle.run_set.specs.RunSets.{heldRuns}

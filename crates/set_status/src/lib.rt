@@ -9,9 +9,9 @@ ghost use Rattle.runs.specs.Holes.{edge, holes, progress, complete};
 ghost use Rattle.run_set.specs.RunSets.{heldRuns};
 ghost use Rattle.table.specs.Status.{holeRoom, bit, widthBits, statusFlags, pairs, statusOctets};
 ghost use Rattle.set_status.specs.Written.{keyOf, keyWritten, keyBuffer, skipsTooMany, leastRoom, sizeRefusal, someUnsent, holesPart, pair, SetFine, PartFits};
-use header::Hole;
-use header::Written;
+use refusals::Written;
 use run_set::RunSet;
+use runs::Hole;
 
 // Whether that many holes can't be skipped: neither 0 nor less than their number.
 fn skips_too_many(skip: u64, holes: usize) -> bool
@@ -180,7 +180,7 @@ pub fn write_set_status(
     let holes = run_set::hole_count(r);
     let n = size_refusal(width, holes, skip, out.len());
     if n != 0 {
-        return Written::Refused(header::refuse(n));
+        return Written::Refused(refusals::refuse(n));
     }
     let first = skip as usize;
     let left = holes - first;

@@ -10,8 +10,8 @@ use native.Mathlib.Omega.{arith}
 use lib.ListN.{length}
 use lib.Dec.{ltb, eqb}
 use borrow.Author.Tests.{ltb-true, ltb-false, eqb-true, eqb-false, lt-ltb, le-ltb, eq-eqb, ne-eqb}
-use Rattle.header.specs.Refusals.{_▹_, when}
-use Rattle.header.specs.declared.Hole.{Hole}
+use Rattle.refusals.specs.Refusals.{_▹_, when}
+use Rattle.runs.specs.declared.Hole.{Hole}
 use Rattle.packet_data.specs.declared.Data.{Data}
 use Rattle.runs.specs.Runs.{Run, Member, Canonical}
 use Rattle.runs.proofs.InsertLaws.{insert-member, insert-canonical}

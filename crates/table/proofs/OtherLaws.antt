@@ -6,8 +6,8 @@ use mathlib.Core.Bool.{false}
 use mathlib.Core.List.{List}
 use mathlib.Core.Option.{Option, none, some}
 use native.Mathlib.Omega.{arith}
-use Rattle.header.specs.Refusals.{refusalOf}
-use Rattle.header.specs.declared.Refusal.{Refusal}
+use Rattle.refusals.specs.Refusals.{refusalOf}
+use Rattle.refusals.specs.declared.Refusal.{Refusal}
 use Rattle.packet_metadata.specs.Metadata.{readMetadata}
 use Rattle.packet_metadata.specs.declared.Metadata.{Metadata}
 use Rattle.packet_metadata.specs.declared.MetadataRead.the-variants as metadata-read

@@ -8,9 +8,9 @@ use mathlib.Core.Option.{Option, none, some}
 use lib.ListN.{length}
 use lib.Dec.{ltb, eqb}
 use borrow.Author.Tests.{ltb-false, le-ltb}
-use Rattle.header.specs.Refusals.{_▹_, when, refusalOf}
-use Rattle.header.specs.declared.Refusal.{Refusal}
-use Rattle.header.proofs.RefusalLaws.{first-none, rest-none, failed}
+use Rattle.refusals.specs.Refusals.{_▹_, when, refusalOf}
+use Rattle.refusals.specs.declared.Refusal.{Refusal}
+use Rattle.refusals.proofs.RefusalLaws.{first-none, rest-none, failed}
 use Rattle.packet_data.specs.Data.{readData}
 use Rattle.packet_data.specs.declared.Data.{Data}
 use Rattle.packet_data.specs.declared.DataRead.{DataRead}

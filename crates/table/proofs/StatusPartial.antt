@@ -10,7 +10,7 @@ use lib.ListN.{length, take, drop, length-drop}
 use lib.Seq.{take-all}
 use lib.Dec.{ltb}
 use borrow.Author.Tests.{ltb-true, ltb-false, lt-ltb}
-use Rattle.header.specs.declared.Hole.{Hole}
+use Rattle.runs.specs.declared.Hole.{Hole}
 use Rattle.runs.proofs.NumberLaws.{le-or-lt}
 use Rattle.table.specs.Status.{holeRoom, holesSent, partialSent}
 use Rattle.table.proofs.StatusSize.{holes-sent-count}

@@ -12,10 +12,10 @@ use lib.Dec.{eqb}
 use borrow.Author.Tests.{lt-ltb, le-ltb, le-leb, eq-eqb}
 use Rattle.octets.specs.Numbers.{beValue, beDigits, Width}
 use Rattle.octets.proofs.NumberLaws.{value-digits, length-digits, width-le, width-some}
-use Rattle.header.specs.Refusals.{refusalOf}
+use Rattle.refusals.specs.Refusals.{refusalOf}
 use Rattle.header.specs.Word.{markOf, typeOf, flagsOf, widthOf, descriptorOctets, timestampOctets, partialOf, statusOf, wordFor}
 use Rattle.header.specs.Start.{wordOf, idOf, startRefusal, typeRefusal}
-use Rattle.header.specs.declared.Hole.{Hole}
+use Rattle.runs.specs.declared.Hole.{Hole}
 use Rattle.packet_status.specs.Holes.{holesOf, holesAfter, startsWell, holesWell}
 use Rattle.packet_status.specs.Status.{holesAt, progressOf, responseOf, listOctets, holeCount, holeList, successRefusal, statusRefusal, successOf, readStatus, readHole}
 use Rattle.packet_status.specs.declared.StatusRead.the-variants.{Success}

@@ -9,7 +9,7 @@ use mathlib.Core.Logic.{_⊎_, inl, inr, ⊎-elim, _↔_}
 use lib.ListN.{length, take, drop, take-append-drop}
 use Rattle.header.specs.Word.{bits, partialOf}
 use Rattle.header.specs.Start.{wordOf}
-use Rattle.header.specs.declared.Hole.{Hole}
+use Rattle.runs.specs.declared.Hole.{Hole}
 use Rattle.runs.specs.Runs.{Run, Member}
 use Rattle.runs.specs.Holes.{edge, holes, progress, complete, InHole}
 use Rattle.runs.proofs.EdgeLaws.{edge-highest, edge-none}

@@ -13,9 +13,9 @@ use lib.Seq.{getD-take, getD-drop}
 use lib.Dec.{ltb, eqb}
 use borrow.Author.Tests.{ltb-true, ltb-false, eqb-true, ne-eqb}
 use Rattle.octets.proofs.NumberLaws.{length-digits}
-use Rattle.header.specs.Refusals.{when}
-use Rattle.header.specs.declared.Hole.{Hole}
-use Rattle.header.proofs.RefusalLaws.{first-none, rest-none, failed}
+use Rattle.refusals.specs.Refusals.{when}
+use Rattle.runs.specs.declared.Hole.{Hole}
+use Rattle.refusals.proofs.RefusalLaws.{first-none, rest-none, failed}
 use Rattle.runs.specs.Runs.{Run}
 use Rattle.runs.specs.Holes.{holes}
 use Rattle.runs.proofs.NumberLaws.{le-or-lt}

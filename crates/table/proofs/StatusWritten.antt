@@ -11,10 +11,10 @@ use lib.ListN.{length, take, drop}
 use lib.Seq.{take-at, drop-at}
 use Rattle.octets.specs.Put.{put}
 use Rattle.octets.proofs.NumberLaws.{width-some}
-use Rattle.header.specs.Refusals.{refusalOf}
-use Rattle.header.specs.declared.Hole.{Hole}
-use Rattle.header.specs.declared.Written.the-variants.{Size, Refused}
-use Rattle.header.proofs.WritingLaws.{written-refused, buffer-refused}
+use Rattle.refusals.specs.Refusals.{refusalOf}
+use Rattle.runs.specs.declared.Hole.{Hole}
+use Rattle.refusals.specs.declared.Written.the-variants.{Size, Refused}
+use Rattle.refusals.proofs.WritingLaws.{written-refused, buffer-refused}
 use Rattle.packet_status.specs.Status.{holeList, readStatus}
 use Rattle.packet_status.specs.declared.StatusRead.{StatusRead}
 use Rattle.packet_status.specs.declared.StatusRead.the-variants.{Success}

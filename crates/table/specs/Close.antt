@@ -3,7 +3,7 @@
 use Prim.Native.Nat.{ℕ}
 use mathlib.Core.List.{List}
 use mathlib.Core.Option.{Option, none, some}
-use Rattle.header.specs.Refusals.{refusalOf}
+use Rattle.refusals.specs.Refusals.{refusalOf}
 use Rattle.table.specs.Transfers.{Key, Transfer}
 use Rattle.table.specs.Tables.{keys, find, remove}
 use Rattle.table.specs.declared.Finished.{Finished}

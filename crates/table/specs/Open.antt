@@ -6,7 +6,7 @@ use mathlib.Core.List.{List, []}
 use mathlib.Core.Option.{Option, none, some}
 use lib.ListN.{length}
 use lib.Dec.{ltb, eqb}
-use Rattle.header.specs.Refusals.{refusalOf}
+use Rattle.refusals.specs.Refusals.{refusalOf}
 use Rattle.packet_metadata.specs.Metadata.{readMetadata}
 use Rattle.packet_metadata.specs.declared.Metadata.{Metadata}
 use Rattle.packet_metadata.specs.declared.MetadataRead.{MetadataRead}

@@ -7,11 +7,11 @@ use mathlib.Core.Option.{Option, none, some}
 use lib.ListN.{length, take, drop}
 use lib.Dec.{ltb, eqb}
 use Rattle.octets.specs.Numbers.{beDigits}
-use Rattle.header.specs.Refusals.{_▹_, when}
+use Rattle.refusals.specs.Refusals.{_▹_, when}
 use Rattle.header.specs.Word.{wordFor}
-use Rattle.header.specs.Writing.{writtenOf, bufferAfter}
-use Rattle.header.specs.declared.Hole.{Hole}
-use Rattle.header.specs.declared.Written.{Written}
+use Rattle.refusals.specs.Writing.{writtenOf, bufferAfter}
+use Rattle.runs.specs.declared.Hole.{Hole}
+use Rattle.refusals.specs.declared.Written.{Written}
 use Rattle.runs.specs.Runs.{Run}
 use Rattle.runs.specs.Holes.{edge, holes, progress, complete}
 use Rattle.table.specs.Transfers.{Key, Transfer}

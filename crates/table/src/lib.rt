@@ -1,5 +1,5 @@
 // The transfer table: open transfers by Id. What opening, recording, closing and STATUS answer; specs/ says what each means.
-use header::Refusal;
+use refusals::Refusal;
 
 // How far a transfer has come: its edge, and whether every octet of its length was received.
 pub struct Reached {

@@ -5,7 +5,7 @@ use denote.Ref.{now}
 use Rattle.table.specs.declared.Opened.the-variants as opened
 use Rattle.area.specs.Judge.{judged}
 use Rattle.area.specs.Operations.{AreaOpened}
-use Rattle.header.specs.Refusals.{refusalOf}
+use Rattle.refusals.specs.Refusals.{refusalOf}
 use Rattle.area_open.proofs.OpenLaws.{open-kept, open-done, open-unheld}
 use borrow.Author.Needs.{needs}
 use native.Mathlib.Omega.{arith}

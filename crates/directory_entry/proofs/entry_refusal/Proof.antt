@@ -7,7 +7,7 @@ use lib.Dec.{ltb}
 use borrow.Author.Tests.{lt-ltb, le-ltb, not-true, not-false}
 use Rattle.octets.specs.Numbers.{beValue}
 use Rattle.octets.specs.Numbers.Width.{two}
-use Rattle.header.proofs.RefusalLaws.{stays}
+use Rattle.refusals.proofs.RefusalLaws.{stays}
 use Rattle.directory_entry.specs.Properties.{sizeOctets, pathAt, propertyRefusal}
 use Rattle.directory_entry.specs.Path.{pathRefusal}
 use Rattle.directory_entry.specs.Entry.{propertiesOf, sizeOf, afterTimes, entryRefusal}

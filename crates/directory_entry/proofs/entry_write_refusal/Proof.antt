@@ -2,7 +2,7 @@
 use mathlib.Core.Path.{_≡_, sym, _∙_}
 use denote.Ref.{now}
 use borrow.Author.Tests.{not-true, not-false}
-use Rattle.header.proofs.RefusalLaws.{stays}
+use Rattle.refusals.proofs.RefusalLaws.{stays}
 use Rattle.directory_entry.specs.Properties.{propertyRefusal}
 use Rattle.directory_entry.specs.Path.{pathWriteRefusal}
 use Rattle.directory_entry.specs.WriteEntry.{entryWriteRefusal}

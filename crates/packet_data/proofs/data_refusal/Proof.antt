@@ -5,7 +5,7 @@ use denote.Ref.{now}
 use lib.ListN.{length}
 use borrow.Author.Tests.{lt-ltb, le-ltb, eq-eqb, ne-eqb}
 use Rattle.header.specs.Start.{wordOf, typeRefusal, fileRefusal}
-use Rattle.header.proofs.RefusalLaws.{stays}
+use Rattle.refusals.proofs.RefusalLaws.{stays}
 use Rattle.header.proofs.StartLaws.{type-fine}
 use Rattle.packet_data.specs.Data.{payloadAt, dataRefusal}
 use borrow.Author.Needs.{needs}

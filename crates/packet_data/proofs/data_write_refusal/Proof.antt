@@ -5,8 +5,8 @@ use Prim.Native.Nat.{ℕ, _+_}
 use borrow.Author.Tests.{lt-ltb, le-ltb, eq-eqb, ne-eqb}
 use Rattle.header.specs.Word.{timestampOctets}
 use Rattle.header.specs.Start.{fileRefusal}
-use Rattle.header.specs.Writing.{roomRefusal}
-use Rattle.header.proofs.RefusalLaws.{stays}
+use Rattle.refusals.specs.Writing.{roomRefusal}
+use Rattle.refusals.proofs.RefusalLaws.{stays}
 use Rattle.packet_data.specs.WriteData.{dataExcess, dataWriteRefusal}
 use Rattle.packet_data.proofs.DataLaws.{payload-at-le}
 use borrow.Author.Needs.{needs}

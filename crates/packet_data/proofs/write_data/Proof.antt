@@ -3,7 +3,7 @@
 use mathlib.Core.Path.{_≡_}
 use denote.Ref.{now}
 use lib.ListN.{length}
-use Rattle.header.proofs.WritingLaws.{written-refused, buffer-refused}
+use Rattle.refusals.proofs.WritingLaws.{written-refused, buffer-refused}
 use Rattle.packet_data.specs.WriteData.{dataRefused, dataWritten, dataBuffer}
 use Rattle.packet_data.proofs.WriteDataLaws.{writable}
 use borrow.Author.Needs.{needs}

@@ -2,7 +2,7 @@
 use mathlib.Core.Path.{_≡_, sym, _∙_}
 use borrow.Author.Tests.{lt-ltb, le-ltb}
 use Rattle.header.specs.Start.{fileRefusal}
-use Rattle.header.proofs.RefusalLaws.{stays}
+use Rattle.refusals.proofs.RefusalLaws.{stays}
 use Rattle.packet_metadata.specs.Checksum.{pairRefusal, checksumOctets}
 use Rattle.packet_metadata.specs.WriteMetadata.{checksumRefusal}
 use borrow.Author.Needs.{needs}

@@ -5,7 +5,7 @@ use denote.Ref.{now}
 use lib.ListN.{length}
 use borrow.Author.Tests.{lt-ltb, le-ltb}
 use Rattle.header.specs.Start.{wordOf, typeRefusal, fileRefusal}
-use Rattle.header.proofs.RefusalLaws.{stays}
+use Rattle.refusals.proofs.RefusalLaws.{stays}
 use Rattle.header.proofs.StartLaws.{type-fine}
 use Rattle.directory_entry.specs.Entry.{entryRefusal}
 use Rattle.directory_entry.proofs.EntryLaws.{rest-part}

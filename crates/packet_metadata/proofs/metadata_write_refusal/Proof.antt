@@ -4,8 +4,8 @@ use mathlib.Core.Path.{_≡_, sym, ap, _∙_}
 use denote.Ref.{now}
 use lib.ListN.{length}
 use Rattle.header.specs.Word.{descriptorOctets}
-use Rattle.header.specs.Writing.{roomRefusal}
-use Rattle.header.proofs.RefusalLaws.{stays}
+use Rattle.refusals.specs.Writing.{roomRefusal}
+use Rattle.refusals.proofs.RefusalLaws.{stays}
 use Rattle.directory_entry.specs.WriteEntry.{entryExcess, entryWriteRefusal}
 use Rattle.packet_metadata.specs.WriteMetadata.{metadataExcess, checksumRefusal, metadataWriteRefusal}
 use borrow.Author.Needs.{needs}

@@ -3,7 +3,7 @@
 use mathlib.Core.Path.{_≡_}
 use denote.Ref.{now}
 use lib.ListN.{length}
-use Rattle.header.proofs.WritingLaws.{written-refused, buffer-refused}
+use Rattle.refusals.proofs.WritingLaws.{written-refused, buffer-refused}
 use Rattle.packet_metadata.specs.WriteMetadata.{metadataWriteRefusal, metadataOctets, metadataWritten, metadataBuffer}
 use Rattle.packet_metadata.proofs.WriteLaws.{write-fine}
 use borrow.Author.Needs.{needs}

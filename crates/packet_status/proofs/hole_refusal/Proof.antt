@@ -5,7 +5,7 @@ use borrow.Author.Tests.{eq-eqb, ne-eqb, lt-ltb, le-ltb}
 use denote.Ref.{now}
 use Rattle.header.specs.Word.{statusOf}
 use Rattle.header.specs.Start.{wordOf}
-use Rattle.header.proofs.RefusalLaws.{stays}
+use Rattle.refusals.proofs.RefusalLaws.{stays}
 use Rattle.packet_status.specs.Status.{holeCount, statusRefusal, successOf, holeRefusal}
 use Rattle.packet_status.specs.declared.SuccessStatus.{SuccessStatus}
 use Rattle.packet_status.proofs.StatusLaws.{status-fine}

@@ -5,7 +5,7 @@ use borrow.Author.Tests.{eq-eqb, ne-eqb}
 use denote.Ref.{now}
 use Rattle.header.specs.Word.{statusOf}
 use Rattle.header.specs.Start.{wordOf, typeRefusal}
-use Rattle.header.proofs.RefusalLaws.{stays}
+use Rattle.refusals.proofs.RefusalLaws.{stays}
 use Rattle.header.proofs.StartLaws.{type-fine}
 use Rattle.packet_status.specs.Status.{statusRefusal}
 use borrow.Author.Needs.{needs}

@@ -8,7 +8,7 @@ use denote.Ref.{now}
 use lib.Dec.{eqb}
 use lib.ListN.{length}
 use Rattle.octets.specs.Numbers.{Width}
-use Rattle.header.specs.Refusals.{when}
+use Rattle.refusals.specs.Refusals.{when}
 use Rattle.header.specs.Word.{widthOf, descriptorOctets, timestampOctets, partialOf}
 use Rattle.header.specs.Start.{wordOf}
 use Rattle.header.proofs.WordLaws.{octets-le}

@@ -2,7 +2,7 @@
 -- Assumes nothing.
 use mathlib.Core.Path.{sym, ap}
 use denote.Ref.{now}
-use Rattle.header.specs.declared.Written.{Written}
+use Rattle.refusals.specs.declared.Written.{Written}
 use Rattle.text.proofs.AddedLaws.{added-as}
 use Rattle.replay_lines.specs.Lines.{octetsLine}
 use Rattle.replay_fields.specs.Words.{w-written}

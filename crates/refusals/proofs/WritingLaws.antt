@@ -5,10 +5,10 @@ use mathlib.Core.Path.{_≡_, refl}
 use mathlib.Core.List.{List}
 use lib.Dec.{ltb}
 use borrow.Author.Tests.{ltb-false}
-use Rattle.header.specs.Refusals.{when, refusalOf}
-use Rattle.header.specs.Writing.{roomRefusal, writtenOf, bufferAfter}
-use Rattle.header.specs.declared.Written.the-variants.{Refused}
-use Rattle.header.proofs.RefusalLaws.{first-none, rest-none, failed}
+use Rattle.refusals.specs.Refusals.{when, refusalOf}
+use Rattle.refusals.specs.Writing.{roomRefusal, writtenOf, bufferAfter}
+use Rattle.refusals.specs.declared.Written.the-variants.{Refused}
+use Rattle.refusals.proofs.RefusalLaws.{first-none, rest-none, failed}
 
 pub written-refused : (n size : ℕ) → (n ≡ 0 → ⊥) → Refused (refusalOf n) ≡ writtenOf n size
 written-refused zero size h = absurd (h refl)

@@ -4,9 +4,9 @@ use Prim.Native.Nat.{ℕ, zero, suc}
 use mathlib.Core.List.{List}
 use lib.Dec.{ltb}
 use Rattle.octets.specs.Put.{put}
-use Rattle.header.specs.Refusals.{_▹_, when, refusalOf}
-use Rattle.header.specs.declared.Written.{Written}
-use Rattle.header.specs.declared.Written.the-variants.{Size, Refused}
+use Rattle.refusals.specs.Refusals.{_▹_, when, refusalOf}
+use Rattle.refusals.specs.declared.Written.{Written}
+use Rattle.refusals.specs.declared.Written.the-variants.{Size, Refused}
 
 -- "2 then 20 last": a packet of so many octets, in a buffer of so many
 unfoldable pub roomRefusal : ℕ → ℕ → ℕ

@@ -1,8 +1,8 @@
--- `header::room_refusal` meets its contract: a return for each test. Assumes nothing.
+-- `refusals::room_refusal` meets its contract: a return for each test. Assumes nothing.
 use borrow.Author.Tests.{lt-ltb, le-ltb}
-use Rattle.header.specs.Writing.{roomRefusal}
-use Rattle.header.proofs.room_refusal.Statement.{statement}
-use Rattle.header.proofs.room_refusal.Tie as tie
+use Rattle.refusals.specs.Writing.{roomRefusal}
+use Rattle.refusals.proofs.room_refusal.Statement.{statement}
+use Rattle.refusals.proofs.room_refusal.Tie as tie
 
 returns : tie.Need-returns
 unfolding roomRefusal

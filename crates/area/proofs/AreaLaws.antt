@@ -13,7 +13,8 @@ use lib.Seq.{take-at, drop-at}
 use borrow.Author.Tests.{le-leb}
 use Rattle.octets.specs.Numbers.{Octets}
 use Rattle.octets.proofs.NumberLaws.{octets-drop}
-use Rattle.table.specs.Transfers.{Transfer, Valid}
+use Rattle.transfer.specs.Transfers.{Transfer}
+use Rattle.table.specs.Tables.{Valid}
 use Rattle.area.specs.Words.{wordOctets}
 use Rattle.area.specs.Numbers.{numbers, transfersOf, freshTable}
 use Rattle.area.specs.Image.{wordsOf, image, areaOctets, storedIn, numbersAt}

@@ -15,7 +15,8 @@ use Rattle.octets.specs.Numbers.{Width}
 use Rattle.octets.specs.Numbers.Width.{two, four, eight}
 use Rattle.runs.specs.Runs.{Run, run}
 use Rattle.runs.proofs.NumberLaws.{le-or-lt}
-use Rattle.table.specs.Transfers.{Transfer, TransferFine, FineFrom, Valid}
+use Rattle.transfer.specs.Transfers.{Transfer, TransferFine}
+use Rattle.table.specs.Tables.{FineFrom, Valid}
 use Rattle.area.specs.Words.{Below}
 use Rattle.run_set.specs.RunSets.{runsAt}
 use Rattle.run_set.proofs.PlaceLaws.{length-runs, run-at, run-out, runs-back}

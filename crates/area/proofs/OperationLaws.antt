@@ -14,7 +14,7 @@ use Rattle.refusals.specs.declared.Refusal.{Refusal}
 use Rattle.packet_metadata.specs.declared.MetadataRead.the-variants as metadata-read
 use Rattle.packet_data.specs.declared.DataRead.the-variants as data-read
 use Rattle.runs.proofs.NumberLaws.{le-or-lt}
-use Rattle.table.specs.Transfers.{Transfer}
+use Rattle.transfer.specs.Transfers.{Transfer}
 use Rattle.table.specs.Open.{openPacket}
 use Rattle.table.specs.Record.{recordPacket}
 use Rattle.table.specs.Close.{closeId}

@@ -10,7 +10,8 @@ use lib.ListN.{length, getD, List·getD-eq-default}
 use lib.Seq.{ext-getD}
 use Rattle.runs.specs.Runs.{Run, run, CanonicalFrom, StopsTo}
 use Rattle.runs.proofs.NumberLaws.{le-or-lt}
-use Rattle.table.specs.Transfers.{Transfer, TransferFine, FineFrom}
+use Rattle.transfer.specs.Transfers.{Transfer, TransferFine}
+use Rattle.table.specs.Tables.{FineFrom}
 use Rattle.area.specs.Words.{Below}
 use Rattle.run_set.specs.RunSets.{runsAt}
 use Rattle.area.specs.Numbers.{tabulate, unused, nth, transferAt, transfersAt, transfersOf}

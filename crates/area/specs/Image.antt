@@ -3,7 +3,7 @@
 use Prim.Native.Nat.{ℕ}
 use mathlib.Core.List.{List, _∷_, _++_}
 use lib.ListN.{drop}
-use Rattle.table.specs.Transfers.{Transfer}
+use Rattle.transfer.specs.Transfers.{Transfer}
 use Rattle.area.specs.Words.{wordOctets, wordAt, wordsAt}
 use Rattle.area.specs.Numbers.{numbers}
 use Rattle.area.specs.declared.Table.{Table}

@@ -6,7 +6,7 @@ use mathlib.Core.Bool.{Bool, true, false, cond}
 use mathlib.Core.Option.{Option, none, some}
 use lib.ListN.{length, getD}
 use lib.Dec.{ltb, leb, eqb}
-use Rattle.table.specs.Transfers.{Transfer}
+use Rattle.transfer.specs.Transfers.{Transfer}
 use Rattle.area.specs.Numbers.{transfersOf}
 use Rattle.area.specs.Image.{areaOctets, numbersAt}
 use Rattle.area.specs.declared.Table.{Table}

@@ -6,7 +6,7 @@ use mathlib.Core.List.{List, [], _∷_}
 use lib.ListN.{length, getD, replicate}
 use Rattle.runs.specs.Runs.{Run, run}
 use Rattle.run_set.specs.RunSets.{runsAt}
-use Rattle.table.specs.Transfers.{Transfer}
+use Rattle.transfer.specs.Transfers.{Transfer}
 use Rattle.area.specs.declared.Table.{Table}
 
 -- f i, f (i + 1), .., n of them

@@ -9,7 +9,7 @@ use lib.Dec.{ltb}
 use Rattle.refusals.specs.Refusals.{refusalOf}
 use Rattle.refusals.specs.declared.Written.{Written}
 use Rattle.refusals.specs.declared.Written.the-variants as written
-use Rattle.table.specs.Transfers.{Transfer}
+use Rattle.transfer.specs.Transfers.{Transfer}
 use Rattle.table.specs.Open.{openPacket}
 use Rattle.table.specs.Record.{recordPacket}
 use Rattle.table.specs.Close.{closeId}

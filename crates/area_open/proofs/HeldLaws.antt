@@ -16,8 +16,8 @@ use Rattle.runs.specs.Holes.{edge, complete}
 use Rattle.run_set.specs.RunSets.{heldRuns, setOf}
 use Rattle.run_set.specs.declared.RunSet.{RunSet}
 use Rattle.run_set.proofs.SetLaws.{set-count}
-use Rattle.table.specs.Tables.{reached}
-use Rattle.table.specs.declared.Reached.{Reached}
+use Rattle.transfer.specs.Transfers.{reached}
+use Rattle.transfer.specs.declared.Reached.{Reached}
 use Rattle.area.specs.Words.{wordAt}
 use Rattle.area.specs.Numbers.{nth, transfersAt}
 use Rattle.area.specs.Image.{areaOctets, storedIn, numbersAt}

@@ -9,7 +9,7 @@ use native.Mathlib.Numerals.{add-one}
 use lib.ListN.{length, getD, List·getD-eq-default}
 use Rattle.runs.specs.Runs.{Run, run}
 use Rattle.runs.proofs.NumberLaws.{le-or-lt}
-use Rattle.table.specs.Transfers.{Transfer}
+use Rattle.transfer.specs.Transfers.{Transfer}
 use Rattle.area.specs.Numbers.{tabulate, unused, nth, runAt, numbers}
 use Rattle.area.proofs.PlaceLaws.{length-tabulate, tabulate-at, tabulate-is}
 use Rattle.area_places.specs.Places.{insertAt, removeAt}

@@ -17,12 +17,13 @@ use Rattle.packet_metadata.proofs.MetadataLaws.{answer-refused}
 use Rattle.runs.specs.Runs.{Run}
 use Rattle.runs.specs.Holes.{edgeFrom, edge, progress, complete}
 use Rattle.table.proofs.TableLaws.{length-keys}
-use Rattle.table.specs.Transfers.{Key, Transfer}
-use Rattle.table.specs.Tables.{keys, find, runsOf, empty, add, remove, reached}
-use Rattle.table.specs.Open.{OpenOutcome, keyOf, judgeFound, judgeOpen, openAs, openKey, openRead, openPacket}
+use Rattle.transfer.specs.declared.Key.{Key}
+use Rattle.transfer.specs.Transfers.{Transfer, empty, reached, keyOf}
+use Rattle.table.specs.Tables.{keys, find, runsOf, add, remove}
+use Rattle.table.specs.Open.{OpenOutcome, judgeFound, judgeOpen, openAs, openKey, openRead, openPacket}
 use Rattle.table.specs.Open.Verdict.{already, refuse}
 use Rattle.table.specs.Close.{closeFound, closeId}
-use Rattle.table.specs.declared.Reached.{Reached}
+use Rattle.transfer.specs.declared.Reached.{Reached}
 use Rattle.table.specs.declared.Opened.{Opened}
 use Rattle.table.specs.declared.Finished.{Finished}
 use Rattle.table.specs.declared.Opened.the-variants as opened

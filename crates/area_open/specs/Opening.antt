@@ -5,8 +5,7 @@ use mathlib.Core.Bool.{cond, _&&_}
 use mathlib.Core.List.{List}
 use lib.Dec.{eqb}
 use Rattle.refusals.specs.Refusals.{refusalOf}
-use Rattle.table.specs.Transfers.{Transfer}
-use Rattle.table.specs.Tables.{reached}
+use Rattle.transfer.specs.Transfers.{Transfer, reached}
 use Rattle.table.specs.declared.Opened.{Opened}
 use Rattle.table.specs.declared.Opened.the-variants.{AlreadyOpen, Refused}
 use Rattle.area.specs.Numbers.{transfersOf}

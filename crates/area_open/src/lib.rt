@@ -3,7 +3,8 @@ ghost use mathlib.Core.Path.{_≡_};
 ghost use mathlib.Core.Bool.{true};
 ghost use Prim.Native.Nat.{_<_};
 ghost use Rattle.area.specs.Words.{wordAt};
-ghost use Rattle.table.specs.Tables.{add, reached};
+ghost use Rattle.table.specs.Tables.{add};
+ghost use Rattle.transfer.specs.Transfers.{reached};
 ghost use Rattle.table.specs.Open.{openKey};
 ghost use Rattle.area.specs.Numbers.{nth};
 ghost use Rattle.area.specs.Image.{storedIn};
@@ -14,7 +15,7 @@ ghost use Rattle.area_slots.specs.Slots.{key};
 ghost use Rattle.area_open.specs.Opening.{heldIn, metAnswer};
 use table::Finished;
 use table::Opened;
-use table::Reached;
+use transfer::Reached;
 
 // A table with no transfer, in an area that is long enough.
 pub fn fresh(area: &mut [u8]) -> Finished

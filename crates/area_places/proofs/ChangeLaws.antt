@@ -12,7 +12,7 @@ use lib.Seq.{paste, length-paste, getD-set-same, getD-set-other}
 use Rattle.runs.specs.Runs.{Run, run}
 use Rattle.run_set.specs.RunSets.{setOf}
 use Rattle.run_set.proofs.SetLaws.{set-count, starts-length, stops-length, starts-at, stops-at}
-use Rattle.table.specs.Transfers.{Transfer}
+use Rattle.transfer.specs.Transfers.{Transfer}
 use Rattle.area.specs.Words.{wordOctets}
 use Rattle.area.specs.Numbers.{tabulate, unused, nth, runAt, numbers}
 use Rattle.area.specs.Image.{wordsOf, areaOctets, storedIn, numbersAt}

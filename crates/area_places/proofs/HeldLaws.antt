@@ -15,7 +15,7 @@ use borrow.Author.Tests.{eq-eqb, ne-eqb}
 use Rattle.runs.specs.Runs.{Run, run}
 use Rattle.run_set.specs.RunSets.{heldRuns, setOf}
 use Rattle.run_set.proofs.SetLaws.{set-count, starts-length, stops-length, held-set, starts-at, stops-at}
-use Rattle.table.specs.Transfers.{Transfer}
+use Rattle.transfer.specs.Transfers.{Transfer}
 use Rattle.area.specs.Words.{wordAt, wordsAt}
 use Rattle.area.specs.Numbers.{nth, runAt, numbers, transfersAt, transfersOf}
 use Rattle.area.specs.Image.{areaOctets, numbersAt}

@@ -11,8 +11,9 @@ use lib.ListN.{length}
 use lib.Dec.{ltb, eqb}
 use borrow.Author.Tests.{eqb-true}
 use Rattle.runs.specs.Runs.{Run}
-use Rattle.table.specs.Transfers.{Key, Transfer}
-use Rattle.table.specs.Tables.{keys, find, runsOf, empty, add, setRuns, remove}
+use Rattle.transfer.specs.declared.Key.{Key}
+use Rattle.transfer.specs.Transfers.{Transfer, empty}
+use Rattle.table.specs.Tables.{keys, find, runsOf, add, setRuns, remove}
 use Rattle.area.specs.Numbers.{nth}
 use Rattle.area_places.specs.Places.{placeOf, placeFor, withRuns, insertAt, removeAt}
 

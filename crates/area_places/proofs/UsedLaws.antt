@@ -16,7 +16,7 @@ use Rattle.runs.specs.Runs.{Run}
 use Rattle.run_set.specs.RunSets.{setAt, freshSet, pushAll, setOf}
 use Rattle.run_set.specs.declared.RunSet.{RunSet}
 use Rattle.run_set.proofs.SetLaws.{set-count, starts-length, stops-length, starts-unused, stops-unused}
-use Rattle.table.specs.Transfers.{Transfer}
+use Rattle.transfer.specs.Transfers.{Transfer}
 use Rattle.area.specs.Words.{wordOctets, wordAt, wordsAt}
 use Rattle.area.specs.Numbers.{nth}
 use Rattle.area.specs.Judge.{tableOf}

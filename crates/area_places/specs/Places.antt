@@ -6,7 +6,7 @@ use mathlib.Core.List.{List, [], _∷_}
 use lib.ListN.{set}
 use lib.Dec.{ltb, eqb}
 use Rattle.runs.specs.Runs.{Run}
-use Rattle.table.specs.Transfers.{Transfer}
+use Rattle.transfer.specs.Transfers.{Transfer}
 use Rattle.area.specs.Numbers.{nth}
 
 -- the place of an Id; the number of transfers where it is not open

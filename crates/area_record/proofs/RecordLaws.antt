@@ -23,9 +23,11 @@ use Rattle.run_set.specs.RunSets.{heldRuns, setOf, insertedOf}
 use Rattle.run_set.specs.declared.RunSet.{RunSet}
 use Rattle.run_set.specs.declared.Insertion.{Insertion}
 use Rattle.run_set.proofs.SetLaws.{set-count, held-set, inserted-fits, inserted-over}
-use Rattle.table.specs.Transfers.{Key, Transfer}
-use Rattle.table.specs.Tables.{keys, find, setRuns, reached}
-use Rattle.table.specs.Record.{stopOf, dataJudged, recordRefusal, grown, recordAs, recordData, recordRead, recordPacket}
+use Rattle.transfer.specs.declared.Key.{Key}
+use Rattle.transfer.specs.Transfers.{Transfer, reached}
+use Rattle.table.specs.Tables.{keys, find, setRuns}
+use Rattle.transfer.specs.Record.{stopOf}
+use Rattle.table.specs.Record.{dataJudged, recordRefusal, grown, recordAs, recordData, recordRead, recordPacket}
 use Rattle.table.specs.declared.Recorded.{Recorded}
 use Rattle.table.specs.declared.Recorded.the-variants.{Accepted, Refused}
 use Rattle.area.specs.Words.{wordOctets, wordAt}

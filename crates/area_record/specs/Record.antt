@@ -10,7 +10,8 @@ use Rattle.refusals.specs.Refusals.{refusalOf}
 use Rattle.packet_data.specs.declared.Data.{Data}
 use Rattle.runs.specs.Runs.{insert}
 use Rattle.runs.specs.Holes.{edge, complete}
-use Rattle.table.specs.Transfers.{Key, Transfer}
+use Rattle.transfer.specs.declared.Key.{Key}
+use Rattle.transfer.specs.Transfers.{Transfer}
 use Rattle.table.specs.Record.{recordData}
 use Rattle.table.specs.declared.Recorded.the-variants.{Accepted, Refused}
 use Rattle.area.specs.Numbers.{nth}

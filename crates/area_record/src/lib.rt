@@ -11,8 +11,8 @@ ghost use Rattle.area.specs.Judge.{judged};
 ghost use Rattle.area.specs.Operations.{recordArea};
 ghost use Rattle.area_record.specs.Record.{keyFrom, recordedIn, extended};
 use packet_data::Data;
-use table::Reached;
 use table::Recorded;
+use transfer::Reached;
 
 // 13, 14 and 15 for a packet of an open Id, by the width and the length of its transfer; 0 for none.
 fn judged_at(width: u64, length: u64, d: Data) -> u64

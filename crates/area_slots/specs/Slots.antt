@@ -5,7 +5,7 @@ use mathlib.Core.Bool.{cond}
 use mathlib.Core.List.{List}
 use lib.ListN.{getD}
 use lib.Dec.{ltb}
-use Rattle.table.specs.Transfers.{Key}
+use Rattle.transfer.specs.declared.Key.{Key}
 use Rattle.area.specs.Numbers.{tabulate}
 use Rattle.area.specs.declared.Table.{Table}
 

@@ -13,7 +13,7 @@ use Rattle.refusals.specs.Refusals.{refusalOf}
 use Rattle.runs.specs.Runs.{Run}
 use Rattle.runs.specs.Holes.{edge, complete}
 use Rattle.runs.proofs.NumberLaws.{le-or-lt}
-use Rattle.table.specs.Transfers.{Transfer}
+use Rattle.transfer.specs.Transfers.{Transfer}
 use Rattle.area.specs.Numbers.{nth}
 use Rattle.area.specs.Judge.{tableOf}
 use Rattle.area.proofs.AreaLaws.{held-valid}

@@ -17,7 +17,8 @@ use Rattle.runs.specs.Holes.{holes}
 use Rattle.run_set.specs.RunSets.{heldRuns}
 use Rattle.run_set.specs.declared.RunSet.{RunSet}
 use Rattle.run_set.proofs.SetLaws.{set-count}
-use Rattle.table.specs.Transfers.{Key, Transfer, TransferFine}
+use Rattle.transfer.specs.declared.Key.{Key}
+use Rattle.transfer.specs.Transfers.{Transfer, TransferFine}
 use Rattle.table.specs.Tables.{keys, find, runsOf}
 use Rattle.table.specs.Status.{statusWriteRefusal, statusFor, statusSent, statusWritten, statusBuffer}
 use Rattle.area.specs.Words.{wordAt}

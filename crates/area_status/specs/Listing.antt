@@ -9,7 +9,7 @@ use lib.ListN.{length}
 use lib.Dec.{ltb}
 use Rattle.refusals.specs.Refusals.{refusalOf}
 use Rattle.runs.specs.Holes.{edge, complete}
-use Rattle.table.specs.Transfers.{Transfer}
+use Rattle.transfer.specs.Transfers.{Transfer}
 use Rattle.area.specs.Numbers.{nth}
 use Rattle.area.specs.Judge.{tableOf}
 use Rattle.area_status.specs.declared.Listing.{Listing}

@@ -9,7 +9,8 @@ use native.Mathlib.Omega.{arith}
 use lib.ListN.{length}
 use borrow.Author.Tests.{le-ltb}
 use Rattle.refusals.specs.Refusals.{refusalOf}
-use Rattle.table.specs.Transfers.{Transfer, Valid}
+use Rattle.transfer.specs.Transfers.{Transfer}
+use Rattle.table.specs.Tables.{Valid}
 use Rattle.table.specs.declared.Finished.the-variants.{Done, Refused}
 use Rattle.area.specs.Image.{areaOctets, storedIn}
 use Rattle.area.specs.Judge.{tableOf}

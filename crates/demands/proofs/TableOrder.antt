@@ -18,9 +18,10 @@ use Rattle.packet_data.specs.declared.Data.{Data}
 use Rattle.packet_data.specs.declared.DataRead.{DataRead}
 use Rattle.packet_data.specs.declared.DataRead.the-variants as data-read
 use Rattle.runs.specs.Runs.{Run, Canonical, insert}
-use Rattle.table.specs.Transfers.{Key, Transfer, Valid}
-use Rattle.table.specs.Tables.{keys, find, runsOf, add, setRuns}
-use Rattle.table.specs.Open.{OpenOutcome, openPacket, openAccepted, keyOf}
+use Rattle.transfer.specs.declared.Key.{Key}
+use Rattle.transfer.specs.Transfers.{Transfer, keyOf}
+use Rattle.table.specs.Tables.{Valid, keys, find, runsOf, add, setRuns}
+use Rattle.table.specs.Open.{OpenOutcome, openPacket, openAccepted}
 use Rattle.table.specs.Record.{RecordOutcome, dataJudged, grown, recordPacket, recordAccepted}
 use Rattle.demands.specs.Order.{Packet, Call, opening, recording, openings, recordings, taken, after, idRead, offsetRead, stopRead, idIn, offsetIn, stopIn, In, Brings, Brought, Rising, Sorted}
 use Rattle.demands.specs.Demand3.{Holds}
@@ -29,7 +30,7 @@ use Rattle.table.proofs.FineLaws.{table-unique}
 use Rattle.table.proofs.OpenLaws.{open-cases, open-alike}
 use Rattle.table.proofs.RecordLaws.{record-cases, record-taken}
 use Rattle.table.proofs.OtherLaws.{open-kept, record-kept}
-use Rattle.table.proofs.ReadLaws.{data-some}
+use Rattle.transfer.proofs.FieldLaws.{data-some}
 use Rattle.table.proofs.ValidLaws.{fresh-valid, open-valid, record-valid}
 use Rattle.demands.proofs.FillLaws.{in-perm, one, one-same, one-other, one-cases, one-canonical, fill, fill-nil, fill-only, fill-holds, fill-same, fill-grows, Ahead, ahead-one}
 

@@ -8,8 +8,9 @@ use mathlib.Core.Logic.{_↔_}
 use mathlib.Core.Option.{some}
 use lib.ListN.{length}
 use Rattle.runs.specs.Runs.{Member}
-use Rattle.table.specs.Transfers.{Key, Transfer, Valid}
-use Rattle.table.specs.Tables.{keys, find, runsOf}
+use Rattle.transfer.specs.declared.Key.{Key}
+use Rattle.transfer.specs.Transfers.{Transfer}
+use Rattle.table.specs.Tables.{Valid, keys, find, runsOf}
 use Rattle.table.specs.Open.{openAccepted}
 use Rattle.table.specs.Record.{recordAccepted}
 use Rattle.table.specs.declared.Finished.the-variants.{Done}

@@ -14,9 +14,9 @@ use Rattle.packet_metadata.specs.declared.MetadataRead.the-variants as metadata
 use Rattle.packet_data.specs.Data.{readData}
 use Rattle.packet_data.specs.declared.DataRead.{DataRead}
 use Rattle.packet_data.specs.declared.DataRead.the-variants as data-read
-use Rattle.table.specs.Transfers.{Key}
-use Rattle.table.specs.Open.{keyOf}
-use Rattle.table.specs.Record.{stopOf}
+use Rattle.transfer.specs.declared.Key.{Key}
+use Rattle.transfer.specs.Transfers.{keyOf}
+use Rattle.transfer.specs.Record.{stopOf}
 
 -- "each with any octets"
 pub record Packet : Type 0 where

@@ -21,7 +21,8 @@ use Rattle.packet_data.specs.declared.Data.{Data}
 use Rattle.packet_data.specs.declared.DataRead.{DataRead}
 use Rattle.packet_data.specs.declared.DataRead.the-variants as data-read
 use Rattle.packet_data.proofs.DataLaws.{data-fine}
-use Rattle.table.specs.Transfers.{Key, Transfer}
+use Rattle.transfer.specs.declared.Key.{Key}
+use Rattle.transfer.specs.Transfers.{Transfer}
 use Rattle.table.specs.Tables.{keys, find, add}
 use Rattle.table.specs.Open.{judgeFound, judgeOpen, openAs, openKey, openRead, openPacket}
 use Rattle.table.specs.Record.{dataJudged, recordRefusal, recordAs, recordData, recordRead, recordPacket, recordAccepted}

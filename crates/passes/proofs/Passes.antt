@@ -14,11 +14,13 @@ use Rattle.packet_metadata.specs.Metadata.{metadataRefusal, metadataOf, readMet
 use Rattle.packet_data.specs.Data.{dataRefusal, dataOf, readData}
 use Rattle.runs.specs.Runs.{insert}
 use Rattle.runs.specs.Holes.{edgeFrom, holesFrom, progress, complete}
-use Rattle.table.specs.Tables.{keys, find, runsOf, add, setRuns, remove, reached}
+use Rattle.table.specs.Tables.{keys, find, runsOf, add, setRuns, remove}
+use Rattle.transfer.specs.Transfers.{reached}
 use Rattle.table.specs.Open.{judgeFound, judgeOpen, openAs, openKey, openRead, openPacket}
 use Rattle.table.specs.Record.{dataJudged, recordRefusal, grown, recordAs, recordData, recordRead, recordPacket}
 use Rattle.table.specs.Close.{closeFound, closeId}
-use Rattle.table.specs.Status.{statusWriteRefusal, holeRoom, holesSent, partialSent, widthBits, statusFlags, pairs, statusOctets, statusPacket, statusFor, statusSent, statusWritten, statusBuffer}
+use Rattle.table.specs.Status.{statusWriteRefusal, statusFor, statusSent, statusWritten, statusBuffer}
+use Rattle.transfer.specs.Status.{holeRoom, holesSent, partialSent, widthBits, statusFlags, pairs, statusOctets, statusPacket}
 
 pub passes : Passes
 unfolding twoParts emptyFile oneAfterOther late scattered longest numbered put startRefusal typeRefusal fileRefusal propertyRefusal pathRefusal entryRefusal entryOf pairAllowed pairRefusal metadataRefusal metadataOf readMetadata dataRefusal dataOf readData insert edgeFrom holesFrom progress complete keys find runsOf add setRuns remove reached judgeFound judgeOpen openAs openKey openRead openPacket dataJudged recordRefusal grown recordAs recordData recordRead recordPacket closeFound closeId statusWriteRefusal holeRoom holesSent partialSent widthBits statusFlags pairs statusOctets statusPacket statusFor statusSent statusWritten statusBuffer

@@ -14,13 +14,13 @@ use Rattle.packet_data.specs.declared.Data.{Data}
 use Rattle.packet_data.specs.declared.DataRead.the-variants as data-read
 use Rattle.runs.specs.Runs.{run}
 use Rattle.runs.specs.Holes.{edge, hole, holes, progress}
-use Rattle.table.specs.Transfers.{Transfer}
+use Rattle.transfer.specs.Transfers.{Transfer}
 use Rattle.table.specs.Tables.{runsOf}
 use Rattle.table.specs.Open.{openPacket}
 use Rattle.table.specs.Record.{recordPacket, recordAccepted}
 use Rattle.table.specs.Close.{closeId}
 use Rattle.table.specs.Status.{statusWritten, statusBuffer}
-use Rattle.table.specs.declared.Reached.{Reached}
+use Rattle.transfer.specs.declared.Reached.{Reached}
 use Rattle.table.specs.declared.Opened.the-variants as opened
 use Rattle.table.specs.declared.Recorded.the-variants as recorded
 use Rattle.table.specs.declared.Finished.the-variants as finished

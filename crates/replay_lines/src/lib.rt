@@ -18,7 +18,7 @@ use replay_fields::put_number;
 use replay_fields::put_octets;
 use replay_fields::put_reached;
 use runs::Hole;
-use table::Reached;
+use transfer::Reached;
 
 // Words alone; they end the line themselves.
 pub fn put_plain(out: &mut [u8], at: usize, number: u64, words: &[u8]) -> usize

@@ -19,9 +19,10 @@ use Rattle.runs.specs.Runs.{run, insert}
 use Rattle.runs.specs.Holes.{edgeFrom, holesFrom, progress, complete}
 use Rattle.table.specs.Record.{dataJudged, recordRefusal, grown, recordAs, recordData, recordRead, recordPacket}
 use Rattle.table.specs.Open.{judgeFound, judgeOpen, openAs, openKey, openRead, openPacket}
-use Rattle.table.specs.Tables.{keys, find, runsOf, add, reached}
-use Rattle.table.specs.Transfers.{Transfer}
-use Rattle.table.specs.Status.{statusWriteRefusal, holeRoom, holesSent, partialSent, widthBits, statusFlags, pairs, statusOctets, statusPacket, statusFor, statusSent, statusWritten, statusBuffer}
+use Rattle.table.specs.Tables.{keys, find, runsOf, add}
+use Rattle.transfer.specs.Transfers.{reached, Transfer}
+use Rattle.table.specs.Status.{statusWriteRefusal, statusFor, statusSent, statusWritten, statusBuffer}
+use Rattle.transfer.specs.Status.{holeRoom, holesSent, partialSent, widthBits, statusFlags, pairs, statusOctets, statusPacket}
 use Rattle.area.specs.Judge.{tableOf}
 use Rattle.area.specs.Operations.{openFound, openArea, recordFound, recordArea, statusAnswer, statusLeaves, areaStatusWritten, areaStatusBuffer}
 use Rattle.text.specs.Decimal.{decimalOnto, decimalOf}

@@ -9,7 +9,7 @@ use lib.Dec.{eqb, leb, ltb}
 use borrow.Author.Tests.{le-leb, lt-leb, lt-ltb, le-ltb}
 use lib.Bits.{bitOr, or-shifted}
 use Rattle.runs.proofs.NumberLaws.{le-or-lt}
-use Rattle.table.specs.Status.{bit, widthBits, statusFlags}
+use Rattle.transfer.specs.Status.{bit, widthBits, statusFlags}
 
 bit-le : (b : Bool) → bit b ≤ 1
 bit-le true = omega arith

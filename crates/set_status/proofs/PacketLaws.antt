@@ -19,9 +19,10 @@ use Rattle.refusals.proofs.WritingLaws.{written-refused, buffer-refused}
 use Rattle.runs.specs.Runs.{Run}
 use Rattle.runs.specs.Holes.{edge, holes, progress, complete}
 use Rattle.runs.proofs.NumberLaws.{le-or-lt}
-use Rattle.table.specs.Transfers.{Key}
-use Rattle.table.specs.Status.{statusWriteRefusal, holeRoom, holesSent, partialSent, statusFlags, statusOctets, statusPacket}
-use Rattle.table.proofs.StatusSize.{StatusFits, status-fits, hole-room-iff, status-octets-size}
+use Rattle.transfer.specs.declared.Key.{Key}
+use Rattle.table.specs.Status.{statusWriteRefusal}
+use Rattle.transfer.specs.Status.{holeRoom, holesSent, partialSent, statusFlags, statusOctets, statusPacket}
+use Rattle.transfer.proofs.StatusSize.{StatusFits, status-fits, hole-room-iff, status-octets-size}
 use Rattle.set_status.proofs.PairLaws.{part-length}
 use Rattle.set_status.specs.Written.{keyWritten, keyBuffer, skipsTooMany, leastRoom, sizeRefusal, someUnsent}
 

@@ -16,8 +16,8 @@ use Rattle.header.specs.Word.{wordFor}
 use Rattle.runs.specs.declared.Hole.{Hole}
 use Rattle.packet_data.proofs.WriteDataLaws.{puts}
 use Rattle.runs.specs.Holes.{hole}
-use Rattle.table.specs.Status.{pairs, statusOctets}
-use Rattle.table.proofs.StatusSize.{pairs-length}
+use Rattle.transfer.specs.Status.{pairs, statusOctets}
+use Rattle.transfer.proofs.StatusSize.{pairs-length}
 use Rattle.set_status.specs.Written.{pair}
 
 pub put-none : (at : ℕ) (l : List ℕ) → put at [] l ≡ l

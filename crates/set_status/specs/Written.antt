@@ -15,8 +15,9 @@ use Rattle.runs.specs.Runs.{Run, Canonical}
 use Rattle.runs.specs.Holes.{holes}
 use Rattle.run_set.specs.RunSets.{heldRuns}
 use Rattle.run_set.specs.declared.RunSet.{RunSet}
-use Rattle.table.specs.Transfers.{Key}
-use Rattle.table.specs.Status.{statusWriteRefusal, statusPacket}
+use Rattle.transfer.specs.declared.Key.{Key}
+use Rattle.table.specs.Status.{statusWriteRefusal}
+use Rattle.transfer.specs.Status.{statusPacket}
 
 abbrev pub keyOf : ℕ → ℕ → ℕ → Key
 keyOf id width length = record { id = id; width = width; length = length }

@@ -7,7 +7,7 @@ ghost use Rattle.octets.specs.Numbers.{Width};
 ghost use Rattle.octets.specs.Put.{put};
 ghost use Rattle.runs.specs.Holes.{edge, holes, progress, complete};
 ghost use Rattle.run_set.specs.RunSets.{heldRuns};
-ghost use Rattle.table.specs.Status.{holeRoom, bit, widthBits, statusFlags, pairs, statusOctets};
+ghost use Rattle.transfer.specs.Status.{holeRoom, bit, widthBits, statusFlags, pairs, statusOctets};
 ghost use Rattle.set_status.specs.Written.{keyOf, keyWritten, keyBuffer, skipsTooMany, leastRoom, sizeRefusal, someUnsent, holesPart, pair, SetFine, PartFits};
 use refusals::Written;
 use run_set::RunSet;

@@ -11,7 +11,8 @@ use Rattle.refusals.specs.declared.Refusal.{Refusal}
 use Rattle.refusals.proofs.RefusalLaws.{first-none}
 use Rattle.packet_data.specs.declared.Data.{Data}
 use Rattle.runs.specs.Runs.{Run}
-use Rattle.table.specs.Transfers.{Key, Transfer}
+use Rattle.transfer.specs.declared.Key.{Key}
+use Rattle.transfer.specs.Transfers.{Transfer}
 use Rattle.table.specs.Tables.{keys, find}
 use Rattle.table.specs.Open.{Verdict, judgeOpen, openAs, openKey}
 use Rattle.table.specs.Open.Verdict.{new, already, refuse}

@@ -9,8 +9,9 @@ use native.Mathlib.Omega.{arith}
 use lib.Dec.{eqb}
 use borrow.Author.Tests.{eqb-true}
 use Rattle.runs.specs.Runs.{Run}
-use Rattle.table.specs.Transfers.{Key, Transfer, TransferFine, FineFrom, Valid}
-use Rattle.table.specs.Tables.{keys, find, runsOf}
+use Rattle.transfer.specs.declared.Key.{Key}
+use Rattle.transfer.specs.Transfers.{Transfer, TransferFine}
+use Rattle.table.specs.Tables.{FineFrom, Valid, keys, find, runsOf}
 
 find-here : (x : Transfer) (t : List Transfer) (id : ℕ) → eqb (x .key .id) id ≡ true
     → (find id (keys (x ∷ t)) ≡ some (x .key)) × (runsOf (x ∷ t) id ≡ x .runs)

@@ -15,9 +15,10 @@ use Rattle.packet_metadata.specs.Metadata.{readMetadata}
 use Rattle.packet_metadata.specs.declared.Metadata.{Metadata}
 use Rattle.packet_metadata.specs.declared.MetadataRead.{MetadataRead}
 use Rattle.packet_metadata.specs.declared.MetadataRead.the-variants as metadata-read
-use Rattle.table.specs.Transfers.{Key, Transfer}
-use Rattle.table.specs.Tables.{keys, find, runsOf, add, reached}
-use Rattle.table.specs.Open.{OpenOutcome, keyOf, Verdict, new, already, refuse, judgeFound, judgeOpen, openAs, openKey, openRead, openPacket, openAccepted}
+use Rattle.transfer.specs.declared.Key.{Key}
+use Rattle.transfer.specs.Transfers.{Transfer, reached, keyOf}
+use Rattle.table.specs.Tables.{keys, find, runsOf, add}
+use Rattle.table.specs.Open.{OpenOutcome, Verdict, new, already, refuse, judgeFound, judgeOpen, openAs, openKey, openRead, openPacket, openAccepted}
 use Rattle.table.specs.declared.Opened.the-variants.{New, AlreadyOpen, Refused}
 use Rattle.table.proofs.TableLaws.{by-test, find-id, addKey, keys-add}
 

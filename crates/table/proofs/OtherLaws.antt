@@ -14,9 +14,10 @@ use Rattle.packet_metadata.specs.declared.MetadataRead.the-variants as metadata
 use Rattle.packet_data.specs.Data.{readData}
 use Rattle.packet_data.specs.declared.Data.{Data}
 use Rattle.packet_data.specs.declared.DataRead.the-variants as data-read
-use Rattle.table.specs.Transfers.{Key, Transfer}
+use Rattle.transfer.specs.declared.Key.{Key}
+use Rattle.transfer.specs.Transfers.{Transfer, keyOf}
 use Rattle.table.specs.Tables.{keys, find, runsOf, remove}
-use Rattle.table.specs.Open.{OpenOutcome, openPacket, openAccepted, keyOf}
+use Rattle.table.specs.Open.{OpenOutcome, openPacket, openAccepted}
 use Rattle.table.specs.Record.{RecordOutcome, grown, recordPacket, recordAccepted}
 use Rattle.table.specs.Close.{CloseOutcome, closeFound, closeId}
 use Rattle.table.specs.declared.Opened.the-variants as opened

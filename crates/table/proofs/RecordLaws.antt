@@ -10,14 +10,17 @@ use lib.Dec.{ltb, eqb}
 use borrow.Author.Tests.{ltb-false, le-ltb}
 use Rattle.refusals.specs.Refusals.{_▹_, when, refusalOf}
 use Rattle.refusals.specs.declared.Refusal.{Refusal}
-use Rattle.refusals.proofs.RefusalLaws.{first-none, rest-none, failed}
+use Rattle.refusals.proofs.RefusalLaws.{first-none, rest-none}
+use Rattle.transfer.proofs.ExtendLaws.{key-stop, runs-few, few-runs}
 use Rattle.packet_data.specs.Data.{readData}
 use Rattle.packet_data.specs.declared.Data.{Data}
 use Rattle.packet_data.specs.declared.DataRead.{DataRead}
 use Rattle.packet_data.specs.declared.DataRead.the-variants as data-read
-use Rattle.table.specs.Transfers.{Key, Transfer}
-use Rattle.table.specs.Tables.{keys, find, setRuns, reached}
-use Rattle.table.specs.Record.{RecordOutcome, stopOf, dataJudged, recordRefusal, grown, recordAs, recordData, recordRead, recordPacket}
+use Rattle.transfer.specs.declared.Key.{Key}
+use Rattle.transfer.specs.Transfers.{Transfer, reached}
+use Rattle.table.specs.Tables.{keys, find, setRuns}
+use Rattle.table.specs.Record.{RecordOutcome, dataJudged, recordRefusal, grown, recordAs, recordData, recordRead, recordPacket}
+use Rattle.transfer.specs.Record.{stopOf, runsRefusal}
 use Rattle.table.specs.declared.Recorded.the-variants.{Accepted, Refused}
 
 -- accepted, with the runs grown
@@ -38,7 +41,7 @@ record-cases P t packet refused taken = go (readData packet) refl
     judged d none zero e q z = refused (refusalOf 12)
     judged d (some k) zero e q z =
         taken d k e q (first-none (dataJudged (some k) d) _ z)
-        (ltb-false _ _ (failed (ltb 64 (length (grown t d))) 15 (rest-none (dataJudged (some k) d) _ z)))
+        (runs-few (grown t d) (rest-none (dataJudged (some k) d) _ z))
     judged d o (suc n) e q z = refused (refusalOf (suc n))
 
     go : (r : DataRead) → readData packet ≡ r → P (recordRead t r)
@@ -52,11 +55,10 @@ unfolding recordPacket recordRead recordData recordAs recordRefusal
 record-taken t packet d k e q j n =
     ap (recordRead t) e
     ∙ ap (λ (o : Option Key). recordAs (recordRefusal o (grown t d) d) o (grown t d) t d) q
-    ∙ ap (λ (x : ℕ). recordAs (x ▹ when (ltb 64 (length (grown t d))) 16) (some k) (grown t d) t d) j
-    ∙ ap (λ (b : Bool). recordAs (when b 16) (some k) (grown t d) t d) (le-ltb 64 (length (grown t d)) n)
+    ∙ ap (λ (x : ℕ). recordAs (x ▹ runsRefusal (grown t d)) (some k) (grown t d) t d) j
+    ∙ ap (λ (x : ℕ). recordAs x (some k) (grown t d) t d) (few-runs (grown t d) n)
 
 -- refusal 14 not given
 pub judged-stop : (k : Key) (d : Data) → dataJudged (some k) d ≡ 0 → stopOf d ≤ k .length
 unfolding dataJudged
-judged-stop k d e =
-    ltb-false (k .length) (stopOf d) (failed _ 13 (first-none _ _ (rest-none (when (not (eqb (d .width) (k .width))) 13) _ e)))
+judged-stop k d e = key-stop k d e

@@ -4,7 +4,8 @@ use Prim.Native.Nat.{ℕ}
 use mathlib.Core.List.{List}
 use mathlib.Core.Option.{Option, none, some}
 use Rattle.refusals.specs.Refusals.{refusalOf}
-use Rattle.table.specs.Transfers.{Key, Transfer}
+use Rattle.transfer.specs.declared.Key.{Key}
+use Rattle.transfer.specs.Transfers.{Transfer}
 use Rattle.table.specs.Tables.{keys, find, remove}
 use Rattle.table.specs.declared.Finished.{Finished}
 use Rattle.table.specs.declared.Finished.the-variants.{Done, Refused}

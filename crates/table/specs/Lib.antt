@@ -1,4 +1,3 @@
-pub mod Transfers
 pub mod Tables
 pub mod Open
 pub mod Record

@@ -8,11 +8,11 @@ use lib.ListN.{length}
 use lib.Dec.{ltb, eqb}
 use Rattle.refusals.specs.Refusals.{refusalOf}
 use Rattle.packet_metadata.specs.Metadata.{readMetadata}
-use Rattle.packet_metadata.specs.declared.Metadata.{Metadata}
 use Rattle.packet_metadata.specs.declared.MetadataRead.{MetadataRead}
 use Rattle.packet_metadata.specs.declared.MetadataRead.the-variants as metadata-read
-use Rattle.table.specs.Transfers.{Key, Transfer}
-use Rattle.table.specs.Tables.{keys, find, runsOf, add, reached}
+use Rattle.transfer.specs.declared.Key.{Key}
+use Rattle.transfer.specs.Transfers.{Transfer, keyOf, reached}
+use Rattle.table.specs.Tables.{keys, find, runsOf, add}
 use Rattle.table.specs.declared.Opened.{Opened}
 use Rattle.table.specs.declared.Opened.the-variants.{New, AlreadyOpen, Refused}
 
@@ -20,10 +20,6 @@ use Rattle.table.specs.declared.Opened.the-variants.{New, AlreadyOpen, R
 pub record OpenOutcome : Type 0 where
   pub answer : Opened
   pub table : List Transfer
-
--- "The size is the transfer's length L", "at width w"
-abbrev pub keyOf : Metadata → Key
-keyOf m = record { id = m .id; width = m .width; length = m .entry .size }
 
 pub data Verdict : Type 0 where
   new : Verdict

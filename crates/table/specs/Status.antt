@@ -1,87 +1,30 @@
--- "Writing STATUS for an open Id takes a number k of holes to skip and whether it was unasked."
+-- "Writing STATUS for an open Id": 12, and else what the transfer's own STATUS is.
 -- Assumes nothing.
-use Prim.Native.Nat.{ℕ, _+_, _*_, _-_, _/_, _^_}
-use mathlib.Core.Bool.{Bool, true, false, cond, not, _&&_, _||_}
-use mathlib.Core.List.{List, [], _∷_, _++_}
+use Prim.Native.Nat.{ℕ}
+use mathlib.Core.Bool.{Bool}
+use mathlib.Core.List.{List}
 use mathlib.Core.Option.{Option, none, some}
-use lib.ListN.{length, take, drop}
-use lib.Dec.{ltb, eqb}
-use Rattle.octets.specs.Numbers.{beDigits}
-use Rattle.refusals.specs.Refusals.{_▹_, when}
-use Rattle.header.specs.Word.{wordFor}
-use Rattle.refusals.specs.Writing.{writtenOf, bufferAfter}
-use Rattle.runs.specs.declared.Hole.{Hole}
+use Rattle.refusals.specs.Refusals.{refusalOf}
 use Rattle.refusals.specs.declared.Written.{Written}
+use Rattle.refusals.specs.declared.Written.the-variants.{Refused}
 use Rattle.runs.specs.Runs.{Run}
-use Rattle.runs.specs.Holes.{edge, holes, progress, complete}
-use Rattle.table.specs.Transfers.{Key, Transfer}
+use Rattle.transfer.specs.declared.Key.{Key}
+use Rattle.transfer.specs.Transfers.{Transfer}
+use Rattle.transfer.specs.Status.{transferWritten, transferBuffer}
 use Rattle.table.specs.Tables.{keys, find, runsOf}
 
--- 12; 19: "k must be 0 or less than the number of holes"; 20: "If there are holes, room for at least one is needed"
-unfoldable pub statusWriteRefusal : Option Key → List Hole → ℕ → ℕ → ℕ
-statusWriteRefusal none hs k room = 12
-statusWriteRefusal (some key) hs k room =
-    let d = key .width in
-    when (not (eqb k 0) && not (ltb k (length hs))) 19
-    ▹ when (ltb room (8 + 2 * d + cond (eqb (length hs) 0) 0 (2 * d))) 20
+-- by what is open under the Id: 12 where nothing is
+unfoldable pub writtenFor : Option Key → List Run → ℕ → Bool → List ℕ → Written
+writtenFor none rs k unasked old = Refused (refusalOf 12)
+writtenFor (some key) rs k unasked old = transferWritten key rs k unasked old
 
--- how many holes a buffer of so many octets has room for, with descriptors of d octets
-unfoldable pub holeRoom : ℕ → ℕ → ℕ
-holeRoom d room = (room - (8 + 2 * d)) / (2 * d)
+unfoldable pub bufferFor : Option Key → List Run → ℕ → Bool → List ℕ → List ℕ
+bufferFor none rs k unasked old = old
+bufferFor (some key) rs k unasked old = transferBuffer key rs k unasked old
 
--- "It writes as many holes as fit, lowest first, after the first k"
-unfoldable pub holesSent : ℕ → ℕ → ℕ → List Hole → List Hole
-holesSent d k room hs = take (holeRoom d room) (drop k hs)
+-- the writer's answer, and the buffer at exit
+unfoldable pub statusWritten : List Transfer → ℕ → ℕ → Bool → List ℕ → Written
+statusWritten t id k unasked old = writtenFor (find id (keys t)) (runsOf t id) k unasked old
 
--- "Bit 14 is set exactly when some hole was skipped or did not fit"
-unfoldable pub partialSent : ℕ → ℕ → ℕ → List Hole → Bool
-partialSent d k room hs = ltb 0 k || ltb (holeRoom d room) (length (drop k hs))
-
-abbrev pub bit : Bool → ℕ
-bit true = 1
-bit false = 0
-
--- the width bits: "00 is 16, 01 is 32, 10 is 64 bits"
-unfoldable pub widthBits : ℕ → ℕ
-widthBits d = cond (eqb d 2) 0 (cond (eqb d 4) 1 2)
-
--- bits 8 and 9, 14 and 15; "All other flags are 0, apart from the width"
-unfoldable pub statusFlags : ℕ → Bool → Bool → ℕ
-statusFlags d partial unasked = widthBits d * 2 ^ 22 + bit partial * 2 ^ 17 + bit unasked * 2 ^ 16
-
--- "holes as pairs of start and end", descriptors of d octets
-unfoldable pub pairs : ℕ → List Hole → List ℕ
-pairs d [] = []
-pairs d (h ∷ hs) = beDigits d (h .start) ++ (beDigits d (h .end) ++ pairs d hs)
-
--- a success STATUS of these fields
-unfoldable pub statusOctets : ℕ → ℕ → ℕ → ℕ → ℕ → List Hole → List ℕ
-statusOctets flags id d from to hs =
-    beDigits 4 (wordFor 4 flags) ++ (beDigits 4 id ++ (beDigits d from ++ (beDigits d to ++ pairs d hs)))
-
--- the STATUS of a transfer: "Bit 15 is set if unasked or complete", "In-Response-To is the edge"
-unfoldable pub statusPacket : Key → List Run → ℕ → Bool → ℕ → List ℕ
-statusPacket key rs k unasked room =
-    let d = key .width in
-    let hs = holes rs in
-    statusOctets (statusFlags d (partialSent d k room hs) (unasked || complete (key .length) rs)) (key .id) d
-    (progress rs) (edge rs) (holesSent d k room hs)
-
--- the packet where the Id is open
-unfoldable pub statusFor : Option Key → List Run → ℕ → Bool → ℕ → List ℕ
-statusFor none rs k unasked room = []
-statusFor (some key) rs k unasked room = statusPacket key rs k unasked room
-
-module _ (t : List Transfer) (id k : ℕ) (unasked : Bool) (old : List ℕ) where
-  abbrev pub statusRefused : ℕ
-  statusRefused = statusWriteRefusal (find id (keys t)) (holes (runsOf t id)) k (length old)
-
-  unfoldable pub statusSent : List ℕ
-  statusSent = statusFor (find id (keys t)) (runsOf t id) k unasked (length old)
-
-  -- the writer's answer, and the buffer at exit
-  unfoldable pub statusWritten : Written
-  statusWritten = writtenOf statusRefused (length statusSent)
-
-  unfoldable pub statusBuffer : List ℕ
-  statusBuffer = bufferAfter statusRefused statusSent old
+unfoldable pub statusBuffer : List Transfer → ℕ → ℕ → Bool → List ℕ → List ℕ
+statusBuffer t id k unasked old = bufferFor (find id (keys t)) (runsOf t id) k unasked old

@@ -1,7 +1,7 @@
 -- `set_status::hole_room` meets its contract.
 -- Assumes nothing.
 use mathlib.Core.Path.{refl}
-use Rattle.table.specs.Status.{holeRoom}
+use Rattle.transfer.specs.Status.{holeRoom}
 use borrow.Author.Needs.{needs}
 use Rattle.set_status.proofs.hole_room.Statement.{statement}
 use Rattle.set_status.proofs.hole_room.Tie as tie

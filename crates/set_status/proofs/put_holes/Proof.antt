@@ -9,7 +9,7 @@ use Rattle.runs.specs.Holes.{holes}
 use Rattle.runs.proofs.HolePlaces.{holes-few}
 use Rattle.run_set.specs.RunSets.{heldRuns}
 use Rattle.run_set.proofs.PlaceLaws.{length-held}
-use Rattle.table.specs.Status.{pairs}
+use Rattle.transfer.specs.Status.{pairs}
 use Rattle.set_status.specs.Written.{holesPart}
 use Rattle.set_status.proofs.PairLaws.{one-less, pairs-step, pairs-end}
 use native.Mathlib.Omega.{arith}

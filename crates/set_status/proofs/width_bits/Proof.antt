@@ -1,7 +1,7 @@
 -- `set_status::width_bits` meets its contract: by the three widths.
 -- Assumes nothing.
 use borrow.Author.Tests.{eq-eqb, ne-eqb}
-use Rattle.table.specs.Status.{widthBits}
+use Rattle.transfer.specs.Status.{widthBits}
 use native.Mathlib.Omega.{arith}
 use Rattle.set_status.proofs.width_bits.Statement.{statement}
 use Rattle.set_status.proofs.width_bits.Tie as tie

@@ -7,7 +7,7 @@ use lib.ListN.{length}
 use Rattle.octets.proofs.NumberLaws.{width-le, width-some}
 use Rattle.runs.specs.Holes.{holes}
 use Rattle.run_set.specs.RunSets.{heldRuns}
-use Rattle.table.proofs.StatusFlags.{flags-fit}
+use Rattle.transfer.proofs.StatusFlags.{flags-fit}
 use Rattle.set_status.specs.Written.{keyOf, sizeRefusal}
 use Rattle.set_status.proofs.PacketLaws.{key-refused, key-written, skip-there, fields-room, part-room}
 use borrow.Author.Needs.{needs}

@@ -4,7 +4,6 @@ use Prim.Native.Nat.{ℕ, zero, suc, _+_, _*_, _-_, _<_, _≤_, min}
 use mathlib.Core.Path.{_≡_, refl}
 use mathlib.Core.Bool.{Bool, true, false, not, cond, _&&_}
 use mathlib.Core.List.{List, [], _∷_}
-use mathlib.Core.Option.{some}
 use mathlib.Core.Logic.{_⊎_, inl, inr, ⊎-elim, _↔_}
 use native.Mathlib.Nat.{mul-comm, mul-suc, le-div-iff-mul-le, min-comm}
 use native.Mathlib.Omega.{arith}
@@ -19,8 +18,8 @@ use Rattle.refusals.proofs.RefusalLaws.{first-none, rest-none, failed}
 use Rattle.runs.specs.Runs.{Run}
 use Rattle.runs.specs.Holes.{holes}
 use Rattle.runs.proofs.NumberLaws.{le-or-lt}
-use Rattle.table.specs.Transfers.{Key}
-use Rattle.table.specs.Status.{statusWriteRefusal, holeRoom, holesSent, pairs, statusOctets, statusPacket}
+use Rattle.transfer.specs.declared.Key.{Key}
+use Rattle.transfer.specs.Status.{skipsTooMany, leastRoom, sizeRefusal, holeRoom, holesSent, pairs, statusOctets, statusPacket}
 
 -- ---- what is asked of a STATUS that is written
 
@@ -41,8 +40,8 @@ room-for-one : (d n room : ℕ) → 8 + 2 * d + cond (eqb n 0) 0 (2 * d) ≤ roo
 room-for-one d zero room h p = absurd (omega arith)
 room-for-one d (suc n) room h p = rw (ne-eqb (suc n) 0 (omega arith)) at h
 
-pub status-fits : (key : Key) (hs : List Hole) (k room : ℕ) → statusWriteRefusal (some key) hs k room ≡ 0 → StatusFits key hs k room
-unfolding statusWriteRefusal
+pub status-fits : (key : Key) (hs : List Hole) (k room : ℕ) → sizeRefusal (key .width) (length hs) k room ≡ 0 → StatusFits key hs k room
+unfolding sizeRefusal skipsTooMany leastRoom
 status-fits key hs k room e =
     let r = rest-none (when (not (eqb k 0) && not (ltb k (length hs))) 19) _ e in
     let f : 8 + 2 * key .width + cond (eqb (length hs) 0) 0 (2 * key .width) ≤ room = ltb-false _ _ (failed _ 19 r) in
@@ -76,7 +75,7 @@ holes-sent-at d k room hs i default h =
     rw (getD-take (holeRoom d room) (drop k hs) i default l, getD-drop)
 
 -- where there are holes, one at least is written
-pub holes-sent-some : (key : Key) (hs : List Hole) (k room : ℕ) → 0 < key .width → statusWriteRefusal (some key) hs k room ≡ 0
+pub holes-sent-some : (key : Key) (hs : List Hole) (k room : ℕ) → 0 < key .width → sizeRefusal (key .width) (length hs) k room ≡ 0
     → 0 < length hs → 0 < length (holesSent (key .width) k room hs)
 holes-sent-some key hs k room p e s =
     let f = status-fits key hs k room e in
@@ -104,7 +103,7 @@ module _ (key : Key) (rs : List Run) (k : ℕ) (unasked : Bool) (room : ℕ) whe
   status-size = status-octets-size _ _ _ _ _ _
 
   -- it has room in the buffer
-  pub status-size-fits : 0 < key .width → statusWriteRefusal (some key) (holes rs) k room ≡ 0 → length (statusPacket key rs k unasked room) ≤ room
+  pub status-size-fits : 0 < key .width → sizeRefusal (key .width) (length (holes rs)) k room ≡ 0 → length (statusPacket key rs k unasked room) ≤ room
   status-size-fits p e =
       let f = status-fits key (holes rs) k room e in
       let h = length (holesSent (key .width) k room (holes rs)) in
@@ -112,7 +111,7 @@ module _ (key : Key) (rs : List Run) (k : ℕ) (unasked : Bool) (room : ℕ) whe
       rw status-size (hole-room-iff (key .width) h room p (f .fields) .0 l)
 
   -- and of the holes that are left not one more would have
-  pub status-size-most : 0 < key .width → statusWriteRefusal (some key) (holes rs) k room ≡ 0
+  pub status-size-most : 0 < key .width → sizeRefusal (key .width) (length (holes rs)) k room ≡ 0
       → length (holesSent (key .width) k room (holes rs)) < length (holes rs) - k
       → room < length (statusPacket key rs k unasked room) + 2 * key .width
   status-size-most p e s =

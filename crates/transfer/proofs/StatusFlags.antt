@@ -10,7 +10,7 @@ use Rattle.octets.specs.Numbers.{Width}
 use Rattle.octets.specs.Numbers.Width.{two, four, eight}
 use Rattle.header.specs.Word.{bits, markOf, typeOf, flagsOf, widthOf, descriptorOctets, timestampOctets, partialOf, statusOf, wordFor}
 use Rattle.header.proofs.WordLaws.{mark-for, type-for, flags-for}
-use Rattle.table.specs.Status.{bit, widthBits, statusFlags}
+use Rattle.transfer.specs.Status.{bit, widthBits, statusFlags}
 
 width-bits-lt : {d : ℕ} → Width d → widthBits d < 3
 unfolding widthBits

@@ -12,8 +12,8 @@ use lib.Dec.{ltb}
 use borrow.Author.Tests.{ltb-true, ltb-false, lt-ltb}
 use Rattle.runs.specs.declared.Hole.{Hole}
 use Rattle.runs.proofs.NumberLaws.{le-or-lt}
-use Rattle.table.specs.Status.{holeRoom, holesSent, partialSent}
-use Rattle.table.proofs.StatusSize.{holes-sent-count}
+use Rattle.transfer.specs.Status.{holeRoom, holesSent, partialSent}
+use Rattle.transfer.proofs.StatusSize.{holes-sent-count}
 
 pub or-iff : (a b : Bool) → (a || b ≡ true) ↔ ((a ≡ true) ⊎ (b ≡ true))
 or-iff true b = ((λ e. inl refl), (λ m. refl))

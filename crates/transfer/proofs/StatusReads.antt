@@ -27,11 +27,11 @@ use Rattle.runs.proofs.EdgeLaws.{edge-stops}
 use Rattle.runs.proofs.HoleLaws.{apart-drop, apart-take}
 use Rattle.runs.proofs.HolePlaces.{holes-few}
 use Rattle.runs.proofs.ProgressLaws.{progress-edge, holes-between, progress-no-holes, progress-first-hole}
-use Rattle.table.specs.Transfers.{Transfer, TransferFine}
-use Rattle.table.specs.Status.{holeRoom, holesSent, partialSent, statusFlags, pairs, statusOctets, statusPacket}
-use Rattle.table.proofs.StatusSize.{holes-sent-count, status-octets-size}
-use Rattle.table.proofs.StatusPartial.{whole-sent}
-use Rattle.table.proofs.StatusFlags.{bit-test, flags-fit, flags-mark, flags-type, flags-flags, flags-narrow, flags-octets, flags-timestamp, flags-partial, flags-status}
+use Rattle.transfer.specs.Transfers.{Transfer, TransferFine}
+use Rattle.transfer.specs.Status.{holeRoom, holesSent, partialSent, statusFlags, pairs, statusOctets, statusPacket}
+use Rattle.transfer.proofs.StatusSize.{holes-sent-count, status-octets-size}
+use Rattle.transfer.proofs.StatusPartial.{whole-sent}
+use Rattle.transfer.proofs.StatusFlags.{bit-test, flags-fit, flags-mark, flags-type, flags-flags, flags-narrow, flags-octets, flags-timestamp, flags-partial, flags-status}
 
 -- ---- the pairs
 

@@ -16,11 +16,11 @@ use Rattle.runs.proofs.EdgeLaws.{edge-highest, edge-none}
 use Rattle.runs.proofs.HoleLaws.{hole-iff}
 use Rattle.runs.proofs.ProgressLaws.{progress-lowest}
 use Rattle.runs.proofs.CompleteLaws.{complete-iff}
-use Rattle.table.specs.Transfers.{Transfer, TransferFine}
-use Rattle.table.specs.Status.{holeRoom, holesSent, partialSent, bit, statusPacket}
-use Rattle.table.proofs.StatusPartial.{or-iff, partial-iff, whole-sent}
-use Rattle.table.proofs.StatusFlags.{bit-iff, flags-partial, flags-unasked}
-use Rattle.table.proofs.StatusReads.{status-word}
+use Rattle.transfer.specs.Transfers.{Transfer, TransferFine}
+use Rattle.transfer.specs.Status.{holeRoom, holesSent, partialSent, bit, statusPacket}
+use Rattle.transfer.proofs.StatusPartial.{or-iff, partial-iff, whole-sent}
+use Rattle.transfer.proofs.StatusFlags.{bit-iff, flags-partial, flags-unasked}
+use Rattle.transfer.proofs.StatusReads.{status-word}
 
 -- an offset lies in a hole of two lists joined exactly when it lies in one of the first or of the second
 in-append : (f g : List Hole) (o : ℕ) → InHole (f ++ g) o ↔ (InHole f o ⊎ InHole g o)

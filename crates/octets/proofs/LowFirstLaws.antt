@@ -1,14 +1,14 @@
 -- Numbers with the lowest octet first, by the laws of those with the highest first.
 -- Assumes nothing.
 use Prim.Native.Nat.{ℕ, suc, _+_, _*_, _-_, _/_, _%_, _^_, _<_, _≤_}
-use mathlib.Core.Path.{_≡_, refl, sym, ap, _∙_}
+use mathlib.Core.Path.{_≡_, sym, ap, _∙_}
 use mathlib.Core.List.{List, [], _∷_, _++_, reverse, reverse-append, reverse-reverse}
 use native.Mathlib.Omega.{arith}
 use lib.ListN.{length, getD, take, drop, set, length-drop, length-reverse}
 use lib.Seq.{take-add, take-at, drop-drop, length-take-le}
 use Rattle.octets.specs.Numbers.{beValue, beDigits, leValue, leDigits, Octets}
 use Rattle.octets.specs.Put.{put}
-use Rattle.octets.proofs.NumberLaws.{length-digits, value-digits, digits-value, value-lt, onto-append, octets-take, octets-drop}
+use Rattle.octets.proofs.NumberLaws.{length-digits, value-digits, digits-value, value-lt, onto-append, part-octets, part-length}
 use Rattle.octets.proofs.OctetLaws.{octets-reverse, digits-octets}
 use Rattle.octets.proofs.PartLaws.{first-octet, append-value}
 use Rattle.octets.proofs.PutLaws.{put-cons, put-nil}
@@ -42,17 +42,11 @@ low-front-value d v r h = rw (take-at (leDigits d v) r d (length-low-digits d v)
 
 -- the number at a place, and its octets again
 module _ (s : List ℕ) (at d : ℕ) (o : Octets s) (h : at + d ≤ length s) where
-  part-octets : Octets (take d (drop at s))
-  part-octets = octets-take d (drop at s) (octets-drop at s o)
-
-  part-length : length (take d (drop at s)) ≡ d
-  part-length = length-take-le d (drop at s) (simp length-drop (omega arith))
-
   pub low-part-lt : leValue (take d (drop at s)) < 256 ^ d
-  low-part-lt = rw part-length at (low-value-lt (take d (drop at s)) part-octets)
+  low-part-lt = rw (part-length s at d o h) at (low-value-lt (take d (drop at s)) (part-octets s at d o h))
 
   pub low-part-digits : leDigits d (leValue (take d (drop at s))) ≡ take d (drop at s)
-  low-part-digits = rw part-length at (low-digits-value (take d (drop at s)) part-octets)
+  low-part-digits = rw (part-length s at d o h) at (low-digits-value (take d (drop at s)) (part-octets s at d o h))
 
 -- a number from two parts, and from its octets
 low-append-value : (xs ys : List ℕ) → leValue (xs ++ ys) ≡ leValue ys * 256 ^ length xs + leValue xs

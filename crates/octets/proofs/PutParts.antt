@@ -5,7 +5,7 @@ use mathlib.Core.Path.{_≡_, refl, sym, ap, _∙_}
 use mathlib.Core.List.{List, [], _++_, append-assoc}
 use native.Mathlib.Omega.{arith}
 use lib.ListN.{length, take, drop, length-append, length-drop, take-append-drop}
-use lib.Seq.{drop-at, take-append-le, drop-append-le, drop-append-add, drop-drop, take-take, length-take-le}
+use lib.Seq.{drop-at, take-append-le, drop-append-le, drop-drop, take-take, length-take-le}
 use Rattle.octets.specs.Put.{put}
 use Rattle.octets.proofs.PutLaws.{drop-past, refold}
 
@@ -21,7 +21,8 @@ module _ (at : ℕ) (bs a : List ℕ) (room : at + length bs ≤ length a) where
   front-part : (n q : ℕ) (r : List ℕ) → q + n ≤ at → part n q (take at a ++ r) ≡ part n q (take at a)
   front-part n q r h =
       let l : length (take at a) ≡ at = front in
-      ap (take n) (drop-append-le q (take at a) r (omega arith)) ∙ take-append-le n (drop q (take at a)) r (omega (arith, length-drop q (take at a)))
+      ap (take n) (drop-append-le q (take at a) r (omega arith))
+      ∙ take-append-le n (drop q (take at a)) r (omega (arith, length-drop q (take at a)))
 
   pub part-before : (n q : ℕ) → q + n ≤ at → part n q (put at bs a) ≡ part n q a
   unfolding put
@@ -31,22 +32,20 @@ module _ (at : ℕ) (bs a : List ℕ) (room : at + length bs ≤ length a) where
   pub part-inside : (n p : ℕ) → p + n ≤ length bs → part n (at + p) (put at bs a) ≡ part n p bs
   unfolding put
   part-inside n p h =
-      ap (λ (l : List ℕ). take n l) (past p ∙ drop-append-le p bs _ (omega arith)) ∙ take-append-le n (drop p bs) _ (omega (arith, length-drop p bs))
-    where
-      past : (p : ℕ) → drop (at + p) (take at a ++ (bs ++ drop (at + length bs) a)) ≡ drop p (bs ++ drop (at + length bs) a)
-      past p = ap (λ (k : ℕ). drop (k + p) (take at a ++ (bs ++ drop (at + length bs) a))) (sym front) ∙ drop-append-add (take at a) (bs ++ drop (at + length bs) a) p
+      ap (take n) (drop-past (take at a) (bs ++ drop (at + length bs) a) at p front ∙ drop-append-le p bs _ (omega arith))
+      ∙ take-append-le n (drop p bs) _ (omega (arith, length-drop p bs))
 
   pub drop-after : (q : ℕ) → at + length bs ≤ q → drop q (put at bs a) ≡ drop q a
   unfolding put
   drop-after q h =
-      let m : length (take at a ++ bs) ≡ at + length bs = length-append (take at a) bs ∙ ap (λ (k : ℕ). k + length bs) front in
-      let e : q ≡ length (take at a ++ bs) + (q - (at + length bs)) = omega arith in
-      let f : at + length bs + (q - (at + length bs)) ≡ q = omega arith in
-      ap (λ (l : List ℕ). drop q l) (sym (append-assoc (take at a) bs (drop (at + length bs) a)))
-      ∙ ap (λ (k : ℕ). drop k (take at a ++ bs ++ drop (at + length bs) a)) e
-      ∙ drop-append-add (take at a ++ bs) (drop (at + length bs) a) (q - (at + length bs))
-      ∙ drop-drop (q - (at + length bs)) (at + length bs) a
-      ∙ ap (λ (k : ℕ). drop k a) f
+      let n = at + length bs in
+      let m : length (take at a ++ bs) ≡ n = length-append (take at a) bs ∙ ap (λ (k : ℕ). k + length bs) front in
+      let e : n + (q - n) ≡ q = omega arith in
+      ap (λ (l : List ℕ). drop q l) (sym (append-assoc (take at a) bs (drop n a)))
+      ∙ ap (λ (k : ℕ). drop k (take at a ++ bs ++ drop n a)) (sym e)
+      ∙ drop-past (take at a ++ bs) (drop n a) n (q - n) m
+      ∙ drop-drop (q - n) n a
+      ∙ ap (λ (k : ℕ). drop k a) e
 
   pub part-after : (n q : ℕ) → at + length bs ≤ q → part n q (put at bs a) ≡ part n q a
   part-after n q h = ap (take n) (drop-after q h)

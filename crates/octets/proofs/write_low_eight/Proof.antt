@@ -4,7 +4,6 @@ use Prim.Native.Nat.{_+_, _-_, _≤_}
 use mathlib.Core.Path.{_≡_, refl, sym, _∙_}
 use native.Mathlib.Omega.{arith}
 use native.Mathlib.Nat.{add-zero}
-use denote.Ref.{now}
 use lib.ListN.{length, length-set}
 use Rattle.octets.specs.Numbers.{leDigits}
 use Rattle.octets.specs.Put.{put}

@@ -21,7 +21,8 @@ same-length c = search needs
 returns : tie.Need-returns
 returns c =
     let a = c .before .before .before .before .before .before .args in
-    splice-one (now (a .area)) (a .k) (a .n) (a .i) (a .j) (a .v) (omega arith) (omega arith) (omega arith) (omega arith) _ (omega arith) (c .before .before .put-word .ensures)
+    splice-one (now (a .buf)) (a .k) (a .n) (a .i) (a .j) (a .v) (omega arith) (omega arith) (omega arith) (omega arith) _
+    (omega arith) (c .before .before .put-word .ensures)
 
 mul-from : tie.Need-mul-from
 mul-from c = search needs
@@ -48,7 +49,7 @@ returns-2 : tie.Need-returns-2
 returns-2 c =
     let p = c .before .before .before .before .before .before in
     let a = p .before .before .before .before .before .args in
-    splice-up (now (a .area)) (a .k) (a .n) (a .i) (a .j) (a .v) (omega arith) (omega arith) (omega arith) (omega arith) _ _
+    splice-up (now (a .buf)) (a .k) (a .n) (a .i) (a .j) (a .v) (omega arith) (omega arith) (omega arith) (omega arith) _ _
     (omega arith) (p .move-up .ensures) (c .before .before .put-word2 .ensures)
 
 add-move-down : tie.Need-add-move-down
@@ -82,7 +83,7 @@ returns-3 : tie.Need-returns-3
 returns-3 c =
     let p = c .before .before .before .before .before .before in
     let a = p .before .before .before .before .before .args in
-    splice-moved (now (a .area)) (a .k) (a .n) (a .i) (a .j) (a .v) (omega arith) (omega arith) (omega arith) (omega arith) _ _
+    splice-moved (now (a .buf)) (a .k) (a .n) (a .i) (a .j) (a .v) (omega arith) (omega arith) (omega arith) (omega arith) _ _
     (p .move-down .ensures) (c .before .before .put-word3 .ensures)
 
 pub splice-spec : {M : Type 1} → statement M

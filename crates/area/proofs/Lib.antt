@@ -1,9 +1,0 @@
-pub mod WordLaws
-pub mod WordLoops
-pub mod PlaceLaws
-pub mod LayoutLaws
-pub mod TestLaws
-pub mod JudgeLaws
-pub mod NumberLaws
-pub mod AreaLaws
-pub mod OperationLaws

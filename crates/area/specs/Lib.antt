@@ -1,5 +1,0 @@
-pub mod Words
-pub mod Numbers
-pub mod Image
-pub mod Judge
-pub mod Operations

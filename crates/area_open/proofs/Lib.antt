@@ -1,3 +1,0 @@
-pub mod MoveLaws
-pub mod HeldLaws
-pub mod OpenLaws

@@ -21,8 +21,8 @@ use Rattle.runs.specs.Runs.{Run, Canonical, insert}
 use Rattle.transfer.specs.declared.Key.{Key}
 use Rattle.transfer.specs.Transfers.{Transfer, keyOf}
 use Rattle.table.specs.Tables.{Valid, keys, find, runsOf, add, setRuns}
-use Rattle.table.specs.Open.{OpenOutcome, openPacket, openAccepted}
-use Rattle.table.specs.Record.{RecordOutcome, dataJudged, grown, recordPacket, recordAccepted}
+use Rattle.table.specs.Open.{openPacket, openAccepted}
+use Rattle.table.specs.Record.{dataJudged, grown, recordPacket, recordAccepted}
 use Rattle.order.specs.Order.{Packet, Call, opening, recording, openings, recordings, taken, after, idRead, offsetRead, stopRead, idIn, offsetIn, stopIn, In, Brings, Brought, Rising, Sorted}
 use Rattle.order.specs.Demand3.{Holds}
 use Rattle.table.proofs.TableLaws.{find-add-same, find-add-other, keys-set, runs-add, runs-set-same, runs-set-other}
@@ -33,6 +33,9 @@ use Rattle.table.proofs.OtherLaws.{open-kept, record-kept}
 use Rattle.transfer.proofs.FieldLaws.{data-some}
 use Rattle.table.proofs.ValidLaws.{fresh-valid, open-valid, record-valid}
 use Rattle.order.proofs.FillLaws.{in-perm, one, one-same, one-other, one-cases, one-canonical, fill, fill-nil, fill-only, fill-holds, fill-same, fill-grows, Ahead, ahead-one}
+use Rattle.table.specs.Outcome.{Outcome}
+use Rattle.table.specs.declared.Opened.{Opened}
+use Rattle.table.specs.declared.Recorded.{Recorded}
 
 -- a call on a table: whether it is accepted, and the table after it
 unfoldable pub callTable : List Transfer → Call → Bool × List Transfer
@@ -98,7 +101,7 @@ call-valid t (recording p) v = record-valid t (p .octets) v
 -- an opening: no runs change, what was open stays so, and what it brings is open
 open-runs : (t : List Transfer) (p : Packet) (i : ℕ) → runsOf (opened t p) i ≡ runsOf t i
 open-runs t p i =
-    open-cases (λ (o : OpenOutcome). runsOf (o .table) i ≡ runsOf t i) t (p .octets) (λ r. refl) (λ m e f. refl)
+    open-cases (λ (o : Outcome Opened). runsOf (o .table) i ≡ runsOf t i) t (p .octets) (λ r. refl) (λ m e f. refl)
     (λ m e f l. runs-add i (keyOf m) t f)
 
 find-later : (t : List Transfer) (j k : Key) (i : ℕ) → find (j .id) (keys t) ≡ none → find i (keys t) ≡ some k → find i (keys (add j t)) ≡ some k
@@ -109,12 +112,12 @@ find-later t j k i n e = find-add-other i j t (λ q. absent (ap (λ (x : ℕ). f
 
 open-finds : (t : List Transfer) (p : Packet) (i : ℕ) (k : Key) → find i (keys t) ≡ some k → find i (keys (opened t p)) ≡ some k
 open-finds t p i k e =
-    open-cases (λ (o : OpenOutcome). find i (keys (o .table)) ≡ some k) t (p .octets) (λ r. e) (λ m q f. e) (λ m q f l. find-later t (keyOf m) k i f e)
+    open-cases (λ (o : Outcome Opened). find i (keys (o .table)) ≡ some k) t (p .octets) (λ r. e) (λ m q f. e) (λ m q f l. find-later t (keyOf m) k i f e)
 
 open-brings : (t : List Transfer) (p : Packet) (k : Key) → Opens t p → Brings p k → find (k .id) (keys (opened t p)) ≡ some k
 open-brings t p k a (m, e, q) =
     rw (← q)
-    (open-cases (λ (o : OpenOutcome). openAccepted (o .answer) ≡ true → find (m .id) (keys (o .table)) ≡ some (keyOf m)) t (p .octets)
+    (open-cases (λ (o : Outcome Opened). openAccepted (o .answer) ≡ true → find (m .id) (keys (o .table)) ≡ some (keyOf m)) t (p .octets)
     (λ r z. absurd (let y : _≡_ {A = ℕ} 0 1 = cc in omega arith))
     (λ n f g z. let y : n ≡ m = cc in rw y at g)
     (λ n f g l z. let y : n ≡ m = cc in
@@ -123,7 +126,7 @@ open-brings t p k a (m, e, q) =
 
 open-only : (t : List Transfer) (p : Packet) (k : Key) → find (k .id) (keys (opened t p)) ≡ some k → (find (k .id) (keys t) ≡ some k) ⊎ Brings p k
 open-only t p k =
-    open-cases (λ (o : OpenOutcome). find (k .id) (keys (o .table)) ≡ some k → (find (k .id) (keys t) ≡ some k) ⊎ Brings p k) t (p .octets)
+    open-cases (λ (o : Outcome Opened). find (k .id) (keys (o .table)) ≡ some k → (find (k .id) (keys t) ≡ some k) ⊎ Brings p k) t (p .octets)
     (λ r z. inl z) (λ m e f z. inl z) (λ m e f l z. go m e f z (ℕ-discrete (m .id) (k .id)))
   where
     go : (m : Metadata) → readMetadata (p .octets) ≡ metadata-read.Accepted m → find (m .id) (keys t) ≡ none
@@ -155,11 +158,11 @@ fit-later : (t : List Transfer) (o p : Packet) → Fit (keys t) p → Fit (keys 
 fit-later t o p (d, k, e, f, j) = (d, k, e, open-finds t o (d .id) k f, j)
 
 rec-keys : (t : List Transfer) (p : Packet) → keys (recorded t p) ≡ keys t
-rec-keys t p = record-cases (λ (o : RecordOutcome). keys (o .table) ≡ keys t) t (p .octets) (λ r. refl) (λ d k e f j l. keys-set (d .id) (grown t d) t)
+rec-keys t p = record-cases (λ (o : Outcome Recorded). keys (o .table) ≡ keys t) t (p .octets) (λ r. refl) (λ d k e f j l. keys-set (d .id) (grown t d) t)
 
 rec-runs : (t : List Transfer) (p : Packet) (i : ℕ) → Records t p → runsOf (recorded t p) i ≡ one i p (runsOf t i)
 rec-runs t p i a =
-    record-cases (λ (o : RecordOutcome). recordAccepted (o .answer) ≡ true → runsOf (o .table) i ≡ one i p (runsOf t i)) t (p .octets)
+    record-cases (λ (o : Outcome Recorded). recordAccepted (o .answer) ≡ true → runsOf (o .table) i ≡ one i p (runsOf t i)) t (p .octets)
     (λ r z. absurd (let y : _≡_ {A = ℕ} 0 1 = cc in omega arith)) (λ d k e f j l z. go d k e f (ℕ-discrete (d .id) i)) a
   where
     go : (d : Data) (k : Key) → readData (p .octets) ≡ data-read.Accepted d → find (d .id) (keys t) ≡ some k → Dec (d .id ≡ i)
@@ -174,17 +177,17 @@ rec-runs t p i a =
 
 rec-fit : (t : List Transfer) (p : Packet) → Records t p → Fit (keys t) p
 rec-fit t p =
-    record-cases (λ (o : RecordOutcome). recordAccepted (o .answer) ≡ true → Fit (keys t) p) t (p .octets)
+    record-cases (λ (o : Outcome Recorded). recordAccepted (o .answer) ≡ true → Fit (keys t) p) t (p .octets)
     (λ r z. absurd (let y : _≡_ {A = ℕ} 0 1 = cc in omega arith)) (λ d k e f j l z. (d, k, e, f, j))
 
 rec-room : (t : List Transfer) (p : Packet) → Records t p → length (insert (offsetIn p) (stopIn p) (runsOf t (idIn p))) ≤ 64
 rec-room t p =
-    record-cases (λ (o : RecordOutcome). recordAccepted (o .answer) ≡ true → length (insert (offsetIn p) (stopIn p) (runsOf t (idIn p))) ≤ 64)
+    record-cases (λ (o : Outcome Recorded). recordAccepted (o .answer) ≡ true → length (insert (offsetIn p) (stopIn p) (runsOf t (idIn p))) ≤ 64)
     t (p .octets) (λ r z. absurd (let y : _≡_ {A = ℕ} 0 1 = cc in omega arith)) (λ d k e f j l z. rw (grown-is t p d e) l)
 
 rec-takes : (t : List Transfer) (p : Packet) → Fit (keys t) p → length (insert (offsetIn p) (stopIn p) (runsOf t (idIn p))) ≤ 64 → Records t p
 rec-takes t p (d, k, e, f, j) n =
-    ap (λ (o : RecordOutcome). recordAccepted (o .answer)) (record-taken t (p .octets) d k e f j (rw (grown-is t p d e) at n))
+    ap (λ (o : Outcome Recorded). recordAccepted (o .answer)) (record-taken t (p .octets) d k e f j (rw (grown-is t p d e) at n))
 
 -- ---- along a list of accepted calls
 

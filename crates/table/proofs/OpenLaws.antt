@@ -18,9 +18,11 @@ use Rattle.packet_metadata.specs.declared.MetadataRead.the-variants as metadata
 use Rattle.transfer.specs.declared.Key.{Key}
 use Rattle.transfer.specs.Transfers.{Transfer, reached, keyOf}
 use Rattle.table.specs.Tables.{keys, find, runsOf, add}
-use Rattle.table.specs.Open.{OpenOutcome, Verdict, new, already, refuse, judgeFound, judgeOpen, openAs, openKey, openRead, openPacket, openAccepted}
+use Rattle.table.specs.Open.{Verdict, new, already, refuse, judgeFound, judgeOpen, openAs, openKey, openRead, openPacket, openAccepted}
 use Rattle.table.specs.declared.Opened.the-variants.{New, AlreadyOpen, Refused}
 use Rattle.table.proofs.TableLaws.{by-test, find-id, addKey, keys-add}
+use Rattle.table.specs.Outcome.{Outcome}
+use Rattle.table.specs.declared.Opened.{Opened}
 
 both : (a b : Bool) → a && b ≡ true → (a ≡ true) × (b ≡ true)
 both true b e = (refl, e)
@@ -31,7 +33,7 @@ key-eq j k p q r = λ i. record { id = p i; width = q i; length = r i }
 
 -- refused, and the table stays; or the Id is open with the packet's width and length, and the table stays; or it is not open,
 -- there is room, and it is added
-pub open-cases : (P : OpenOutcome → Type 0) (t : List Transfer) (packet : List ℕ)
+pub open-cases : (P : Outcome Opened → Type 0) (t : List Transfer) (packet : List ℕ)
     → ((r : Refusal) → P (record { answer = Refused r; table = t }))
     → ((m : Metadata) → readMetadata packet ≡ metadata-read.Accepted m → find (m .id) (keys t) ≡ some (keyOf m)
     → P (record { answer = AlreadyOpen (reached (keyOf m) (runsOf t (m .id))); table = t }))

@@ -19,16 +19,18 @@ use Rattle.packet_data.specs.declared.DataRead.the-variants as data-read
 use Rattle.transfer.specs.declared.Key.{Key}
 use Rattle.transfer.specs.Transfers.{Transfer, reached}
 use Rattle.table.specs.Tables.{keys, find, setRuns}
-use Rattle.table.specs.Record.{RecordOutcome, dataJudged, recordRefusal, grown, recordAs, recordData, recordRead, recordPacket}
+use Rattle.table.specs.Record.{dataJudged, recordRefusal, grown, recordAs, recordData, recordRead, recordPacket}
 use Rattle.transfer.specs.Record.{stopOf, runsRefusal}
 use Rattle.table.specs.declared.Recorded.the-variants.{Accepted, Refused}
+use Rattle.table.specs.Outcome.{Outcome}
+use Rattle.table.specs.declared.Recorded.{Recorded}
 
 -- accepted, with the runs grown
-abbrev pub recordedAs : List Transfer → Data → Key → RecordOutcome
+abbrev pub recordedAs : List Transfer → Data → Key → Outcome Recorded
 recordedAs t d k = record { answer = Accepted (reached k (grown t d)); table = setRuns (d .id) (grown t d) t }
 
 -- refused, and the table stays; or the Id is open with k, nothing of 12 to 15 is given, and there is room
-pub record-cases : (P : RecordOutcome → Type 0) (t : List Transfer) (packet : List ℕ)
+pub record-cases : (P : Outcome Recorded → Type 0) (t : List Transfer) (packet : List ℕ)
     → ((r : Refusal) → P (record { answer = Refused r; table = t }))
     → ((d : Data) (k : Key) → readData packet ≡ data-read.Accepted d → find (d .id) (keys t) ≡ some k → dataJudged (some k) d ≡ 0
     → length (grown t d) ≤ 64 → P (recordedAs t d k))

@@ -1,3 +1,4 @@
+pub mod Outcome
 pub mod Tables
 pub mod Open
 pub mod Record

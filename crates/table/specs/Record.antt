@@ -16,10 +16,7 @@ use Rattle.transfer.specs.Record.{keyRefusal, extended, runsRefusal}
 use Rattle.table.specs.Tables.{keys, find, runsOf, setRuns}
 use Rattle.table.specs.declared.Recorded.{Recorded}
 use Rattle.table.specs.declared.Recorded.the-variants.{Accepted, Refused}
-
-pub record RecordOutcome : Type 0 where
-  pub answer : Recorded
-  pub table : List Transfer
+use Rattle.table.specs.Outcome.{Outcome}
 
 -- 12: "Id not open"; then 13, 14, 15, by the key of the packet's Id. They are judged by what is open alone
 unfoldable pub dataJudged : Option Key → Data → ℕ
@@ -34,22 +31,22 @@ recordRefusal k runs d = dataJudged k d ▹ runsRefusal runs
 unfoldable pub grown : List Transfer → Data → List Run
 grown t d = extended (runsOf t (d .id)) d
 
-unfoldable pub recordAs : ℕ → Option Key → List Run → List Transfer → Data → RecordOutcome
+unfoldable pub recordAs : ℕ → Option Key → List Run → List Transfer → Data → Outcome Recorded
 recordAs zero none runs t d = record { answer = Refused (refusalOf 12); table = t }
 recordAs zero (some k) runs t d = record { answer = Accepted (reached k runs); table = setRuns (d .id) runs t }
 recordAs (suc n) k runs t d = record { answer = Refused (refusalOf (suc n)); table = t }
 
-unfoldable pub recordData : List Transfer → Data → RecordOutcome
+unfoldable pub recordData : List Transfer → Data → Outcome Recorded
 recordData t d =
     let k = find (d .id) (keys t) in
     recordAs (recordRefusal k (grown t d) d) k (grown t d) t d
 
 -- "Recording: the reader's, then 12, 13, 14, 15, 16"
-unfoldable pub recordRead : List Transfer → DataRead → RecordOutcome
+unfoldable pub recordRead : List Transfer → DataRead → Outcome Recorded
 recordRead t (data-read.Accepted d) = recordData t d
 recordRead t (data-read.Refused r) = record { answer = Refused r; table = t }
 
-unfoldable pub recordPacket : List Transfer → List ℕ → RecordOutcome
+unfoldable pub recordPacket : List Transfer → List ℕ → Outcome Recorded
 recordPacket t packet = recordRead t (readData packet)
 
 abbrev pub recordAccepted : Recorded → Bool

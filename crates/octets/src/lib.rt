@@ -1,6 +1,6 @@
 // Plain octets: numbers of d octets in slices, copies into a buffer, and moves inside one. Nothing here knows of Saratoga.
 ghost use mathlib.Core.Path.{_≡_};
-ghost use Prim.Native.Nat.{_+_, _^_, _≤_, _<_};
+ghost use Prim.Native.Nat.{_+_, _*_, _^_, _≤_, _<_};
 ghost use lib.Dec.{ltb};
 ghost use lib.ListN.{length, take, drop};
 ghost use Rattle.octets.specs.Numbers.{beValue, beDigits, leValue, leDigits, Width};
@@ -23,18 +23,18 @@ pub fn read_number(s: &[u8], at: usize, d: usize) -> u64
     v
 }
 
-// One octet as a number.
-fn wide(x: u8) -> u64
-    ensures { λ r. ⌜ (r ≡ x) × (r < 256) ⌝ }
+// The number of four octets, the highest first.
+fn join_four(a: u8, b: u8, c: u8, d: u8) -> u64
+    ensures { λ r. ⌜ r ≡ a * 16777216 + b * 65536 + c * 256 + d ⌝ }
 {
-    x as u64
+    (a as u64) * 16777216 + (b as u64) * 65536 + (c as u64) * 256 + d as u64
 }
 
 fn read_four(s: &[u8], at: usize) -> u64
     requires { ⌜ at + 4 ≤ length (now s) ⌝ }
     ensures { λ r. ⌜ r ≡ beValue (take 4 (drop at (now (s .entry)))) ⌝ }
 {
-    wide(s[at]) * 16777216 + wide(s[at + 1]) * 65536 + wide(s[at + 2]) * 256 + wide(s[at + 3])
+    join_four(s[at], s[at + 1], s[at + 2], s[at + 3])
 }
 
 // The number that the eight octets from `at` on stand for, with no loop: the compiler makes few loads of it.
@@ -63,7 +63,7 @@ fn read_low_four(s: &[u8], at: usize) -> u64
     requires { ⌜ at + 4 ≤ length (now s) ⌝ }
     ensures { λ r. ⌜ r ≡ leValue (take 4 (drop at (now (s .entry)))) ⌝ }
 {
-    wide(s[at]) + wide(s[at + 1]) * 256 + wide(s[at + 2]) * 65536 + wide(s[at + 3]) * 16777216
+    join_four(s[at + 3], s[at + 2], s[at + 1], s[at])
 }
 
 // The number that the eight octets from `at` on stand for, the lowest first: one load.

@@ -1,0 +1,117 @@
+-- What the tests mean: a table passes exactly where it is valid, and an area exactly where the table read from it is.
+-- Assumes nothing.
+use Prim.Native.Nat.{ℕ, suc, _^_, _≤_, _<_}
+use mathlib.Core.Path.{_≡_, refl, sym, ap, _∙_}
+use mathlib.Core.List.{List, [], _∷_}
+use mathlib.Core.Bool.{Bool, true, false, cond}
+use mathlib.Core.Option.{Option, none, some}
+use native.Mathlib.Omega.{arith}
+use lib.ListN.{length}
+use lib.Dec.{ltb, leb, eqb}
+use borrow.Author.Tests.{ltb-true, leb-true, eqb-true, lt-ltb, le-leb}
+use Rattle.octets.specs.Numbers.{Width}
+use Rattle.octets.specs.Numbers.Width.{two, four, eight}
+use Rattle.words.specs.Words.{wordAt}
+use Rattle.run_rows.specs.Judge.{runsTest}
+use Rattle.run_rows.proofs.JudgeLaws.{both-true, runs-passed, runs-passes}
+use Rattle.transfer.specs.Transfers.{Transfer, TransferFine}
+use Rattle.table.specs.Tables.{FineFrom, Valid}
+use Rattle.area.specs.Layout.{transferPlaces, runPlaces, areaOctets}
+use Rattle.area.specs.Places.{readTable, Holds}
+use Rattle.area.specs.Judge.{lengthTest, transferTest, fineTest, judged, tableOf}
+use Rattle.area.proofs.PlaceLaws.{length-transfers, holds-read}
+
+-- ---- the width and the length
+
+length-passed : (width length : ℕ) → lengthTest width length ≡ true → Width width × (length < 256 ^ width)
+unfolding lengthTest
+length-passed w n e = go (eqb w 2) (eqb w 4) (eqb w 8) refl refl refl e
+  where
+    go : (a b c : Bool) → eqb w 2 ≡ a → eqb w 4 ≡ b → eqb w 8 ≡ c
+        → cond a (ltb n (256 ^ 2)) (cond b (ltb n (256 ^ 4)) (cond c (ltb n (256 ^ 8)) false)) ≡ true → Width w × (n < 256 ^ w)
+    go true b c p q r t = rw (eqb-true w 2 p) (two, ltb-true n (256 ^ 2) t)
+    go false true c p q r t = rw (eqb-true w 4 q) (four, ltb-true n (256 ^ 4) t)
+    go false false true p q r t = rw (eqb-true w 8 r) (eight, ltb-true n (256 ^ 8) t)
+    go false false false p q r t = absurd (let z : _≡_ {A = ℕ} 0 1 = cc in omega arith)
+
+length-passes : (width length : ℕ) → Width width → length < 256 ^ width → lengthTest width length ≡ true
+unfolding lengthTest
+length-passes w n two h = lt-ltb n (256 ^ 2) h
+length-passes w n four h = lt-ltb n (256 ^ 4) h
+length-passes w n eight h = lt-ltb n (256 ^ 8) h
+
+-- ---- transfers
+
+transfer-passed : (x : Transfer) → transferTest x ≡ true → TransferFine x
+unfolding transferTest
+transfer-passed x e =
+    let p = both-true (ltb (x .key .id) (2 ^ 32)) _ e in
+    let q = both-true (lengthTest (x .key .width) (x .key .length)) _ (p .1) in
+    let r = both-true (leb (length (x .runs)) 64) _ (q .1) in
+    let w = length-passed (x .key .width) (x .key .length) (q .0) in
+    let s = runs-passed (x .key .length) (x .runs) (r .1) in
+    record {
+      id-fits = ltb-true (x .key .id) (2 ^ 32) (p .0);
+      width-is = w .0;
+      length-fits = w .1;
+      few = leb-true (length (x .runs)) 64 (r .0);
+      canonical = s .0;
+      within = s .1;
+    }
+
+transfer-passes : (x : Transfer) → TransferFine x → transferTest x ≡ true
+unfolding transferTest
+transfer-passes x f =
+    rw (
+      lt-ltb (x .key .id) (2 ^ 32) (f .id-fits),
+      length-passes (x .key .width) (x .key .length) (f .width-is) (f .length-fits),
+      le-leb (length (x .runs)) 64 (f .few),
+    )
+    (runs-passes (x .key .length) (x .runs) (f .canonical) (f .within))
+
+pub fine-passed : (k : ℕ) (t : List Transfer) → fineTest k t ≡ true → FineFrom k t
+unfolding fineTest
+fine-passed k [] e = tt
+fine-passed k (x ∷ t) e =
+    let p = both-true (leb k (x .key .id)) _ e in
+    let q = both-true (transferTest x) _ (p .1) in
+    (leb-true k (x .key .id) (p .0), transfer-passed x (q .0), fine-passed (suc (x .key .id)) t (q .1))
+
+pub fine-passes : (k : ℕ) (t : List Transfer) → FineFrom k t → fineTest k t ≡ true
+unfolding fineTest
+fine-passes k [] f = refl
+fine-passes k (x ∷ t) f = rw (le-leb k (x .key .id) (f .0), transfer-passes x (f .1)) (fine-passes (suc (x .key .id)) t (f .2))
+
+-- ---- areas
+
+pub judged-passed : (a : List ℕ) → judged a ≡ true → (areaOctets ≤ length a) × Valid (readTable a)
+unfolding judged
+judged-passed a e =
+    let p = both-true (leb areaOctets (length a)) _ e in
+    let q = both-true (leb (wordAt a 0) 16) _ (p .1) in
+    let n : wordAt a 0 ≤ 16 = leb-true (wordAt a 0) 16 (q .0) in (
+      leb-true areaOctets (length a) (p .0),
+      record { few = omega (arith, length-transfers a 0 (wordAt a 0)); fine = fine-passed 0 (readTable a) (q .1) },
+    )
+
+pub judged-passes : (a : List ℕ) (t : List Transfer) → areaOctets ≤ length a → Valid t → Holds a t → judged a ≡ true
+unfolding judged
+judged-passes a t l v h =
+    let n : length t ≤ 16 = v .few in
+    rw (le-leb areaOctets (length a) l, le-leb (wordAt a 0) 16 (omega (arith, h .count)), holds-read a t h) (fine-passes 0 t (v .fine))
+
+-- an area holds t exactly where it is long enough, t is valid, and its used places hold t's numbers
+pub held-passes : (a : List ℕ) (t : List Transfer) → areaOctets ≤ length a → Valid t → Holds a t → tableOf a ≡ some t
+unfolding tableOf
+held-passes a t l v h = rw (judged-passes a t l v h) (ap some (holds-read a t h))
+
+pub held-passed : (a : List ℕ) (t : List Transfer) → tableOf a ≡ some t → (judged a ≡ true) × (readTable a ≡ t)
+unfolding tableOf
+held-passed a t e = go (judged a) refl e
+  where
+    go : (b : Bool) → judged a ≡ b → cond b (some (readTable a)) none ≡ some t → (judged a ≡ true) × (readTable a ≡ t)
+    go true p q = (p, cc)
+    go false p q = absurd (let z : _≡_ {A = ℕ} 0 1 = cc in omega arith)
+
+pub held-valid : (a : List ℕ) (t : List Transfer) → tableOf a ≡ some t → Valid t
+held-valid a t e = let p = held-passed a t e in rw (p .1) at (judged-passed a (p .0) .1)

@@ -1,0 +1,39 @@
+-- 22: "a lent desk area is no image of a desk as described". An area holds a table where its used places are fine; unused places
+-- are never looked at. The table that is read is judged, and not its places.
+-- Assumes nothing.
+use Prim.Native.Nat.{ℕ, suc, _^_}
+use mathlib.Core.List.{List, [], _∷_}
+use mathlib.Core.Bool.{Bool, true, false, cond}
+use mathlib.Core.Option.{Option, none, some}
+use lib.ListN.{length}
+use lib.Dec.{ltb, leb, eqb}
+use Rattle.words.specs.Words.{wordAt}
+use Rattle.run_rows.specs.Judge.{runsTest}
+use Rattle.transfer.specs.Transfers.{Transfer}
+use Rattle.area.specs.Layout.{transferPlaces, runPlaces, areaOctets}
+use Rattle.area.specs.Places.{readTable}
+
+-- the width is one of the three, and the length fits it
+unfoldable pub lengthTest : ℕ → ℕ → Bool
+lengthTest width length =
+    cond (eqb width 2) (ltb length (256 ^ 2)) (cond (eqb width 4) (ltb length (256 ^ 4)) (cond (eqb width 8) (ltb length (256 ^ 8)) false))
+
+unfoldable pub transferTest : Transfer → Bool
+transferTest x =
+    cond (ltb (x .key .id) (2 ^ 32))
+    (cond (lengthTest (x .key .width) (x .key .length))
+    (cond (leb (length (x .runs)) runPlaces) (runsTest (x .key .length) (x .runs)) false) false)
+    false
+
+-- the Ids rise, and the first is at least k
+unfoldable pub fineTest : ℕ → List Transfer → Bool
+fineTest k [] = true
+fineTest k (x ∷ t) = let rest = fineTest (suc (x .key .id)) t in cond (leb k (x .key .id)) (cond (transferTest x) rest false) false
+
+-- "shorter than the layout is 22, and octets past it stay unread"
+unfoldable pub judged : List ℕ → Bool
+judged a = cond (leb areaOctets (length a)) (cond (leb (wordAt a 0) transferPlaces) (fineTest 0 (readTable a)) false) false
+
+-- the table that an area holds; none is 22
+unfoldable pub tableOf : List ℕ → Option (List Transfer)
+tableOf a = cond (judged a) (some (readTable a)) none

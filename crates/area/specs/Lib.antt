@@ -1,0 +1,5 @@
+pub mod Layout
+pub mod Places
+pub mod Judge
+pub mod Stored
+pub mod Operations

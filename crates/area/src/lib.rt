@@ -1,0 +1,130 @@
+// The lent area that holds a transfer table between calls, judged and searched by its used places alone. docs/AREA.md has the layout.
+ghost use mathlib.Core.Path.{_≡_};
+ghost use mathlib.Core.Bool.{true};
+ghost use Prim.Native.Nat.{_+_, _*_, _≤_, _<_};
+ghost use lib.ListN.{length};
+ghost use Rattle.words.specs.Words.{wordAt};
+ghost use Rattle.area.specs.Layout.{transferPlaces, runPlaces, headWords, areaOctets, headAt, runAt};
+ghost use Rattle.area.specs.Places.{keyAt, rowsAt, transferAt, transfersFrom, readTable, placeIn};
+ghost use Rattle.area.specs.Judge.{lengthTest, transferTest, fineTest, judged};
+use run_rows::Rows;
+use transfer::Key;
+
+// Places for transfers, and for the runs of each.
+pub const TRANSFERS: usize = 16;
+pub const RUNS: usize = 64;
+
+// A head: the Id, the width, the length, and the number of runs.
+const HEAD_WORDS: usize = 4;
+pub const ID: usize = 0;
+pub const WIDTH: usize = 1;
+pub const LENGTH: usize = 2;
+pub const RUN_COUNT: usize = 3;
+
+// Where the heads begin, the starts of all runs, and their stops, in words of 8 octets; and the octets of the layout.
+const HEADS_AT: usize = 1;
+const STARTS_AT: usize = HEADS_AT + TRANSFERS * HEAD_WORDS;
+const STOPS_AT: usize = STARTS_AT + TRANSFERS * RUNS;
+pub const AREA_OCTETS: usize = (STOPS_AT + TRANSFERS * RUNS) * 8;
+
+// Where an Id is kept, or would be put, and whether it is open.
+pub struct Place {
+    pub at: usize,
+    pub open: bool,
+}
+
+// The word of a field of the head at place i.
+pub fn head_at(i: usize, f: usize) -> usize
+    requires { ⌜ (i < transferPlaces) × (f < headWords) ⌝ }
+    ensures { λ r. ⌜ r ≡ headAt i f ⌝ }
+{
+    HEADS_AT + (i * HEAD_WORDS + f)
+}
+
+// The word where the starts of the runs at place i begin, and the word where their stops do.
+pub fn starts_at(i: usize) -> usize
+    requires { ⌜ i < transferPlaces ⌝ }
+    ensures { λ r. ⌜ r ≡ runAt 0 i 0 ⌝ }
+{
+    STARTS_AT + i * RUNS
+}
+
+pub fn stops_at(i: usize) -> usize
+    requires { ⌜ i < transferPlaces ⌝ }
+    ensures { λ r. ⌜ r ≡ runAt 1 i 0 ⌝ }
+{
+    STOPS_AT + i * RUNS
+}
+
+// A field of the head at place i.
+pub fn head(area: &[u8], i: usize, f: usize) -> u64
+    requires { ⌜ (areaOctets ≤ length (now area)) × (i < transferPlaces) × (f < headWords) ⌝ }
+    ensures { λ r. ⌜ r ≡ wordAt (now (area .entry)) (headAt i f) ⌝ }
+{
+    words::word(area, head_at(i, f))
+}
+
+// The number of open transfers.
+pub fn open_count(area: &[u8]) -> u64
+    requires { ⌜ areaOctets ≤ length (now area) ⌝ }
+    ensures { λ r. ⌜ r ≡ wordAt (now (area .entry)) 0 ⌝ }
+{
+    words::word(area, 0)
+}
+
+// The key of the transfer at place i.
+pub fn key_at(area: &[u8], i: usize) -> Key
+    requires { ⌜ (areaOctets ≤ length (now area)) × (i < transferPlaces) ⌝ }
+    ensures { λ r. ⌜ r ≡ keyAt (now (area .entry)) i ⌝ }
+{
+    Key {
+        id: head(area, i, ID),
+        width: head(area, i, WIDTH) as usize,
+        length: head(area, i, LENGTH),
+    }
+}
+
+// Where the runs at place i are kept.
+pub fn rows_at(area: &[u8], i: usize) -> Rows
+    requires { ⌜ (areaOctets ≤ length (now area)) × (i < transferPlaces) ⌝ }
+    ensures { λ r. ⌜ r ≡ rowsAt (now (area .entry)) i ⌝ }
+{
+    Rows {
+        starts: starts_at(i),
+        stops: stops_at(i),
+        count: head(area, i, RUN_COUNT) as usize,
+    }
+}
+
+// Whether the width is one of the three and the length fits it.
+fn length_ok(width: u64, length: u64) -> bool
+    ensures { λ r. ⌜ r ≡ lengthTest width length ⌝ }
+{
+    if width == 2 {
+        return length < 65536;
+    }
+    if width == 4 {
+        return length < 4294967296;
+    }
+    width == 8
+}
+
+// Where an Id is kept, or would be put: the Ids rise.
+pub fn find_place(area: &[u8], id: u64) -> Place
+    requires { ⌜ judged (now area) ≡ true ⌝ }
+    ensures { λ r. ⌜ r ≡ placeIn id (readTable (now (area .entry))) ⌝ }
+{
+    let n = open_count(area) as usize;
+    let mut i: usize = 0;
+    while i < n {
+        let here = head(area, i, ID);
+        if id <= here {
+            return Place {
+                at: i,
+                open: here == id,
+            };
+        }
+        i += 1;
+    }
+    Place { at: i, open: false }
+}

@@ -4,7 +4,7 @@ use Prim.Native.Nat.{ℕ, zero, suc, _<_}
 use mathlib.Core.Path.{_≡_}
 use mathlib.Core.Bool.{Bool, cond, _&&_}
 use mathlib.Core.List.{List, [], _∷_}
-use lib.ListN.{length, getD}
+use lib.ListN.{length, getD, set}
 use lib.Dec.{ltb, eqb}
 use Rattle.runs.specs.Runs.{Run, nthRun}
 use Rattle.words.specs.Words.{wordAt}
@@ -83,3 +83,20 @@ openAt id t p = ltb p (length t) && eqb (nth t p .key .id) id
 
 unfoldable pub placeIn : ℕ → List Transfer → Place
 placeIn id t = record { at = placeOf id t; «open» = openAt id t (placeOf id t) }
+
+-- ---- a table changed at a place
+
+-- other runs for the transfer there
+abbrev pub withRuns : List Transfer → ℕ → List Run → List Transfer
+withRuns t p rs = set t p (record { key = nth t p .key; runs = rs })
+
+-- a transfer put in, and one taken out
+unfoldable pub insertAt : ℕ → Transfer → List Transfer → List Transfer
+insertAt zero x t = x ∷ t
+insertAt (suc p) x [] = x ∷ []
+insertAt (suc p) x (y ∷ t) = y ∷ insertAt p x t
+
+unfoldable pub removeAt : ℕ → List Transfer → List Transfer
+removeAt p [] = []
+removeAt zero (y ∷ t) = t
+removeAt (suc p) (y ∷ t) = y ∷ removeAt p t

@@ -106,7 +106,10 @@ fn length_ok(width: u64, length: u64) -> bool
     if width == 4 {
         return length < 4294967296;
     }
-    width == 8
+    if width == 8 {
+        return true;
+    }
+    false
 }
 
 // Where an Id is kept, or would be put: the Ids rise.

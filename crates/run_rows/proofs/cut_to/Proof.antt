@@ -1,56 +1,50 @@
+-- `run_rows::cut_to` meets its contract. The loop's invariant: the place lies from `low` to `top`. Assumes nothing.
 use borrow.Author.Needs.{needs}
 use native.Mathlib.Omega.{arith}
+use Prim.Native.Nat.{_-_}
+use Rattle.run_rows.proofs.CutLaws.{Halves, halves-start, halves-right, halves-left, halves-end}
 use Rattle.run_rows.proofs.cut_to.Statement.{statement}
 use Rattle.run_rows.proofs.cut_to.Tie as tie
-use Rattle.run_rows.proofs.cut_to.Reads as reads
-use Rattle.run_rows.proofs.cut_to.Lts as lts
-use Rattle.words.proofs.word.Reads as word-reads
 
 abbrev Inv-loop : tie.InvT-loop
-Inv-loop buf k n b low₀ top₀ low top = ?
+Inv-loop buf k n b low₀ top₀ low top = Halves buf k n b low top
 
 abbrev μ-loop : tie.MeasureT-loop
-μ-loop buf k n b low₀ top₀ low top = ?
+μ-loop buf k n b low₀ top₀ low top = top - low
 
--- src/lib.rt:133:5
 loop-holds : tie.Need-loop-holds Inv-loop μ-loop
-loop-holds c = ?
+loop-holds c = halves-start _ _ _ _
 
--- src/lib.rt:134:20
 add-mid : tie.Need-add-mid Inv-loop μ-loop
-add-mid c = ?
+add-mid c = search needs
 
--- src/lib.rt:135:29
 add-word : tie.Need-add-word Inv-loop μ-loop
-add-word c = ?
+add-word c = search needs
 
--- src/lib.rt:135:12
 word-requires : tie.Need-word-requires Inv-loop μ-loop
-word-requires c κs = ?
+word-requires c κs = search needs
 
--- src/lib.rt:136:19
 add-low : tie.Need-add-low Inv-loop μ-loop
-add-low c = ?
+add-low c = search needs
 
--- src/lib.rt:133:5
 loop-less : tie.Need-loop-less Inv-loop μ-loop
-loop-less c = ?
+loop-less c = search needs
 
--- src/lib.rt:133:5
 loop-again : tie.Need-loop-again Inv-loop μ-loop
-loop-again c = ?
+loop-again c =
+    let l = c .before .before .before .loop in
+    halves-right _ _ _ _ _ _ _ _ (omega arith) (omega arith) (c .before .word .ensures) (l .inv) (omega arith)
 
--- src/lib.rt:133:5
 loop-less-2 : tie.Need-loop-less-2 Inv-loop μ-loop
-loop-less-2 c = ?
+loop-less-2 c = search needs
 
--- src/lib.rt:133:5
 loop-again-2 : tie.Need-loop-again-2 Inv-loop μ-loop
-loop-again-2 c = ?
+loop-again-2 c =
+    let l = c .before .before .before .loop in
+    halves-left _ _ _ _ _ _ _ _ (omega arith) (omega arith) (c .before .word .ensures) (l .inv) (omega arith)
 
--- src/lib.rt:127:1
 returns : tie.Need-returns Inv-loop μ-loop
-returns c = ?
+returns c = halves-end _ _ _ _ _ _ (omega arith) (c .before .loop .inv)
 
 pub cut-to-spec : {M : Type 1} → statement M
 cut-to-spec =

@@ -1,30 +1,25 @@
-use native.Mathlib.Omega.{arith}
+-- `run_rows::edge_of` meets its contract: the edge is where the last run stops. Assumes nothing.
 use borrow.Author.Needs.{needs}
+use native.Mathlib.Omega.{arith}
+use denote.Ref.{now}
+use Rattle.run_rows.proofs.ReadLaws.{edge-none, edge-some}
 use Rattle.run_rows.proofs.edge_of.Statement.{statement}
 use Rattle.run_rows.proofs.edge_of.Tie as tie
-use Rattle.run_rows.proofs.edge_of.Reads as reads
-use Rattle.run_rows.proofs.edge_of.Lts as lts
-use Rattle.words.proofs.word.Reads as word-reads
 
--- src/lib.rt:28:9
 returns : tie.Need-returns
-returns c = ?
+returns c = let a = c .before .before .args in edge-none (now (a .buf)) (a .rows) (omega arith)
 
--- src/lib.rt:30:36
 sub-word : tie.Need-sub-word
 sub-word c = search needs
 
--- src/lib.rt:30:22
 add-word : tie.Need-add-word
 add-word c = search needs
 
--- src/lib.rt:30:5
 word-requires : tie.Need-word-requires
 word-requires c κs = search needs
 
--- src/lib.rt:22:1
 returns-2 : tie.Need-returns-2
-returns-2 c = ?
+returns-2 c = let a = c .before .before .before .before .args in edge-some (now (a .buf)) (a .rows) _ (omega arith) (c .word .ensures)
 
 pub edge-of-spec : {M : Type 1} → statement M
 edge-of-spec = tie.close (tie.spec returns sub-word add-word word-requires returns-2)

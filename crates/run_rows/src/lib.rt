@@ -23,11 +23,11 @@ pub fn edge_of(buf: &[u8], rows: Rows) -> u64
     requires { ⌜ RowsFit (now buf) rows ⌝ }
     ensures { λ x. ⌜ x ≡ edge (runsIn (now (buf .entry)) rows) ⌝ }
 {
-    let n = rows.count;
-    if n == 0 {
+    let runs = rows.count;
+    if runs == 0 {
         return 0;
     }
-    words::word(buf, rows.stops + (n - 1))
+    words::word(buf, rows.stops + (runs - 1))
 }
 
 // The lowest offset that is not received.
@@ -61,7 +61,8 @@ pub fn hole_count(buf: &[u8], rows: Rows) -> usize
     if n == 0 {
         return 0;
     }
-    if words::word(buf, rows.starts) != 0 {
+    let first = words::word(buf, rows.starts);
+    if first != 0 {
         return n;
     }
     n - 1

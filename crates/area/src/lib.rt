@@ -112,6 +112,61 @@ fn length_ok(width: u64, length: u64) -> bool
     false
 }
 
+// Whether the transfer at place i is fine by itself.
+fn transfer_ok(area: &[u8], i: usize) -> bool
+    requires { ⌜ (areaOctets ≤ length (now area)) × (i < transferPlaces) ⌝ }
+    ensures { λ r. ⌜ r ≡ transferTest (transferAt (now (area .entry)) i) ⌝ }
+{
+    if 4294967296 <= head(area, i, ID) {
+        return false;
+    }
+    let size = head(area, i, LENGTH);
+    if length_ok(head(area, i, WIDTH), size) {
+        let rows = rows_at(area, i);
+        if RUNS < rows.count {
+            return false;
+        }
+        return run_rows::runs_ok(area, rows, size);
+    }
+    false
+}
+
+// Whether the first n transfers are fine, in rising order of their Ids. `least` is the lowest Id that may come next.
+fn transfers_ok(area: &[u8], n: usize) -> bool
+    requires { ⌜ (areaOctets ≤ length (now area)) × (n ≤ transferPlaces) ⌝ }
+    ensures { λ r. ⌜ r ≡ fineTest 0 (transfersFrom (now (area .entry)) 0 n) ⌝ }
+{
+    let mut least: u64 = 0;
+    let mut i: usize = 0;
+    while i < n {
+        let id = head(area, i, ID);
+        if id < least {
+            return false;
+        }
+        if transfer_ok(area, i) {
+            least = id + 1;
+            i += 1;
+        } else {
+            return false;
+        }
+    }
+    true
+}
+
+// Whether the used places of the area hold a table. No is refusal 22.
+pub fn judge(area: &[u8]) -> bool
+    ensures { λ r. ⌜ r ≡ judged (now (area .entry)) ⌝ }
+{
+    if area.len() < AREA_OCTETS {
+        return false;
+    }
+    let n = open_count(area);
+    if TRANSFERS as u64 < n {
+        return false;
+    }
+    transfers_ok(area, n as usize)
+}
+
 // Where an Id is kept, or would be put: the Ids rise.
 pub fn find_place(area: &[u8], id: u64) -> Place
     requires { ⌜ judged (now area) ≡ true ⌝ }

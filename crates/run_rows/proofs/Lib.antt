@@ -1,2 +1,5 @@
 pub mod RowsLaws
+pub mod ReadLaws
 pub mod JudgeLaws
+pub mod LoopLaws
+pub mod CutLaws

@@ -43,9 +43,9 @@ held-exact a t o = ((λ e. (held-valid a t e, held-stored a t o e)), (λ h. ap t
 pub unheld-iff : (a : List ℕ) → Octets a → (tableOf a ≡ none) ↔ ((t : List Transfer) → Valid t → storedIn a t ≡ a → ⊥)
 unheld-iff a o = (
   (λ e t v s.
-  let p : tableOf a ≡ some t = held-exact a t o .1 (v, s) in
-  let z : _≡_ {A = ℕ} 0 1 = cc in
-  omega arith),
+      let p : tableOf a ≡ some t = held-exact a t o .1 (v, s) in
+      let z : _≡_ {A = ℕ} 0 1 = cc in
+      omega arith),
   (λ f. go f (tableOf a) refl),
 )
   where

@@ -5,3 +5,4 @@ pub mod FindLaws
 pub mod SearchLaws
 pub mod AreaLaws
 pub mod OperationLaws
+pub mod LoopLaws

@@ -14,10 +14,11 @@ use borrow.Author.Tests.{lt-ltb, le-ltb, eq-eqb, ne-eqb}
 use Rattle.runs.specs.Runs.{Run, run, nthRun}
 use Rattle.runs.proofs.NumberLaws.{le-or-lt}
 use Rattle.words.specs.Words.{wordAt}
-use Rattle.run_rows.specs.Rows.{runsFrom, runsIn}
+use Rattle.run_rows.specs.Rows.{runsIn, RowsFit}
+use Rattle.run_rows.specs.declared.Rows.{Rows}
 use Rattle.run_rows.proofs.RowsLaws.{length-runs, run-at}
 use Rattle.transfer.specs.Transfers.{Transfer}
-use Rattle.area.specs.Layout.{transferPlaces, runPlaces, headWords, headsAt, startsAt, areaWords, headAt, runAt, countField}
+use Rattle.area.specs.Layout.{transferPlaces, runPlaces, headWords, headsAt, startsAt, areaWords, areaOctets, headAt, runAt, countField}
 use Rattle.area.specs.Places.{keyAt, rowsAt, transferAt, transfersFrom, readTable, unused, nth, field, sideOf, runNumber, Holds}
 use Rattle.area.specs.Stored.{headOr, runOr, wordOr}
 
@@ -150,6 +151,13 @@ side-at a (suc zero) i j l q =
     let e : runAt 1 i j ≡ runAt 1 i 0 + j = omega arith in
     ap (wordAt a) e ∙ ap (λ (r : Run). r .stop) (sym (run-at a (runAt 0 i 0) (runAt 1 i 0) (wordAt a (headAt i countField)) j q))
 side-at a (suc (suc s)) i j l q = absurd (omega arith)
+
+-- the rows at a place lie in the area
+pub rows-fit : (a : List ℕ) (i : ℕ) (r : Rows) → r ≡ rowsAt a i → areaOctets ≤ length a → i < transferPlaces → r .count ≤ runPlaces → RowsFit a r
+rows-fit a i r e long p few =
+    let s : r .starts ≡ runAt 0 i 0 = ap (λ (x : Rows). x .starts) e in
+    let t : r .stops ≡ runAt 1 i 0 = ap (λ (x : Rows). x .stops) e in
+    record { starts-fit = omega arith; stops-fit = omega arith }
 
 -- an area holds what is read from it
 pub read-holds : (a : List ℕ) → Holds a (readTable a)

@@ -12,19 +12,27 @@ use transfer::Key;
 
 // Places for transfers, and for the runs of each.
 pub const TRANSFERS: usize = 16;
+
 pub const RUNS: usize = 64;
 
 // A head: the Id, the width, the length, and the number of runs.
 const HEAD_WORDS: usize = 4;
+
 pub const ID: usize = 0;
+
 pub const WIDTH: usize = 1;
+
 pub const LENGTH: usize = 2;
+
 pub const RUN_COUNT: usize = 3;
 
 // Where the heads begin, the starts of all runs, and their stops, in words of 8 octets; and the octets of the layout.
 const HEADS_AT: usize = 1;
+
 const STARTS_AT: usize = HEADS_AT + TRANSFERS * HEAD_WORDS;
+
 const STOPS_AT: usize = STARTS_AT + TRANSFERS * RUNS;
+
 pub const AREA_OCTETS: usize = (STOPS_AT + TRANSFERS * RUNS) * 8;
 
 // Where an Id is kept, or would be put, and whether it is open.
@@ -161,7 +169,7 @@ pub fn judge(area: &[u8]) -> bool
         return false;
     }
     let n = open_count(area);
-    if TRANSFERS as u64 < n {
+    if (TRANSFERS as u64) < n {
         return false;
     }
     transfers_ok(area, n as usize)

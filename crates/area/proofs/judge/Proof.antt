@@ -1,0 +1,29 @@
+-- `area::judge` meets its contract.
+-- Assumes nothing.
+use native.Mathlib.Omega.{arith}
+use borrow.Author.Needs.{needs}
+use denote.Ref.{now}
+use Rattle.area.proofs.LoopLaws.{judged-short, judged-many, judged-rest}
+use Rattle.area.proofs.judge.Statement.{statement}
+use Rattle.area.proofs.judge.Tie as tie
+
+returns : tie.Need-returns
+returns c = judged-short (now (c .before .before .args .area)) (omega arith)
+
+open-count-requires : tie.Need-open-count-requires
+open-count-requires c κs = search needs
+
+returns-2 : tie.Need-returns-2
+returns-2 c =
+    judged-many (now (c .before .before .before .before .args .area)) _ (omega arith) (c .before .open-count .ensures) (omega arith)
+
+transfers-ok-requires : tie.Need-transfers-ok-requires
+transfers-ok-requires c κs = search needs
+
+returns-3 : tie.Need-returns-3
+returns-3 c =
+    let w = c .before .before .open-count in
+    judged-rest (now (c .before .before .before .before .before .args .area)) (w .result) (omega arith) (w .ensures) _ (omega arith) (c .transfers-ok .ensures)
+
+pub judge-spec : {M : Type 1} → statement M
+judge-spec = tie.close (tie.spec returns open-count-requires returns-2 transfers-ok-requires returns-3)

@@ -75,7 +75,7 @@ module _ (t : List Transfer) (v : Valid t) (id k : ℕ) (unasked : Bool) (old : 
   -- the fields that are written, with the Id i
   abbrev fieldsWith : ℕ → StatusRead
   fieldsWith i = Success (record {
-    flags = statusFlags d (partialSent d k (length old) (holes rs)) (unasked || complete (key .length) rs);
+    flags = statusFlags d (partialSent d k (length old) (length (holes rs))) (unasked || complete (key .length) rs);
     id = i;
     width = d;
     timestamp = 0;

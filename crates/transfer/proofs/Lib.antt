@@ -6,3 +6,5 @@ pub mod StatusPartial
 pub mod StatusFlags
 pub mod StatusReads
 pub mod StatusSays
+pub mod StatusPuts
+pub mod StatusWriter

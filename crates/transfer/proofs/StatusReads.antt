@@ -3,7 +3,7 @@
 use Prim.Native.Nat.{ℕ, suc, _+_, _*_, _-_, _^_, _<_, _≤_}
 use mathlib.Core.Path.{_≡_, refl, sym, ap, _∙_}
 use mathlib.Core.Bool.{Bool, true, false, _||_}
-use mathlib.Core.List.{List, [], _∷_, _++_}
+use mathlib.Core.List.{List, [], _∷_, _++_, append-assoc}
 use native.Mathlib.Nat.{mul-le-mul, mul-div-right, mul-mod-right}
 use native.Mathlib.Omega.{arith}
 use lib.ListN.{length, take, drop, getD}
@@ -28,7 +28,7 @@ use Rattle.runs.proofs.HoleLaws.{apart-drop, apart-take}
 use Rattle.runs.proofs.HolePlaces.{holes-few}
 use Rattle.runs.proofs.ProgressLaws.{progress-edge, holes-between, progress-no-holes, progress-first-hole}
 use Rattle.transfer.specs.Transfers.{Transfer, TransferFine}
-use Rattle.transfer.specs.Status.{holeRoom, holesSent, partialSent, statusFlags, pairs, statusOctets, statusPacket}
+use Rattle.transfer.specs.Status.{holeRoom, holesSent, partialSent, statusFlags, statusFields, pairs, statusOctets, statusPacket}
 use Rattle.transfer.proofs.StatusSize.{holes-sent-count, status-octets-size}
 use Rattle.transfer.proofs.StatusPartial.{whole-sent}
 use Rattle.transfer.proofs.StatusFlags.{bit-test, flags-fit, flags-mark, flags-type, flags-flags, flags-narrow, flags-octets, flags-timestamp, flags-partial, flags-status}
@@ -48,8 +48,9 @@ apart-below n k top (h ∷ hs) l a = (omega arith, omega arith, apart-below n (s
 pub pairs-read : (d at : ℕ) (s : List ℕ) (hs : List Hole) → HolesBelow (256 ^ d) hs → drop at s ≡ pairs d hs → holesOf d (length hs) at s ≡ hs
 unfolding pairs
 pairs-read d at s [] b e = refl
-pairs-read d at s (h ∷ hs) b e =
+pairs-read d at s (h ∷ hs) b f =
     let ends = beDigits d (h .end) ++ pairs d hs in
+    let e : drop at s ≡ beDigits d (h .start) ++ ends = f ∙ append-assoc (beDigits d (h .start)) (beDigits d (h .end)) (pairs d hs) in
     let e2 : drop (at + d) s ≡ ends =
     sym (drop-drop d at s) ∙ ap (drop d) e ∙ drop-at (beDigits d (h .start)) ends d (length-digits d (h .start)) in
     let two : at + 2 * d ≡ at + d + d = omega arith in
@@ -93,7 +94,7 @@ apart-well partial from top (h ∷ hs) l a n f =
 -- ---- a STATUS whose numbers fit their fields
 
 octets-word : (flags id d from to : ℕ) (hs : List Hole) → flags < 2 ^ 24 → wordOf (statusOctets flags id d from to hs) ≡ wordFor 4 flags
-unfolding statusOctets
+unfolding statusOctets statusFields
 octets-word flags id d from to hs h = value-digits 4 (wordFor 4 flags) (omega arith)
 
 module _ (id d from to : ℕ) (p u : Bool) (hs : List Hole) (w : Width d) (id-fits : id < 2 ^ 32) (from-fits : from < 256 ^ d) (to-fits : to < 256 ^ d)
@@ -102,21 +103,24 @@ module _ (id d from to : ℕ) (p u : Bool) (hs : List Hole) (w : Width d) (id-fi
   s = statusOctets (statusFlags d p u) id d from to hs
 
   word : wordOf s ≡ wordFor 4 (statusFlags d p u)
-  word = octets-word (statusFlags d p u) id d from to hs (flags-fit d w p u)
+  word = octets-word (statusFlags d p u) id d from to hs (flags-fit d p u)
 
   ident : idOf s ≡ id
-  unfolding statusOctets
+  unfolding statusOctets statusFields
   ident = value-digits 4 id id-fits
 
   octets : descriptorOctets (wordOf s) ≡ d
-  octets = ap descriptorOctets word ∙ flags-octets d w p u
+  octets = ap descriptorOctets word ∙ flags-octets d p u w
 
   stamp : timestampOctets (wordOf s) ≡ 0
-  stamp = ap timestampOctets word ∙ flags-timestamp d w p u
+  stamp = ap timestampOctets word ∙ flags-timestamp d p u
+
+  after-id : drop 8 s ≡ beDigits d from ++ (beDigits d to ++ pairs d hs)
+  unfolding statusOctets statusFields
+  after-id = append-assoc (beDigits d from) (beDigits d to) (pairs d hs)
 
   after-from : drop (8 + d) s ≡ beDigits d to ++ pairs d hs
-  unfolding statusOctets
-  after-from = sym (drop-drop d 8 s) ∙ drop-at (beDigits d from) (beDigits d to ++ pairs d hs) d (length-digits d from)
+  after-from = sym (drop-drop d 8 s) ∙ ap (drop d) after-id ∙ drop-at (beDigits d from) (beDigits d to ++ pairs d hs) d (length-digits d from)
 
   after-to : drop (8 + 2 * d) s ≡ pairs d hs
   after-to =
@@ -124,9 +128,8 @@ module _ (id d from to : ℕ) (p u : Bool) (hs : List Hole) (w : Width d) (id-fi
       ap (λ (n : ℕ). drop n s) e ∙ sym (drop-drop d (8 + d) s) ∙ ap (drop d) after-from ∙ drop-at (beDigits d to) (pairs d hs) d (length-digits d to)
 
   progress-is : progressOf s ≡ from
-  unfolding statusOctets
   progress-is =
-      rw (octets, stamp)
+      rw (octets, stamp, after-id)
       (ap beValue (take-at (beDigits d from) (beDigits d to ++ pairs d hs) d (length-digits d from)) ∙ value-digits d from from-fits)
 
   response-is : responseOf s ≡ to
@@ -161,24 +164,24 @@ module _ (id d from to : ℕ) (p u : Bool) (hs : List Hole) (w : Width d) (id-fi
           word,
           le-ltb 65535 (length s) (omega (arith, size-lt)),
           le-ltb (length s) 8 (omega (arith, status-octets-size (statusFlags d p u) id d from to hs)),
-          eq-eqb (markOf (wordFor 4 (statusFlags d p u))) 1 (flags-mark d w p u),
-          eq-eqb (typeOf (wordFor 4 (statusFlags d p u))) 4 (flags-type d w p u),
+          eq-eqb (markOf (wordFor 4 (statusFlags d p u))) 1 (flags-mark d p u),
+          eq-eqb (typeOf (wordFor 4 (statusFlags d p u))) 4 (flags-type d p u),
         )
 
     list-well : holesWell (eqb (partialOf (wordOf s)) 1) (progressOf s) (responseOf s) (holeList s) ≡ true
-    list-well = rw (progress-is, response-is, list-is, word, flags-partial d w p u, bit-test p) well
+    list-well = rw (progress-is, response-is, list-is, word, flags-partial d p u, bit-test p) well
 
     success : successRefusal s ≡ 0
     success =
         success-none s (record {
-          narrow = λ e. flags-narrow d w p u (sym (ap widthOf word) ∙ e);
+          narrow = λ e. flags-narrow d p u (sym (ap widthOf word) ∙ e);
           long = omega (arith, holes-at, status-octets-size (statusFlags d p u) id d from to hs);
           whole = rw (list-octets, octets) (mul-mod-right (2 * d) (length hs));
           list = holes-well-means _ _ _ _ list-well;
         })
 
     code : statusOf (wordOf s) ≡ 0
-    code = ap statusOf word ∙ flags-status d w p u
+    code = ap statusOf word ∙ flags-status d p u
 
     octets-accepted : statusRefusal s ≡ 0
     unfolding statusRefusal
@@ -196,7 +199,7 @@ module _ (id d from to : ℕ) (p u : Bool) (hs : List Hole) (w : Width d) (id-fi
     })
     unfolding readStatus successOf
     octets-read =
-        let f : flagsOf (wordOf s) ≡ statusFlags d p u = ap flagsOf word ∙ flags-flags d w p u in
+        let f : flagsOf (wordOf s) ≡ statusFlags d p u = ap flagsOf word ∙ flags-flags d p u in
         rw (octets-accepted, code, f, ident, count-is, progress-is, response-is, holes-at, octets, stamp)
 
 -- ---- the STATUS of a transfer, whatever is skipped and whatever room there is
@@ -212,7 +215,7 @@ module _ (x : Transfer) (k : ℕ) (unasked : Bool) (room : ℕ) (fine : Transfer
   sent = holesSent d k room hs
 
   abbrev partial : Bool
-  partial = partialSent d k room hs
+  partial = partialSent d k room (length hs)
 
   edge-fits : edge (x .runs) < 256 ^ d
   edge-fits = omega (arith, edge-stops (x .key .length) (x .runs) (fine .within), fine .length-fits)
@@ -249,7 +252,7 @@ module _ (x : Transfer) (k : ℕ) (unasked : Bool) (room : ℕ) (fine : Transfer
   -- its first word: bit 14 where holes are left out, bit 15 where it is sent unasked or the transfer is complete
   pub status-word : wordOf packet ≡ wordFor 4 (statusFlags d partial fifteen)
   unfolding statusPacket
-  status-word = octets-word (statusFlags d partial fifteen) _ _ _ _ _ (flags-fit d (fine .width-is) partial fifteen)
+  status-word = octets-word (statusFlags d partial fifteen) _ _ _ _ _ (flags-fit d partial fifteen)
 
   -- the reader takes it
   pub status-accepted : statusRefusal packet ≡ 0
@@ -281,7 +284,7 @@ module _ (x : Transfer) (k : ℕ) (unasked : Bool) (room : ℕ) (fine : Transfer
       list-is (x .key .id) d (progress (x .runs)) (edge (x .runs)) partial fifteen sent (fine .width-is) (fine .id-fits) progress-fits edge-fits sent-below
 
   status-code : statusOf (wordOf packet) ≡ 0
-  status-code = ap statusOf status-word ∙ flags-status d (fine .width-is) partial fifteen
+  status-code = ap statusOf status-word ∙ flags-status d partial fifteen
 
   -- each hole that was written is read by its index, and no other
   pub status-hole-read : (index : ℕ) (default : Hole) → index < length sent → readHole index packet ≡ hole-read.Accepted (getD sent index default)

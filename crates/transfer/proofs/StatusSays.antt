@@ -73,7 +73,7 @@ module _ (x : Transfer) (k : ℕ) (unasked : Bool) (room : ℕ) (fine : Transfer
       ((λ m. h .0 (p .0 m)), (λ m. p .1 (h .1 m)))
 
   -- with bit 14 clear the holes that were written say it alone
-  pub status-says-whole : partialSent d k room hs ≡ false → (o : ℕ) → InHole sent o ↔ ((o < edge rs) × (Member rs o → ⊥))
+  pub status-says-whole : partialSent d k room (length hs) ≡ false → (o : ℕ) → InHole sent o ↔ ((o < edge rs) × (Member rs o → ⊥))
   status-says-whole e o = rw (whole-sent d k room hs e) (hole-iff rs o (fine .canonical))
 
   -- "Progress is the lowest offset not received"
@@ -98,9 +98,9 @@ module _ (x : Transfer) (k : ℕ) (unasked : Bool) (room : ℕ) (fine : Transfer
   -- bit 14 is set exactly when fewer holes are written than there are
   pub status-says-fourteen : (k ≡ 0) ⊎ (k < length hs) → (partialOf word ≡ 1) ↔ (length sent < length hs)
   status-says-fourteen a =
-      let e : partialOf word ≡ bit (partialSent d k room hs) =
-      ap partialOf (status-word x k unasked room fine) ∙ flags-partial d (fine .width-is) (partialSent d k room hs) fifteen in
-      let b = bit-iff (partialSent d k room hs) in
+      let e : partialOf word ≡ bit (partialSent d k room (length hs)) =
+      ap partialOf (status-word x k unasked room fine) ∙ flags-partial d (partialSent d k room (length hs)) fifteen in
+      let b = bit-iff (partialSent d k room (length hs)) in
       let q = partial-iff d k room hs a in
       ((λ z. q .0 (b .0 (sym e ∙ z))), (λ l. e ∙ b .1 (q .1 l)))
 
@@ -108,7 +108,7 @@ module _ (x : Transfer) (k : ℕ) (unasked : Bool) (room : ℕ) (fine : Transfer
   pub status-says-fifteen : (bits 32 word 15 15 ≡ 1) ↔ ((unasked ≡ true) ⊎ ((o : ℕ) → o < x .key .length → Member rs o))
   status-says-fifteen =
       let e : bits 32 word 15 15 ≡ bit fifteen =
-      ap (λ (n : ℕ). bits 32 n 15 15) (status-word x k unasked room fine) ∙ flags-unasked d (fine .width-is) (partialSent d k room hs) fifteen in
+      ap (λ (n : ℕ). bits 32 n 15 15) (status-word x k unasked room fine) ∙ flags-unasked d (partialSent d k room (length hs)) fifteen in
       let b = bit-iff fifteen in
       let o = or-iff unasked (complete (x .key .length) rs) in
       let c = status-says-complete in (

@@ -38,9 +38,9 @@ holeRoom d room = (room - (8 + 2 * d)) / (2 * d)
 unfoldable pub holesSent : ℕ → ℕ → ℕ → List Hole → List Hole
 holesSent d k room hs = take (holeRoom d room) (drop k hs)
 
--- "Bit 14 is set exactly when some hole was skipped or did not fit"
-unfoldable pub partialSent : ℕ → ℕ → ℕ → List Hole → Bool
-partialSent d k room hs = ltb 0 k || ltb (holeRoom d room) (length (drop k hs))
+-- "Bit 14 is set exactly when some hole was skipped or did not fit", of n holes
+unfoldable pub partialSent : ℕ → ℕ → ℕ → ℕ → Bool
+partialSent d k room n = ltb 0 k || ltb (holeRoom d room) (n - k)
 
 -- ---- the packet
 
@@ -56,22 +56,28 @@ widthBits d = cond (eqb d 2) 0 (cond (eqb d 4) 1 2)
 unfoldable pub statusFlags : ℕ → Bool → Bool → ℕ
 statusFlags d partial unasked = widthBits d * 2 ^ 22 + bit partial * 2 ^ 17 + bit unasked * 2 ^ 16
 
+-- what stands before the holes: the word, the Id, Progress and In-Response-To, the last two as descriptors of d octets
+unfoldable pub statusFields : ℕ → ℕ → ℕ → ℕ → ℕ → List ℕ
+statusFields flags id d from to = beDigits 4 (wordFor 4 flags) ++ (beDigits 4 id ++ (beDigits d from ++ beDigits d to))
+
 -- "holes as pairs of start and end", descriptors of d octets
+abbrev pub pair : ℕ → Hole → List ℕ
+pair d h = beDigits d (h .start) ++ beDigits d (h .end)
+
 unfoldable pub pairs : ℕ → List Hole → List ℕ
 pairs d [] = []
-pairs d (h ∷ hs) = beDigits d (h .start) ++ (beDigits d (h .end) ++ pairs d hs)
+pairs d (h ∷ hs) = pair d h ++ pairs d hs
 
 -- a success STATUS of these fields
 unfoldable pub statusOctets : ℕ → ℕ → ℕ → ℕ → ℕ → List Hole → List ℕ
-statusOctets flags id d from to hs =
-    beDigits 4 (wordFor 4 flags) ++ (beDigits 4 id ++ (beDigits d from ++ (beDigits d to ++ pairs d hs)))
+statusOctets flags id d from to hs = statusFields flags id d from to ++ pairs d hs
 
 -- the STATUS of a transfer: "Bit 15 is set if unasked or complete", "In-Response-To is the edge"
 unfoldable pub statusPacket : Key → List Run → ℕ → Bool → ℕ → List ℕ
 statusPacket key rs k unasked room =
     let d = key .width in
     let hs = holes rs in
-    statusOctets (statusFlags d (partialSent d k room hs) (unasked || complete (key .length) rs)) (key .id) d
+    statusOctets (statusFlags d (partialSent d k room (length hs)) (unasked || complete (key .length) rs)) (key .id) d
     (progress rs) (edge rs) (holesSent d k room hs)
 
 -- ---- the writer's answer, and the buffer at exit

@@ -6,6 +6,8 @@ ghost use Rattle.transfer.specs.Record.{keyRefusal};
 use packet_data::Data;
 use packet_metadata::Metadata;
 
+pub mod status;
+
 // What METADATA opens: an Id, a width (the octets of a descriptor), and the length L.
 pub struct Key {
     pub id: u64,

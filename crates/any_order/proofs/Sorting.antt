@@ -9,9 +9,9 @@ use native.Mathlib.Omega.{arith}
 use native.Mathlib.Decide.{ℕ-discrete}
 use lib.Dec.{eqb, ltb}
 use borrow.Author.Tests.{eqb-true, eqb-false, ltb-true, ltb-false, leb-true, leb-false}
-use Rattle.order.specs.Order.{Packet, Call, recordings, idIn, offsetIn, In, Rising, Grouped, TransferByTransfer, earlier, place, sort, sortCalls}
+use Rattle.any_order.specs.Order.{Packet, Call, recordings, idIn, offsetIn, In, Rising, Grouped, TransferByTransfer, earlier, place, sort, sortCalls}
 use Rattle.table.proofs.TableLaws.{by-test}
-use Rattle.order.proofs.FillLaws.{in-perm}
+use Rattle.any_order.proofs.FillLaws.{in-perm}
 
 abbrev Before : Packet → Packet → Type 0
 Before p q = (idIn p < idIn q) ⊎ ((idIn p ≡ idIn q) × (offsetIn p ≤ offsetIn q))

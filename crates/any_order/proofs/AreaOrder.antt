@@ -2,25 +2,34 @@
 -- Assumes nothing.
 use Prim.Native.Nat.{ℕ, _≤_}
 use mathlib.Core.Path.{_≡_, refl, sym, ap, subst, _∙_}
-use mathlib.Core.Bool.{Bool, cond}
+use mathlib.Core.Bool.{Bool}
 use mathlib.Core.List.{List, [], _∷_}
 use mathlib.Core.Option.{Option, some}
 use native.Mathlib.Omega.{arith}
 use lib.ListN.{length}
-use borrow.Author.Tests.{le-ltb}
 use Rattle.refusals.specs.Refusals.{refusalOf}
 use Rattle.transfer.specs.Transfers.{Transfer}
 use Rattle.table.specs.Tables.{Valid}
-use Rattle.table.specs.declared.Finished.the-variants.{Done, Refused}
-use Rattle.area.specs.Image.{areaOctets, storedIn}
+use Rattle.table.specs.Open.{openPacket, openAccepted}
+use Rattle.table.specs.Record.{recordPacket, recordAccepted}
+use Rattle.table.specs.Status.{statusWritten, statusBuffer}
+use Rattle.table.specs.declared.Opened.{Opened}
+use Rattle.table.specs.declared.Opened.the-variants as opened
+use Rattle.table.specs.declared.Recorded.{Recorded}
+use Rattle.table.specs.declared.Recorded.the-variants as recorded
+use Rattle.table.specs.declared.Finished.{Finished}
+use Rattle.area.specs.Layout.{areaOctets}
+use Rattle.area.specs.Stored.{storedIn}
 use Rattle.area.specs.Judge.{tableOf}
-use Rattle.area.specs.Operations.{AreaFinished, freshArea, openFound, openArea, recordFound, recordArea, statusAnswer, statusLeaves, areaStatusWritten, areaStatusBuffer}
-use Rattle.area.proofs.AreaLaws.{stored-holds, length-stored}
-use Rattle.order.specs.Order.{Call, opening, recording, taken, after, Sorted}
-use Rattle.order.specs.Demand3.{callArea, Holds, OrderFree, made, Demand3, Demand3ByTransfer}
+use Rattle.area.specs.Operations.{OnArea, freshArea, openArea, recordArea, fromFound, fromTable, areaStatusWritten, areaStatusBuffer}
+use Rattle.area.proofs.StoredLaws.{stored-held, length-stored}
+use Rattle.area.proofs.AreaLaws.{length-fresh}
+use Rattle.area.proofs.OperationLaws.{on-held, fresh-done, fresh-leaves}
+use Rattle.any_order.specs.Order.{Call, opening, recording, taken, after, Sorted}
+use Rattle.any_order.specs.Demand3.{callArea, Holds, OrderFree, made, Demand3, Demand3ByTransfer}
 use Rattle.table.proofs.ValidLaws.{fresh-valid}
-use Rattle.order.proofs.TableOrder.{callTable, call-valid, table-order}
-use Rattle.order.proofs.Sorting.{sort-sorts}
+use Rattle.any_order.proofs.TableOrder.{callTable, call-valid, table-order}
+use Rattle.any_order.proofs.Sorting.{sort-sorts}
 
 -- ---- two ways to keep the same state
 
@@ -43,15 +52,13 @@ module _ {A T : Type 0} (callA : A → Call → Bool × A) (callT : T → Call �
 -- a call on an area that holds the table t
 call-stored : (a : List ℕ) (t : List Transfer) (c : Call) → tableOf a ≡ some t
     → (callArea a c .0 ≡ callTable t c .0) × (callArea a c .1 ≡ storedIn a (callTable t c .1))
-unfolding callArea callTable openArea openFound recordArea recordFound
-call-stored a t (opening p) e = rw e (refl, refl)
-call-stored a t (recording p) e = rw e (refl, refl)
-
-made-is : (a : List ℕ) → areaOctets ≤ length a → freshArea a ≡ record { answer = Done; area = storedIn a [] }
-unfolding freshArea
-made-is a l =
-    ap (λ (b : Bool). cond b (record { answer = Refused (refusalOf 20); area = a }) (record { answer = Done; area = storedIn a [] }))
-    (le-ltb (length a) areaOctets l)
+unfolding callArea callTable openArea recordArea
+call-stored a t (opening p) e =
+    let o = on-held (opened.Refused (refusalOf 22)) (λ u. openPacket u (p .octets)) a t e in
+    (ap (λ (x : OnArea Opened). openAccepted (x .answer)) o, ap (λ (x : OnArea Opened). x .area) o)
+call-stored a t (recording p) e =
+    let o = on-held (recorded.Refused (refusalOf 22)) (λ u. recordPacket u (p .octets)) a t e in
+    (ap (λ (x : OnArea Recorded). recordAccepted (x .answer)) o, ap (λ (x : OnArea Recorded). x .area) o)
 
 record Keeps (a : List ℕ) (t : List Transfer) : Type 0 where
   long : areaOctets ≤ length a
@@ -59,7 +66,7 @@ record Keeps (a : List ℕ) (t : List Transfer) : Type 0 where
   held : tableOf a ≡ some t
 
 stored-keeps : (a : List ℕ) (t : List Transfer) → areaOctets ≤ length a → Valid t → Keeps (storedIn a t) t
-stored-keeps a t l v = record { long = omega (arith, length-stored a t l); valid = v; held = stored-holds a t v }
+stored-keeps a t l v = record { long = omega (arith, length-stored a t l); valid = v; held = stored-held a t v }
 
 call-keeps : (a : List ℕ) (t : List Transfer) (c : Call) → Keeps a t
     → (callArea a c .0 ≡ callTable t c .0) × Keeps (callArea a c .1) (callTable t c .1)
@@ -68,10 +75,15 @@ call-keeps a t c h =
     (s .0, subst (λ (x : List ℕ). Keeps x (callTable t c .1)) (sym (s .1)) (stored-keeps a (callTable t c .1) (h .long) (call-valid t c (h .valid))))
 
 made-keeps : (a : List ℕ) → areaOctets ≤ length a → Keeps (made a) []
-made-keeps a l = subst (λ (x : AreaFinished). Keeps (x .area) []) (sym (made-is a l)) (stored-keeps a [] l fresh-valid)
+made-keeps a l =
+    record {
+      long = let e = ap (λ (x : OnArea Finished). length (x .area)) (fresh-done a l) in omega (arith, length-fresh a l);
+      valid = fresh-valid;
+      held = fresh-leaves a l;
+    }
 
 area-order : (a b : List ℕ) (cs : List Call) → Keeps a [] → Keeps b [] → OrderFree a b cs
-unfolding areaStatusWritten areaStatusBuffer
+unfolding areaStatusWritten areaStatusBuffer fromTable
 area-order a b cs ka kb =
     let r = table-order cs in
     let e : taken callArea a cs ≡ taken callTable [] cs = same-taken callArea callTable Keeps call-keeps a [] cs ka in
@@ -83,8 +95,8 @@ area-order a b cs ka kb =
           record {
             none-refused = same-taken callArea callTable Keeps call-keeps b [] s kb ∙ r .none-refused s (rw e at σ);
             same-table = same s σ;
-            same-answer = λ id k unasked buffer. ap (λ (o : Option (List Transfer)). statusAnswer o id k unasked buffer) (same s σ);
-            same-buffer = λ id k unasked buffer. ap (λ (o : Option (List Transfer)). statusLeaves o id k unasked buffer) (same s σ);
+            same-answer = λ id k unasked buffer. ap (fromFound _ (λ t. statusWritten t id k unasked buffer)) (same s σ);
+            same-buffer = λ id k unasked buffer. ap (fromFound buffer (λ t. statusBuffer t id k unasked buffer)) (same s σ);
           };
       table = after callTable [] cs;
       valid = kept .valid;
@@ -100,8 +112,8 @@ demand3 a b la lb cs = area-order (made a) (made b) cs (made-keeps a la) (made-k
 pub demand3-by-transfer : Demand3ByTransfer
 demand3-by-transfer a b la lb cs =
     record {
-      first-made = ap (λ (x : AreaFinished). x .answer) (made-is a la);
-      second-made = ap (λ (x : AreaFinished). x .answer) (made-is b lb);
+      first-made = ap (λ (x : OnArea Finished). x .answer) (fresh-done a la);
+      second-made = ap (λ (x : OnArea Finished). x .answer) (fresh-done b lb);
       ends = λ s τ. demand3 a b la lb cs .sorted s (τ .sorted);
       some-order = sort-sorts (taken callArea (made a) cs);
     }

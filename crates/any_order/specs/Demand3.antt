@@ -14,10 +14,10 @@ use Rattle.table.specs.Tables.{Valid, keys, find, runsOf}
 use Rattle.table.specs.Open.{openAccepted}
 use Rattle.table.specs.Record.{recordAccepted}
 use Rattle.table.specs.declared.Finished.the-variants.{Done}
-use Rattle.area.specs.Image.{areaOctets}
+use Rattle.area.specs.Layout.{areaOctets}
 use Rattle.area.specs.Judge.{tableOf}
 use Rattle.area.specs.Operations.{freshArea, openArea, recordArea, areaStatusWritten, areaStatusBuffer}
-use Rattle.order.specs.Order.{Call, opening, recording, openings, recordings, taken, after, Covered, Brought, Sorted, TransferByTransfer, sortCalls}
+use Rattle.any_order.specs.Order.{Call, opening, recording, openings, recordings, taken, after, Covered, Brought, Sorted, TransferByTransfer, sortCalls}
 
 -- a call on an area: whether it is accepted, and the area at exit
 unfoldable pub callArea : List ℕ → Call → Bool × List ℕ

@@ -15,7 +15,7 @@ use Rattle.runs.specs.Runs.{Run, Member, Canonical, insert}
 use Rattle.runs.proofs.CanonicalLaws.{canonical-unique}
 use Rattle.runs.proofs.InsertLaws.{insert-member, insert-canonical}
 use Rattle.runs.proofs.RisingLaws.{StartsTo, starts-weaken, insert-starts, insert-grows}
-use Rattle.order.specs.Order.{Packet, idIn, offsetIn, stopIn, In, Covered, Rising}
+use Rattle.any_order.specs.Order.{Packet, idIn, offsetIn, stopIn, In, Covered, Rising}
 
 pub in-perm : {A : Type 0} (x : A) {p q : List A} → List·Permᴰ p q → In x p → In x q
 in-perm x List·Permᴰ·nil m = m

@@ -23,8 +23,8 @@ use Rattle.transfer.specs.Transfers.{Transfer, keyOf}
 use Rattle.table.specs.Tables.{Valid, keys, find, runsOf, add, setRuns}
 use Rattle.table.specs.Open.{openPacket, openAccepted}
 use Rattle.table.specs.Record.{dataJudged, grown, recordPacket, recordAccepted}
-use Rattle.order.specs.Order.{Packet, Call, opening, recording, openings, recordings, taken, after, idRead, offsetRead, stopRead, idIn, offsetIn, stopIn, In, Brings, Brought, Rising, Sorted}
-use Rattle.order.specs.Demand3.{Holds}
+use Rattle.any_order.specs.Order.{Packet, Call, opening, recording, openings, recordings, taken, after, idRead, offsetRead, stopRead, idIn, offsetIn, stopIn, In, Brings, Brought, Rising, Sorted}
+use Rattle.any_order.specs.Demand3.{Holds}
 use Rattle.table.proofs.TableLaws.{find-add-same, find-add-other, keys-set, runs-add, runs-set-same, runs-set-other}
 use Rattle.table.proofs.FineLaws.{table-unique}
 use Rattle.table.proofs.OpenLaws.{open-cases, open-alike}
@@ -32,7 +32,7 @@ use Rattle.table.proofs.RecordLaws.{record-cases, record-taken}
 use Rattle.table.proofs.OtherLaws.{open-kept, record-kept}
 use Rattle.transfer.proofs.FieldLaws.{data-some}
 use Rattle.table.proofs.ValidLaws.{fresh-valid, open-valid, record-valid}
-use Rattle.order.proofs.FillLaws.{in-perm, one, one-same, one-other, one-cases, one-canonical, fill, fill-nil, fill-only, fill-holds, fill-same, fill-grows, Ahead, ahead-one}
+use Rattle.any_order.proofs.FillLaws.{in-perm, one, one-same, one-other, one-cases, one-canonical, fill, fill-nil, fill-only, fill-holds, fill-same, fill-grows, Ahead, ahead-one}
 use Rattle.table.specs.Outcome.{Outcome}
 use Rattle.table.specs.declared.Opened.{Opened}
 use Rattle.table.specs.declared.Recorded.{Recorded}

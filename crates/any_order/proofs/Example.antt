@@ -19,8 +19,8 @@ use Rattle.transfer.specs.Transfers.{Transfer}
 use Rattle.table.specs.Tables.{keys, find, runsOf, add, setRuns}
 use Rattle.table.specs.Open.{judgeFound, judgeOpen, openAs, openKey, openRead, openPacket}
 use Rattle.table.specs.Record.{dataJudged, recordRefusal, grown, recordAs, recordData, recordRead, recordPacket}
-use Rattle.order.specs.Order.{Packet, Call, opening, recording, openings, recordings, taken, after, idRead, offsetRead, place, sort, sortCalls}
-use Rattle.order.proofs.TableOrder.{callTable}
+use Rattle.any_order.specs.Order.{Packet, Call, opening, recording, openings, recordings, taken, after, idRead, offsetRead, place, sort, sortCalls}
+use Rattle.any_order.proofs.TableOrder.{callTable}
 
 -- ---- packets
 

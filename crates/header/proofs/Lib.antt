@@ -1,2 +1,3 @@
+pub mod DescriptorLaws
 pub mod StartLaws
 pub mod WordLaws

@@ -1,9 +1,11 @@
-// The first word of a packet by shifts and masks, and what all packets begin with.
+// The first word of a packet by shifts and masks, what all packets begin with, and a descriptor at a place.
 ghost use mathlib.Core.Path.{_≡_};
-ghost use Prim.Native.Nat.{_*_, _<_, _≤_, _^_};
+ghost use Prim.Native.Nat.{_+_, _*_, _<_, _≤_, _^_};
 ghost use lib.ListN.{length};
+ghost use Rattle.octets.specs.Numbers.{Width};
 ghost use Rattle.header.specs.Word.{Splits, descriptorOctets, timestampOctets, wordFor};
 ghost use Rattle.header.specs.Start.{wordOf, idOf, startRefusal, typeRefusal, fileRefusal};
+ghost use Rattle.header.specs.Descriptor.{descriptorAt, descriptorRefusal};
 
 // The fields of a packet's first word. What some of them mean depends on the packet's type.
 pub struct Head {
@@ -87,6 +89,25 @@ pub fn timestamp_octets(w: u64) -> usize
 {
     let h = split(w);
     16 * (h.stamped as usize)
+}
+
+// The refusal of the descriptor of d octets from `at` on; 0 for none.
+pub fn descriptor_refusal(s: &[u8], at: usize, d: usize) -> u64
+    requires { ⌜ at + d < 2 ^ 64 ⌝ }
+    ensures { λ r. ⌜ r ≡ descriptorRefusal d at (now (s .entry)) ⌝ }
+{
+    if s.len() < at + d {
+        return 1;
+    }
+    0
+}
+
+// The value of the descriptor of d octets from `at` on.
+pub fn descriptor(s: &[u8], at: usize, d: usize) -> u64
+    requires { ⌜ Width d × (at + d ≤ length (now s)) ⌝ }
+    ensures { λ r. ⌜ r ≡ descriptorAt d at (now (s .entry)) ⌝ }
+{
+    octets::read_number(s, at, d)
 }
 
 // Refusals 2, 1, 3 of any packet; 0 for none.

@@ -53,10 +53,11 @@ pub fn data_refusal(p: &[u8]) -> u64
     if f != 0 {
         return f;
     }
-    let start = payload_at(w);
-    if p.len() < start {
-        return 1;
+    let g = header::descriptor_refusal(p, offset_at(w), header::descriptor_octets(w));
+    if g != 0 {
+        return g;
     }
+    let start = payload_at(w);
     if p.len() == start {
         return 10;
     }
@@ -79,7 +80,7 @@ pub fn data_fields(p: &[u8]) -> Data
         timestamp: header::timestamp_octets(w),
         wanted: h.wanted,
         eod: h.eod,
-        offset: octets::read_number(p, offset_at(w), width),
+        offset: header::descriptor(p, offset_at(w), width),
         start,
         length: p.len() - start,
     }

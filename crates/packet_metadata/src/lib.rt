@@ -68,13 +68,13 @@ pub fn metadata_refusal(p: &[u8]) -> u64
         return n;
     }
     let w = header::word(p);
-    let f = header::file_refusal(w);
-    if f != 0 {
-        return f;
+    let file = header::file_refusal(w);
+    let pair = pair_refusal(w);
+    if file != 0 {
+        return file;
     }
-    let g = pair_refusal(w);
-    if g != 0 {
-        return g;
+    if pair != 0 {
+        return pair;
     }
     let at = 8 + checksum_octets(w);
     if p.len() < at {

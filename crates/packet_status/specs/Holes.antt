@@ -3,15 +3,14 @@
 use Prim.Native.Nat.{ℕ, zero, suc, _+_, _*_}
 use mathlib.Core.Bool.{Bool, true, cond, _&&_}
 use mathlib.Core.List.{List, [], _∷_}
-use lib.ListN.{take, drop}
 use lib.Dec.{ltb, leb, eqb}
-use Rattle.octets.specs.Numbers.{beValue}
+use Rattle.header.specs.Descriptor.{descriptorAt}
 use Rattle.runs.specs.declared.Hole.{Hole}
 
 -- "A hole's end ... is the first offset after what it closes."
 -- The pair of descriptors of d octets that stands at the place `at`
 abbrev pub holeAt : ℕ → ℕ → List ℕ → Hole
-holeAt d at xs = record { start = beValue (take d (drop at xs)); end = beValue (take d (drop (at + d) xs)) }
+holeAt d at xs = record { start = descriptorAt d at xs; end = descriptorAt d (at + d) xs }
 
 -- "holes as pairs of start and end": the n holes from the place `at` on
 abbrev pub holesOf : ℕ → ℕ → ℕ → List ℕ → List Hole

@@ -3,12 +3,12 @@
 use Prim.Native.Nat.{ℕ, zero, suc, _+_, _*_, _-_, _/_, _%_}
 use mathlib.Core.Bool.{not}
 use mathlib.Core.List.{List}
-use lib.ListN.{length, take, drop}
+use lib.ListN.{length}
 use lib.Dec.{ltb, eqb}
-use Rattle.octets.specs.Numbers.{beValue}
 use Rattle.refusals.specs.Refusals.{_▹_, when, refusalOf}
 use Rattle.header.specs.Word.{flagsOf, widthOf, descriptorOctets, timestampOctets, partialOf, statusOf}
 use Rattle.header.specs.Start.{wordOf, idOf, typeRefusal}
+use Rattle.header.specs.Descriptor.{descriptorAt, descriptorRefusal}
 use Rattle.packet_status.specs.Holes.{holeAt, holesOf, holesWell}
 use Rattle.runs.specs.declared.Hole.{Hole}
 use Rattle.packet_status.specs.declared.HoleRead.{HoleRead}
@@ -29,10 +29,10 @@ abbrev pub holesAt : ℕ → ℕ
 holesAt w = progressAt w + 2 * descriptorOctets w
 
 abbrev pub progressOf : List ℕ → ℕ
-progressOf s = beValue (take (descriptorOctets (wordOf s)) (drop (progressAt (wordOf s)) s))
+progressOf s = descriptorAt (descriptorOctets (wordOf s)) (progressAt (wordOf s)) s
 
 abbrev pub responseOf : List ℕ → ℕ
-responseOf s = beValue (take (descriptorOctets (wordOf s)) (drop (responseAt (wordOf s)) s))
+responseOf s = descriptorAt (descriptorOctets (wordOf s)) (responseAt (wordOf s)) s
 
 -- the octets that follow In-Response-To
 abbrev pub listOctets : List ℕ → ℕ
@@ -51,11 +51,13 @@ listRefusal s =
     when (not (eqb (listOctets s % (2 * descriptorOctets (wordOf s))) 0)) 11
     ▹ when (not (holesWell (eqb (partialOf (wordOf s)) 1) (progressOf s) (responseOf s) (holeList s))) 11
 
--- a success STATUS after the Id: 5, 1 for timestamp, Progress and In-Response-To, 11
+-- a success STATUS after the Id: 5, 1 for timestamp and Progress (a packet that ends inside the first has not all of the
+-- second), 1 for In-Response-To, 11
 unfoldable pub successRefusal : List ℕ → ℕ
 successRefusal s =
     when (eqb (widthOf (wordOf s)) 3) 5
-    ▹ when (ltb (length s) (holesAt (wordOf s))) 1
+    ▹ descriptorRefusal (descriptorOctets (wordOf s)) (progressAt (wordOf s)) s
+    ▹ descriptorRefusal (descriptorOctets (wordOf s)) (responseAt (wordOf s)) s
     ▹ listRefusal s
 
 -- the order in reading: 2, 1, 3, 4; "a failure STATUS is then accepted": "If the code isn't 0, reading stops after the Id

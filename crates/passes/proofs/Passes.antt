@@ -6,6 +6,7 @@ use Rattle.passes.proofs.EmptyFile.{empty-never, empty-fourteen}
 use Rattle.passes.specs.Passes.{Passes, twoParts, emptyFile, oneAfterOther, late, scattered, longest, numbered}
 use Rattle.octets.specs.Put.{put}
 use Rattle.header.specs.Start.{startRefusal, typeRefusal, fileRefusal}
+use Rattle.header.specs.Descriptor.{descriptorRefusal}
 use Rattle.directory_entry.specs.Properties.{propertyRefusal}
 use Rattle.directory_entry.specs.Path.{pathRefusal}
 use Rattle.directory_entry.specs.Entry.{entryRefusal, entryOf}
@@ -23,7 +24,7 @@ use Rattle.table.specs.Status.{statusWriteRefusal, statusFor, statusSent, statu
 use Rattle.transfer.specs.Status.{holeRoom, holesSent, partialSent, widthBits, statusFlags, pairs, statusOctets, statusPacket}
 
 pub passes : Passes
-unfolding twoParts emptyFile oneAfterOther late scattered longest numbered put startRefusal typeRefusal fileRefusal propertyRefusal pathRefusal entryRefusal entryOf pairAllowed pairRefusal metadataRefusal metadataOf readMetadata dataRefusal dataOf readData insert edgeFrom holesFrom progress complete keys find runsOf add setRuns remove reached judgeFound judgeOpen openAs openKey openRead openPacket dataJudged recordRefusal grown recordAs recordData recordRead recordPacket closeFound closeId statusWriteRefusal holeRoom holesSent partialSent widthBits statusFlags pairs statusOctets statusPacket statusFor statusSent statusWritten statusBuffer
+unfolding twoParts emptyFile oneAfterOther late scattered longest numbered put startRefusal typeRefusal fileRefusal descriptorRefusal propertyRefusal pathRefusal entryRefusal entryOf pairAllowed pairRefusal metadataRefusal metadataOf readMetadata dataRefusal dataOf readData insert edgeFrom holesFrom progress complete keys find runsOf add setRuns remove reached judgeFound judgeOpen openAs openKey openRead openPacket dataJudged recordRefusal grown recordAs recordData recordRead recordPacket closeFound closeId statusWriteRefusal holeRoom holesSent partialSent widthBits statusFlags pairs statusOctets statusPacket statusFor statusSent statusWritten statusBuffer
 passes =
     record {
       hole-reported = (refl, refl, refl);

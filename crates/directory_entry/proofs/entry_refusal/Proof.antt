@@ -2,12 +2,13 @@
 use Prim.Native.Nat.{ℕ, _+_, _^_, _≤_}
 use mathlib.Core.Path.{_≡_, sym, ap, _∙_}
 use denote.Ref.{now}
-use lib.ListN.{length, take, drop}
+use lib.ListN.{length, drop}
 use lib.Dec.{ltb}
 use borrow.Author.Tests.{lt-ltb, le-ltb, not-true, not-false}
-use Rattle.octets.specs.Numbers.{beValue}
 use Rattle.octets.specs.Numbers.Width.{two}
 use Rattle.refusals.proofs.RefusalLaws.{stays}
+use Rattle.header.specs.Descriptor.{descriptorAt, descriptorRefusal}
+use Rattle.header.proofs.DescriptorLaws.{descriptor-there}
 use Rattle.directory_entry.specs.Properties.{sizeOctets, pathAt, propertyRefusal}
 use Rattle.directory_entry.specs.Path.{pathRefusal}
 use Rattle.directory_entry.specs.Entry.{propertiesOf, sizeOf, afterTimes, entryRefusal}
@@ -47,15 +48,35 @@ known c =
     let k : c .size-octets .result ≡ sizeOctets (propertiesOf (now (c .before .before .before .before .before .before .args .e))) = c .size-octets .ensures ∙ ap (λ (x : ℕ). sizeOctets x) (c .before .before .before .read-number .ensures) in
     (k, omega (arith, size-le (propertiesOf (now (c .before .before .before .before .before .before .args .e)))), omega (arith, property (c .before .before)))
 
-add-at : tie.Need-add-at
-add-at c = omega (arith, known c)
+descriptor-refusal-requires : tie.Need-descriptor-refusal-requires
+descriptor-refusal-requires c κs = omega (arith, known c)
+
+judged : (c : tie.After-descriptor-refusal)
+    → let e = now (c .before .before .before .before .before .before .before .args .e) in
+    c .descriptor-refusal .result ≡ descriptorRefusal (sizeOctets (propertiesOf e)) 2 e
+judged c = c .descriptor-refusal .ensures ∙ rw (known (c .before) .0)
 
 returns-3 : tie.Need-returns-3
 unfolding entryRefusal
 returns-3 c =
-    let e = now (c .before .before .before .before .before .before .before .args .e) in
-    let k = known (c .before) in
-    rw (le-ltb (length e) 2 (omega arith), k .2, lt-ltb (length e) (pathAt (propertiesOf e)) (omega arith))
+    let e = now (c .before .before .before .before .before .before .before .before .args .e) in
+    let k = known (c .before .before) in
+    let j = judged (c .before) in
+    rw (le-ltb (length e) 2 (omega arith), k .2) (j ∙ sym (stays (descriptorRefusal (sizeOctets (propertiesOf e)) 2 e) _ (omega arith)))
+
+-- the size is all there
+there : (c : tie.Else3) → let e = now (c .before .before .before .before .before .before .before .before .args .e) in descriptorRefusal (sizeOctets (propertiesOf e)) 2 e ≡ 0
+there c = omega (arith, judged (c .before))
+
+add-at : tie.Need-add-at
+add-at c = omega (arith, known (c .before .before))
+
+returns-4 : tie.Need-returns-4
+unfolding entryRefusal
+returns-4 c =
+    let e = now (c .before .before .before .before .before .before .before .before .before .args .e) in
+    let k = known (c .before .before .before) in
+    rw (le-ltb (length e) 2 (omega arith), k .2, there (c .before), lt-ltb (length e) (pathAt (propertiesOf e)) (omega arith))
 
 sub-path-refusal : tie.Need-sub-path-refusal
 sub-path-refusal c = search needs
@@ -69,50 +90,69 @@ part-path-refusal-end c = search needs
 path-refusal-requires : tie.Need-path-refusal-requires
 path-refusal-requires c κs = search needs
 
-path : (c : tie.After-path-refusal) → c .path-refusal .result ≡ pathRefusal (afterTimes (now (c .before .before .before .before .before .before .before .before .before .args .e)))
+path : (c : tie.After-path-refusal) → c .path-refusal .result ≡ pathRefusal (afterTimes (now (c .before .before .before .before .before .before .before .before .before .before .before .args .e)))
 path c =
-    let e = now (c .before .before .before .before .before .before .before .before .before .args .e) in
-    c .path-refusal .ensures ∙ ap pathRefusal (rest-part e (10 + c .before .before .before .size-octets .result) ∙ ap (λ (n : ℕ). drop (10 + n) e) (known (c .before .before .before) .0))
-
-returns-4 : tie.Need-returns-4
-unfolding entryRefusal
-returns-4 c =
-    let e = now (c .before .before .before .before .before .before .before .before .before .before .args .e) in
-    let k = known (c .before .before .before .before) in
-    let p = path (c .before) in
-    rw (le-ltb (length e) 2 (omega arith), k .2, le-ltb (length e) (pathAt (propertiesOf e)) (omega arith))
-    (p ∙ sym (stays (pathRefusal (afterTimes e)) _ (omega arith)))
-
-read-number-requires-2 : tie.Need-read-number-requires-2
-read-number-requires-2 c κs =
-    let k = known (c .before .before .before .before) in
-    let f = properties-fine (propertiesOf (now (c .before .before .before .before .before .before .before .before .before .before .args .e))) (k .2) in
-    (rw (k .0) (f .octets), omega arith)
-
-fits-requires : tie.Need-fits-requires
-fits-requires c κs = search needs
-
-size : (c : tie.After-fits2) → ltb (sizeOf (now (c .before .before .before .before .before .before .before .before .before .before .before .before .args .e))) (256 ^ c .before .before .before .before .before .before .before .before .before .before .before .before .args .d) ≡ c .fits2 .result
-size c =
-    let e = now (c .before .before .before .before .before .before .before .before .before .before .before .before .args .e) in
-    sym (c .fits2 .ensures ∙ ap (λ (n : ℕ). ltb n (256 ^ c .before .before .before .before .before .before .before .before .before .before .before .before .args .d)) (c .before .read-number2 .ensures ∙ ap (λ (n : ℕ). beValue (take n (drop 2 e))) (known (c .before .before .before .before .before .before) .0)))
-
-passed : (c : tie.After-fits2) → pathRefusal (afterTimes (now (c .before .before .before .before .before .before .before .before .before .before .before .before .args .e))) ≡ 0
-passed c = omega (arith, path (c .before .before .before))
+    let e = now (c .before .before .before .before .before .before .before .before .before .before .before .args .e) in
+    let p = c .before .before .before .before .before in
+    c .path-refusal .ensures ∙ ap pathRefusal (rest-part e (10 + p .size-octets .result) ∙ ap (λ (n : ℕ). drop (10 + n) e) (known p .0))
 
 returns-5 : tie.Need-returns-5
 unfolding entryRefusal
 returns-5 c =
-    let e = now (c .before .before .before .before .before .before .before .before .before .before .before .before .before .args .e) in
-    let k = known (c .before .before .before .before .before .before .before) in
-    rw (le-ltb (length e) 2 (omega arith), k .2, le-ltb (length e) (pathAt (propertiesOf e)) (omega arith), passed (c .before), size (c .before), not-true (c .before .fits2 .result) (c .if5 .taken))
+    let e = now (c .before .before .before .before .before .before .before .before .before .before .before .before .args .e) in
+    let k = known (c .before .before .before .before .before .before) in
+    let p = path (c .before) in
+    rw (le-ltb (length e) 2 (omega arith), k .2, there (c .before .before .before .before), le-ltb (length e) (pathAt (propertiesOf e)) (omega arith))
+    (p ∙ sym (stays (pathRefusal (afterTimes e)) _ (omega arith)))
+
+descriptor-requires : tie.Need-descriptor-requires
+descriptor-requires c κs =
+    let e = now (c .before .before .before .before .before .before .before .before .before .before .before .before .args .e) in
+    let k = known (c .before .before .before .before .before .before) in
+    let f = properties-fine (propertiesOf e) (k .2) in
+    (rw (k .0) (f .octets), rw (k .0) (descriptor-there (sizeOctets (propertiesOf e)) 2 e (there (c .before .before .before .before))))
+
+fits-requires : tie.Need-fits-requires
+fits-requires c κs = search needs
+
+size : (c : tie.After-fits2) → ltb (sizeOf (now (c .before .before .before .before .before .before .before .before .before .before .before .before .before .before .args .e))) (256 ^ c .before .before .before .before .before .before .before .before .before .before .before .before .before .before .args .d) ≡ c .fits2 .result
+size c =
+    let e = now (c .before .before .before .before .before .before .before .before .before .before .before .before .before .before .args .e) in
+    let d = c .before .before .before .before .before .before .before .before .before .before .before .before .before .before .args .d in
+    sym (c .fits2 .ensures ∙ ap (λ (n : ℕ). ltb n (256 ^ d)) (c .before .descriptor .ensures ∙ ap (λ (n : ℕ). descriptorAt n 2 e) (known (c .before .before .before .before .before .before .before .before) .0)))
+
+passed : (c : tie.After-fits2) → pathRefusal (afterTimes (now (c .before .before .before .before .before .before .before .before .before .before .before .before .before .before .args .e))) ≡ 0
+passed c = omega (arith, path (c .before .before .before))
 
 returns-6 : tie.Need-returns-6
 unfolding entryRefusal
 returns-6 c =
-    let e = now (c .before .before .before .before .before .before .before .before .before .before .before .before .before .args .e) in
-    let k = known (c .before .before .before .before .before .before .before) in
-    rw (le-ltb (length e) 2 (omega arith), k .2, le-ltb (length e) (pathAt (propertiesOf e)) (omega arith), passed (c .before), size (c .before), not-false (c .before .fits2 .result) (c .if5 .left))
+    let e = now (c .before .before .before .before .before .before .before .before .before .before .before .before .before .before .before .args .e) in
+    let k = known (c .before .before .before .before .before .before .before .before .before) in
+    rw (
+      le-ltb (length e) 2 (omega arith),
+      k .2,
+      there (c .before .before .before .before .before .before .before),
+      le-ltb (length e) (pathAt (propertiesOf e)) (omega arith),
+      passed (c .before),
+      size (c .before),
+      not-true (c .before .fits2 .result) (c .if6 .taken),
+    )
+
+returns-7 : tie.Need-returns-7
+unfolding entryRefusal
+returns-7 c =
+    let e = now (c .before .before .before .before .before .before .before .before .before .before .before .before .before .before .before .args .e) in
+    let k = known (c .before .before .before .before .before .before .before .before .before) in
+    rw (
+      le-ltb (length e) 2 (omega arith),
+      k .2,
+      there (c .before .before .before .before .before .before .before),
+      le-ltb (length e) (pathAt (propertiesOf e)) (omega arith),
+      passed (c .before),
+      size (c .before),
+      not-false (c .before .fits2 .result) (c .if6 .left),
+    )
 
 pub entry-refusal-spec : {M : Type 1} → statement M
 entry-refusal-spec =
@@ -123,14 +163,16 @@ entry-refusal-spec =
     property-refusal-requires
     returns-2
     size-octets-requires
-    add-at
+    descriptor-refusal-requires
     returns-3
+    add-at
+    returns-4
     sub-path-refusal
     part-path-refusal-start
     part-path-refusal-end
     path-refusal-requires
-    returns-4
-    read-number-requires-2
-    fits-requires
     returns-5
-    returns-6)
+    descriptor-requires
+    fits-requires
+    returns-6
+    returns-7)

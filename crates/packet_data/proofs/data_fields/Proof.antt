@@ -32,8 +32,8 @@ timestamp-octets-requires c κs = search needs
 offset-at-requires : tie.Need-offset-at-requires
 offset-at-requires c κs = search needs
 
-read-number-requires : tie.Need-read-number-requires
-read-number-requires c κs =
+descriptor-requires : tie.Need-descriptor-requires
+descriptor-requires c κs =
     let s = now (c .before .before .before .before .before .before .before .before .args .p) in
     let f = data-fine s (c .before .before .before .before .before .before .before .before .pre) in
     let w : c .before .before .before .before .before .before .word .result ≡ wordOf s = c .before .before .before .before .before .before .word .ensures in
@@ -59,7 +59,7 @@ returns c =
     let t : c .before .before .timestamp-octets .result ≡ timestampOctets (wordOf s) = c .before .before .timestamp-octets .ensures ∙ ap timestampOctets w in
     let o : c .before .offset-at .result ≡ offsetAt (wordOf s) = c .before .offset-at .ensures ∙ ap offsetAt w in
     let p : c .before .before .before .before .payload-at .result ≡ payloadAt (wordOf s) = c .before .before .before .before .payload-at .ensures ∙ ap payloadAt w in
-    simp (f, q, e, t, c .before .before .before .id .ensures, c .read-number .ensures, o, d, p)
+    simp (f, q, e, t, c .before .before .before .id .ensures, c .descriptor .ensures, o, d, p)
 
 pub data-fields-spec : {M : Type 1} → statement M
 data-fields-spec =
@@ -72,6 +72,6 @@ data-fields-spec =
     id-requires
     timestamp-octets-requires
     offset-at-requires
-    read-number-requires
+    descriptor-requires
     sub-t11
     returns)

@@ -55,14 +55,14 @@ add-holes c = omega (arith, octets-le (c .before .before .before .word .result))
 id-requires : tie.Need-id-requires
 id-requires c κs = search needs
 
-read-number-requires : tie.Need-read-number-requires
-read-number-requires c κs = let k = known (c .before) in (k .4, omega arith)
+descriptor-requires : tie.Need-descriptor-requires
+descriptor-requires c κs = let k = known (c .before) in (k .4, omega arith)
 
-add-read-number : tie.Need-add-read-number
-add-read-number c = let k = known (c .before .before) in omega arith
+add-descriptor : tie.Need-add-descriptor
+add-descriptor c = let k = known (c .before .before) in omega arith
 
-read-number-requires-2 : tie.Need-read-number-requires-2
-read-number-requires-2 c κs = let k = known (c .before .before) in (k .4, omega arith)
+descriptor-requires-2 : tie.Need-descriptor-requires-2
+descriptor-requires-2 c κs = let k = known (c .before .before) in (k .4, omega arith)
 
 sub-t13 : tie.Need-sub-t13
 sub-t13 c = let k = known (c .before .before .before) in omega arith
@@ -77,7 +77,7 @@ returns : tie.Need-returns
 unfolding successOf
 returns c =
     let k = known (c .before .before .before) in
-    rw (c .before .before .id .ensures, c .before .read-number .ensures, c .read-number2 .ensures, c .before .before .before .before .before .split .ensures .flags-is, k .0, k .1, k .2)
+    rw (c .before .before .id .ensures, c .before .descriptor .ensures, c .descriptor2 .ensures, c .before .before .before .before .before .split .ensures .flags-is, k .0, k .1, k .2)
 
 pub success-fields-spec : {M : Type 1} → statement M
 success-fields-spec =
@@ -91,9 +91,9 @@ success-fields-spec =
     mul-holes
     add-holes
     id-requires
-    read-number-requires
-    add-read-number
-    read-number-requires-2
+    descriptor-requires
+    add-descriptor
+    descriptor-requires-2
     sub-t13
     mul-t14
     div-t15

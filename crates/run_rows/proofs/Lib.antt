@@ -3,3 +3,4 @@ pub mod ReadLaws
 pub mod JudgeLaws
 pub mod LoopLaws
 pub mod CutLaws
+pub mod SpliceLaws

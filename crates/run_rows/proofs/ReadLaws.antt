@@ -7,9 +7,10 @@ use mathlib.Core.Logic.{⊎-elim}
 use native.Mathlib.Omega.{arith}
 use native.Mathlib.Nat.{add-zero}
 use lib.ListN.{length, getD}
+use lib.Dec.{leb}
 use borrow.Author.Tests.{eq-eqb, ne-eqb, lt-ltb, le-ltb}
-use Rattle.runs.specs.Runs.{nthRun, Canonical}
-use Rattle.runs.specs.Holes.{edgeFrom, edge, hole, holesFrom, holes, progress}
+use Rattle.runs.specs.Runs.{Run, nthRun, Canonical}
+use Rattle.runs.specs.Holes.{edgeFrom, edge, hole, holesFrom, holes, progress, complete}
 use Rattle.runs.specs.Splice.{lowOf, highOf}
 use Rattle.runs.proofs.NumberLaws.{le-or-lt}
 use Rattle.runs.proofs.RunPlaces.{edge-is-last-stop, progress-by-first}
@@ -18,6 +19,11 @@ use Rattle.words.specs.Words.{wordAt}
 use Rattle.run_rows.specs.Rows.{runsFrom, runsIn}
 use Rattle.run_rows.specs.declared.Rows.{Rows}
 use Rattle.run_rows.proofs.RowsLaws.{length-runs, start-at, stop-at}
+
+-- what is complete, by the progress
+pub complete-by : (L p : ℕ) (rs : List Run) → p ≡ progress rs → leb L p ≡ complete L rs
+unfolding complete
+complete-by L p rs e = ap (leb L) e
 
 module _ (a : List ℕ) (r : Rows) where
   size-is : length (runsIn a r) ≡ r .count

@@ -1,10 +1,10 @@
 // Runs kept in a buffer as two rows of words, read where they are.
 ghost use mathlib.Core.Path.{_≡_};
-ghost use Prim.Native.Nat.{_+_, _*_, _-_, _≤_, _<_};
+ghost use Prim.Native.Nat.{_+_, _*_, _≤_, _<_};
 ghost use lib.ListN.{length, getD};
 ghost use Rattle.runs.specs.Holes.{edge, hole, holes, progress, complete};
 ghost use Rattle.runs.specs.Splice.{lowOf, highOf};
-ghost use Rattle.run_rows.specs.Rows.{runsFrom, runsIn, RowsFit, RowsFine, CutTo, CutBelow};
+ghost use Rattle.run_rows.specs.Rows.{runsIn, RowsFit, RowsFine, CutTo, CutBelow};
 ghost use Rattle.run_rows.specs.Judge.{runsTest};
 use runs::Hole;
 

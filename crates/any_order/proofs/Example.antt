@@ -17,6 +17,7 @@ use Rattle.packet_metadata.specs.Metadata.{metadataRefusal, metadataOf, readMet
 use Rattle.packet_data.specs.Data.{dataRefusal, dataOf, readData}
 use Rattle.runs.specs.Runs.{run, insert}
 use Rattle.transfer.specs.Transfers.{Transfer}
+use Rattle.transfer.specs.Record.{keyRefusal, extended, runsRefusal}
 use Rattle.table.specs.Tables.{keys, find, runsOf, add, setRuns}
 use Rattle.table.specs.Open.{judgeFound, judgeOpen, openAs, openKey, openRead, openPacket}
 use Rattle.table.specs.Record.{dataJudged, recordRefusal, grown, recordAs, recordData, recordRead, recordPacket}
@@ -92,23 +93,23 @@ ends =
     ∷ []
 
 takes : taken callTable [] calls ≡ accepted
-unfolding octetsOf startRefusal typeRefusal fileRefusal descriptorRefusal propertyRefusal pathRefusal entryRefusal entryOf pairAllowed pairRefusal metadataRefusal metadataOf readMetadata dataRefusal dataOf readData insert keys find runsOf add setRuns judgeFound judgeOpen openAs openKey openRead openPacket dataJudged recordRefusal grown recordAs recordData recordRead recordPacket taken callTable
+unfolding octetsOf startRefusal typeRefusal fileRefusal descriptorRefusal propertyRefusal pathRefusal entryRefusal entryOf pairAllowed pairRefusal metadataRefusal metadataOf readMetadata dataRefusal dataOf readData insert keys find runsOf add setRuns judgeFound judgeOpen openAs openKey openRead openPacket keyRefusal runsRefusal extended dataJudged recordRefusal grown recordAs recordData recordRead recordPacket taken callTable
 takes = refl
 
 sorts : sortCalls accepted ≡ sorted
-unfolding octetsOf startRefusal typeRefusal fileRefusal descriptorRefusal propertyRefusal pathRefusal entryRefusal entryOf pairAllowed pairRefusal metadataRefusal metadataOf readMetadata dataRefusal dataOf readData insert keys find runsOf add setRuns judgeFound judgeOpen openAs openKey openRead openPacket dataJudged recordRefusal grown recordAs recordData recordRead recordPacket openings recordings idRead offsetRead place sort sortCalls
+unfolding octetsOf startRefusal typeRefusal fileRefusal descriptorRefusal propertyRefusal pathRefusal entryRefusal entryOf pairAllowed pairRefusal metadataRefusal metadataOf readMetadata dataRefusal dataOf readData insert keys find runsOf add setRuns judgeFound judgeOpen openAs openKey openRead openPacket keyRefusal runsRefusal extended dataJudged recordRefusal grown recordAs recordData recordRead recordPacket openings recordings idRead offsetRead place sort sortCalls
 sorts = refl
 
 leaves : after callTable [] calls ≡ ends
-unfolding octetsOf startRefusal typeRefusal fileRefusal descriptorRefusal propertyRefusal pathRefusal entryRefusal entryOf pairAllowed pairRefusal metadataRefusal metadataOf readMetadata dataRefusal dataOf readData insert keys find runsOf add setRuns judgeFound judgeOpen openAs openKey openRead openPacket dataJudged recordRefusal grown recordAs recordData recordRead recordPacket after callTable
+unfolding octetsOf startRefusal typeRefusal fileRefusal descriptorRefusal propertyRefusal pathRefusal entryRefusal entryOf pairAllowed pairRefusal metadataRefusal metadataOf readMetadata dataRefusal dataOf readData insert keys find runsOf add setRuns judgeFound judgeOpen openAs openKey openRead openPacket keyRefusal runsRefusal extended dataJudged recordRefusal grown recordAs recordData recordRead recordPacket after callTable
 leaves = refl
 
 takes-sorted : taken callTable [] sorted ≡ sorted
-unfolding octetsOf startRefusal typeRefusal fileRefusal descriptorRefusal propertyRefusal pathRefusal entryRefusal entryOf pairAllowed pairRefusal metadataRefusal metadataOf readMetadata dataRefusal dataOf readData insert keys find runsOf add setRuns judgeFound judgeOpen openAs openKey openRead openPacket dataJudged recordRefusal grown recordAs recordData recordRead recordPacket taken callTable
+unfolding octetsOf startRefusal typeRefusal fileRefusal descriptorRefusal propertyRefusal pathRefusal entryRefusal entryOf pairAllowed pairRefusal metadataRefusal metadataOf readMetadata dataRefusal dataOf readData insert keys find runsOf add setRuns judgeFound judgeOpen openAs openKey openRead openPacket keyRefusal runsRefusal extended dataJudged recordRefusal grown recordAs recordData recordRead recordPacket taken callTable
 takes-sorted = refl
 
 leaves-sorted : after callTable [] sorted ≡ ends
-unfolding octetsOf startRefusal typeRefusal fileRefusal descriptorRefusal propertyRefusal pathRefusal entryRefusal entryOf pairAllowed pairRefusal metadataRefusal metadataOf readMetadata dataRefusal dataOf readData insert keys find runsOf add setRuns judgeFound judgeOpen openAs openKey openRead openPacket dataJudged recordRefusal grown recordAs recordData recordRead recordPacket after callTable
+unfolding octetsOf startRefusal typeRefusal fileRefusal descriptorRefusal propertyRefusal pathRefusal entryRefusal entryOf pairAllowed pairRefusal metadataRefusal metadataOf readMetadata dataRefusal dataOf readData insert keys find runsOf add setRuns judgeFound judgeOpen openAs openKey openRead openPacket keyRefusal runsRefusal extended dataJudged recordRefusal grown recordAs recordData recordRead recordPacket after callTable
 leaves-sorted = refl
 
 -- ---- by falling offset: a long stretch first and 65 short ones in it are all accepted, but with the long one last the 65th
@@ -125,9 +126,9 @@ abbrev long : Call
 long = recording (data16 7 0 200)
 
 long-first : length (taken callTable [] (begin ∷ long ∷ shorts 65)) ≡ 67
-unfolding octetsOf startRefusal typeRefusal fileRefusal descriptorRefusal propertyRefusal pathRefusal entryRefusal entryOf pairAllowed pairRefusal metadataRefusal metadataOf readMetadata dataRefusal dataOf readData insert keys find runsOf add setRuns judgeFound judgeOpen openAs openKey openRead openPacket dataJudged recordRefusal grown recordAs recordData recordRead recordPacket shorts taken callTable
+unfolding octetsOf startRefusal typeRefusal fileRefusal descriptorRefusal propertyRefusal pathRefusal entryRefusal entryOf pairAllowed pairRefusal metadataRefusal metadataOf readMetadata dataRefusal dataOf readData insert keys find runsOf add setRuns judgeFound judgeOpen openAs openKey openRead openPacket keyRefusal runsRefusal extended dataJudged recordRefusal grown recordAs recordData recordRead recordPacket shorts taken callTable
 long-first = refl
 
 falling : length (taken callTable [] (begin ∷ (shorts 65 ++ (long ∷ [])))) ≡ 66
-unfolding octetsOf startRefusal typeRefusal fileRefusal descriptorRefusal propertyRefusal pathRefusal entryRefusal entryOf pairAllowed pairRefusal metadataRefusal metadataOf readMetadata dataRefusal dataOf readData insert keys find runsOf add setRuns judgeFound judgeOpen openAs openKey openRead openPacket dataJudged recordRefusal grown recordAs recordData recordRead recordPacket shorts taken callTable
+unfolding octetsOf startRefusal typeRefusal fileRefusal descriptorRefusal propertyRefusal pathRefusal entryRefusal entryOf pairAllowed pairRefusal metadataRefusal metadataOf readMetadata dataRefusal dataOf readData insert keys find runsOf add setRuns judgeFound judgeOpen openAs openKey openRead openPacket keyRefusal runsRefusal extended dataJudged recordRefusal grown recordAs recordData recordRead recordPacket shorts taken callTable
 falling = refl

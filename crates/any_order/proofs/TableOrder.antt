@@ -20,6 +20,7 @@ use Rattle.packet_data.specs.declared.DataRead.the-variants as data-read
 use Rattle.runs.specs.Runs.{Run, Canonical, insert}
 use Rattle.transfer.specs.declared.Key.{Key}
 use Rattle.transfer.specs.Transfers.{Transfer, keyOf}
+use Rattle.transfer.specs.Record.{extended}
 use Rattle.table.specs.Tables.{Valid, keys, find, runsOf, add, setRuns}
 use Rattle.table.specs.Open.{openPacket, openAccepted}
 use Rattle.table.specs.Record.{dataJudged, grown, recordPacket, recordAccepted}
@@ -143,7 +144,7 @@ Fit ks p = (d : Data) × (k : Key) × (readData (p .octets) ≡ data-read.Accept
 
 grown-is : (t : List Transfer) (p : Packet) (d : Data) → readData (p .octets) ≡ data-read.Accepted d
     → insert (offsetIn p) (stopIn p) (runsOf t (idIn p)) ≡ grown t d
-unfolding grown idRead offsetRead stopRead
+unfolding grown extended idRead offsetRead stopRead
 grown-is t p d e = ap (λ (r : DataRead). insert (offsetRead r) (stopRead r) (runsOf t (idRead r))) e
 
 id-is : (p : Packet) (d : Data) → readData (p .octets) ≡ data-read.Accepted d → idIn p ≡ d .id

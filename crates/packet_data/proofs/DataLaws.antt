@@ -7,7 +7,7 @@ use native.Mathlib.Omega.{arith}
 use lib.ListN.{length}
 use lib.Dec.{eqb}
 use borrow.Author.Tests.{eqb-false}
-use Rattle.refusals.specs.Refusals.{refusalOf}
+use Rattle.refusals.specs.Refusals.{answered}
 use Rattle.header.specs.Word.{descriptorOctets}
 use Rattle.header.specs.Start.{wordOf, typeRefusal, fileRefusal}
 use Rattle.header.specs.Descriptor.{descriptorRefusal}
@@ -15,7 +15,7 @@ use Rattle.refusals.proofs.RefusalLaws.{first-none, rest-none, failed}
 use Rattle.header.proofs.StartLaws.{TypeFine, type-fine, FileFine, file-fine}
 use Rattle.header.proofs.DescriptorLaws.{descriptor-there}
 use Rattle.header.proofs.WordLaws.{octets-le}
-use Rattle.packet_data.specs.Data.{offsetAt, payloadAt, dataRefusal, dataOf, readData, dataAnswer, payloadPart}
+use Rattle.packet_data.specs.Data.{offsetAt, payloadAt, dataRefusal, dataOf, readData, payloadPart}
 use Rattle.packet_data.specs.declared.Data.{Data}
 use Rattle.packet_data.specs.declared.DataRead.the-variants.{Accepted, Refused}
 
@@ -46,10 +46,6 @@ data-fine s e =
     }
 
 -- the answers of a refused read
-pub answer-refused : (n : ℕ) (d : Data) → (n ≡ 0 → ⊥) → Refused (refusalOf n) ≡ dataAnswer n d
-answer-refused zero d h = absurd (h refl)
-answer-refused (suc n) d h = refl
-
 pub part-refused : (n : ℕ) (s : List ℕ) → (n ≡ 0 → ⊥) → [] ≡ payloadPart n s
 part-refused zero s h = absurd (h refl)
 part-refused (suc n) s h = refl
@@ -64,6 +60,6 @@ pub data-given : (s : List ℕ) (d : Data) → readData s ≡ Accepted d → (da
 unfolding readData
 data-given s d e = go (dataRefusal s) e
   where
-    go : (n : ℕ) → dataAnswer n (dataOf s) ≡ Accepted d → (n ≡ 0) × (dataOf s ≡ d)
+    go : (n : ℕ) → answered Refused n (Accepted (dataOf s)) ≡ Accepted d → (n ≡ 0) × (dataOf s ≡ d)
     go zero q = (refl, cc)
     go (suc n) q = absurd (let z : _≡_ {A = ℕ} 0 1 = cc in omega arith)

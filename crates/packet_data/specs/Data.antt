@@ -4,7 +4,7 @@ use Prim.Native.Nat.{ℕ, zero, suc, _+_, _-_}
 use mathlib.Core.List.{List, []}
 use lib.ListN.{length, drop}
 use lib.Dec.{eqb}
-use Rattle.refusals.specs.Refusals.{_▹_, when, refusalOf}
+use Rattle.refusals.specs.Refusals.{_▹_, when, answered}
 use Rattle.header.specs.Word.{flagsOf, descriptorOctets, timestampOctets, wantedOf, eodOf}
 use Rattle.header.specs.Start.{wordOf, idOf, typeRefusal, fileRefusal}
 use Rattle.header.specs.Descriptor.{descriptorAt, descriptorRefusal}
@@ -47,12 +47,8 @@ dataOf s =
     }
 
 -- the fields, or the refusal
-abbrev pub dataAnswer : ℕ → Data → DataRead
-dataAnswer zero d = Accepted d
-dataAnswer (suc n) d = Refused (refusalOf (suc n))
-
 unfoldable pub readData : List ℕ → DataRead
-readData s = dataAnswer (dataRefusal s) (dataOf s)
+readData s = answered Refused (dataRefusal s) (Accepted (dataOf s))
 
 -- "Read DATA hands back its payload as the very part of the packet that holds it; a refused read hands back an empty part"
 abbrev pub payloadPart : ℕ → List ℕ → List ℕ

@@ -17,7 +17,7 @@ use Rattle.refusals.proofs.RefusalLaws.{first-none, rest-none, failed}
 use Rattle.header.specs.Descriptor.{descriptorRefusal}
 use Rattle.header.proofs.DescriptorLaws.{descriptor-there, descriptor-none}
 use Rattle.header.proofs.StartLaws.{StartFine, TypeFine, type-fine, narrow-octets}
-use Rattle.packet_status.specs.Status.{progressAt, responseAt, holesAt, progressOf, responseOf, listOctets, holeCount, holeList, listRefusal, successRefusal, statusRefusal, holeRefusal, indexedHole, readHole, failureOf, acceptedStatus, statusAnswer, holeAnswer}
+use Rattle.packet_status.specs.Status.{progressAt, responseAt, holesAt, progressOf, responseOf, listOctets, holeCount, holeList, listRefusal, successRefusal, statusRefusal, holeRefusal, indexedHole, readHole, failureOf, acceptedStatus}
 use Rattle.runs.specs.declared.Hole.{Hole}
 use Rattle.packet_status.specs.declared.HoleRead.the-variants as hole-read
 use Rattle.packet_status.specs.declared.StatusRead.the-variants.{Failure, Refused}
@@ -130,14 +130,6 @@ module _ (s : List ℕ) (e : statusRefusal s ≡ 0) (z : statusOf (wordOf s) ≡
       rw (e, eq-eqb (statusOf (wordOf s)) 0 z, le-ltb index (holeCount s) l)
 
 -- the answers
-pub status-refused : (n : ℕ) (s : List ℕ) → (n ≡ 0 → ⊥) → Refused (refusalOf n) ≡ statusAnswer n s
-status-refused zero s h = absurd (h refl)
-status-refused (suc n) s h = refl
-
 pub failure-accepted : (code : ℕ) (s : List ℕ) → (code ≡ 0 → ⊥) → Failure (failureOf s) ≡ acceptedStatus code s
 failure-accepted zero s h = absurd (h refl)
 failure-accepted (suc code) s h = refl
-
-pub hole-refused : (n : ℕ) (h : Hole) → (n ≡ 0 → ⊥) → hole-read.Refused (refusalOf n) ≡ holeAnswer n h
-hole-refused zero h ne = absurd (ne refl)
-hole-refused (suc n) h ne = refl

@@ -5,7 +5,7 @@ use mathlib.Core.Bool.{not}
 use mathlib.Core.List.{List}
 use lib.ListN.{length}
 use lib.Dec.{ltb, eqb}
-use Rattle.refusals.specs.Refusals.{_▹_, when, refusalOf}
+use Rattle.refusals.specs.Refusals.{_▹_, when, answered}
 use Rattle.header.specs.Word.{flagsOf, widthOf, descriptorOctets, timestampOctets, partialOf, statusOf}
 use Rattle.header.specs.Start.{wordOf, idOf, typeRefusal}
 use Rattle.header.specs.Descriptor.{descriptorAt, descriptorRefusal}
@@ -87,12 +87,8 @@ abbrev pub acceptedStatus : ℕ → List ℕ → StatusRead
 acceptedStatus zero s = Success (successOf s)
 acceptedStatus (suc code) s = Failure (failureOf s)
 
-abbrev pub statusAnswer : ℕ → List ℕ → StatusRead
-statusAnswer zero s = acceptedStatus (statusOf (wordOf s)) s
-statusAnswer (suc n) s = Refused (refusalOf (suc n))
-
 unfoldable pub readStatus : List ℕ → StatusRead
-readStatus s = statusAnswer (statusRefusal s) s
+readStatus s = answered Refused (statusRefusal s) (acceptedStatus (statusOf (wordOf s)) s)
 
 -- one pair of the hole list: the reader's refusals, 11 for a failure STATUS, 19 for an index that the list doesn't have
 unfoldable pub holeRefusal : ℕ → List ℕ → ℕ
@@ -107,9 +103,5 @@ indexedHole index s =
     let d = descriptorOctets (wordOf s) in
     holeAt d (holesAt (wordOf s) + index * (2 * d)) s
 
-abbrev pub holeAnswer : ℕ → Hole → HoleRead
-holeAnswer zero h = hole-read.Accepted h
-holeAnswer (suc n) h = hole-read.Refused (refusalOf (suc n))
-
 unfoldable pub readHole : ℕ → List ℕ → HoleRead
-readHole index s = holeAnswer (holeRefusal index s) (indexedHole index s)
+readHole index s = answered hole-read.Refused (holeRefusal index s) (hole-read.Accepted (indexedHole index s))

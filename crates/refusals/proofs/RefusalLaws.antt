@@ -8,7 +8,8 @@ use mathlib.Core.Logic.{_↔_}
 use native.Mathlib.Omega.{arith}
 use lib.Dec.{eqb}
 use borrow.Author.Tests.{eqb-true, ne-eqb}
-use Rattle.refusals.specs.Refusals.{_▹_, when, codes, codeIn, codeOf}
+use Rattle.refusals.specs.Refusals.{_▹_, when, codes, codeIn, codeOf, refusalOf, answered}
+use Rattle.refusals.specs.declared.Refusal.{Refusal}
 
 -- a refusal stands, whatever comes after it
 pub stays : (m n : ℕ) → (m ≡ 0 → ⊥) → m ▹ n ≡ m
@@ -56,6 +57,12 @@ when-given false n h = ((λ e. absurd (h (sym e))), (λ e. absurd (false≢true 
 pub when-other : (t : Bool) (m n : ℕ) → (n ≡ 0 → ⊥) → (m ≡ n → ⊥) → when t m ≡ n → ⊥
 when-other true m n h g e = g e
 when-other false m n h g e = h (sym e)
+
+-- ---- answers
+
+pub answered-refused : {A : Type 0} (refused : Refusal → A) (n : ℕ) (result : A) → (n ≡ 0 → ⊥) → refused (refusalOf n) ≡ answered refused n result
+answered-refused refused zero result h = absurd (h refl)
+answered-refused refused (suc n) result h = refl
 
 -- ---- codes
 

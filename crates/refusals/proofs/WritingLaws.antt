@@ -7,12 +7,11 @@ use lib.Dec.{ltb}
 use borrow.Author.Tests.{ltb-false}
 use Rattle.refusals.specs.Refusals.{when, refusalOf}
 use Rattle.refusals.specs.Writing.{roomRefusal, writtenOf, bufferAfter}
-use Rattle.refusals.specs.declared.Written.the-variants.{Refused}
-use Rattle.refusals.proofs.RefusalLaws.{first-none, rest-none, failed}
+use Rattle.refusals.specs.declared.Written.the-variants.{Size, Refused}
+use Rattle.refusals.proofs.RefusalLaws.{first-none, rest-none, failed, answered-refused}
 
 pub written-refused : (n size : ℕ) → (n ≡ 0 → ⊥) → Refused (refusalOf n) ≡ writtenOf n size
-written-refused zero size h = absurd (h refl)
-written-refused (suc n) size h = refl
+written-refused n size h = answered-refused Refused n (Size size) h
 
 pub buffer-refused : (n : ℕ) (packet old : List ℕ) → (n ≡ 0 → ⊥) → old ≡ bufferAfter n packet old
 buffer-refused zero packet old h = absurd (h refl)

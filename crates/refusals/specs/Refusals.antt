@@ -33,3 +33,8 @@ codeOf n = codeIn codes n
 -- "Every refusal returns its number and the status code to send"
 abbrev pub refusalOf : ℕ → Refusal
 refusalOf n = record { number = n; code = codeOf n }
+
+-- an operation's answer: the refusal where there is one, else the result
+abbrev pub answered : {A : Type 0} → (Refusal → A) → ℕ → A → A
+answered refused zero result = result
+answered refused (suc n) result = refused (refusalOf (suc n))

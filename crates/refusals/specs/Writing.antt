@@ -4,7 +4,7 @@ use Prim.Native.Nat.{ℕ, zero, suc}
 use mathlib.Core.List.{List}
 use lib.Dec.{ltb}
 use Rattle.octets.specs.Put.{put}
-use Rattle.refusals.specs.Refusals.{_▹_, when, refusalOf}
+use Rattle.refusals.specs.Refusals.{_▹_, when, answered}
 use Rattle.refusals.specs.declared.Written.{Written}
 use Rattle.refusals.specs.declared.Written.the-variants.{Size, Refused}
 
@@ -14,8 +14,7 @@ roomRefusal size room = when (ltb 65535 size) 2 ▹ when (ltb room size) 20
 
 -- the answer: the size of the packet, or the refusal
 abbrev pub writtenOf : ℕ → ℕ → Written
-writtenOf zero size = Size size
-writtenOf (suc n) size = Refused (refusalOf (suc n))
+writtenOf n size = answered Refused n (Size size)
 
 -- the buffer at exit: the packet, and "octets after those stay unchanged"; on refusal all stay
 abbrev pub bufferAfter : ℕ → List ℕ → List ℕ → List ℕ

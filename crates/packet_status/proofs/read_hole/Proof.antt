@@ -8,7 +8,9 @@ use Rattle.octets.specs.Numbers.{Width}
 use Rattle.header.specs.Word.{descriptorOctets, timestampOctets}
 use Rattle.header.specs.Start.{wordOf}
 use Rattle.packet_status.specs.Status.{holeRefusal, indexedHole, readHole}
-use Rattle.packet_status.proofs.StatusLaws.{success-octets, hole-fine, hole-fits, hole-refused}
+use Rattle.packet_status.proofs.StatusLaws.{success-octets, hole-fine, hole-fits}
+use Rattle.refusals.proofs.RefusalLaws.{answered-refused}
+use Rattle.packet_status.specs.declared.HoleRead.the-variants.{Accepted, Refused}
 use borrow.Author.Needs.{needs}
 use native.Mathlib.Omega.{arith}
 use Rattle.packet_status.proofs.read_hole.Statement.{statement}
@@ -26,7 +28,7 @@ returns c =
     let a = c .before .before .before .before .args in
     let n = holeRefusal (a .index) (now (a .p)) in
     let e : c .before .before .hole-refusal .result ≡ n = c .before .before .hole-refusal .ensures in
-    rw (c .refuse .ensures, e) (hole-refused n (indexedHole (a .index) (now (a .p))) (omega arith))
+    rw (c .refuse .ensures, e) (answered-refused Refused n (Accepted (indexedHole (a .index) (now (a .p)))) (omega arith))
 
 word-requires : tie.Need-word-requires
 word-requires c κs = let a = c .before .before .before .args in hole-fine (a .index) (now (a .p)) (omega arith) .start .long

@@ -5,7 +5,9 @@ use denote.Ref.{now}
 use Rattle.header.specs.Word.{statusOf}
 use Rattle.header.specs.Start.{wordOf}
 use Rattle.packet_status.specs.Status.{statusRefusal, failureOf, readStatus}
-use Rattle.packet_status.proofs.StatusLaws.{status-fine, status-refused, failure-accepted}
+use Rattle.packet_status.proofs.StatusLaws.{status-fine, failure-accepted}
+use Rattle.refusals.proofs.RefusalLaws.{answered-refused}
+use Rattle.packet_status.specs.declared.StatusRead.the-variants.{Refused}
 use borrow.Author.Needs.{needs}
 use native.Mathlib.Omega.{arith}
 use Rattle.packet_status.proofs.read_status.Statement.{statement}
@@ -22,7 +24,7 @@ unfolding readStatus
 returns c =
     let s = now (c .before .before .before .before .args .p) in
     let e : c .before .before .status-refusal .result ≡ statusRefusal s = c .before .before .status-refusal .ensures in
-    rw (c .refuse .ensures, e) (status-refused (statusRefusal s) s (omega arith))
+    rw (c .refuse .ensures, e) (answered-refused Refused (statusRefusal s) _ (omega arith))
 
 word-requires : tie.Need-word-requires
 word-requires c κs = status-fine (now (c .before .before .before .args .p)) (omega arith) .typed .start .long

@@ -9,13 +9,12 @@ use mathlib.Core.Logic.{_↔_, Iff·trans}
 use native.Mathlib.Omega.{arith}
 use lib.ListN.{length}
 use lib.Dec.{ltb, eqb}
-use Rattle.refusals.specs.Refusals.{_▹_}
 use Rattle.refusals.proofs.TestLaws.{eqb-iff, ltb-iff, ltb-not, and-iff, test-not, both}
 use Rattle.refusals.proofs.RefusalLaws.{after-none}
 use Rattle.packet_data.specs.declared.Data.{Data}
 use Rattle.runs.specs.Runs.{Run}
 use Rattle.transfer.specs.declared.Key.{Key}
-use Rattle.transfer.specs.Record.{keyRefusal, runsRefusal}
+use Rattle.transfer.specs.Record.{runsRefusal}
 use Rattle.transfer.proofs.LimitLaws.{key-refusal-not-12, key-refusal-le, sixteen-iff}
 use Rattle.table.specs.Tables.{find}
 use Rattle.table.specs.Open.{Verdict, judgeFound, judgeOpen}

@@ -5,8 +5,8 @@ use mathlib.Core.Path.{refl}
 use Rattle.passes.proofs.EmptyFile.{empty-never, empty-fourteen}
 use Rattle.passes.specs.Passes.{Passes, twoParts, emptyFile, oneAfterOther, late, scattered, longest, numbered}
 use Rattle.octets.specs.Put.{put}
-use Rattle.header.specs.Start.{startRefusal, typeRefusal, fileRefusal}
 use Rattle.header.specs.Descriptor.{descriptorRefusal}
+use Rattle.header.specs.Start.{startRefusal, typeRefusal, fileRefusal}
 use Rattle.directory_entry.specs.Properties.{propertyRefusal}
 use Rattle.directory_entry.specs.Path.{pathRefusal}
 use Rattle.directory_entry.specs.Entry.{entryRefusal, entryOf}
@@ -20,11 +20,12 @@ use Rattle.transfer.specs.Transfers.{reached}
 use Rattle.table.specs.Open.{judgeFound, judgeOpen, openAs, openKey, openRead, openPacket}
 use Rattle.table.specs.Record.{dataJudged, recordRefusal, grown, recordAs, recordData, recordRead, recordPacket}
 use Rattle.table.specs.Close.{closeFound, closeId}
-use Rattle.table.specs.Status.{statusWriteRefusal, statusFor, statusSent, statusWritten, statusBuffer}
-use Rattle.transfer.specs.Status.{holeRoom, holesSent, partialSent, widthBits, statusFlags, pairs, statusOctets, statusPacket}
+use Rattle.table.specs.Status.{writtenFor, bufferFor, statusWritten, statusBuffer}
+use Rattle.transfer.specs.Record.{keyRefusal, extended, runsRefusal}
+use Rattle.transfer.specs.Status.{skipsTooMany, leastRoom, sizeRefusal, holeRoom, holesSent, partialSent, widthBits, statusFlags, statusFields, pairs, statusOctets, statusPacket, transferWritten, transferBuffer}
 
 pub passes : Passes
-unfolding twoParts emptyFile oneAfterOther late scattered longest numbered put startRefusal typeRefusal fileRefusal descriptorRefusal propertyRefusal pathRefusal entryRefusal entryOf pairAllowed pairRefusal metadataRefusal metadataOf readMetadata dataRefusal dataOf readData insert edgeFrom holesFrom progress complete keys find runsOf add setRuns remove reached judgeFound judgeOpen openAs openKey openRead openPacket dataJudged recordRefusal grown recordAs recordData recordRead recordPacket closeFound closeId statusWriteRefusal holeRoom holesSent partialSent widthBits statusFlags pairs statusOctets statusPacket statusFor statusSent statusWritten statusBuffer
+unfolding twoParts emptyFile oneAfterOther late scattered longest numbered put startRefusal typeRefusal fileRefusal descriptorRefusal propertyRefusal pathRefusal entryRefusal entryOf pairAllowed pairRefusal metadataRefusal metadataOf readMetadata dataRefusal dataOf readData insert edgeFrom holesFrom progress complete keys find runsOf add setRuns remove reached judgeFound judgeOpen openAs openKey openRead openPacket dataJudged recordRefusal grown recordAs recordData recordRead recordPacket closeFound closeId keyRefusal extended runsRefusal skipsTooMany leastRoom sizeRefusal holeRoom holesSent partialSent widthBits statusFlags statusFields pairs statusOctets statusPacket transferWritten transferBuffer writtenFor bufferFor statusWritten statusBuffer
 passes =
     record {
       hole-reported = (refl, refl, refl);

@@ -8,3 +8,5 @@ pub mod FindLaws
 pub mod LimitLaws
 pub mod AnswerLaws
 pub mod StatusWritten
+pub mod ToldLaws
+pub mod RepeatLaws

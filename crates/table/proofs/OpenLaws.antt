@@ -2,15 +2,15 @@
 -- Assumes nothing.
 use Prim.Native.Nat.{ℕ, _<_}
 use mathlib.Core.Path.{_≡_, refl, sym, ap, _∙_}
-use mathlib.Core.Bool.{Bool, true, false, _&&_}
+use mathlib.Core.Bool.{_&&_}
 use mathlib.Core.List.{List, []}
 use mathlib.Core.Option.{Option, none, some}
-use native.Mathlib.Omega.{arith}
 use lib.ListN.{length}
 use lib.Dec.{ltb, eqb}
 use borrow.Author.Tests.{eqb-true, ltb-true}
 use Rattle.refusals.specs.Refusals.{refusalOf}
 use Rattle.refusals.specs.declared.Refusal.{Refusal}
+use Rattle.refusals.proofs.TestLaws.{and-iff}
 use Rattle.packet_metadata.specs.Metadata.{readMetadata}
 use Rattle.packet_metadata.specs.declared.Metadata.{Metadata}
 use Rattle.packet_metadata.specs.declared.MetadataRead.{MetadataRead}
@@ -23,10 +23,6 @@ use Rattle.table.specs.declared.Opened.the-variants.{New, AlreadyOpen, R
 use Rattle.table.proofs.TableLaws.{by-test, find-id, addKey, keys-add}
 use Rattle.table.specs.Outcome.{Outcome}
 use Rattle.table.specs.declared.Opened.{Opened}
-
-both : (a b : Bool) → a && b ≡ true → (a ≡ true) × (b ≡ true)
-both true b e = (refl, e)
-both false b e = absurd (let z : _≡_ {A = ℕ} 0 1 = cc in omega arith)
 
 key-eq : (j k : Key) → j .id ≡ k .id → j .width ≡ k .width → j .length ≡ k .length → j ≡ k
 key-eq j k p q r = λ i. record { id = p i; width = q i; length = r i }
@@ -50,7 +46,7 @@ open-cases P t packet refused old fresh = go (readMetadata packet) refl
         (λ b. refused (refusalOf 17))
     found m e (some j) q =
         by-test (λ (v : Verdict). P (openAs v t (keyOf m))) (eqb (j .width) (m .width) && eqb (j .length) (m .entry .size)) already (refuse 18)
-        (λ b. let c = both (eqb (j .width) (m .width)) (eqb (j .length) (m .entry .size)) b in
+        (λ b. let c = and-iff (eqb (j .width) (m .width)) (eqb (j .length) (m .entry .size)) .0 b in
         old m e (q ∙ ap some (key-eq j (keyOf m) (find-id (m .id) (keys t) j q) (eqb-true _ _ (c .0)) (eqb-true _ _ (c .1)))))
         (λ b. refused (refusalOf 18))
 

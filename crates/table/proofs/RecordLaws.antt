@@ -1,24 +1,22 @@
 -- What recording does, case by case, and when it is accepted.
 -- Assumes nothing.
-use Prim.Native.Nat.{ℕ, zero, suc, _≤_}
+use Prim.Native.Nat.{ℕ, zero, suc, _<_, _≤_}
 use mathlib.Core.Path.{_≡_, refl, ap, _∙_}
-use mathlib.Core.Bool.{Bool, not}
 use mathlib.Core.List.{List}
 use mathlib.Core.Option.{Option, none, some}
 use lib.ListN.{length}
-use lib.Dec.{ltb, eqb}
-use borrow.Author.Tests.{ltb-false, le-ltb}
-use Rattle.refusals.specs.Refusals.{_▹_, when, refusalOf}
+use Rattle.refusals.specs.Refusals.{_▹_, refusalOf}
 use Rattle.refusals.specs.declared.Refusal.{Refusal}
 use Rattle.refusals.proofs.RefusalLaws.{first-none, rest-none}
-use Rattle.transfer.proofs.ExtendLaws.{key-stop, runs-few, few-runs}
+use Rattle.transfer.proofs.ExtendLaws.{extended-canonical, key-stop, runs-few, few-runs}
 use Rattle.packet_data.specs.Data.{readData}
 use Rattle.packet_data.specs.declared.Data.{Data}
 use Rattle.packet_data.specs.declared.DataRead.{DataRead}
 use Rattle.packet_data.specs.declared.DataRead.the-variants as data-read
 use Rattle.transfer.specs.declared.Key.{Key}
 use Rattle.transfer.specs.Transfers.{Transfer, reached}
-use Rattle.table.specs.Tables.{keys, find, setRuns}
+use Rattle.runs.specs.Runs.{Canonical}
+use Rattle.table.specs.Tables.{keys, find, runsOf, setRuns}
 use Rattle.table.specs.Record.{dataJudged, recordRefusal, grown, recordAs, recordData, recordRead, recordPacket}
 use Rattle.transfer.specs.Record.{stopOf, runsRefusal}
 use Rattle.table.specs.declared.Recorded.the-variants.{Accepted, Refused}
@@ -64,3 +62,8 @@ record-taken t packet d k e q j n =
 pub judged-stop : (k : Key) (d : Data) → dataJudged (some k) d ≡ 0 → stopOf d ≤ k .length
 unfolding dataJudged
 judged-stop k d e = key-stop k d e
+
+-- the received offsets stay canonical
+pub grown-canonical : (t : List Transfer) (d : Data) → 0 < d .length → Canonical (runsOf t (d .id)) → Canonical (grown t d)
+unfolding grown
+grown-canonical t d p c = extended-canonical (runsOf t (d .id)) d p c

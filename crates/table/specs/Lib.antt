@@ -4,3 +4,4 @@ pub mod Open
 pub mod Record
 pub mod Close
 pub mod Status
+pub mod Told

@@ -52,6 +52,6 @@ extended-fine k rs d x payload stop few =
       width-is = x .width-is;
       length-fits = x .length-fits;
       few = few;
-      canonical = insert-canonical (d .offset) (stopOf d) rs (omega arith) (x .canonical);
+      canonical = extended-canonical rs d payload (x .canonical);
       within = insert-stops (k .length) (d .offset) (stopOf d) rs stop (x .within);
     }

@@ -1,11 +1,14 @@
 -- One transfer: its key, its received offsets, and how far it has come.
 -- Assumes nothing.
-use Prim.Native.Nat.{ℕ, _^_, _≤_, _<_}
+use Prim.Native.Nat.{ℕ, suc, _^_, _≤_, _<_}
+use mathlib.Core.Path.{_≡_}
+use mathlib.Core.Bool.{true}
 use mathlib.Core.List.{List, []}
+use mathlib.Core.Logic.{_↔_}
 use lib.ListN.{length}
 use Rattle.octets.specs.Numbers.{Width}
 use Rattle.packet_metadata.specs.declared.Metadata.{Metadata}
-use Rattle.runs.specs.Runs.{Run, Canonical, StopsTo}
+use Rattle.runs.specs.Runs.{Run, Member, Canonical, StopsTo}
 use Rattle.runs.specs.Holes.{edge, complete}
 use Rattle.transfer.specs.declared.Key.{Key}
 use Rattle.transfer.specs.declared.Reached.{Reached}
@@ -35,3 +38,10 @@ pub record TransferFine (x : Transfer) : Type 0 where
 -- "both answer the edge and whether the transfer is complete"
 unfoldable pub reached : Key → List Run → Reached
 reached k rs = record { edge = edge rs; complete = complete (k .length) rs }
+
+-- what such an answer must tell of the received offsets rs of a transfer of length L: "a page is reported complete exactly when every
+-- octet of its stated length was received"; "The edge is one more than the highest received offset, 0 if there is none"
+pub record Tells (L : ℕ) (rs : List Run) (x : Reached) : Type 0 where
+  pub complete-iff : (x .complete ≡ true) ↔ ((o : ℕ) → o < L → Member rs o)
+  pub edge-iff : (o : ℕ) → (x .edge ≡ suc o) ↔ (Member rs o × ((p : ℕ) → Member rs p → p ≤ o))
+  pub edge-none : (x .edge ≡ 0) ↔ ((o : ℕ) → Member rs o → ⊥)

@@ -22,19 +22,21 @@ returns c =
 least-room-requires : tie.Need-least-room-requires
 least-room-requires c κs = search needs
 
+-- where 19 is not given
+allowed : (c : tie.Else1) → skipsTooMany (c .before .before .args .skip) (c .before .before .args .holes) ≡ false
+allowed c = sym (c .before .skips-too-many .ensures) ∙ c .if1 .left
+
 returns-2 : tie.Need-returns-2
 unfolding sizeRefusal
 returns-2 c =
     let a = c .before .before .before .before .args in
-    let t : skipsTooMany (a .skip) (a .holes) ≡ false = sym (c .before .before .before .skips-too-many .ensures) ∙ c .before .before .if1 .left in
-    rw (t, lt-ltb (a .room) (leastRoom (a .width) (a .holes)) (omega arith))
+    rw (allowed (c .before .before), lt-ltb (a .room) (leastRoom (a .width) (a .holes)) (omega arith))
 
 returns-3 : tie.Need-returns-3
 unfolding sizeRefusal
 returns-3 c =
     let a = c .before .before .before .before .args in
-    let t : skipsTooMany (a .skip) (a .holes) ≡ false = sym (c .before .before .before .skips-too-many .ensures) ∙ c .before .before .if1 .left in
-    rw (t, le-ltb (a .room) (leastRoom (a .width) (a .holes)) (omega arith))
+    rw (allowed (c .before .before), le-ltb (a .room) (leastRoom (a .width) (a .holes)) (omega arith))
 
 pub size-refusal-spec : {M : Type 1} → statement M
 size-refusal-spec =

@@ -6,3 +6,4 @@ pub mod SearchLaws
 pub mod AreaLaws
 pub mod OperationLaws
 pub mod LoopLaws
+pub mod ToldLaws

@@ -64,6 +64,11 @@ module _ {A : Type 0} (refused : A) (operation : List Transfer → Outcome A) (a
       go none e = n
       go (some t) e = s t e
 
+-- recording, on an area that holds a table
+pub record-held : (a packet : List ℕ) (t : List Transfer) → tableOf a ≡ some t → recordArea a packet ≡ leaves a (recordPacket t packet)
+unfolding recordArea
+record-held a packet t e = on-held (recorded.Refused (refusalOf 22)) (λ u. recordPacket u packet) a t e
+
 module _ {A : Type 0} (refused : A) (answer : List Transfer → A) (a : List ℕ) where
   pub from-held : (t : List Transfer) → tableOf a ≡ some t → fromTable refused answer a ≡ answer t
   unfolding fromTable fromFound

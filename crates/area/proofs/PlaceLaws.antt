@@ -62,7 +62,7 @@ or-run t s i j old l h g =
 -- what stands at a place that is used, and at one that is not
 pub head-used : (t : List Transfer) (i f old : ℕ) → i < length t → headOr t i f old ≡ field (nth t i) f
 unfolding headOr
-head-used t i f old p = ap (λ (b : Bool). cond b (field (nth t i) f) old) (lt-ltb i (length t) p)
+head-used t i f old p = rw (lt-ltb i (length t) p)
 
 pub head-free : (t : List Transfer) (i f old : ℕ) → length t ≤ i → headOr t i f old ≡ old
 unfolding headOr
@@ -70,7 +70,7 @@ head-free t i f old p = ap (λ (b : Bool). cond b (field (nth t i) f) old) (le-l
 
 pub run-used : (t : List Transfer) (s i j old : ℕ) → j < length (nth t i .runs) → runOr t s i j old ≡ runNumber t s i j
 unfolding runOr
-run-used t s i j old p = ap (λ (b : Bool). cond b (runNumber t s i j) old) (lt-ltb j (length (nth t i .runs)) p)
+run-used t s i j old p = rw (lt-ltb j (length (nth t i .runs)) p)
 
 pub run-free : (t : List Transfer) (s i j old : ℕ) → length (nth t i .runs) ≤ j → runOr t s i j old ≡ old
 unfolding runOr

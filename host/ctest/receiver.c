@@ -502,6 +502,41 @@ static void areas(void)
     printf("ctest: areas\n");
 }
 
+/*
+ * Calls on memory of which only word 0 was ever written: valgrind tells where an answer depends on the rest. So octets of
+ * the area are not compared here.
+ */
+static void unwritten_words(void)
+{
+    static const uint8_t hole[] = {0x44, 0, 0, 0, 0, 0, 0, 7, 0x03, 0xE8, 0x0B, 0xB8, 0x03, 0xE8, 0x07, 0xD0};
+    const char *what = "unwritten words";
+    uint8_t *area = malloc(AREA), *out = lend(NULL, 16);
+    uint64_t id;
+    if (area == NULL)
+        exit(2);
+    put_word(area, 0, 0);
+    for (id = 9; id >= 5; id--)
+        open_as(what, area, AREA, id, 2, 3000, (struct saratoga_opened){0, 0, 0, 0, 0});
+    received(what, area, 2000, 500, 2500, 0);
+    received(what, area, 100, 100, 2500, 0);
+    received(what, area, 0, 1000, 2500, 0);
+    received(what, area, 2500, 500, 3000, 0);
+    close_as(what, area, AREA, 5, (struct saratoga_done){0, 0});
+    same_listed(what, saratoga_transfer(area, AREA, 1),
+                (struct saratoga_listed){.id = 7, .width = 2, .length = 3000, .edge = 3000, .runs = 2});
+    same_listed(what, saratoga_transfer(area, AREA, 4), REFUSED(listed, SARATOGA_REFUSED_NOT_OPEN, 0x06));
+    same_written(what, saratoga_write_status(area, AREA, 7, 0, 0, out, 16), (struct saratoga_written){.size = 16});
+    same_octets(what, out, hole, 16);
+    received(what, area, 1000, 1000, 3000, 1);
+    for (id = 6; id <= 9; id++)
+        close_as(what, area, AREA, id, (struct saratoga_done){0, 0});
+    same_done(what, saratoga_fresh(area, AREA), (struct saratoga_done){0, 0});
+    list_as(what, area, AREA, 0, REFUSED(listed, SARATOGA_REFUSED_NOT_OPEN, 0x06));
+    free(area);
+    free(out);
+    printf("ctest: unwritten words\n");
+}
+
 int main(void)
 {
     page_with_a_hole();
@@ -512,5 +547,6 @@ int main(void)
     seventeen_ids();
     recording_refused();
     areas();
+    unwritten_words();
     return report("ctest receiver");
 }

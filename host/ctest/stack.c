@@ -1,7 +1,7 @@
 /*
  * Prints how many octets of stack each function needs, its answer among them, and ends with status 1 where one but
- * saratoga_fresh needs more than docs/AREA.md allows. A thread with a stack of its own paints all of it below its frame and
- * calls: what lost its paint was used. Each function is called in several ways, and the most is printed.
+ * saratoga_fresh needs more than docs/AREA.md allows. A thread with a stack of its own paints all of it below its frame
+ * and calls: what lost its paint was used. Each function is called in several ways, and the most is printed.
  */
 #define _POSIX_C_SOURCE 200809L
 #include <pthread.h>

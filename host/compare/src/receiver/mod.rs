@@ -11,6 +11,7 @@ pub mod orders;
 pub mod pass;
 pub mod words;
 pub mod wrong;
+pub mod wrong_areas;
 pub mod wrong_calls;
 
 use paper::area;

@@ -60,7 +60,7 @@ extern "C" {
 #define SARATOGA_REFUSED_INDEX 19        /* 0x00: no hole has that index, or that many can't be skipped */
 #define SARATOGA_REFUSED_BUFFER 20       /* 0x00: buffer too small, or the area to be made fresh */
 #define SARATOGA_REFUSED_FIELD 21        /* 0x00: a field to be written exceeds its bits, or failure code 0 */
-#define SARATOGA_REFUSED_AREA 22         /* 0x00: area too short, or its octets are no image of a transfer table */
+#define SARATOGA_REFUSED_AREA 22         /* 0x00: area too short, or its used words hold no transfer table */
 
 /* A written packet: `size` octets from the start of `out`. */
 struct saratoga_written {
@@ -183,8 +183,9 @@ struct saratoga_written saratoga_write_failure(uint64_t id, uint64_t status, uin
  * octets past SARATOGA_AREA_OCTETS are never read or written. One call at a time may use an area, and packet, buffer
  * and area must not overlap.
  *
- * Every function but saratoga_fresh judges the whole area first, and refuses with 22 before all else where it is
- * shorter than SARATOGA_AREA_OCTETS or its octets are no image of a table. A refusal leaves area and buffers untouched.
+ * Every function but saratoga_fresh judges the area first, and refuses with 22 before all else where it is shorter than
+ * SARATOGA_AREA_OCTETS or its used words hold no table. Unused words may hold anything: they are never looked at, and
+ * stay as they are, so equal tables need not be equal areas (docs/AREA.md). A refusal leaves area and buffers untouched.
  *
  * No payload is kept. The program must write a packet's payload to disk BEFORE it records the packet if it relies on
  * `complete`: `complete` says that every octet was recorded, not that it was stored.

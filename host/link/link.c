@@ -301,7 +301,7 @@ static void refuse(uint64_t number, const struct peer *peer, const uint8_t *pack
 {
     say(number, "refused %" PRIu64 " code=%" PRIu64, refusal, code);
     if (refusal == SARATOGA_REFUSED_AREA)
-        die("the area in memory is no image of a transfer table: the program has a fault");
+        die("the area in memory holds no transfer table: the program has a fault");
     if (code == 0 || packet_len < 8)
         return;
     uint8_t out[8];
@@ -386,7 +386,7 @@ static void take_data(uint64_t number, const struct peer *peer, const uint8_t *p
     }
 
     /*
-     * Equal tables are equal octets, so a packet that leaves the area as it is adds nothing. Its payload isn't written:
+     * A recording that adds nothing leaves every octet of the area as it is, and no other does. Its payload isn't written:
      * a page that was reported complete is never touched again.
      */
     int adds = memcmp(trial, area, sizeof area) != 0;
@@ -485,7 +485,7 @@ static void take_up(void)
     /* The library judges the octets: any damage that makes them no table is refused with 22. */
     struct saratoga_listed one = saratoga_transfer(area, have, 0);
     if (one.number == SARATOGA_REFUSED_AREA || read(fd, &one_more, 1) != 0)
-        die("%s/area: is no image of a transfer table; move it and the .part files away to begin anew", directory_name);
+        die("%s/area: holds no transfer table; move it and the .part files away to begin anew", directory_name);
     close(fd);
 
     uint64_t i = 0;

@@ -66,11 +66,11 @@ def stored(place):
     except FileNotFoundError:
         return None
     check(len(octets) == AREA_OCTETS, f"an area of {len(octets)} octets")
-    words = struct.unpack(">2113Q", octets)
+    words = struct.unpack("<2113Q", octets)
     table = {}
     for i in range(words[0]):
-        runs = [(words[65 + 64 * i + j], words[1089 + 64 * i + j]) for j in range(words[49 + i])]
-        table[words[1 + i]] = words[33 + i], runs
+        ident, _, length, count = words[1 + 4 * i:5 + 4 * i]
+        table[ident] = length, [(words[65 + 64 * i + j], words[1089 + 64 * i + j]) for j in range(count)]
     return table
 
 
@@ -186,7 +186,7 @@ def passes(program, place):
         with open(os.path.join(place, "area"), "wb") as file:
             file.write(bad)
         got = run(program, place, "-")
-        check("area: is no image of a transfer table" in got[1] and got[2] == 1, got)
+        check("area: holds no transfer table" in got[1] and got[2] == 1, got)
         check(content(place, "area") == bad, "the area was touched")
 
     for options in ("", "a b", "--udp 65536", "--udp", "--what", "--idle x -", "- --udp 1", "--close -1"):

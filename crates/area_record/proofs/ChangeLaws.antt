@@ -230,8 +230,8 @@ module _ (a : List ℕ) (t : List Transfer) (p i j : ℕ) (x : Run) (long : area
   side-kept : (s m q : ℕ) → s < 2 → m < transferPlaces → q < runPlaces → (m ≡ p → runsAfter n i j ≤ q) → wordAt b₃ (runAt s m q) ≡ wordAt a (runAt s m q)
   side-kept s m q z k l e = kept (runAt s m q) (λ y. omega arith) (λ u v f g y. let d : m ≡ p = omega arith in omega (arith, e d))
 
-  pub spliced-holds : Holds b₃ grown
-  spliced-holds =
+  holds₃ : Holds b₃ grown
+  holds₃ =
       let c : length grown ≡ length t = length-set t p changed in
       record {
         count = kept 0 (λ z. omega arith) (λ s q k y z. omega arith) ∙ h .count ∙ sym c;
@@ -264,12 +264,22 @@ module _ (a : List ℕ) (t : List Transfer) (p i j : ℕ) (x : Run) (long : area
           ∙ h .sides s m q z (omega (arith, length-set t p changed)) (omega arith)
           ∙ ap (λ (y : Transfer). sideOf (nthRun (y .runs) q) s) (sym o)
 
-  -- and is the area that was, with this table stored in it
-  pub spliced-stored : Octets b₃ → b₃ ≡ storedIn a grown
+  -- in the words of the code's contract
+  pub spliced-holds : Holds (splicedArea a p n i j (x .start) (x .stop)) grown
+  unfolding splicedArea
+  spliced-holds = holds₃
+
+  pub spliced-size : length (splicedArea a p n i j (x .start) (x .stop)) ≡ length a
+  unfolding splicedArea
+  spliced-size = length₃
+
+  -- and the area is the one that was, with this table stored in it
+  pub spliced-stored : Octets (splicedArea a p n i j (x .start) (x .stop)) → splicedArea a p n i j (x .start) (x .stop) ≡ storedIn a grown
+  unfolding splicedArea
   spliced-stored o =
       let l : length b₃ ≡ length a = length₃ in
       stored-is a b₃ grown o (omega arith)
-      (kept-words a b₃ grown spliced-holds
+      (kept-words a b₃ grown holds₃
       (λ m f y k z. head-kept m f k z (λ e. omega (arith, length-set t p changed)))
       (λ s m q z y k l.
       side-kept s m q z k l

@@ -1,1 +1,3 @@
 pub mod ChangeLaws
+pub mod ExtendLaws
+pub mod RecordLaws

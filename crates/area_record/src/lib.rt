@@ -45,9 +45,9 @@ fn reached_at(area: &[u8], place: usize, key: Key) -> Reached
 fn extend(area: &mut [u8], place: usize, key: Key, from: u64, to: u64) -> Recorded
     requires { ⌜ (judged (now area) ≡ true) × (place < length (readTable (now area))) × (from ≤ to) ⌝ }
     ensures { λ r. ⌜ (r ≡ runsGiven (now (area .entry)) (readTable (now (area .entry))) place key
-            (insert from to (nth (readTable (now (area .entry))) place .runs)) .answer)
+        (insert from to (nth (readTable (now (area .entry))) place .runs)) .answer)
         × (now (area .exit) ≡ runsGiven (now (area .entry)) (readTable (now (area .entry))) place key
-            (insert from to (nth (readTable (now (area .entry))) place .runs)) .area) ⌝ }
+        (insert from to (nth (readTable (now (area .entry))) place .runs)) .area) ⌝ }
 {
     let rows = area::rows_at(area, place);
     let n = rows.count;

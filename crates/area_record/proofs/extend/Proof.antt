@@ -1,77 +1,119 @@
+-- `area_record::extend` meets its contract: 16 where the runs would be too many, and else the runs spliced in.
+-- Assumes nothing.
 use native.Mathlib.Omega.{arith}
 use borrow.Author.Needs.{needs}
+use denote.Ref.{now}
+use Prim.Native.Nat.{_≤_}
+use mathlib.Core.Path.{refl, ap}
+use Rattle.table.specs.declared.Recorded.the-variants.{Refused}
+use Rattle.area.specs.Layout.{runPlaces}
+use Rattle.area.specs.Places.{rowsAt}
+use Rattle.area_record.specs.Record.{runsAfter}
+use Rattle.area_record.proofs.RecordLaws.{both}
+use Rattle.area_record.proofs.ExtendLaws.{PlaceKnown, known, extend-over, extend-few, extend-done}
 use Rattle.area_record.proofs.extend.Statement.{statement}
 use Rattle.area_record.proofs.extend.Tie as tie
-use Rattle.area_record.proofs.extend.Reads as reads
-use Rattle.area_record.proofs.extend.Lts as lts
-use Rattle.area.proofs.rows_at.Reads as rows-at-reads
-use Rattle.area_record.proofs.put_runs.Reads as put-runs-reads
-use Rattle.area_record.proofs.reached_at.Reads as reached-at-reads
-use Rattle.refusals.proofs.refuse.Reads as refuse-reads
-use Rattle.run_rows.proofs.cut_below.Reads as cut-below-reads
-use Rattle.run_rows.proofs.cut_to.Reads as cut-to-reads
-use Rattle.run_rows.proofs.joined_start.Reads as joined-start-reads
-use Rattle.run_rows.proofs.joined_stop.Reads as joined-stop-reads
 
--- src/lib.rt:52:9
+-- the place is one of the area's, and its rows lie in it
+place : (c : tie.Start) → let a = now (c .args .area) in PlaceKnown a (c .args .place) (c .pre .0) (c .pre .1) (rowsAt a (c .args .place))
+place c = known (now (c .args .area)) (c .args .place) (c .pre .0) (c .pre .1) _ refl
+
 rows-at-requires : tie.Need-rows-at-requires
-rows-at-requires c κs = ?
+rows-at-requires c κs = let k = place (c .before .before) in (k .long, k .place)
 
--- src/lib.rt:54:9
+rows : (c : tie.After-rows-at)
+    → let s = c .before .before .before in PlaceKnown (now (s .args .area)) (s .args .place) (s .pre .0) (s .pre .1) (c .rows-at .result)
+rows c = let s = c .before .before .before in known (now (s .args .area)) (s .args .place) (s .pre .0) (s .pre .1) _ (c .rows-at .ensures)
+
 cut-to-requires : tie.Need-cut-to-requires
-cut-to-requires c κs = ?
+cut-to-requires c κs = rows (c .before) .fit .starts-fit
 
--- src/lib.rt:55:9
 cut-below-requires : tie.Need-cut-below-requires
-cut-below-requires c κs = ?
+cut-below-requires c κs = let f = rows (c .before .before .before) .fit .stops-fit in omega (arith, c .before .cut-to .ensures .inside)
 
--- src/lib.rt:56:21
+-- the cuts are two of its places
+cuts : (c : tie.After-cut-below)
+    → let j = c .before .before .cut-to .result in
+    let n = c .before .before .before .before .rows-at .result .count in
+    (c .cut-below .result ≤ j) × (j ≤ n) × (n ≤ runPlaces)
+cuts c = (c .cut-below .ensures .inside, c .before .before .cut-to .ensures .inside, rows (c .before .before .before .before) .few-runs)
+
 add-if1 : tie.Need-add-if1
-add-if1 c = ?
+add-if1 c = omega (arith, cuts c)
 
--- src/lib.rt:56:30
 sub-if1 : tie.Need-sub-if1
 sub-if1 c = search needs
 
--- src/lib.rt:56:21
 add-if1-2 : tie.Need-add-if1-2
-add-if1-2 c = ?
+add-if1-2 c = omega (arith, cuts c)
 
--- src/lib.rt:57:34
 refuse-requires : tie.Need-refuse-requires
 refuse-requires c κs = search needs
 
--- src/lib.rt:57:9
 same-length : tie.Need-same-length
 same-length c = search needs
 
--- src/lib.rt:57:9
 returns : tie.Need-returns
-returns c = ?
+returns c =
+    let q = c .before .before in
+    let r = q .before .before .before .before in
+    let s = r .before .before .before in
+    both (ap Refused (c .refuse .ensures))
+    (extend-over (now (s .args .area)) (s .args .place) (s .pre .0) (s .pre .1) _ (r .rows-at .ensures) (s .args .from) (s .args .to) _ _ (s .pre .2)
+    (q .before .before .cut-to .ensures) (q .cut-below .ensures) (s .args .key) (omega arith))
 
--- src/lib.rt:59:9
+-- where there is room
+room : (c : tie.Else1)
+    → runsAfter (c .before .before .before .before .before .rows-at .result .count) (c .before .cut-below .result) (c .before .before .before .cut-to .result) ≤ runPlaces
+room c = omega arith
+
 joined-start-requires : tie.Need-joined-start-requires
-joined-start-requires c κs = ?
+joined-start-requires c κs = let q = c .before .before in (rows (q .before .before .before .before) .fit, q .before .before .cut-to .ensures .inside)
 
--- src/lib.rt:60:9
 joined-stop-requires : tie.Need-joined-stop-requires
-joined-stop-requires c κs = ?
+joined-stop-requires c κs = joined-start-requires (c .before .before) κs
 
--- src/lib.rt:61:5
 put-runs-requires : tie.Need-put-runs-requires
-put-runs-requires c κs = ?
+put-runs-requires c κs =
+    let e = c .before .before .before .before .before in
+    let k = rows (e .before .before .before .before .before) in
+    let f = cuts (e .before) in
+    (k .long, k .place, f .0, f .1, f .2, room e)
 
--- src/lib.rt:62:24
 reached-at-requires : tie.Need-reached-at-requires
-reached-at-requires c κs = ?
+reached-at-requires c κs =
+    let w = c .before .before .before in
+    let h = w .before .before in
+    let l = h .before .before in
+    let e = l .before .before in
+    let q = e .before in
+    let r = q .before .before .before .before in
+    let s = r .before .before .before in
+    let k = rows r in
+    let few =
+    extend-few (now (s .args .area)) (s .args .place) (s .pre .0) (s .pre .1) _ (r .rows-at .ensures) (s .args .from) (s .args .to) _ _ (s .pre .2)
+    (q .before .before .cut-to .ensures) (q .cut-below .ensures) (l .joined-start .result) (h .joined-stop .result) (l .joined-start .ensures)
+    (h .joined-stop .ensures) (omega arith) (omega arith) (room e) _ (w .put-runs .ensures) in
+    (omega (arith, w .put-runs .kept .0, k .long), k .place, few)
 
--- src/lib.rt:45:1
 same-length-2 : tie.Need-same-length-2
 same-length-2 c = search needs
 
--- src/lib.rt:45:1
 returns-2 : tie.Need-returns-2
-returns-2 c = ?
+returns-2 c =
+    let b = c .before .before in
+    let w = b .before .before in
+    let h = w .before .before in
+    let l = h .before .before in
+    let e = l .before .before in
+    let q = e .before in
+    let r = q .before .before .before .before in
+    let s = r .before .before .before in
+    both refl
+    (extend-done (now (s .args .area)) (s .args .place) (s .pre .0) (s .pre .1) _ (r .rows-at .ensures) (s .args .from) (s .args .to) _ _ (s .pre .2)
+    (q .before .before .cut-to .ensures) (q .cut-below .ensures) (l .joined-start .result) (h .joined-stop .result) (l .joined-start .ensures)
+    (h .joined-stop .ensures) (omega arith) (omega arith) (room e) _ (w .put-runs .ensures) (s .args .key) _ (λ i. b .slice-known2 .given i .fits)
+    (c .reached-at .ensures))
 
 pub extend-spec : {M : Type 1} → statement M
 extend-spec =

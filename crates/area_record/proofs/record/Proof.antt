@@ -1,62 +1,79 @@
+-- `area_record::record` meets its contract: 22, the reader's refusal, and else what the packet's fields leave.
+-- Assumes nothing.
 use native.Mathlib.Omega.{arith}
 use borrow.Author.Needs.{needs}
+use borrow.Author.Tests.{not-true, not-false}
+use denote.Ref.{now}
+use mathlib.Core.Path.{_≡_, sym, ap, _∙_}
+use mathlib.Core.Bool.{true}
+use Rattle.packet_data.specs.Data.{dataRefusal}
+use Rattle.packet_data.specs.declared.Data.{Data}
+use Rattle.table.specs.Record.{recordData}
+use Rattle.table.specs.declared.Recorded.the-variants.{Refused}
+use Rattle.area.specs.Places.{readTable}
+use Rattle.area.specs.Judge.{judged}
+use Rattle.area.specs.Operations.{leaves}
+use Rattle.area_record.proofs.RecordLaws.{both, both-as, record-unheld, record-unread, record-read}
 use Rattle.area_record.proofs.record.Statement.{statement}
 use Rattle.area_record.proofs.record.Tie as tie
-use Rattle.area_record.proofs.record.Reads as reads
-use Rattle.area_record.proofs.record.Lts as lts
-use Rattle.area.proofs.judge.Reads as judge-reads
-use Rattle.area_record.proofs.record_fields.Reads as record-fields-reads
-use Rattle.packet_data.proofs.data_fields.Reads as data-fields-reads
-use Rattle.packet_data.proofs.data_refusal.Reads as data-refusal-reads
-use Rattle.refusals.proofs.refuse.Reads as refuse-reads
 
--- src/lib.rt:90:9
 judge-requires : tie.Need-judge-requires
 judge-requires c κs = search needs
 
--- src/lib.rt:91:9
 data-refusal-requires : tie.Need-data-refusal-requires
 data-refusal-requires c κs = search needs
 
--- src/lib.rt:93:34
 refuse-requires : tie.Need-refuse-requires
 refuse-requires c κs = search needs
 
--- src/lib.rt:93:9
 same-length : tie.Need-same-length
 same-length c = search needs
 
--- src/lib.rt:93:9
 returns : tie.Need-returns
-returns c = ?
+returns c =
+    let j = c .before .before .before in
+    let s = j .before .before .before .before in
+    both (ap Refused (c .refuse .ensures))
+    (record-unheld (now (s .args .area)) (now (s .args .packet)) (sym (j .judge .ensures) ∙ not-true _ (c .before .if1 .taken)))
 
--- src/lib.rt:96:34
+-- the area passed
+passed : (c : tie.Else1) → judged (now (c .before .before .before .before .before .before .args .area)) ≡ true
+passed c = sym (c .before .before .judge .ensures) ∙ not-false _ (c .if1 .left)
+
 refuse-requires-2 : tie.Need-refuse-requires-2
 refuse-requires-2 c κs = search needs
 
--- src/lib.rt:96:9
 same-length-2 : tie.Need-same-length-2
 same-length-2 c = search needs
 
--- src/lib.rt:96:9
 returns-2 : tie.Need-returns-2
-returns-2 c = ?
+returns-2 c =
+    let e = c .before .before in
+    let u = e .before in
+    let k = u .before .before .before .before in
+    let s = k .before in
+    both (ap Refused (c .refuse2 .ensures))
+    (record-unread (now (s .args .area)) (passed e) (now (s .args .packet)) (u .data-refusal .result) (λ i. k .slice-known .given i .fits) (u .data-refusal .ensures) (omega arith))
 
--- src/lib.rt:98:9
 data-fields-requires : tie.Need-data-fields-requires
 data-fields-requires c κs = search needs
 
--- src/lib.rt:99:5
 record-fields-requires : tie.Need-record-fields-requires
-record-fields-requires c κs = ?
+record-fields-requires c κs = passed (c .before .before .before)
 
--- src/lib.rt:86:1
 same-length-3 : tie.Need-same-length-3
 same-length-3 c = search needs
 
--- src/lib.rt:86:1
 returns-3 : tie.Need-returns-3
-returns-3 c = ?
+returns-3 c =
+    let x = c .before .before in
+    let f = x .before .before in
+    let e = f .before .before in
+    let s = e .before .before .before .before .before .before in
+    let a = now (s .args .area) in
+    let z : dataRefusal (now (s .args .packet)) ≡ 0 = omega arith in
+    both-as (x .record-fields .ensures)
+    (ap (λ (d : Data). leaves a (recordData (readTable a) d)) (f .data-fields .ensures) ∙ record-read a (passed e) (now (s .args .packet)) z)
 
 pub record-spec : {M : Type 1} → statement M
 record-spec =

@@ -1,66 +1,98 @@
+-- `area_record::record_fields` meets its contract: 12, the refusals of the key, and else what the runs of the place become.
+-- Assumes nothing.
 use native.Mathlib.Omega.{arith}
 use borrow.Author.Needs.{needs}
+use borrow.Author.Tests.{not-true, not-false}
+use denote.Ref.{now}
+use mathlib.Core.Path.{sym, ap, _∙_}
+use Rattle.octets.specs.Numbers.{Octets}
+use Rattle.transfer.proofs.ExtendLaws.{key-stop}
+use Rattle.table.specs.declared.Recorded.the-variants.{Refused}
+use Rattle.area_record.proofs.RecordLaws.{both, both-as, OpenKnown, opened, fields-missing, fields-refused, fields-extended}
 use Rattle.area_record.proofs.record_fields.Statement.{statement}
 use Rattle.area_record.proofs.record_fields.Tie as tie
-use Rattle.area_record.proofs.record_fields.Reads as reads
-use Rattle.area_record.proofs.record_fields.Lts as lts
-use Rattle.area.proofs.find_place.Reads as find-place-reads
-use Rattle.area.proofs.key_at.Reads as key-at-reads
-use Rattle.area_record.proofs.extend.Reads as extend-reads
-use Rattle.refusals.proofs.refuse.Reads as refuse-reads
-use Rattle.transfer.proofs.key_refusal.Reads as key-refusal-reads
 
--- src/lib.rt:71:9
 find-place-requires : tie.Need-find-place-requires
 find-place-requires c κs = search needs
 
--- src/lib.rt:73:34
 refuse-requires : tie.Need-refuse-requires
 refuse-requires c κs = search needs
 
--- src/lib.rt:73:9
 same-length : tie.Need-same-length
 same-length c = search needs
 
--- src/lib.rt:73:9
+-- the area's values are octets
+octets : (c : tie.After-slice-known) → Octets (now (c .before .args .area))
+octets c i = c .slice-known .given i .fits
+
 returns : tie.Need-returns
-returns c = ?
+returns c =
+    let f = c .before .before .before in
+    let s = f .before .before .before in
+    both (ap Refused (c .refuse .ensures))
+    (fields-missing (now (s .args .area)) (s .pre) (s .args .d) (f .find-place .result) (f .find-place .ensures) (not-true _ (c .before .if1 .taken)) (octets (f .before .before)))
 
--- src/lib.rt:76:9
+-- where the Id is open
+open-known : (c : tie.Else1)
+    → let f = c .before .before in
+    let s = f .before .before .before in
+    OpenKnown (now (s .args .area)) (s .pre) (s .args .d) (f .find-place .result) (f .find-place .ensures)
+open-known c =
+    let f = c .before .before in
+    let s = f .before .before .before in
+    opened (now (s .args .area)) (s .pre) (s .args .d) (f .find-place .result) (f .find-place .ensures) (not-false _ (c .if1 .left))
+
 key-at-requires : tie.Need-key-at-requires
-key-at-requires c κs = ?
+key-at-requires c κs = let k = open-known (c .before) in (k .long, k .place)
 
--- src/lib.rt:77:9
 key-refusal-requires : tie.Need-key-refusal-requires
 key-refusal-requires c κs = search needs
 
--- src/lib.rt:79:34
 refuse-requires-2 : tie.Need-refuse-requires-2
 refuse-requires-2 c κs = search needs
 
--- src/lib.rt:79:9
 same-length-2 : tie.Need-same-length-2
 same-length-2 c = search needs
 
--- src/lib.rt:79:9
 returns-2 : tie.Need-returns-2
-returns-2 c = ?
+returns-2 c =
+    let r = c .before .before in
+    let k = r .before in
+    let e = k .before .before in
+    let f = e .before .before in
+    let s = f .before .before .before in
+    both (ap Refused (c .refuse2 .ensures))
+    (fields-refused (now (s .args .area)) (s .pre) (s .args .d) (f .find-place .result) (f .find-place .ensures) (open-known e) (k .key-at .result) (k .key-at .ensures)
+    (r .key-refusal .result) (r .key-refusal .ensures) (omega arith) (octets (f .before .before)))
 
--- src/lib.rt:82:33
 add-extend : tie.Need-add-extend
-add-extend c = ?
+add-extend c =
+    let r = c .before .before in
+    let k = r .before in
+    let d = k .before .before .before .before .before .before .before .args .d in
+    let stop = key-stop (k .key-at .result) d (sym (r .key-refusal .ensures) ∙ c .before .if2 .left) in
+    omega arith
 
--- src/lib.rt:82:5
 extend-requires : tie.Need-extend-requires
-extend-requires c κs = ?
+extend-requires c κs =
+    let e = c .before .before .before .before .before in
+    let k = open-known e in
+    (e .before .before .before .before .before .pre, k .there, omega arith)
 
--- src/lib.rt:66:1
 same-length-3 : tie.Need-same-length-3
 same-length-3 c = search needs
 
--- src/lib.rt:66:1
 returns-3 : tie.Need-returns-3
-returns-3 c = ?
+returns-3 c =
+    let x = c .before .before in
+    let r = x .before .before .before in
+    let k = r .before in
+    let e = k .before .before in
+    let f = e .before .before in
+    let s = f .before .before .before in
+    both-as (x .«extend» .ensures)
+    (fields-extended (now (s .args .area)) (s .pre) (s .args .d) (f .find-place .result) (f .find-place .ensures) (open-known e) (k .key-at .result) (k .key-at .ensures)
+    (r .key-refusal .result) (r .key-refusal .ensures) (omega arith) (octets (f .before .before)))
 
 pub record-fields-spec : {M : Type 1} → statement M
 record-fields-spec =

@@ -2,11 +2,11 @@
 -- is the area that was with this table stored in it.
 -- Assumes nothing.
 use Prim.Native.Nat.{ℕ, zero, suc, _+_, _*_, _-_, _^_, _≤_, _<_}
-use mathlib.Core.Path.{_≡_, refl, sym, ap, _∙_}
+use mathlib.Core.Path.{_≡_, sym, ap, _∙_}
 use mathlib.Core.List.{List, _∷_, _++_}
 use mathlib.Core.Logic.{_⊎_, inl, inr, ⊎-elim}
 use native.Mathlib.Omega.{arith}
-use lib.ListN.{length, getD, set, take, drop, length-append, length-drop, length-set, List·getD-append}
+use lib.ListN.{length, take, drop, length-append, length-drop, length-set, List·getD-append}
 use lib.Seq.{length-take-le, getD-take, getD-drop, getD-at, getD-append-add, getD-set-same, getD-set-other}
 use Rattle.octets.specs.Numbers.{Octets}
 use Rattle.runs.specs.Runs.{Run, run, nthRun}
@@ -268,10 +268,6 @@ module _ (a : List ℕ) (t : List Transfer) (p i j : ℕ) (x : Run) (long : area
   pub spliced-holds : Holds (splicedArea a p n i j (x .start) (x .stop)) grown
   unfolding splicedArea
   spliced-holds = holds₃
-
-  pub spliced-size : length (splicedArea a p n i j (x .start) (x .stop)) ≡ length a
-  unfolding splicedArea
-  spliced-size = length₃
 
   -- and the area is the one that was, with this table stored in it
   pub spliced-stored : Octets (splicedArea a p n i j (x .start) (x .stop)) → splicedArea a p n i j (x .start) (x .stop) ≡ storedIn a grown

@@ -20,23 +20,37 @@ use Rattle.run_rows.proofs.CutLaws.{insert-cut}
 use Rattle.transfer.specs.declared.Key.{Key}
 use Rattle.transfer.specs.declared.Reached.{Reached}
 use Rattle.transfer.specs.Transfers.{Transfer, TransferFine, reached}
-use Rattle.table.specs.Tables.{Valid}
 use Rattle.table.specs.declared.Recorded.the-variants.{Accepted, Refused}
 use Rattle.area.specs.Layout.{transferPlaces, runPlaces, countField, areaOctets, headAt, runAt}
-use Rattle.area.specs.Places.{rowsAt, transferAt, readTable, unused, nth, Holds, withRuns}
+use Rattle.area.specs.Places.{rowsAt, readTable, unused, nth, Holds, withRuns}
 use Rattle.area.specs.Judge.{judged}
 use Rattle.area.specs.Stored.{storedIn}
 use Rattle.area.proofs.PlaceLaws.{length-transfers, transfer-at, rows-fit, read-holds, holds-read, Few}
 use Rattle.area.proofs.JudgeLaws.{judged-passed}
 use Rattle.area.proofs.StoredLaws.{fine-at, valid-few}
 use Rattle.area_record.specs.Record.{runsAfter, splicedArea, runsGiven}
-use Rattle.area_record.proofs.ChangeLaws.{spliced, spliced-length, spliced-holds, spliced-size, spliced-stored}
+use Rattle.area_record.proofs.ChangeLaws.{spliced, spliced-length, spliced-holds, spliced-stored}
 
 -- the three changes in a row
 pub put-chain : (a x y z : List ℕ) (p n i j lo hi s e h : ℕ) → s ≡ runAt 0 p 0 → e ≡ runAt 1 p 0 → h ≡ headAt p countField
     → x ≡ splicedRow a s n i j lo → y ≡ splicedRow x e n i j hi → z ≡ putWord h (runsAfter n i j) y → z ≡ splicedArea a p n i j lo hi
 unfolding splicedArea
 put-chain a x y z p n i j lo hi s e h u v w f g k = k ∙ rw (g, f, u, v, w)
+
+-- ---- what is left of an area: the rows r at place p hold rs, and it is the area a with these runs stored in it
+pub record Left (a : List ℕ) (p : ℕ) (rs : List Run) (b : List ℕ) (r : Rows) : Type 0 where
+  pub fit : RowsFit b r
+  pub few : length rs ≤ runPlaces
+  pub runs : runsIn b r ≡ rs
+  pub stored : Octets b → b ≡ storedIn a (withRuns (readTable a) p rs)
+
+-- then the answer is right
+pub left-done : (a : List ℕ) (p : ℕ) (rs : List Run) (b : List ℕ) (r : Rows) (k : Key) (q : Reached) → Left a p rs b r → Octets b
+    → q ≡ reached k (runsIn b r) → record { answer = Accepted q; area = b } ≡ runsGiven a (readTable a) p k rs
+unfolding runsGiven
+left-done a p rs b r k q l o y =
+    rw (le-ltb runPlaces (length rs) (l .few))
+    (ap₂ (λ (z : Reached) (m : List ℕ). record { answer = Accepted z; area = m }) (y ∙ ap (reached k) (l .runs)) (l .stored o))
 
 -- ---- an area that holds a table, and a place of it
 module _ (a : List ℕ) (p : ℕ) (e : judged a ≡ true) (there : p < length (readTable a)) where
@@ -142,14 +156,21 @@ module _ (a : List ℕ) (p : ℕ) (e : judged a ≡ true) (there : p < length (r
             ap (λ (y : Transfer). y .runs)
             (sym (transfer-at b p (omega (arith, holds .count, still))) ∙ ap (λ (l : List Transfer). nth l p) (holds-read b table holds) ∙ here)
 
-        pub extend-few : wordAt b (headAt p countField) ≤ runPlaces
-        extend-few =
-            let c : wordAt b (headAt p countField) ≡ length new = holds .heads p countField still (omega arith) ∙ ap (λ (y : Transfer). length (y .runs)) here in
-            omega (arith, length-new)
+        -- the rows as the code names them
+        abbrev rows-new : Rows
+        rows-new = record { starts = r .starts; stops = r .stops; count = runsAfter (r .count) i j }
 
-        pub extend-done : (k : Key) (q : Reached) → Octets b → q ≡ reached k (runsIn b (rowsAt b p))
-            → record { answer = Accepted q; area = b } ≡ runsGiven a (readTable a) p k new
-        unfolding runsGiven
-        extend-done k q o y =
-            rw (le-ltb runPlaces (length new) (omega (arith, length-new)))
-            (ap₂ (λ (z : Reached) (l : List ℕ). record { answer = Accepted z; area = l }) (y ∙ ap (reached k) runs-new) (stored o))
+        rows-are : rows-new ≡ rowsAt b p
+        rows-are =
+            let c : runsAfter (r .count) i j ≡ wordAt b (headAt p countField) =
+            sym length-new ∙ ap (λ (y : Transfer). length (y .runs)) (sym here) ∙ sym (holds .heads p countField still (omega arith)) in
+            λ w. record { starts = known .starts w; stops = known .stops w; count = c w }
+
+        pub extend-left : length b ≡ length a → Left a p new b rows-new
+        extend-left size =
+            record {
+              fit = rows-fit b p rows-new rows-are (omega (arith, known .long)) (known .place) room;
+              few = omega (arith, length-new);
+              runs = ap (runsIn b) rows-are ∙ runs-new;
+              stored = stored;
+            }

@@ -3,7 +3,7 @@
 -- Assumes nothing.
 use Prim.Native.Nat.{ℕ, zero, suc, _≤_, _<_}
 use mathlib.Core.Path.{_≡_, refl, sym, ap, _∙_}
-use mathlib.Core.Bool.{Bool, true, false, _&&_, and-eq-true-iff, true≢false}
+use mathlib.Core.Bool.{true, false, _&&_, and-eq-true-iff, true≢false}
 use mathlib.Core.List.{List}
 use mathlib.Core.Option.{Option, none, some}
 use mathlib.Core.Logic.{⊎-elim}
@@ -22,15 +22,13 @@ use Rattle.words.specs.Words.{wordAt}
 use Rattle.transfer.specs.declared.Key.{Key}
 use Rattle.transfer.specs.Transfers.{Transfer}
 use Rattle.transfer.specs.Record.{stopOf, keyRefusal, extended, runsRefusal}
-use Rattle.table.specs.Tables.{keys, find, setRuns}
+use Rattle.table.specs.Tables.{keys, find}
 use Rattle.table.specs.Record.{dataJudged, recordRefusal, grown, recordAs, recordData, recordRead, recordPacket}
 use Rattle.table.specs.declared.Recorded.{Recorded}
-use Rattle.table.specs.declared.Recorded.the-variants.{Accepted, Refused}
-use Rattle.table.specs.Outcome.{Outcome}
+use Rattle.table.specs.declared.Recorded.the-variants.{Refused}
 use Rattle.area.specs.Layout.{transferPlaces, runPlaces, areaOctets}
-use Rattle.area.specs.Places.{keyAt, readTable, nth, placeOf, openAt, placeIn, withRuns}
+use Rattle.area.specs.Places.{keyAt, readTable, nth, placeOf, openAt, placeIn}
 use Rattle.area.specs.Judge.{judged}
-use Rattle.area.specs.Stored.{storedIn}
 use Rattle.area.specs.Operations.{OnArea, leaves, recordArea}
 use Rattle.area.specs.declared.Place.{Place}
 use Rattle.area.proofs.PlaceLaws.{length-transfers, transfer-at}

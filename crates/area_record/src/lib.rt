@@ -4,16 +4,16 @@ ghost use mathlib.Core.Bool.{true};
 ghost use Prim.Native.Nat.{_≤_, _<_};
 ghost use lib.ListN.{length};
 ghost use Rattle.runs.specs.Runs.{insert};
-ghost use Rattle.run_rows.specs.Rows.{runsIn};
-ghost use Rattle.words.specs.Words.{wordAt};
+ghost use Rattle.run_rows.specs.Rows.{runsIn, RowsFit};
 ghost use Rattle.transfer.specs.Transfers.{reached};
 ghost use Rattle.table.specs.Record.{recordData};
-ghost use Rattle.area.specs.Layout.{transferPlaces, runPlaces, areaOctets, headAt, countField};
-ghost use Rattle.area.specs.Places.{nth, readTable, rowsAt};
+ghost use Rattle.area.specs.Layout.{transferPlaces, runPlaces, areaOctets};
+ghost use Rattle.area.specs.Places.{nth, readTable};
 ghost use Rattle.area.specs.Judge.{judged};
 ghost use Rattle.area.specs.Operations.{leaves, recordArea};
 ghost use Rattle.area_record.specs.Record.{runsAfter, splicedArea, runsGiven};
 use packet_data::Data;
+use run_rows::Rows;
 use table::Recorded;
 use transfer::Key;
 use transfer::Reached;
@@ -29,12 +29,11 @@ fn put_runs(area: &mut [u8], place: usize, n: usize, i: usize, j: usize, lo: u64
     words::put_word(area, area::head_at(place, area::RUN_COUNT), after as u64);
 }
 
-// How far the transfer at a place has come, whose key is given.
-fn reached_at(area: &[u8], place: usize, key: Key) -> Reached
-    requires { ⌜ (areaOctets ≤ length (now area)) × (place < transferPlaces) × (wordAt (now area) (headAt place countField) ≤ runPlaces) ⌝ }
-    ensures { λ r. ⌜ r ≡ reached key (runsIn (now (area .entry)) (rowsAt (now (area .entry)) place)) ⌝ }
+// How far a transfer has come whose runs stand in these rows, and whose key is given.
+fn reached_in(area: &[u8], rows: Rows, key: Key) -> Reached
+    requires { ⌜ RowsFit (now area) rows ⌝ }
+    ensures { λ r. ⌜ r ≡ reached key (runsIn (now (area .entry)) rows) ⌝ }
 {
-    let rows = area::rows_at(area, place);
     let edge = run_rows::edge_of(area, rows);
     let complete = run_rows::is_complete(area, rows, key.length);
     Reached { edge, complete }
@@ -53,13 +52,19 @@ fn extend(area: &mut [u8], place: usize, key: Key, from: u64, to: u64) -> Record
     let n = rows.count;
     let j = run_rows::cut_to(area, rows.starts, n, to);
     let i = run_rows::cut_below(area, rows.stops, j, from);
-    if area::RUNS < i + 1 + (n - j) {
+    let after = i + 1 + (n - j);
+    if area::RUNS < after {
         return Recorded::Refused(refusals::refuse(16));
     }
     let lo = run_rows::joined_start(area, rows, i, j, from);
     let hi = run_rows::joined_stop(area, rows, i, j, to);
     put_runs(area, place, n, i, j, lo, hi);
-    Recorded::Accepted(reached_at(area, place, key))
+    let grown = Rows {
+        starts: rows.starts,
+        stops: rows.stops,
+        count: after,
+    };
+    Recorded::Accepted(reached_in(area, grown, key))
 }
 
 // The fields of a packet recorded in an area that holds a table: 12, then what the key of its Id says, then its runs.

@@ -5,12 +5,13 @@ use borrow.Author.Needs.{needs}
 use denote.Ref.{now}
 use Prim.Native.Nat.{_≤_}
 use mathlib.Core.Path.{refl, ap}
+use Rattle.runs.specs.Runs.{insert}
 use Rattle.table.specs.declared.Recorded.the-variants.{Refused}
 use Rattle.area.specs.Layout.{runPlaces}
-use Rattle.area.specs.Places.{rowsAt}
+use Rattle.area.specs.Places.{rowsAt, readTable, nth}
 use Rattle.area_record.specs.Record.{runsAfter}
 use Rattle.area_record.proofs.RecordLaws.{both}
-use Rattle.area_record.proofs.ExtendLaws.{PlaceKnown, known, extend-over, extend-few, extend-done}
+use Rattle.area_record.proofs.ExtendLaws.{PlaceKnown, known, Left, left-done, extend-over, extend-left}
 use Rattle.area_record.proofs.extend.Statement.{statement}
 use Rattle.area_record.proofs.extend.Tie as tie
 
@@ -38,14 +39,14 @@ cuts : (c : tie.After-cut-below)
     (c .cut-below .result ≤ j) × (j ≤ n) × (n ≤ runPlaces)
 cuts c = (c .cut-below .ensures .inside, c .before .before .cut-to .ensures .inside, rows (c .before .before .before .before) .few-runs)
 
-add-if1 : tie.Need-add-if1
-add-if1 c = omega (arith, cuts c)
+add-after : tie.Need-add-after
+add-after c = omega (arith, cuts c)
 
-sub-if1 : tie.Need-sub-if1
-sub-if1 c = search needs
+sub-after : tie.Need-sub-after
+sub-after c = search needs
 
-add-if1-2 : tie.Need-add-if1-2
-add-if1-2 c = omega (arith, cuts c)
+add-after-2 : tie.Need-add-after-2
+add-after-2 c = omega (arith, cuts c)
 
 refuse-requires : tie.Need-refuse-requires
 refuse-requires c κs = search needs
@@ -80,21 +81,28 @@ put-runs-requires c κs =
     let f = cuts (e .before) in
     (k .long, k .place, f .0, f .1, f .2, room e)
 
-reached-at-requires : tie.Need-reached-at-requires
-reached-at-requires c κs =
-    let w = c .before .before .before in
-    let h = w .before .before in
+-- what it leaves there
+left : (c : tie.After-put-runs)
+    → let q = c .before .before .before .before .before .before .before in
+    let r = q .before .before .before .before in
+    let s = r .before .before .before in
+    let a = now (s .args .area) in
+    let rows = r .rows-at .result in
+    Left a (s .args .place) (insert (s .args .from) (s .args .to) (nth (readTable a) (s .args .place) .runs)) (c .put-runs .last .0)
+    (record { starts = rows .starts; stops = rows .stops; count = runsAfter (rows .count) (q .cut-below .result) (q .before .before .cut-to .result) })
+left c =
+    let h = c .before .before in
     let l = h .before .before in
     let e = l .before .before in
     let q = e .before in
     let r = q .before .before .before .before in
     let s = r .before .before .before in
-    let k = rows r in
-    let few =
-    extend-few (now (s .args .area)) (s .args .place) (s .pre .0) (s .pre .1) _ (r .rows-at .ensures) (s .args .from) (s .args .to) _ _ (s .pre .2)
+    extend-left (now (s .args .area)) (s .args .place) (s .pre .0) (s .pre .1) _ (r .rows-at .ensures) (s .args .from) (s .args .to) _ _ (s .pre .2)
     (q .before .before .cut-to .ensures) (q .cut-below .ensures) (l .joined-start .result) (h .joined-stop .result) (l .joined-start .ensures)
-    (h .joined-stop .ensures) (omega arith) (omega arith) (room e) _ (w .put-runs .ensures) in
-    (omega (arith, w .put-runs .kept .0, k .long), k .place, few)
+    (h .joined-stop .ensures) (omega arith) (omega arith) (room e) _ (c .put-runs .ensures) (c .put-runs .kept .0)
+
+reached-in-requires : tie.Need-reached-in-requires
+reached-in-requires c κs = left (c .before .before .before) .fit
 
 same-length-2 : tie.Need-same-length-2
 same-length-2 c = search needs
@@ -102,18 +110,9 @@ same-length-2 c = search needs
 returns-2 : tie.Need-returns-2
 returns-2 c =
     let b = c .before .before in
-    let w = b .before .before in
-    let h = w .before .before in
-    let l = h .before .before in
-    let e = l .before .before in
-    let q = e .before in
-    let r = q .before .before .before .before in
-    let s = r .before .before .before in
+    let s = b .before .before .before .before .before .before .before .before .before .before .before .before .before .before .before .before in
     both refl
-    (extend-done (now (s .args .area)) (s .args .place) (s .pre .0) (s .pre .1) _ (r .rows-at .ensures) (s .args .from) (s .args .to) _ _ (s .pre .2)
-    (q .before .before .cut-to .ensures) (q .cut-below .ensures) (l .joined-start .result) (h .joined-stop .result) (l .joined-start .ensures)
-    (h .joined-stop .ensures) (omega arith) (omega arith) (room e) _ (w .put-runs .ensures) (s .args .key) _ (λ i. b .slice-known2 .given i .fits)
-    (c .reached-at .ensures))
+    (left-done (now (s .args .area)) (s .args .place) _ _ _ (s .args .key) _ (left (b .before .before)) (λ i. b .slice-known2 .given i .fits) (c .reached-in .ensures))
 
 pub extend-spec : {M : Type 1} → statement M
 extend-spec =
@@ -122,15 +121,15 @@ extend-spec =
     rows-at-requires
     cut-to-requires
     cut-below-requires
-    add-if1
-    sub-if1
-    add-if1-2
+    add-after
+    sub-after
+    add-after-2
     refuse-requires
     same-length
     returns
     joined-start-requires
     joined-stop-requires
     put-runs-requires
-    reached-at-requires
+    reached-in-requires
     same-length-2
     returns-2)

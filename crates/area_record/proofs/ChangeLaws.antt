@@ -1,119 +1,27 @@
 -- An area in which the two rows of one transfer were spliced, and its number of runs put: it holds the table with these runs, and
 -- is the area that was with this table stored in it.
 -- Assumes nothing.
-use Prim.Native.Nat.{ℕ, zero, suc, _+_, _*_, _-_, _^_, _≤_, _<_}
+use Prim.Native.Nat.{ℕ, zero, suc, _+_, _^_, _≤_, _<_}
 use mathlib.Core.Path.{_≡_, sym, ap, _∙_}
-use mathlib.Core.List.{List, _∷_, _++_}
+use mathlib.Core.List.{List}
 use mathlib.Core.Logic.{_⊎_, inl, inr, ⊎-elim}
 use native.Mathlib.Omega.{arith}
-use lib.ListN.{length, take, drop, length-append, length-drop, length-set, List·getD-append}
-use lib.Seq.{length-take-le, getD-take, getD-drop, getD-at, getD-append-add, getD-set-same, getD-set-other}
+use lib.ListN.{length, drop, length-set}
+use lib.Seq.{getD-set-same, getD-set-other}
 use Rattle.octets.specs.Numbers.{Octets}
-use Rattle.runs.specs.Runs.{Run, run, nthRun}
+use Rattle.runs.specs.Runs.{Run, nthRun}
 use Rattle.runs.proofs.NumberLaws.{le-or-lt}
 use Rattle.words.specs.Words.{wordAt, putWord, splicedRow}
-use Rattle.words.proofs.RowLaws.{splice-length, splice-before, splice-at, splice-later, splice-after, splice-after-word, put-length, put-at, put-other, put-after}
+use Rattle.words.proofs.RowLaws.{splice-length, splice-after, put-length, put-at, put-other, put-after}
 use Rattle.transfer.specs.Transfers.{Transfer}
-use Rattle.area.specs.Layout.{transferPlaces, runPlaces, headWords, countField, areaWords, areaOctets, headAt, runAt}
+use Rattle.area.specs.Layout.{transferPlaces, runPlaces, headWords, countField, areaOctets, headAt, runAt}
 use Rattle.area.specs.Places.{unused, nth, field, sideOf, runNumber, Holds, withRuns}
-use Rattle.area.specs.Stored.{wordOr, storedIn}
-use Rattle.area.proofs.PlaceLaws.{place-cases, or-count, or-head, or-run, head-used, head-free, run-used, run-free, run-there, Few}
+use Rattle.area.specs.Stored.{storedIn}
+use Rattle.area.proofs.PlaceLaws.{Few}
 use Rattle.area.proofs.StoredLaws.{stored-is}
 use Rattle.area_record.specs.Record.{runsAfter, splicedArea}
-
--- ---- a list of runs whose elements from i up to j gave way to x
-
-abbrev pub spliced : List Run → ℕ → ℕ → Run → List Run
-spliced rs i j x = take i rs ++ (x ∷ drop j rs)
-
-module _ (rs : List Run) (i j : ℕ) (x : Run) (inside : i ≤ length rs) where
-  front : length (take i rs) ≡ i
-  front = length-take-le i rs inside
-
-  spliced-before : (m : ℕ) → m < i → nthRun (spliced rs i j x) m ≡ nthRun rs m
-  spliced-before m h = let l : length (take i rs) ≡ i = front in List·getD-append (take i rs) (x ∷ drop j rs) (run 0 0) m (omega arith) ∙ getD-take i rs m (run 0 0) h
-
-  spliced-at : nthRun (spliced rs i j x) i ≡ x
-  spliced-at = getD-at (take i rs) x (drop j rs) (run 0 0) i front
-
-  spliced-later : (q : ℕ) → nthRun (spliced rs i j x) (i + 1 + q) ≡ nthRun rs (j + q)
-  spliced-later q =
-      let l : length (take i rs) ≡ i = front in
-      let e : i + 1 + q ≡ length (take i rs) + suc q = omega arith in
-      ap (nthRun (spliced rs i j x)) e ∙ getD-append-add (take i rs) (x ∷ drop j rs) (suc q) (run 0 0) ∙ getD-drop j rs q (run 0 0)
-
-  pub spliced-length : length (spliced rs i j x) ≡ runsAfter (length rs) i j
-  spliced-length = length-append (take i rs) (x ∷ drop j rs) ∙ omega (arith, front, length-drop j rs)
-
--- ---- a row of words that holds a number f of each run, spliced
-
-module _ (b : List ℕ) (k i j : ℕ) (f : Run → ℕ) (rs : List Run) (x : Run) (order : i ≤ j) (inside : j ≤ length rs)
-    (whole : (k + length rs) * 8 ≤ length b) (room : (k + i + 1 + (length rs - j)) * 8 ≤ length b) where
-  abbrev row : List ℕ
-  row = splicedRow b k (length rs) i j (f x)
-
-  -- its words
-  row-new : f x < 2 ^ 64 → ((q : ℕ) → q < length rs → wordAt b (k + q) ≡ f (nthRun rs q))
-      → (q : ℕ) → q < runsAfter (length rs) i j → wordAt row (k + q) ≡ f (nthRun (spliced rs i j x) q)
-  row-new small old q h =
-      ⊎-elim
-      (λ (p : i ≤ q).
-      ⊎-elim
-      (λ (r : i + 1 ≤ q).
-      let m : ℕ = q - (i + 1) in
-      let e : i + 1 + m ≡ q = omega arith in
-      let g : k + i + 1 + m ≡ k + q = omega arith in
-      let w : k + j + m ≡ k + (j + m) = omega arith in
-      ap (wordAt row) (sym g)
-      ∙ splice-later b k (length rs) i j (f x) order inside whole room m (omega arith)
-      ∙ ap (wordAt b) w ∙ old (j + m) (omega arith)
-      ∙ ap f (sym (spliced-later rs i j x (omega arith) m))
-      ∙ ap (λ (z : ℕ). f (nthRun (spliced rs i j x) z)) e)
-      (λ (r : q < i + 1).
-      let e : q ≡ i = omega arith in
-      rw e (splice-at b k (length rs) i j (f x) order inside whole room small ∙ ap f (sym (spliced-at rs i j x (omega arith)))))
-      (le-or-lt (i + 1) q))
-      (λ (p : q < i).
-      splice-before b k (length rs) i j (f x) order inside whole room (k + q) (omega arith)
-      ∙ old q (omega arith) ∙ ap f (sym (spliced-before rs i j x (omega arith) q p)))
-      (le-or-lt i q)
-
-  -- and each word that is none of them
-  row-off : (m : ℕ) → ((q : ℕ) → q < runsAfter (length rs) i j → k + q ≡ m → ⊥) → wordAt row m ≡ wordAt b m
-  row-off m off =
-      ⊎-elim
-      (λ (p : k + i ≤ m).
-      ⊎-elim
-      (λ (r : k + i + 1 + (length rs - j) ≤ m). splice-after-word b k (length rs) i j (f x) order inside whole room m r)
-      (λ (r : m < k + i + 1 + (length rs - j)). absurd (off (m - k) (omega arith) (omega arith)))
-      (le-or-lt (k + i + 1 + (length rs - j)) m))
-      (λ (p : m < k + i). splice-before b k (length rs) i j (f x) order inside whole room m p)
-      (le-or-lt (k + i) m)
-
--- ---- an area that holds t, and has the words of another elsewhere, has the words of t stored in the other
-
-module _ (a b : List ℕ) (t : List Transfer) (h : Holds b t)
-    (heads-kept : (m f : ℕ) → length t ≤ m → m < transferPlaces → f < headWords → wordAt b (headAt m f) ≡ wordAt a (headAt m f))
-    (sides-kept : (s m q : ℕ) → s < 2 → length (nth t m .runs) ≤ q → m < transferPlaces → q < runPlaces → wordAt b (runAt s m q) ≡ wordAt a (runAt s m q)) where
-  head-word : (m f : ℕ) → m < transferPlaces → f < headWords → wordAt b (headAt m f) ≡ wordOr t (headAt m f) (wordAt a (headAt m f))
-  head-word m f k l =
-      ⊎-elim
-      (λ (o : length t ≤ m). heads-kept m f o k l ∙ sym (head-free t m f (wordAt a (headAt m f)) o))
-      (λ (o : m < length t). h .heads m f o l ∙ sym (head-used t m f (wordAt a (headAt m f)) o))
-      (le-or-lt (length t) m)
-      ∙ sym (or-head t m f (wordAt a (headAt m f)) k l)
-
-  side-word : (s m q : ℕ) → s < 2 → m < transferPlaces → q < runPlaces → wordAt b (runAt s m q) ≡ wordOr t (runAt s m q) (wordAt a (runAt s m q))
-  side-word s m q z k l =
-      ⊎-elim
-      (λ (o : length (nth t m .runs) ≤ q). sides-kept s m q z o k l ∙ sym (run-free t s m q (wordAt a (runAt s m q)) o))
-      (λ (o : q < length (nth t m .runs)).
-      h .sides s m q z (run-there t m q o) o ∙ sym (run-used t s m q (wordAt a (runAt s m q)) o))
-      (le-or-lt (length (nth t m .runs)) q)
-      ∙ sym (or-run t s m q (wordAt a (runAt s m q)) z k l)
-
-  kept-words : (k : ℕ) → k < areaWords → wordAt b k ≡ wordOr t k (wordAt a k)
-  kept-words = place-cases (λ k. wordAt b k ≡ wordOr t k (wordAt a k)) (h .count ∙ sym (or-count t (wordAt a 0))) head-word side-word
+use Rattle.area_record.proofs.SpliceLaws.{spliced, spliced-length, row-new, row-off}
+use Rattle.area_record.proofs.KeptLaws.{kept-words}
 
 same-or : (a b : ℕ) → (a ≡ b) ⊎ (a ≡ b → ⊥)
 same-or a b =

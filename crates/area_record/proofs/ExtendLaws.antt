@@ -29,7 +29,8 @@ use Rattle.area.proofs.PlaceLaws.{length-transfers, transfer-at, rows-fit, read
 use Rattle.area.proofs.JudgeLaws.{judged-passed}
 use Rattle.area.proofs.StoredLaws.{fine-at, valid-few}
 use Rattle.area_record.specs.Record.{runsAfter, splicedArea, runsGiven}
-use Rattle.area_record.proofs.ChangeLaws.{spliced, spliced-length, spliced-holds, spliced-stored}
+use Rattle.area_record.proofs.SpliceLaws.{spliced, spliced-length}
+use Rattle.area_record.proofs.ChangeLaws.{spliced-holds, spliced-stored}
 
 -- the three changes in a row
 pub put-chain : (a x y z : List ℕ) (p n i j lo hi s e h : ℕ) → s ≡ runAt 0 p 0 → e ≡ runAt 1 p 0 → h ≡ headAt p countField
@@ -39,7 +40,6 @@ put-chain a x y z p n i j lo hi s e h u v w f g k = k ∙ rw (g, f, u, v, w)
 
 -- ---- what is left of an area: the rows r at place p hold rs, and it is the area a with these runs stored in it
 pub record Left (a : List ℕ) (p : ℕ) (rs : List Run) (b : List ℕ) (r : Rows) : Type 0 where
-  pub fit : RowsFit b r
   pub few : length rs ≤ runPlaces
   pub runs : runsIn b r ≡ rs
   pub stored : Octets b → b ≡ storedIn a (withRuns (readTable a) p rs)
@@ -166,11 +166,5 @@ module _ (a : List ℕ) (p : ℕ) (e : judged a ≡ true) (there : p < length (r
             sym length-new ∙ ap (λ (y : Transfer). length (y .runs)) (sym here) ∙ sym (holds .heads p countField still (omega arith)) in
             λ w. record { starts = known .starts w; stops = known .stops w; count = c w }
 
-        pub extend-left : length b ≡ length a → Left a p new b rows-new
-        extend-left size =
-            record {
-              fit = rows-fit b p rows-new rows-are (omega (arith, known .long)) (known .place) room;
-              few = omega (arith, length-new);
-              runs = ap (runsIn b) rows-are ∙ runs-new;
-              stored = stored;
-            }
+        pub extend-left : Left a p new b rows-new
+        extend-left = record { few = omega (arith, length-new); runs = ap (runsIn b) rows-are ∙ runs-new; stored = stored }

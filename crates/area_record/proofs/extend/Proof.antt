@@ -79,7 +79,7 @@ put-runs-requires c κs =
     let e = c .before .before .before .before .before in
     let k = rows (e .before .before .before .before .before) in
     let f = cuts (e .before) in
-    (k .long, k .place, f .0, f .1, f .2, room e)
+    omega (arith, k .long, k .place, room e)
 
 -- what it leaves there
 left : (c : tie.After-put-runs)
@@ -99,10 +99,16 @@ left c =
     let s = r .before .before .before in
     extend-left (now (s .args .area)) (s .args .place) (s .pre .0) (s .pre .1) _ (r .rows-at .ensures) (s .args .from) (s .args .to) _ _ (s .pre .2)
     (q .before .before .cut-to .ensures) (q .cut-below .ensures) (l .joined-start .result) (h .joined-stop .result) (l .joined-start .ensures)
-    (h .joined-stop .ensures) (omega arith) (omega arith) (room e) _ (c .put-runs .ensures) (c .put-runs .kept .0)
+    (h .joined-stop .ensures) (omega arith) (omega arith) (room e) _ (c .put-runs .ensures)
 
 reached-in-requires : tie.Need-reached-in-requires
-reached-in-requires c κs = left (c .before .before .before) .fit
+reached-in-requires c κs =
+    let w = c .before .before .before in
+    let e = w .before .before .before .before .before .before in
+    let k = rows (e .before .before .before .before .before) in
+    let f = cuts (e .before) in
+    let m = room e in
+    record { starts-fit = omega (arith, w .put-runs .kept .0); stops-fit = omega (arith, w .put-runs .kept .0) }
 
 same-length-2 : tie.Need-same-length-2
 same-length-2 c = search needs

@@ -77,7 +77,7 @@ extend-requires : tie.Need-extend-requires
 extend-requires c κs =
     let e = c .before .before .before .before .before in
     let k = open-known e in
-    (e .before .before .before .before .before .pre, k .there, omega arith)
+    (e .before .before .before .before .before .pre, omega (arith, k .there), omega arith)
 
 same-length-3 : tie.Need-same-length-3
 same-length-3 c = search needs

@@ -1,0 +1,148 @@
+-- Each way through recording: the area that holds no table, the reader's refusals, 12, those of the transfer's key, 16, and the runs
+-- stored. A refused packet leaves the area.
+-- Assumes nothing.
+use Prim.Native.Nat.{ℕ, zero, suc, _≤_, _<_}
+use mathlib.Core.Path.{_≡_, refl, sym, ap, _∙_}
+use mathlib.Core.Bool.{true, false, _&&_, and-eq-true-iff, true≢false}
+use mathlib.Core.List.{List}
+use mathlib.Core.Option.{Option, none, some}
+use mathlib.Core.Logic.{⊎-elim}
+use native.Mathlib.Omega.{arith}
+use lib.ListN.{length}
+use lib.Dec.{ltb, eqb}
+use borrow.Author.Tests.{lt-ltb, le-ltb, eq-eqb, ltb-true, eqb-true}
+use Rattle.octets.specs.Numbers.{Octets}
+use Rattle.refusals.specs.Refusals.{refusalOf}
+use Rattle.refusals.proofs.RefusalLaws.{stays}
+use Rattle.packet_data.specs.Data.{dataRefusal, dataOf, readData}
+use Rattle.packet_data.specs.declared.Data.{Data}
+use Rattle.runs.specs.Runs.{Run, insert}
+use Rattle.runs.proofs.NumberLaws.{le-or-lt}
+use Rattle.words.specs.Words.{wordAt}
+use Rattle.transfer.specs.declared.Key.{Key}
+use Rattle.transfer.specs.Transfers.{Transfer}
+use Rattle.transfer.specs.Record.{stopOf, keyRefusal, extended, runsRefusal}
+use Rattle.table.specs.Tables.{keys, find}
+use Rattle.table.specs.Record.{dataJudged, recordRefusal, grown, recordAs, recordData, recordRead, recordPacket}
+use Rattle.table.specs.declared.Recorded.{Recorded}
+use Rattle.table.specs.declared.Recorded.the-variants.{Refused}
+use Rattle.area.specs.Layout.{transferPlaces, runPlaces, areaOctets}
+use Rattle.area.specs.Places.{keyAt, readTable, nth, placeOf, openAt, placeIn}
+use Rattle.area.specs.Judge.{judged}
+use Rattle.area.specs.Operations.{OnArea, leaves, recordArea}
+use Rattle.area.specs.declared.Place.{Place}
+use Rattle.area.proofs.PlaceLaws.{length-transfers, transfer-at}
+use Rattle.area.proofs.JudgeLaws.{judged-passed}
+use Rattle.area.proofs.StoredLaws.{held-stored}
+use Rattle.area.proofs.FindLaws.{Placed, placed, found-at, runs-at, set-at, missing-at}
+use Rattle.area.proofs.AreaLaws.{judged-held}
+use Rattle.area.proofs.OperationLaws.{on-judged, on-unjudged}
+use Rattle.area_record.specs.Record.{runsGiven}
+
+-- an answer with its area, part by part
+pub both : {x y : Recorded} {l : List ℕ} {o : OnArea Recorded} → x ≡ y → record { answer = y; area = l } ≡ o → (x ≡ o .answer) × (l ≡ o .area)
+both e f = (e ∙ ap (λ (r : OnArea Recorded). r .answer) f, ap (λ (r : OnArea Recorded). r .area) f)
+
+-- and of one that equals another
+pub both-as : {x : Recorded} {l : List ℕ} {m o : OnArea Recorded} → (x ≡ m .answer) × (l ≡ m .area) → m ≡ o → (x ≡ o .answer) × (l ≡ o .area)
+both-as h f = (h .0 ∙ ap (λ (r : OnArea Recorded). r .answer) f, h .1 ∙ ap (λ (r : OnArea Recorded). r .area) f)
+
+-- a number that is not 0 is given, and the table stays
+as-refused : (n : ℕ) (k : Option Key) (rs : List Run) (t : List Transfer) (d : Data) → (n ≡ 0 → ⊥)
+    → recordAs n k rs t d ≡ record { answer = Refused (refusalOf n); table = t }
+unfolding recordAs
+as-refused zero k rs t d z = absurd (z refl)
+as-refused (suc n) k rs t d z = refl
+
+-- ---- the whole: 22, the reader's refusal, or the packet's fields
+pub record-unheld : (a s : List ℕ) → judged a ≡ false → record { answer = Refused (refusalOf 22); area = a } ≡ recordArea a s
+unfolding recordArea
+record-unheld a s e = sym (on-unjudged _ (λ t. recordPacket t s) a e)
+
+module _ (a : List ℕ) (e : judged a ≡ true) where
+  -- refused, and so the area stays
+  refused : (n : ℕ) → Octets a → record { answer = Refused (refusalOf n); area = a } ≡ leaves a (record { answer = Refused (refusalOf n); table = readTable a })
+  refused n o = ap (λ (l : List ℕ). record { answer = Refused (refusalOf n); area = l }) (sym (held-stored a (readTable a) o (judged-held a e)))
+
+  pub record-unread : (s : List ℕ) (n : ℕ) → Octets a → n ≡ dataRefusal s → (n ≡ 0 → ⊥) → record { answer = Refused (refusalOf n); area = a } ≡ recordArea a s
+  unfolding recordArea recordPacket recordRead readData
+  record-unread s zero o f g = absurd (g refl)
+  record-unread s (suc n) o f g = rw (on-judged (Refused (refusalOf 22)) (λ t. recordPacket t s) a e, ← f) (refused (suc n) o)
+
+  pub record-read : (s : List ℕ) → dataRefusal s ≡ 0 → leaves a (recordData (readTable a) (dataOf s)) ≡ recordArea a s
+  unfolding recordArea recordPacket recordRead readData
+  record-read s f = rw (on-judged (Refused (refusalOf 22)) (λ t. recordPacket t s) a e, f)
+
+  -- ---- the fields, where q is the place of their Id
+  module _ (d : Data) (q : Place) (is : q ≡ placeIn (d .id) (readTable a)) where
+    abbrev table : List Transfer
+    table = readTable a
+
+    abbrev p : ℕ
+    p = q .at
+
+    at-is : p ≡ placeOf (d .id) table
+    unfolding placeIn
+    at-is = ap (λ (x : Place). x .at) is
+
+    place-is : Placed (d .id) table p
+    place-is = rw at-is (placed (d .id) table)
+
+    open-is : q .«open» ≡ (ltb p (length table) && eqb (nth table p .key .id) (d .id))
+    unfolding placeIn openAt
+    open-is = rw at-is (ap (λ (x : Place). x .«open») is)
+
+    -- 12
+    pub fields-missing : q .«open» ≡ false → Octets a → record { answer = Refused (refusalOf 12); area = a } ≡ leaves a (recordData table d)
+    unfolding recordData recordRefusal dataJudged recordAs
+    fields-missing s o =
+        let m : find (d .id) (keys table) ≡ none =
+        missing-at (d .id) 0 place-is (judged-passed a e .1 .fine)
+        (λ l i.
+        let y : q .«open» ≡ true = open-is ∙ and-eq-true-iff _ _ .1 (lt-ltb p (length table) l, eq-eqb (nth table p .key .id) (d .id) i) in
+        true≢false (sym y ∙ s)) in
+        rw m (refused 12 o)
+
+    -- the Id is open: its place is one of the area's
+    pub record OpenKnown : Type 0 where
+      pub long : areaOctets ≤ length a
+      pub there : p < length table
+      pub place : p < transferPlaces
+      pub id-is : nth table p .key .id ≡ d .id
+
+    pub opened : q .«open» ≡ true → OpenKnown
+    opened s =
+        let b = and-eq-true-iff (ltb p (length table)) (eqb (nth table p .key .id) (d .id)) .0 (sym open-is ∙ s) in
+        let l : p < length table = ltb-true p (length table) (b .0) in
+        let v = judged-passed a e in
+        record { long = v .0; there = l; place = omega (arith, v .1 .few); id-is = eqb-true (nth table p .key .id) (d .id) (b .1) }
+
+    -- k is the key that stands there, and m is what it gives
+    module _ (s : OpenKnown) (k : Key) (key-is : k ≡ keyAt a p) (m : ℕ) (j : m ≡ keyRefusal k d) where
+      found : find (d .id) (keys table) ≡ some k
+      found =
+          found-at (d .id) place-is (s .there) (s .id-is)
+          ∙ ap some (ap (λ (x : Transfer). x .key) (transfer-at a p (omega (arith, s .there, length-transfers a 0 (wordAt a 0)))) ∙ sym key-is)
+
+      -- 13, 14 and 15
+      pub fields-refused : (m ≡ 0 → ⊥) → Octets a → record { answer = Refused (refusalOf m); area = a } ≡ leaves a (recordData table d)
+      unfolding recordData recordRefusal dataJudged
+      fields-refused z o = rw (found, ← j, stays m (runsRefusal (grown table d)) z, as-refused m (some k) (grown table d) table d z) (refused m o)
+
+      -- 16, or the runs stored
+      abbrev rest : List Run
+      rest = insert (d .offset) (stopOf d) (nth table p .runs)
+
+      grown-is : grown table d ≡ rest
+      unfolding grown extended
+      grown-is = ap (insert (d .offset) (stopOf d)) (runs-at (d .id) place-is (s .there) (s .id-is))
+
+      pub fields-extended : m ≡ 0 → Octets a → runsGiven a table p k rest ≡ leaves a (recordData table d)
+      unfolding recordData recordRefusal dataJudged recordAs runsRefusal runsGiven
+      fields-extended z o =
+          let y : keyRefusal k d ≡ 0 = sym j ∙ z in
+          rw (found, y, grown-is)
+          (⊎-elim
+          (λ (l : length rest ≤ runPlaces). rw (le-ltb runPlaces (length rest) l, set-at (d .id) rest place-is (s .there) (s .id-is)))
+          (λ (l : runPlaces < length rest). rw (lt-ltb runPlaces (length rest) l) (refused 16 o))
+          (le-or-lt (length rest) runPlaces))

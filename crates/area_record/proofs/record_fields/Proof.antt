@@ -1,0 +1,113 @@
+-- `area_record::record_fields` meets its contract: 12, the refusals of the key, and else what the runs of the place become.
+-- Assumes nothing.
+use native.Mathlib.Omega.{arith}
+use borrow.Author.Needs.{needs}
+use borrow.Author.Tests.{not-true, not-false}
+use denote.Ref.{now}
+use mathlib.Core.Path.{sym, ap, _∙_}
+use Rattle.octets.specs.Numbers.{Octets}
+use Rattle.transfer.proofs.ExtendLaws.{key-stop}
+use Rattle.table.specs.declared.Recorded.the-variants.{Refused}
+use Rattle.area_record.proofs.RecordLaws.{both, both-as, OpenKnown, opened, fields-missing, fields-refused, fields-extended}
+use Rattle.area_record.proofs.record_fields.Statement.{statement}
+use Rattle.area_record.proofs.record_fields.Tie as tie
+
+find-place-requires : tie.Need-find-place-requires
+find-place-requires c κs = search needs
+
+refuse-requires : tie.Need-refuse-requires
+refuse-requires c κs = search needs
+
+same-length : tie.Need-same-length
+same-length c = search needs
+
+-- the area's values are octets
+octets : (c : tie.After-slice-known) → Octets (now (c .before .args .area))
+octets c i = c .slice-known .given i .fits
+
+returns : tie.Need-returns
+returns c =
+    let f = c .before .before .before in
+    let s = f .before .before .before in
+    both (ap Refused (c .refuse .ensures))
+    (fields-missing (now (s .args .area)) (s .pre) (s .args .d) (f .find-place .result) (f .find-place .ensures) (not-true _ (c .before .if1 .taken)) (octets (f .before .before)))
+
+-- where the Id is open
+open-known : (c : tie.Else1)
+    → let f = c .before .before in
+    let s = f .before .before .before in
+    OpenKnown (now (s .args .area)) (s .pre) (s .args .d) (f .find-place .result) (f .find-place .ensures)
+open-known c =
+    let f = c .before .before in
+    let s = f .before .before .before in
+    opened (now (s .args .area)) (s .pre) (s .args .d) (f .find-place .result) (f .find-place .ensures) (not-false _ (c .if1 .left))
+
+key-at-requires : tie.Need-key-at-requires
+key-at-requires c κs = let k = open-known (c .before) in (k .long, k .place)
+
+key-refusal-requires : tie.Need-key-refusal-requires
+key-refusal-requires c κs = search needs
+
+refuse-requires-2 : tie.Need-refuse-requires-2
+refuse-requires-2 c κs = search needs
+
+same-length-2 : tie.Need-same-length-2
+same-length-2 c = search needs
+
+returns-2 : tie.Need-returns-2
+returns-2 c =
+    let r = c .before .before in
+    let k = r .before in
+    let e = k .before .before in
+    let f = e .before .before in
+    let s = f .before .before .before in
+    both (ap Refused (c .refuse2 .ensures))
+    (fields-refused (now (s .args .area)) (s .pre) (s .args .d) (f .find-place .result) (f .find-place .ensures) (open-known e) (k .key-at .result) (k .key-at .ensures)
+    (r .key-refusal .result) (r .key-refusal .ensures) (omega arith) (octets (f .before .before)))
+
+add-extend : tie.Need-add-extend
+add-extend c =
+    let r = c .before .before in
+    let k = r .before in
+    let d = k .before .before .before .before .before .before .before .args .d in
+    let stop = key-stop (k .key-at .result) d (sym (r .key-refusal .ensures) ∙ c .before .if2 .left) in
+    omega arith
+
+extend-requires : tie.Need-extend-requires
+extend-requires c κs =
+    let e = c .before .before .before .before .before in
+    let k = open-known e in
+    (e .before .before .before .before .before .pre, omega (arith, k .there), omega arith)
+
+same-length-3 : tie.Need-same-length-3
+same-length-3 c = search needs
+
+returns-3 : tie.Need-returns-3
+returns-3 c =
+    let x = c .before .before in
+    let r = x .before .before .before in
+    let k = r .before in
+    let e = k .before .before in
+    let f = e .before .before in
+    let s = f .before .before .before in
+    both-as (x .«extend» .ensures)
+    (fields-extended (now (s .args .area)) (s .pre) (s .args .d) (f .find-place .result) (f .find-place .ensures) (open-known e) (k .key-at .result) (k .key-at .ensures)
+    (r .key-refusal .result) (r .key-refusal .ensures) (omega arith) (octets (f .before .before)))
+
+pub record-fields-spec : {M : Type 1} → statement M
+record-fields-spec =
+    tie.close
+    (tie.spec
+    find-place-requires
+    refuse-requires
+    same-length
+    returns
+    key-at-requires
+    key-refusal-requires
+    refuse-requires-2
+    same-length-2
+    returns-2
+    add-extend
+    extend-requires
+    same-length-3
+    returns-3)

@@ -12,7 +12,7 @@ use Rattle.transfer.specs.declared.Key.{Key}
 use Rattle.transfer.specs.Transfers.{empty}
 use Rattle.area.specs.Layout.{transferPlaces, runPlaces, headWords, areaOctets, idField, widthField, lengthField, countField, headAt, runAt}
 use Rattle.area.specs.Places.{field}
-use Rattle.area_open.specs.Changes.{Changed, ChangedAt}
+use Rattle.area_open.specs.Changes.{Changed}
 use Rattle.area_open.specs.Moves.{Copied, HeadPut}
 use Rattle.area_open.proofs.ChangeLaws.{Away, changed-away, put-changed, moved-changed, head-within, side-within, within-changed, changed-twice}
 

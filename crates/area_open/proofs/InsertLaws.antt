@@ -1,12 +1,12 @@
 -- A transfer put in at a place: the later ones are copied up, the highest first, and its head is written.
 -- Assumes nothing.
-use Prim.Native.Nat.{ℕ, zero, suc, _+_, _*_, _-_, _≤_, _<_}
+use Prim.Native.Nat.{ℕ, zero, suc, _+_, _-_, _≤_, _<_}
 use mathlib.Core.Path.{_≡_, refl, sym, ap, subst, _∙_}
 use mathlib.Core.Bool.{true}
 use mathlib.Core.List.{List, [], _∷_}
 use mathlib.Core.Logic.{_⊎_, inl, inr, ⊎-elim}
 use native.Mathlib.Omega.{arith}
-use lib.ListN.{length, drop}
+use lib.ListN.{length}
 use Rattle.octets.specs.Numbers.{Octets}
 use Rattle.runs.proofs.NumberLaws.{le-or-lt}
 use Rattle.words.specs.Words.{wordAt, putWord}
@@ -18,7 +18,7 @@ use Rattle.area.specs.Places.{readTable, nth, field, insertAt}
 use Rattle.area.specs.Judge.{judged}
 use Rattle.area.specs.Stored.{storedIn}
 use Rattle.area.proofs.PlaceLaws.{read-holds, head-used, run-free}
-use Rattle.area_open.specs.Changes.{Changed, PlaceKept}
+use Rattle.area_open.specs.Changes.{PlaceKept}
 use Rattle.area_open.specs.Moves.{Copied, HeadPut}
 use Rattle.area_open.proofs.ChangeLaws.{changed-away, put-changed, kept-kept}
 use Rattle.area_open.proofs.MoveLaws.{PlaceStored, Moving, moving-start, moving-count, moving-next, stored-kept, kept-same, all-stored}

@@ -12,14 +12,14 @@ use Rattle.runs.specs.Runs.{nthRun}
 use Rattle.runs.proofs.NumberLaws.{le-or-lt}
 use Rattle.words.specs.Words.{wordAt}
 use Rattle.transfer.specs.Transfers.{Transfer}
-use Rattle.area.specs.Layout.{transferPlaces, runPlaces, headWords, areaWords, areaOctets, countField, headAt, runAt}
+use Rattle.area.specs.Layout.{transferPlaces, runPlaces, headWords, areaOctets, countField, headAt, runAt}
 use Rattle.area.specs.Places.{readTable, unused, nth, field, sideOf}
 use Rattle.area.specs.Judge.{judged}
 use Rattle.area.specs.Stored.{headOr, runOr, wordOr, storedIn}
-use Rattle.area.proofs.PlaceLaws.{place-cases, or-count, or-head, or-run, head-used, head-free, run-used, run-free, run-there, read-holds, Few}
+use Rattle.area.proofs.PlaceLaws.{place-cases, or-count, or-head, or-run, head-used, head-free, run-used, run-free, read-holds}
 use Rattle.area.proofs.JudgeLaws.{judged-passed}
 use Rattle.area.proofs.StoredLaws.{stored-is, valid-few}
-use Rattle.area_open.specs.Changes.{PlaceKept, ChangedAt}
+use Rattle.area_open.specs.Changes.{PlaceKept}
 use Rattle.area_open.specs.Moves.{Copied}
 use Rattle.area_open.proofs.ChangeLaws.{kept-kept}
 

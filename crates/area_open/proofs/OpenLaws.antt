@@ -17,34 +17,33 @@ use Rattle.packet_metadata.proofs.MetadataLaws.{answer-refused}
 use Rattle.runs.specs.Runs.{Run}
 use Rattle.runs.specs.Holes.{edge, edgeFrom, progress, complete}
 use Rattle.words.specs.Words.{wordAt}
-use Rattle.run_rows.specs.Rows.{runsIn}
+use Rattle.run_rows.specs.Rows.{runsIn, RowsFit}
 use Rattle.run_rows.specs.declared.Rows.{Rows}
+use Rattle.run_rows.proofs.RowsLaws.{length-runs}
 use Rattle.transfer.specs.declared.Key.{Key}
 use Rattle.transfer.specs.declared.Reached.{Reached}
 use Rattle.transfer.specs.Transfers.{Transfer, empty, reached, keyOf}
-use Rattle.table.specs.Tables.{FineFrom, keys, find, runsOf, add, remove}
+use Rattle.table.specs.Tables.{FineFrom, keys, find}
 use Rattle.table.specs.Outcome.{Outcome}
-use Rattle.table.specs.Open.{Verdict, judgeFound, judgeOpen, openAs, openKey, openRead, openPacket}
+use Rattle.table.specs.Open.{judgeFound, judgeOpen, openAs, openKey, openRead, openPacket}
 use Rattle.table.specs.Open.Verdict.{already, refuse}
 use Rattle.table.specs.Close.{closeFound, closeId}
-use Rattle.table.specs.declared.Opened.{Opened}
-use Rattle.table.specs.declared.Finished.{Finished}
 use Rattle.table.specs.declared.Opened.the-variants as opened
 use Rattle.table.specs.declared.Finished.the-variants as finished
 use Rattle.table.proofs.TableLaws.{length-keys}
-use Rattle.area.specs.Layout.{transferPlaces}
+use Rattle.area.specs.Layout.{transferPlaces, countField, headAt, runAt}
 use Rattle.area.specs.Places.{keyAt, rowsAt, transferAt, readTable, nth, placeOf, openAt, placeIn, insertAt, removeAt}
 use Rattle.area.specs.Judge.{judged}
 use Rattle.area.specs.Stored.{storedIn}
 use Rattle.area.specs.Operations.{OnArea, onTable}
 use Rattle.area.specs.declared.Place.{Place}
-use Rattle.area.proofs.PlaceLaws.{length-transfers, transfer-at}
+use Rattle.area.proofs.PlaceLaws.{length-transfers, transfer-at, rows-fit}
 use Rattle.area.proofs.JudgeLaws.{judged-passed}
-use Rattle.area.proofs.StoredLaws.{held-stored}
+use Rattle.area.proofs.StoredLaws.{held-stored, valid-few}
 use Rattle.area.proofs.FindLaws.{Placed, placed, found-at, runs-at, remove-at, missing-at, add-at}
 use Rattle.area.proofs.AreaLaws.{judged-held}
 use Rattle.area.proofs.OperationLaws.{on-judged, on-unjudged}
-use Rattle.area_open.specs.Moves.{KeptAt}
+use Rattle.area_open.specs.Kept.{KeptAt}
 
 -- ---- what the search says
 
@@ -119,6 +118,13 @@ module _ (a : List ℕ) (k : Key) (i : ℕ) (h : KeptAt (k .id) (readTable a) i)
   pub kept-key : (held : Key) → held ≡ keyAt a i → nth (readTable a) i .key ≡ held
   kept-key held e = ap (λ (x : Transfer). x .key) kept-transfer ∙ sym e
 
+  pub kept-rows : judged a ≡ true → (rows : Rows) → rows ≡ rowsAt a i → RowsFit a rows
+  kept-rows j rows e =
+      let v = judged-passed a j in
+      let n : rows .count ≡ length (nth (readTable a) i .runs) =
+      ap (λ (x : Rows). x .count) e ∙ sym (ap (λ (x : Transfer). length (x .runs)) kept-transfer ∙ length-runs a (runAt 0 i 0) (runAt 1 i 0) (wordAt a (headAt i countField))) in
+      rows-fit a i rows e (v .0) (omega (arith, v .1 .few, h .inside)) (omega (arith, valid-few (readTable a) (v .1) .runs i))
+
   pub kept-reached : (rows : Rows) (r : Reached) → rows ≡ rowsAt a i → r .edge ≡ edge (runsIn a rows) → r .complete ≡ complete (k .length) (runsIn a rows)
       → r ≡ reached k (nth (readTable a) i .runs)
   unfolding reached
@@ -176,6 +182,10 @@ open-read t s k h e = rw (h, e)
 
 -- ---- an operation on an area, by what it gives
 
+-- a table that stays leaves the area
+pub kept-area : (a : List ℕ) → judged a ≡ true → Octets a → (t : List Transfer) → t ≡ readTable a → a ≡ storedIn a t
+kept-area a j o t e = sym (ap (storedIn a) e ∙ held-stored a (readTable a) o (judged-held a j))
+
 module _ {A : Type 0} (refused : A) (operation : List Transfer → Outcome A) (a : List ℕ) where
   pub by-unjudged : (x : A) → judged a ≡ false → x ≡ refused → (x ≡ onTable refused operation a .answer) × (a ≡ onTable refused operation a .area)
   by-unjudged x j e =
@@ -190,6 +200,5 @@ module _ {A : Type 0} (refused : A) (operation : List Transfer → Outcome A) (a
           f ∙ sym (ap (λ (r : OnArea A). r .area) h ∙ ap (λ (r : Outcome A). storedIn a (r .table)) is),
         )
 
-    -- a table that stays leaves the area
     pub by-kept : Octets a → o .table ≡ readTable a → (x ≡ onTable refused operation a .answer) × (a ≡ onTable refused operation a .area)
-    by-kept q t = by-judged a (sym (ap (storedIn a) t ∙ held-stored a (readTable a) q (judged-held a j)))
+    by-kept q t = by-judged a (kept-area a j q (o .table) t)

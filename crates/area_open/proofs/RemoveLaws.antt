@@ -1,13 +1,13 @@
 -- A transfer taken out at a place: the later ones are copied down, the lowest first.
 -- Assumes nothing.
-use Prim.Native.Nat.{ℕ, zero, suc, _+_, _*_, _-_, _≤_, _<_}
+use Prim.Native.Nat.{ℕ, zero, suc, _+_, _-_, _≤_, _<_}
 use mathlib.Core.Path.{_≡_, refl, sym, ap, _∙_}
 use mathlib.Core.Bool.{true}
 use mathlib.Core.List.{List, [], _∷_}
 use mathlib.Core.Logic.{_⊎_, inl, inr, ⊎-elim}
 use native.Mathlib.Omega.{arith}
 use native.Mathlib.Numerals.{add-one}
-use lib.ListN.{length, drop}
+use lib.ListN.{length}
 use Rattle.octets.specs.Numbers.{Octets}
 use Rattle.runs.proofs.NumberLaws.{le-or-lt}
 use Rattle.words.specs.Words.{wordAt, putWord}
@@ -18,7 +18,6 @@ use Rattle.area.specs.Places.{readTable, nth, removeAt}
 use Rattle.area.specs.Judge.{judged}
 use Rattle.area.specs.Stored.{storedIn}
 use Rattle.area.proofs.PlaceLaws.{read-holds}
-use Rattle.area_open.specs.Changes.{Changed, PlaceKept}
 use Rattle.area_open.specs.Moves.{Copied}
 use Rattle.area_open.proofs.ChangeLaws.{changed-away, put-changed}
 use Rattle.area_open.proofs.MoveLaws.{Moving, moving-start, moving-count, moving-next, stored-kept, kept-free, all-stored}

@@ -3,11 +3,10 @@
 use Prim.Native.Nat.{ℕ, _≤_, _<_}
 use mathlib.Core.Path.{_≡_}
 use mathlib.Core.List.{List}
-use lib.ListN.{length}
 use Rattle.words.specs.Words.{wordAt}
 use Rattle.transfer.specs.Transfers.{Transfer}
 use Rattle.area.specs.Layout.{runPlaces, headWords, countField, headAt, runAt}
-use Rattle.area.specs.Places.{nth, field, placeOf}
+use Rattle.area.specs.Places.{field}
 use Rattle.area_open.specs.Changes.{ChangedAt}
 
 -- the transfer at place s also stands at place d: its head, and its runs. Places of runs that it doesn't use stay
@@ -22,9 +21,3 @@ pub record HeadPut (a b : List ℕ) (d : ℕ) (x : Transfer) : Type 0 where
   pub rest : ChangedAt a b d
   pub heads : (f : ℕ) → f < headWords → wordAt b (headAt d f) ≡ field x f
   pub sides : (k j : ℕ) → k < 2 → wordAt b (runAt k d j) ≡ wordAt a (runAt k d j)
-
--- an Id is open, and its transfer kept at place p
-pub record KeptAt (id : ℕ) (t : List Transfer) (p : ℕ) : Type 0 where
-  pub place : p ≡ placeOf id t
-  pub inside : p < length t
-  pub same : nth t p .key .id ≡ id

@@ -4,12 +4,12 @@ ghost use mathlib.Core.Bool.{true};
 ghost use Prim.Native.Nat.{_+_, _*_, _≤_};
 ghost use lib.ListN.{length};
 ghost use Rattle.table.specs.Open.{openKey};
-ghost use Rattle.area.specs.Places.{readTable, placeIn};
+ghost use Rattle.area.specs.Places.{readTable};
 ghost use Rattle.area.specs.Judge.{judged};
 ghost use Rattle.area.specs.Stored.{storedIn};
 ghost use Rattle.area.specs.Operations.{freshArea, openArea, closeArea};
 ghost use Rattle.area_open.specs.Fresh.{noNumbers, WordsPut};
-ghost use Rattle.area_open.specs.Moves.{KeptAt};
+ghost use Rattle.area_open.specs.Kept.{KeptAt};
 use table::Finished;
 use table::Opened;
 use transfer::Key;
@@ -19,10 +19,13 @@ mod moves;
 
 // ---- fresh
 
+// The numbers of all heads.
+const HEADS: usize = area::TRANSFERS * area::HEAD_WORDS;
+
 // The numbers of a table, in the order of the layout.
 struct Numbers {
     count: u64,
-    heads: [u64; 64],
+    heads: [u64; HEADS],
     starts: [u64; 1024],
     stops: [u64; 1024],
 }
@@ -33,7 +36,7 @@ fn no_numbers() -> Numbers
 {
     Numbers {
         count: 0,
-        heads: [0; 64],
+        heads: [0; HEADS],
         starts: [0; 1024],
         stops: [0; 1024],
     }
@@ -129,9 +132,9 @@ pub fn close(area: &mut [u8], id: u64) -> Finished
     ensures { λ r. ⌜ (r ≡ closeArea (now (area .entry)) id .answer) × (now (area .exit) ≡ closeArea (now (area .entry)) id .area) ⌝ }
 {
     if area::judge(area) {
-        let place = area::find_place(area, id);
-        if place.open {
-            moves::remove_at(area, place.at);
+        let kept = area::find_place(area, id);
+        if kept.open {
+            moves::remove_at(area, kept.at);
             return Finished::Done;
         }
         return Finished::Refused(refusals::refuse(12));

@@ -18,7 +18,12 @@ fn copy_transfer(area: &mut [u8], s: usize, d: usize)
     ensures { λ _. ⌜ Copied (now (area .entry)) (now (area .exit)) s d ⌝ }
 {
     let runs = area::head(area, s, area::RUN_COUNT) as usize;
-    words::move_words(area, area::head_at(s, area::ID), area::head_at(d, area::ID), area::HEAD_WORDS);
+    words::move_words(
+        area,
+        area::head_at(s, area::ID),
+        area::head_at(d, area::ID),
+        area::HEAD_WORDS,
+    );
     words::move_words(area, area::starts_at(s), area::starts_at(d), runs);
     words::move_words(area, area::stops_at(s), area::stops_at(d), runs);
 }

@@ -1,58 +1,85 @@
+-- `area_open::open_key` meets its contract: an Id that is open, or has no room, leaves the area.
+-- Assumes nothing.
 use native.Mathlib.Omega.{arith}
 use borrow.Author.Needs.{needs}
+use mathlib.Core.Path.{refl, sym, ap, _∙_}
+use denote.Ref.{now}
+use Rattle.table.specs.Outcome.{Outcome}
+use Rattle.table.specs.declared.Opened.{Opened}
+use Rattle.table.specs.declared.Opened.the-variants as opened
+use Rattle.area.specs.Places.{readTable}
+use Rattle.area.specs.Stored.{storedIn}
+use Rattle.area.proofs.PlaceLaws.{read-holds}
+use Rattle.area.proofs.JudgeLaws.{judged-passed}
+use Rattle.area.proofs.FindLaws.{place-le}
+use Rattle.area_open.proofs.OpenLaws.{place-open, place-free, met-table, open-full, open-new, reached-new, kept-area}
 use Rattle.area_open.proofs.open_key.Statement.{statement}
 use Rattle.area_open.proofs.open_key.Tie as tie
-use Rattle.area_open.proofs.open_key.Reads as reads
-use Rattle.area_open.proofs.open_key.Lts as lts
-use Rattle.area.proofs.find_place.Reads as find-place-reads
-use Rattle.area.proofs.open_count.Reads as open-count-reads
-use Rattle.area_open.proofs.met.Reads as met-reads
-use Rattle.area_open.proofs.moves.insert_at.Reads as insert-at-reads
-use Rattle.refusals.proofs.refuse.Reads as refuse-reads
 
--- src/lib.rt:95:9
 find-place-requires : tie.Need-find-place-requires
 find-place-requires c κs = search needs
 
--- src/lib.rt:97:9
 met-requires : tie.Need-met-requires
-met-requires c κs = ?
+met-requires c κs =
+    let f = c .before .before in
+    let s = f .before .before .before in
+    (s .pre, place-open (s .args .key .id) (readTable (now (s .args .area))) (f .find-place .result) (f .find-place .ensures) (c .before .if1 .taken))
 
--- src/lib.rt:97:9
 same-length : tie.Need-same-length
 same-length c = search needs
 
--- src/lib.rt:97:9
 returns : tie.Need-returns
-returns c = ?
+returns c =
+    let f = c .before .before .before in
+    let s = f .before .before .before in
+    let a = now (s .args .area) in
+    let h = place-open (s .args .key .id) (readTable a) (f .find-place .result) (f .find-place .ensures) (c .before .before .if1 .taken) in
+    (c .met .ensures, kept-area a (s .pre) (λ i. f .before .before .slice-known .given i .fits) _ (met-table (readTable a) (s .args .key) _ h))
 
--- src/lib.rt:99:36
 open-count-requires : tie.Need-open-count-requires
-open-count-requires c κs = ?
+open-count-requires c κs =
+    let s = c .before .before .before .before .before in
+    judged-passed (now (s .args .area)) (s .pre) .0
 
--- src/lib.rt:100:32
 refuse-requires : tie.Need-refuse-requires
 refuse-requires c κs = search needs
 
--- src/lib.rt:100:9
 same-length-2 : tie.Need-same-length-2
 same-length-2 c = search needs
 
--- src/lib.rt:100:9
 returns-2 : tie.Need-returns-2
-returns-2 c = ?
+returns-2 c =
+    let f = c .before .before .before .before .before in
+    let s = f .before .before .before in
+    let a = now (s .args .area) in
+    let h = place-free (s .args .key .id) (readTable a) (f .find-place .result) (f .find-place .ensures) (c .before .before .before .before .if1 .left) in
+    let e = open-full (readTable a) (s .args .key) _ h (judged-passed a (s .pre) .1 .fine) (omega (arith, c .before .before .open-count .ensures, read-holds a .count)) in (
+      ap opened.Refused (c .refuse .ensures) ∙ sym (ap (λ (o : Outcome Opened). o .answer) e),
+      kept-area a (s .pre) (λ i. f .before .before .slice-known .given i .fits) _ (ap (λ (o : Outcome Opened). o .table) e),
+    )
 
--- src/lib.rt:102:5
 insert-at-requires : tie.Need-insert-at-requires
-insert-at-requires c κs = ?
+insert-at-requires c κs =
+    let f = c .before .before .before .before .before in
+    let s = f .before .before .before in
+    let a = now (s .args .area) in
+    let h = place-free (s .args .key .id) (readTable a) (f .find-place .result) (f .find-place .ensures) (c .before .before .before .before .if1 .left) in
+    (s .pre, omega (arith, place-le (h .place)), omega (arith, c .before .before .open-count .ensures, read-holds a .count))
 
--- src/lib.rt:90:1
 same-length-3 : tie.Need-same-length-3
 same-length-3 c = search needs
 
--- src/lib.rt:90:1
 returns-3 : tie.Need-returns-3
-returns-3 c = ?
+returns-3 c =
+    let r = c .before .before .before in
+    let f = r .before .before .before .before .before .before in
+    let s = f .before .before .before in
+    let a = now (s .args .area) in
+    let h = place-free (s .args .key .id) (readTable a) (f .find-place .result) (f .find-place .ensures) (r .before .before .before .before .before .if1 .left) in
+    let e = open-new (readTable a) (s .args .key) _ h (judged-passed a (s .pre) .1 .fine) (omega (arith, r .before .before .before .open-count .ensures, read-holds a .count)) in (
+      ap opened.New (reached-new (s .args .key) _ refl) ∙ sym (ap (λ (o : Outcome Opened). o .answer) e),
+      r .insert-at .ensures ∙ sym (ap (λ (o : Outcome Opened). storedIn a (o .table)) e),
+    )
 
 pub open-key-spec : {M : Type 1} → statement M
 open-key-spec =

@@ -16,7 +16,7 @@ pub const TRANSFERS: usize = 16;
 pub const RUNS: usize = 64;
 
 // A head: the Id, the width, the length, and the number of runs.
-const HEAD_WORDS: usize = 4;
+pub const HEAD_WORDS: usize = 4;
 
 pub const ID: usize = 0;
 

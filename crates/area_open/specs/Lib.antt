@@ -1,0 +1,4 @@
+pub mod Changes
+pub mod Moves
+pub mod Kept
+pub mod Fresh

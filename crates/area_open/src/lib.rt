@@ -1,0 +1,143 @@
+// Making a table fresh in a lent area, opening by METADATA, and closing: 22 before all, and every change in place.
+ghost use mathlib.Core.Path.{_≡_};
+ghost use mathlib.Core.Bool.{true};
+ghost use Prim.Native.Nat.{_+_, _*_, _≤_};
+ghost use lib.ListN.{length};
+ghost use Rattle.table.specs.Open.{openKey};
+ghost use Rattle.area.specs.Places.{readTable};
+ghost use Rattle.area.specs.Judge.{judged};
+ghost use Rattle.area.specs.Stored.{storedIn};
+ghost use Rattle.area.specs.Operations.{freshArea, openArea, closeArea};
+ghost use Rattle.area_open.specs.Fresh.{noNumbers, WordsPut};
+ghost use Rattle.area_open.specs.Kept.{KeptAt};
+use table::Finished;
+use table::Opened;
+use transfer::Key;
+use transfer::Reached;
+
+mod moves;
+
+// ---- fresh
+
+// The numbers of all heads.
+const HEADS: usize = area::TRANSFERS * area::HEAD_WORDS;
+
+// The numbers of a table, in the order of the layout.
+struct Numbers {
+    count: u64,
+    heads: [u64; HEADS],
+    starts: [u64; 1024],
+    stops: [u64; 1024],
+}
+
+// Those of a table with no transfer.
+fn no_numbers() -> Numbers
+    ensures { λ r. ⌜ r ≡ noNumbers ⌝ }
+{
+    Numbers {
+        count: 0,
+        heads: [0; HEADS],
+        starts: [0; 1024],
+        stops: [0; 1024],
+    }
+}
+
+// The words ws from word k on.
+fn put_words(area: &mut [u8], k: usize, ws: &[u64])
+    requires { ⌜ (k + length (now ws)) * 8 ≤ length (now area) ⌝ }
+    ensures { λ _. ⌜ WordsPut (now (area .entry)) (now (area .exit)) k (now (ws .entry)) (length (now (ws .entry))) ⌝ }
+{
+    let mut i = 0;
+    while i < ws.len() {
+        words::put_word(area, k + i, ws[i]);
+        i += 1;
+    }
+}
+
+// A table with no transfer, stored whole in an area that is long enough.
+pub fn fresh(area: &mut [u8]) -> Finished
+    ensures { λ r. ⌜ (r ≡ freshArea (now (area .entry)) .answer) × (now (area .exit) ≡ freshArea (now (area .entry)) .area) ⌝ }
+{
+    if area.len() < area::AREA_OCTETS {
+        return Finished::Refused(refusals::refuse(20));
+    }
+    let n = no_numbers();
+    words::put_word(area, 0, n.count);
+    put_words(area, area::head_at(0, area::ID), &n.heads);
+    put_words(area, area::starts_at(0), &n.starts);
+    put_words(area, area::stops_at(0), &n.stops);
+    Finished::Done
+}
+
+// ---- opening
+
+// What the open transfer at place i answers to METADATA of its Id: already open, or refusal 18.
+fn met(area: &[u8], i: usize, key: Key) -> Opened
+    requires { ⌜ (judged (now area) ≡ true) × KeptAt (key .id) (readTable (now area)) i ⌝ }
+    ensures { λ r. ⌜ r ≡ openKey (readTable (now (area .entry))) key .answer ⌝ }
+{
+    let held = area::key_at(area, i);
+    if held.width != key.width {
+        return Opened::Refused(refusals::refuse(18));
+    }
+    if held.length != key.length {
+        return Opened::Refused(refusals::refuse(18));
+    }
+    let rows = area::rows_at(area, i);
+    let edge = run_rows::edge_of(area, rows);
+    let complete = run_rows::is_complete(area, rows, key.length);
+    Opened::AlreadyOpen(Reached { edge, complete })
+}
+
+// Opens an Id, or says what its open transfer answers.
+fn open_key(area: &mut [u8], key: Key) -> Opened
+    requires { ⌜ judged (now area) ≡ true ⌝ }
+    ensures { λ r. ⌜ (r ≡ openKey (readTable (now (area .entry))) key .answer)
+        × (now (area .exit) ≡ storedIn (now (area .entry)) (openKey (readTable (now (area .entry))) key .table)) ⌝ }
+{
+    let place = area::find_place(area, key.id);
+    if place.open {
+        return met(area, place.at, key);
+    }
+    if (area::TRANSFERS as u64) <= area::open_count(area) {
+        return Opened::Refused(refusals::refuse(17));
+    }
+    moves::insert_at(area, place.at, key);
+    Opened::New(Reached {
+        edge: 0,
+        complete: key.length == 0,
+    })
+}
+
+// Opens by a packet that has to be METADATA.
+pub fn open(area: &mut [u8], packet: &[u8]) -> Opened
+    ensures { λ r. ⌜ (r ≡ openArea (now (area .entry)) (now (packet .entry)) .answer)
+        × (now (area .exit) ≡ openArea (now (area .entry)) (now (packet .entry)) .area) ⌝ }
+{
+    if area::judge(area) {
+        let n = packet_metadata::metadata_refusal(packet);
+        if n != 0 {
+            return Opened::Refused(refusals::refuse(n));
+        }
+        let key = transfer::key_of(packet_metadata::metadata_fields(packet));
+        return open_key(area, key);
+    }
+    Opened::Refused(refusals::refuse(22))
+}
+
+// ---- closing
+
+// Closes an Id; its place is used again.
+pub fn close(area: &mut [u8], id: u64) -> Finished
+    ensures { λ r. ⌜ (r ≡ closeArea (now (area .entry)) id .answer) × (now (area .exit) ≡ closeArea (now (area .entry)) id .area) ⌝ }
+{
+    if area::judge(area) {
+        let kept = area::find_place(area, id);
+        if kept.open {
+            moves::remove_at(area, kept.at);
+            return Finished::Done;
+        }
+        return Finished::Refused(refusals::refuse(12));
+    }
+    Finished::Refused(refusals::refuse(22))
+}

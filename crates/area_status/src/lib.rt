@@ -62,14 +62,7 @@ fn put_holes(
 }
 
 // What stands before the holes.
-fn put_front(
-    area: &[u8],
-    key: Key,
-    rows: Rows,
-    partial: bool,
-    unasked: bool,
-    out: &mut [u8],
-)
+fn put_front(area: &[u8], key: Key, rows: Rows, partial: bool, unasked: bool, out: &mut [u8])
     requires { ⌜ RowsFit (now area) rows × (8 + 2 * key .width ≤ length (now out)) ⌝ }
     ensures { λ _. ⌜ now (out .exit)
         ≡ put 0 (statusFields (statusFlags (key .width) partial (unasked || complete (key .length) (runsIn (now (area .entry)) rows)))
@@ -104,10 +97,11 @@ fn write_rows(
     }
     let count = transfer::status::holes_to_send(width, holes, skip, room);
     let partial = transfer::status::partial_sent(width, holes, skip, room);
-    put_front(area, key, rows, partial, unasked, out);
     let fields = 8 + 2 * width;
+    let size = fields + 2 * width * count;
+    put_front(area, key, rows, partial, unasked, out);
     put_holes(area, rows, width, skip as usize, count, out, fields);
-    Written::Size(fields + 2 * width * count)
+    Written::Size(size)
 }
 
 // Writes STATUS of an open Id into a lent buffer.

@@ -1,6 +1,5 @@
 -- `area_status::put_front` meets its contract: the fields are those of the runs in the rows.
 -- Assumes nothing.
-use mathlib.Core.Path.{_∙_}
 use borrow.Author.Needs.{needs}
 use Rattle.area_status.proofs.put_front.Statement.{statement}
 use Rattle.area_status.proofs.put_front.Tie as tie
@@ -28,8 +27,8 @@ returns c =
     let e = c .before .before .before .before in
     let p = e .before in
     let u = p .before in
-    c .before .before .put-fields .ensures
-    ∙ rw (e .edge-of .ensures, p .progress-of .ensures, u .unasked-or-complete .ensures, u .before .is-complete .ensures)
+    rw (e .edge-of .ensures, p .progress-of .ensures, u .unasked-or-complete .ensures, u .before .is-complete .ensures)
+    at (c .before .before .put-fields .ensures)
 
 pub put-front-spec : {M : Type 1} → statement M
 put-front-spec =

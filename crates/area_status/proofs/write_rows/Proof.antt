@@ -1,76 +1,109 @@
+-- `area_status::write_rows` meets its contract: a refusal leaves the buffer, and else the packet stands in it.
+-- Assumes nothing.
+use Prim.Native.Nat.{_+_, _*_, _-_, _≤_, min}
+use mathlib.Core.Path.{_≡_, refl, _∙_}
 use native.Mathlib.Omega.{arith}
 use borrow.Author.Needs.{needs}
+use denote.Ref.{now}
+use lib.ListN.{length}
+use Rattle.octets.proofs.NumberLaws.{width-le}
+use Rattle.runs.specs.Holes.{holes}
+use Rattle.run_rows.specs.Rows.{runsIn}
+use Rattle.transfer.specs.Status.{holeRoom, transferRefused}
+use Rattle.transfer.proofs.StatusSize.{skip-there}
+use Rattle.transfer.proofs.StatusWriter.{sent-room, transfer-refused, transfer-written}
 use Rattle.area_status.proofs.write_rows.Statement.{statement}
 use Rattle.area_status.proofs.write_rows.Tie as tie
-use Rattle.area_status.proofs.write_rows.Reads as reads
-use Rattle.area_status.proofs.write_rows.Lts as lts
-use Rattle.area_status.proofs.put_front.Reads as put-front-reads
-use Rattle.area_status.proofs.put_holes.Reads as put-holes-reads
-use Rattle.refusals.proofs.refuse.Reads as refuse-reads
-use Rattle.run_rows.proofs.hole_count.Reads as hole-count-reads
-use Rattle.transfer.proofs.status.holes_to_send.Reads as holes-to-send-reads
-use Rattle.transfer.proofs.status.partial_sent.Reads as partial-sent-reads
-use Rattle.transfer.proofs.status.size_refusal.Reads as size-refusal-reads
 
--- src/lib.rt:99:9
 hole-count-requires : tie.Need-hole-count-requires
 hole-count-requires c κs = search needs
 
--- src/lib.rt:101:9
 size-refusal-requires : tie.Need-size-refusal-requires
-size-refusal-requires c κs = ?
+size-refusal-requires c κs = width-le (c .before .before .before .pre .1)
 
--- src/lib.rt:103:33
 refuse-requires : tie.Need-refuse-requires
 refuse-requires c κs = search needs
 
--- src/lib.rt:103:9
-returns : tie.Need-returns
-returns c = ?
+-- the refusal, by the transfer's holes
+number : (c : tie.After-size-refusal)
+    → let a = c .before .before .before .before .args in
+    c .size-refusal .result ≡ transferRefused (a .key) (runsIn (now (a .area)) (a .rows)) (a .skip) (a .unasked) (now (a .out))
+number c = c .size-refusal .ensures ∙ rw (c .before .hole-count .ensures)
 
--- src/lib.rt:105:9
+returns : tie.Need-returns
+returns c =
+    let s = c .before .before in
+    let a = s .before .before .before .before .args in
+    let k = transfer-refused (a .key) (runsIn (now (a .area)) (a .rows)) (a .skip) (a .unasked) (now (a .out)) (s .size-refusal .result) (number s) (omega arith) in
+    (rw (c .refuse .ensures) (k .0), k .1)
+
+-- where there is none, the holes that are skipped and those that are written are there, and these have room
+none : (c : tie.Else1)
+    → let a = c .before .before .before .before .before .args in transferRefused (a .key) (runsIn (now (a .area)) (a .rows)) (a .skip) (a .unasked) (now (a .out)) ≡ 0
+none c = omega (arith, number (c .before))
+
+count-is : (c : tie.After-holes-to-send)
+    → let a = c .before .before .before .before .before .before .args in
+    c .holes-to-send .result ≡ min (length (holes (runsIn (now (a .area)) (a .rows))) - a .skip) (holeRoom (a .key .width) (length (now (a .out))))
+count-is c = c .holes-to-send .ensures ∙ rw (c .before .before .before .hole-count .ensures)
+
+known : (c : tie.After-holes-to-send)
+    → let a = c .before .before .before .before .before .before .args in
+    (a .skip + c .holes-to-send .result ≤ length (holes (runsIn (now (a .area)) (a .rows))))
+    × (8 + 2 * a .key .width + 2 * a .key .width * c .holes-to-send .result ≤ length (now (a .out)))
+known c =
+    let s = c .before .before .before .before .before .before in
+    let a = s .args in
+    let n = length (holes (runsIn (now (a .area)) (a .rows))) in
+    let z = none (c .before) in
+    let t : a .skip ≤ n = skip-there (a .key .width) n (a .skip) (length (now (a .out))) z in
+    let e = count-is c in (
+      omega arith,
+      sent-room (a .key .width) n (a .skip) (length (now (a .out))) (s .pre .1) z (c .holes-to-send .result) (omega arith),
+    )
+
 holes-to-send-requires : tie.Need-holes-to-send-requires
 holes-to-send-requires c κs = search needs
 
--- src/lib.rt:106:9
 partial-sent-requires : tie.Need-partial-sent-requires
 partial-sent-requires c κs = search needs
 
--- src/lib.rt:107:5
-put-front-requires : tie.Need-put-front-requires
-put-front-requires c κs = ?
-
--- src/lib.rt:108:22
 mul-fields : tie.Need-mul-fields
-mul-fields c = ?
+mul-fields c = omega (arith, known (c .before) .1)
 
--- src/lib.rt:108:18
 add-fields : tie.Need-add-fields
-add-fields c = ?
+add-fields c = omega (arith, known (c .before) .1)
 
--- src/lib.rt:109:5
+mul-size : tie.Need-mul-size
+mul-size c = omega (arith, known (c .before) .1)
+
+mul-size-2 : tie.Need-mul-size-2
+mul-size-2 c = omega (arith, known (c .before) .1)
+
+add-size : tie.Need-add-size
+add-size c = omega (arith, known (c .before) .1)
+
+put-front-requires : tie.Need-put-front-requires
+put-front-requires c κs = (c .before .before .before .before .before .before .before .before .pre .0 .fit, omega (arith, known (c .before .before) .1))
+
 put-holes-requires : tie.Need-put-holes-requires
-put-holes-requires c κs = ?
+put-holes-requires c κs =
+    let k = known (c .before .before .before .before .before .before) in
+    (c .before .before .before .before .before .before .before .before .before .before .before .before .pre .0, k .0, search needs)
 
--- src/lib.rt:110:28
-mul-t19 : tie.Need-mul-t19
-mul-t19 c = ?
-
--- src/lib.rt:110:28
-mul-t22 : tie.Need-mul-t22
-mul-t22 c = ?
-
--- src/lib.rt:110:19
-add-t23 : tie.Need-add-t23
-add-t23 c = ?
-
--- src/lib.rt:86:1
 same-length : tie.Need-same-length
 same-length c = search needs
 
--- src/lib.rt:86:1
 returns-2 : tie.Need-returns-2
-returns-2 c = ?
+returns-2 c =
+    let h = c .before .before .before .before .before .before .before .before .before in
+    let s = h .before .before .before .before .before .before in
+    let a = s .args in
+    let p = c .before .before .before .before .before .before .before .before .partial-sent in
+    transfer-written (a .key) (runsIn (now (a .area)) (a .rows)) (a .skip) (a .unasked) (now (a .out)) (s .pre .1) (none (h .before))
+    (p .result) _ (h .holes-to-send .result) _ _ _
+    (p .ensures ∙ rw (h .before .before .before .hole-count .ensures)) refl (count-is h) refl
+    (c .before .before .before .before .before .before .put-front .ensures) (c .before .before .put-holes .ensures)
 
 pub write-rows-spec : {M : Type 1} → statement M
 write-rows-spec =
@@ -82,12 +115,12 @@ write-rows-spec =
     returns
     holes-to-send-requires
     partial-sent-requires
-    put-front-requires
     mul-fields
     add-fields
+    mul-size
+    mul-size-2
+    add-size
+    put-front-requires
     put-holes-requires
-    mul-t19
-    mul-t22
-    add-t23
     same-length
     returns-2)

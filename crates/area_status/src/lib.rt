@@ -35,7 +35,7 @@ pub enum Listed {
 // ---- STATUS
 
 // The `count` holes from hole `first` on, one after the other, from octet `from` on.
-fn put_holes(
+fn put_pairs(
     area: &[u8],
     rows: Rows,
     width: usize,
@@ -59,6 +59,32 @@ fn put_holes(
         j += 1;
         left -= 1;
     }
+}
+
+// The same. Each width is a literal, for which the compiler makes one store of each number.
+fn put_holes(
+    area: &[u8],
+    rows: Rows,
+    width: usize,
+    first: usize,
+    count: usize,
+    out: &mut [u8],
+    from: usize,
+)
+    requires { ⌜ Width width × RowsFine (now area) rows × (first + count ≤ length (holes (runsIn (now area) rows)))
+        × (from + 2 * width * count ≤ length (now out)) ⌝ }
+    ensures { λ _. ⌜ now (out .exit)
+        ≡ put from (pairs width (take count (drop first (holes (runsIn (now (area .entry)) rows))))) (now (out .entry)) ⌝ }
+{
+    if width == 2 {
+        put_pairs(area, rows, 2, first, count, out, from);
+        return;
+    }
+    if width == 4 {
+        put_pairs(area, rows, 4, first, count, out, from);
+        return;
+    }
+    put_pairs(area, rows, 8, first, count, out, from);
 }
 
 // What stands before the holes.

@@ -88,8 +88,9 @@ put-front-requires c κs = (c .before .before .before .before .before .before .b
 
 put-holes-requires : tie.Need-put-holes-requires
 put-holes-requires c κs =
+    let s = c .before .before .before .before .before .before .before .before .before .before .before .before in
     let k = known (c .before .before .before .before .before .before) in
-    (c .before .before .before .before .before .before .before .before .before .before .before .before .pre .0, k .0, search needs)
+    (s .pre .1, s .pre .0, k .0, search needs)
 
 same-length : tie.Need-same-length
 same-length c = search needs

@@ -2,24 +2,27 @@
 -- Assumes nothing.
 use Prim.Native.Nat.{ℕ, _<_}
 use mathlib.Core.Path.{_≡_, sym, ap, _∙_}
-use mathlib.Core.Bool.{Bool, true, false}
+use mathlib.Core.Bool.{Bool, true, false, _||_}
 use mathlib.Core.List.{List}
 use mathlib.Core.Option.{some}
 use native.Mathlib.Omega.{arith}
 use lib.ListN.{length}
+use Rattle.octets.specs.Put.{put}
 use Rattle.refusals.specs.Refusals.{refusalOf}
 use Rattle.refusals.specs.declared.Written.{Written}
 use Rattle.refusals.specs.declared.Written.the-variants.{Refused}
+use Rattle.runs.specs.Runs.{Run}
+use Rattle.runs.specs.Holes.{edge, progress, complete}
 use Rattle.run_rows.specs.Rows.{runsIn}
 use Rattle.run_rows.specs.declared.Rows.{Rows}
 use Rattle.transfer.specs.declared.Key.{Key}
 use Rattle.transfer.specs.Transfers.{Transfer}
-use Rattle.transfer.specs.Status.{transferWritten, transferBuffer}
+use Rattle.transfer.specs.Status.{statusFlags, statusFields, transferWritten, transferBuffer}
 use Rattle.table.specs.Tables.{keys, find, runsOf}
 use Rattle.table.specs.Status.{writtenFor, bufferFor, statusWritten, statusBuffer}
 use Rattle.table.proofs.StatusWritten.{status-twelve}
 use Rattle.words.specs.Words.{wordAt}
-use Rattle.area.specs.Places.{keyAt, rowsAt, readTable, nth, placeIn}
+use Rattle.area.specs.Places.{keyAt, rowsAt, readTable, placeIn}
 use Rattle.area.specs.Judge.{judged, tableOf}
 use Rattle.area.specs.declared.Place.{Place}
 use Rattle.area.specs.Operations.{areaStatusWritten, areaStatusBuffer}
@@ -27,6 +30,13 @@ use Rattle.area.proofs.PlaceLaws.{length-transfers, transfer-at}
 use Rattle.area.proofs.JudgeLaws.{judged-passed}
 use Rattle.area.proofs.OperationLaws.{from-held, from-judged, from-unjudged}
 use Rattle.area_status.proofs.UsedLaws.{open-there, open-found, open-runs, closed-missing}
+
+-- the fields before the holes, by what the rows say
+pub front-put : (key : Key) (rs : List Run) (partial unasked done told : Bool) (from to : ℕ) (old x : List ℕ)
+    → done ≡ complete (key .length) rs → told ≡ (unasked || done) → from ≡ progress rs → to ≡ edge rs
+    → x ≡ put 0 (statusFields (statusFlags (key .width) partial told) (key .id) (key .width) from to) old
+    → x ≡ put 0 (statusFields (statusFlags (key .width) partial (unasked || complete (key .length) rs)) (key .id) (key .width) (progress rs) (edge rs)) old
+front-put key rs partial unasked done told from to old x d t f e g = g ∙ rw (t, d, f, e)
 
 module _ (a : List ℕ) (id k : ℕ) (unasked : Bool) (old : List ℕ) where
   -- the answer and the buffer of an area that holds t are those of t: what table's laws say of them, holds of the area's

@@ -94,8 +94,8 @@ fn put_front(area: &[u8], key: Key, rows: Rows, partial: bool, unasked: bool, ou
         ≡ put 0 (statusFields (statusFlags (key .width) partial (unasked || complete (key .length) (runsIn (now (area .entry)) rows)))
         (key .id) (key .width) (progress (runsIn (now (area .entry)) rows)) (edge (runsIn (now (area .entry)) rows))) (now (out .entry)) ⌝ }
 {
-    let complete = run_rows::is_complete(area, rows, key.length);
-    let told = transfer::status::unasked_or_complete(unasked, complete);
+    let done = run_rows::is_complete(area, rows, key.length);
+    let told = transfer::status::unasked_or_complete(unasked, done);
     let progress = run_rows::progress_of(area, rows);
     let edge = run_rows::edge_of(area, rows);
     transfer::status::put_fields(out, key, progress, edge, partial, told);

@@ -1,6 +1,9 @@
 -- `area_status::put_front` meets its contract: the fields are those of the runs in the rows.
 -- Assumes nothing.
 use borrow.Author.Needs.{needs}
+use denote.Ref.{now}
+use Rattle.run_rows.specs.Rows.{runsIn}
+use Rattle.area_status.proofs.StatusLaws.{front-put}
 use Rattle.area_status.proofs.put_front.Statement.{statement}
 use Rattle.area_status.proofs.put_front.Tie as tie
 
@@ -27,8 +30,10 @@ returns c =
     let e = c .before .before .before .before in
     let p = e .before in
     let u = p .before in
-    rw (e .edge-of .ensures, p .progress-of .ensures, u .unasked-or-complete .ensures, u .before .is-complete .ensures)
-    at (c .before .before .put-fields .ensures)
+    let a = u .before .before .before .before .args in
+    front-put (a .key) (runsIn (now (a .area)) (a .rows)) (a .partial) (a .unasked) _ _ _ _ (now (a .out)) _
+    (u .before .is-complete .ensures) (u .unasked-or-complete .ensures) (p .progress-of .ensures) (e .edge-of .ensures)
+    (c .before .before .put-fields .ensures)
 
 pub put-front-spec : {M : Type 1} → statement M
 put-front-spec =

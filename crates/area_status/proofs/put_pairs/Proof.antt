@@ -15,10 +15,6 @@ use Rattle.transfer.specs.Status.{pairs}
 use Rattle.transfer.proofs.StatusPuts.{one-less, pairs-step, pairs-end}
 use Rattle.area_status.proofs.put_pairs.Statement.{statement}
 use Rattle.area_status.proofs.put_pairs.Tie as tie
-use Rattle.area_status.proofs.put_pairs.Reads as reads
-use Rattle.area_status.proofs.put_pairs.Lts as lts
-use Rattle.run_rows.proofs.hole_at.Reads as hole-at-reads
-use Rattle.transfer.proofs.status.put_hole.Reads as put-hole-reads
 
 abbrev Inv-loop : tie.InvT-loop
 Inv-loop area rows width first count out₀ from at₀ j₀ left₀ out at j left =

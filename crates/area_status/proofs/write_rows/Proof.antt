@@ -1,7 +1,7 @@
 -- `area_status::write_rows` meets its contract: a refusal leaves the buffer, and else the packet stands in it.
 -- Assumes nothing.
-use Prim.Native.Nat.{_+_, _*_, _-_, _≤_, min}
-use mathlib.Core.Path.{_≡_, refl, _∙_}
+use Prim.Native.Nat.{ℕ, _+_, _*_, _-_, _≤_, min}
+use mathlib.Core.Path.{_≡_, refl, ap, _∙_}
 use native.Mathlib.Omega.{arith}
 use borrow.Author.Needs.{needs}
 use denote.Ref.{now}
@@ -9,7 +9,7 @@ use lib.ListN.{length}
 use Rattle.octets.proofs.NumberLaws.{width-le}
 use Rattle.runs.specs.Holes.{holes}
 use Rattle.run_rows.specs.Rows.{runsIn}
-use Rattle.transfer.specs.Status.{holeRoom, transferRefused}
+use Rattle.transfer.specs.Status.{sizeRefusal, holeRoom, transferRefused}
 use Rattle.transfer.proofs.StatusSize.{skip-there}
 use Rattle.transfer.proofs.StatusWriter.{sent-room, transfer-refused, transfer-written}
 use Rattle.area_status.proofs.write_rows.Statement.{statement}
@@ -28,7 +28,9 @@ refuse-requires c κs = search needs
 number : (c : tie.After-size-refusal)
     → let a = c .before .before .before .before .args in
     c .size-refusal .result ≡ transferRefused (a .key) (runsIn (now (a .area)) (a .rows)) (a .skip) (a .unasked) (now (a .out))
-number c = c .size-refusal .ensures ∙ rw (c .before .hole-count .ensures)
+number c =
+    let a = c .before .before .before .before .args in
+    c .size-refusal .ensures ∙ ap (λ (n : ℕ). sizeRefusal (a .key .width) n (a .skip) (length (now (a .out)))) (c .before .hole-count .ensures)
 
 returns : tie.Need-returns
 returns c =
@@ -90,7 +92,7 @@ put-holes-requires : tie.Need-put-holes-requires
 put-holes-requires c κs =
     let s = c .before .before .before .before .before .before .before .before .before .before .before .before in
     let k = known (c .before .before .before .before .before .before) in
-    (s .pre .1, s .pre .0, k .0, search needs)
+    (s .pre .1, s .pre .0, omega (arith, k .0), search needs)
 
 same-length : tie.Need-same-length
 same-length c = search needs

@@ -1,0 +1,3 @@
+pub mod UsedLaws
+pub mod StatusLaws
+pub mod ListingLaws

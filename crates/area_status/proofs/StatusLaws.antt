@@ -1,0 +1,95 @@
+-- STATUS from an area: 22, then 12, then the STATUS of the transfer at the Id's place. Where the area holds a table, it is the table's.
+-- Assumes nothing.
+use Prim.Native.Nat.{ℕ, _<_}
+use mathlib.Core.Path.{_≡_, sym, ap, _∙_}
+use mathlib.Core.Bool.{Bool, true, false, _||_}
+use mathlib.Core.List.{List}
+use mathlib.Core.Option.{some}
+use native.Mathlib.Omega.{arith}
+use lib.ListN.{length}
+use Rattle.octets.specs.Put.{put}
+use Rattle.refusals.specs.Refusals.{refusalOf}
+use Rattle.refusals.specs.declared.Written.{Written}
+use Rattle.refusals.specs.declared.Written.the-variants.{Refused}
+use Rattle.runs.specs.Runs.{Run}
+use Rattle.runs.specs.Holes.{edge, progress, complete}
+use Rattle.run_rows.specs.Rows.{runsIn}
+use Rattle.run_rows.specs.declared.Rows.{Rows}
+use Rattle.transfer.specs.declared.Key.{Key}
+use Rattle.transfer.specs.Transfers.{Transfer}
+use Rattle.transfer.specs.Status.{statusFlags, statusFields, transferWritten, transferBuffer}
+use Rattle.table.specs.Tables.{keys, find, runsOf}
+use Rattle.table.specs.Status.{writtenFor, bufferFor, statusWritten, statusBuffer}
+use Rattle.table.proofs.StatusWritten.{status-twelve}
+use Rattle.words.specs.Words.{wordAt}
+use Rattle.area.specs.Places.{keyAt, rowsAt, readTable, placeIn}
+use Rattle.area.specs.Judge.{judged, tableOf}
+use Rattle.area.specs.declared.Place.{Place}
+use Rattle.area.specs.Operations.{areaStatusWritten, areaStatusBuffer}
+use Rattle.area.proofs.PlaceLaws.{length-transfers, transfer-at}
+use Rattle.area.proofs.JudgeLaws.{judged-passed}
+use Rattle.area.proofs.OperationLaws.{from-held, from-judged, from-unjudged}
+use Rattle.area_status.proofs.UsedLaws.{open-there, open-found, open-runs, closed-missing}
+
+-- the fields before the holes, by what the rows say
+pub front-put : (key : Key) (rs : List Run) (partial unasked done told : Bool) (from to : ℕ) (old x : List ℕ)
+    → done ≡ complete (key .length) rs → told ≡ (unasked || done) → from ≡ progress rs → to ≡ edge rs
+    → x ≡ put 0 (statusFields (statusFlags (key .width) partial told) (key .id) (key .width) from to) old
+    → x ≡ put 0 (statusFields (statusFlags (key .width) partial (unasked || complete (key .length) rs)) (key .id) (key .width) (progress rs) (edge rs)) old
+front-put key rs partial unasked done told from to old x d t f e g = g ∙ rw (t, d, f, e)
+
+module _ (a : List ℕ) (id k : ℕ) (unasked : Bool) (old : List ℕ) where
+  -- the answer and the buffer of an area that holds t are those of t: what table's laws say of them, holds of the area's
+  module _ (t : List Transfer) (held : tableOf a ≡ some t) where
+    pub status-held : areaStatusWritten a id k unasked old ≡ statusWritten t id k unasked old
+    unfolding areaStatusWritten
+    status-held = from-held _ (λ t. statusWritten t id k unasked old) a t held
+
+    pub status-held-buffer : areaStatusBuffer a id k unasked old ≡ statusBuffer t id k unasked old
+    unfolding areaStatusBuffer
+    status-held-buffer = from-held _ (λ t. statusBuffer t id k unasked old) a t held
+
+  -- 22
+  pub status-unheld : judged a ≡ false
+      → (Refused (refusalOf 22) ≡ areaStatusWritten a id k unasked old) × (old ≡ areaStatusBuffer a id k unasked old)
+  unfolding areaStatusWritten areaStatusBuffer
+  status-unheld e = (
+    sym (from-unjudged _ (λ t. statusWritten t id k unasked old) a e),
+    sym (from-unjudged _ (λ t. statusBuffer t id k unasked old) a e),
+  )
+
+  module _ (yes : judged a ≡ true) (p : Place) (is : p ≡ placeIn id (readTable a)) where
+    -- 12
+    pub status-missing : p .«open» ≡ false
+        → (Refused (refusalOf 12) ≡ areaStatusWritten a id k unasked old) × (old ≡ areaStatusBuffer a id k unasked old)
+    unfolding areaStatusWritten areaStatusBuffer
+    status-missing e =
+        let m = status-twelve (readTable a) id k unasked old (closed-missing id (readTable a) p is (judged-passed a yes .1 .fine) e) in (
+          sym (from-judged _ (λ t. statusWritten t id k unasked old) a yes ∙ m .0),
+          sym (from-judged _ (λ t. statusBuffer t id k unasked old) a yes ∙ m .1),
+        )
+
+    -- the place of an Id that is open is used
+    pub open-used : p .«open» ≡ true → p .at < wordAt a 0
+    open-used e = omega (arith, open-there id (readTable a) p is e .0, length-transfers a 0 (wordAt a 0))
+
+    -- and its key and its runs are the Id's
+    module _ (yes-open : p .«open» ≡ true) (key : Key) (rows : Rows) (key-is : key ≡ keyAt a (p .at)) (rows-are : rows ≡ rowsAt a (p .at)) where
+      key-found : find id (keys (readTable a)) ≡ some key
+      key-found =
+          open-found id (readTable a) p is yes-open
+          ∙ ap (λ (x : Transfer). some (x .key)) (transfer-at a (p .at) (open-used yes-open)) ∙ ap some (sym key-is)
+
+      runs-found : runsOf (readTable a) id ≡ runsIn a rows
+      runs-found =
+          open-runs id (readTable a) p is yes-open
+          ∙ ap (λ (x : Transfer). x .runs) (transfer-at a (p .at) (open-used yes-open)) ∙ ap (runsIn a) (sym rows-are)
+
+      pub status-found : (x : Written) (y : List ℕ) → x ≡ transferWritten key (runsIn a rows) k unasked old
+          → y ≡ transferBuffer key (runsIn a rows) k unasked old
+          → (x ≡ areaStatusWritten a id k unasked old) × (y ≡ areaStatusBuffer a id k unasked old)
+      unfolding areaStatusWritten areaStatusBuffer statusWritten statusBuffer writtenFor bufferFor
+      status-found x y e f = (
+        e ∙ sym (from-judged _ (λ t. statusWritten t id k unasked old) a yes ∙ rw (key-found, runs-found)),
+        f ∙ sym (from-judged _ (λ t. statusBuffer t id k unasked old) a yes ∙ rw (key-found, runs-found)),
+      )

@@ -1,0 +1,70 @@
+-- The used places of an area that holds a table: what stands there, and at which of them an Id is open.
+-- Assumes nothing.
+use Prim.Native.Nat.{ℕ, _≤_, _<_}
+use mathlib.Core.Path.{_≡_, refl, sym, ap, _∙_}
+use mathlib.Core.Bool.{true, false, true≢false}
+use mathlib.Core.List.{List}
+use mathlib.Core.Option.{none, some}
+use native.Mathlib.Omega.{arith}
+use lib.ListN.{length}
+use lib.Dec.{ltb, eqb}
+use borrow.Author.Tests.{ltb-true, eqb-true, lt-ltb, eq-eqb}
+use Rattle.refusals.proofs.TestLaws.{and-iff}
+use Rattle.words.specs.Words.{wordAt}
+use Rattle.run_rows.proofs.RowsLaws.{length-runs}
+use Rattle.transfer.specs.Transfers.{Transfer, TransferFine}
+use Rattle.table.specs.Tables.{FineFrom, keys, find, runsOf}
+use Rattle.area.specs.Layout.{transferPlaces, runPlaces, countField, headAt, runAt}
+use Rattle.area.specs.Places.{rowsAt, transferAt, readTable, nth, placeOf, openAt, placeIn}
+use Rattle.area.specs.Judge.{judged}
+use Rattle.area.specs.declared.Place.{Place}
+use Rattle.area.proofs.PlaceLaws.{length-transfers, transfer-at, rows-fit}
+use Rattle.area.proofs.JudgeLaws.{judged-passed}
+use Rattle.area.proofs.StoredLaws.{fine-at}
+use Rattle.area.proofs.FindLaws.{placed, found-at, runs-at, missing-at}
+use Rattle.area_status.specs.Used.{UsedPlace}
+
+pub used-place : (a : List ℕ) (i : ℕ) → judged a ≡ true → i < wordAt a 0 → UsedPlace a i
+used-place a i passed h =
+    let v = judged-passed a passed in
+    let l : length (readTable a) ≡ wordAt a 0 = length-transfers a 0 (wordAt a 0) in
+    let m : length (readTable a) ≤ transferPlaces = v .1 .few in
+    let low : i < transferPlaces = omega arith in
+    let f : TransferFine (transferAt a i) = rw (transfer-at a i h) at (fine-at 0 (readTable a) i (v .1 .fine) (omega arith)) in
+    let n : wordAt a (headAt i countField) ≤ runPlaces =
+    omega (arith, f .few, length-runs a (runAt 0 i 0) (runAt 1 i 0) (wordAt a (headAt i countField))) in
+    record {
+      long = v .0;
+      low = low;
+      rows = record { fit = rows-fit a i (rowsAt a i) refl (v .0) low n; canonical = f .canonical };
+      width = f .width-is;
+    }
+
+-- ---- what a search for an Id has found
+
+module _ (id : ℕ) (t : List Transfer) (p : Place) (is : p ≡ placeIn id t) where
+  at-is : p .at ≡ placeOf id t
+  unfolding placeIn
+  at-is = ap (λ (q : Place). q .at) is
+
+  open-is : p .«open» ≡ openAt id t (placeOf id t)
+  unfolding placeIn
+  open-is = ap (λ (q : Place). q .«open») is
+
+  pub open-there : p .«open» ≡ true → (p .at < length t) × (nth t (p .at) .key .id ≡ id)
+  unfolding openAt
+  open-there e =
+      let b = and-iff (ltb (placeOf id t) (length t)) (eqb (nth t (placeOf id t) .key .id) id) .0 (sym open-is ∙ e) in
+      rw at-is (ltb-true _ _ (b .0), eqb-true _ _ (b .1))
+
+  pub open-found : p .«open» ≡ true → find id (keys t) ≡ some (nth t (p .at) .key)
+  open-found e = let o = open-there e in found-at id (rw at-is (placed id t)) (o .0) (o .1)
+
+  pub open-runs : p .«open» ≡ true → runsOf t id ≡ nth t (p .at) .runs
+  open-runs e = let o = open-there e in runs-at id (rw at-is (placed id t)) (o .0) (o .1)
+
+  pub closed-missing : FineFrom 0 t → p .«open» ≡ false → find id (keys t) ≡ none
+  unfolding openAt
+  closed-missing f e =
+      missing-at id 0 (placed id t) f
+      (λ h s. true≢false (sym (rw (lt-ltb (placeOf id t) (length t) h, eq-eqb (nth t (placeOf id t) .key .id) id s)) ∙ sym open-is ∙ e))

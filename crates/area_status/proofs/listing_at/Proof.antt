@@ -1,0 +1,31 @@
+-- `area_status::listing_at` meets its contract: the head and the runs at a place are those of its transfer.
+-- Assumes nothing.
+use borrow.Author.Needs.{needs}
+use denote.Ref.{now}
+use Rattle.area_status.proofs.ListingLaws.{listing-is}
+use Rattle.area_status.proofs.listing_at.Statement.{statement}
+use Rattle.area_status.proofs.listing_at.Tie as tie
+
+key-at-requires : tie.Need-key-at-requires
+key-at-requires c κs = search needs
+
+rows-at-requires : tie.Need-rows-at-requires
+rows-at-requires c κs = search needs
+
+edge-of-requires : tie.Need-edge-of-requires
+edge-of-requires c κs = rw (c .rows-at .ensures) (c .before .before .before .pre .rows .fit)
+
+is-complete-requires : tie.Need-is-complete-requires
+is-complete-requires c κs = rw (c .before .rows-at .ensures) (c .before .before .before .before .pre .rows .fit)
+
+returns : tie.Need-returns
+returns c =
+    let r = c .before .before in
+    let a = r .before .before .before .args in
+    listing-is (now (a .area)) (a .i) (r .before .key-at .result) (r .rows-at .result) (c .before .edge-of .result) (c .is-complete .result)
+    (r .before .key-at .ensures) (r .rows-at .ensures) (c .before .edge-of .ensures) (c .is-complete .ensures)
+
+pub listing-at-spec : {M : Type 1} → statement M
+listing-at-spec =
+    tie.close
+    (tie.spec key-at-requires rows-at-requires edge-of-requires is-complete-requires returns)

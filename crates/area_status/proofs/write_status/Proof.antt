@@ -1,0 +1,97 @@
+-- `area_status::write_status` meets its contract: 22, then 12, then the STATUS of the Id's transfer.
+-- Assumes nothing.
+use mathlib.Core.Path.{_≡_, sym, _∙_}
+use mathlib.Core.Bool.{true}
+use borrow.Author.Needs.{needs}
+use borrow.Author.Tests.{not-true, not-false}
+use denote.Ref.{now}
+use Rattle.area.specs.Judge.{judged}
+use Rattle.area_status.specs.Used.{UsedPlace}
+use Rattle.area_status.proofs.UsedLaws.{used-place}
+use Rattle.area_status.proofs.StatusLaws.{status-unheld, status-missing, open-used, status-found}
+use Rattle.area_status.proofs.write_status.Statement.{statement}
+use Rattle.area_status.proofs.write_status.Tie as tie
+
+judge-requires : tie.Need-judge-requires
+judge-requires c κs = search needs
+
+refuse-requires : tie.Need-refuse-requires
+refuse-requires c κs = search needs
+
+returns : tie.Need-returns
+returns c =
+    let a = c .before .before .before .before .before .args in
+    let j = c .before .before .judge in
+    let k = status-unheld (now (a .area)) (a .id) (a .skip) (a .unasked) (now (a .out)) (sym (j .ensures) ∙ not-true (j .result) (c .before .if1 .taken)) in
+    (rw (c .refuse .ensures) (k .0), k .1)
+
+passed : (c : tie.Else1) → judged (now (c .before .before .before .before .args .area)) ≡ true
+passed c = sym (c .before .judge .ensures) ∙ not-false (c .before .judge .result) (c .if1 .left)
+
+find-place-requires : tie.Need-find-place-requires
+find-place-requires c κs = passed c
+
+refuse-requires-2 : tie.Need-refuse-requires-2
+refuse-requires-2 c κs = search needs
+
+returns-2 : tie.Need-returns-2
+returns-2 c =
+    let f = c .before .before .before in
+    let a = f .before .before .before .before .before .args in
+    let p = f .find-place in
+    let k = status-missing (now (a .area)) (a .id) (a .skip) (a .unasked) (now (a .out)) (passed (f .before)) (p .result) (p .ensures)
+    (not-true (p .result .«open») (c .before .if2 .taken)) in
+    (rw (c .refuse2 .ensures) (k .0), k .1)
+
+-- the Id is open, so its place is used
+is-open : (c : tie.Else2) → c .before .before .find-place .result .«open» ≡ true
+is-open c = not-false (c .before .before .find-place .result .«open») (c .if2 .left)
+
+used : (c : tie.Else2) → UsedPlace (now (c .before .before .before .before .before .before .before .args .area)) (c .before .before .find-place .result .at)
+used c =
+    let f = c .before .before in
+    let a = f .before .before .before .before .before .args in
+    let p = f .find-place in
+    used-place (now (a .area)) (p .result .at) (passed (f .before))
+    (open-used (now (a .area)) (a .id) (a .skip) (a .unasked) (now (a .out)) (passed (f .before)) (p .result) (p .ensures) (is-open c))
+
+key-at-requires : tie.Need-key-at-requires
+key-at-requires c κs = let u = used c in (u .long, u .low)
+
+rows-at-requires : tie.Need-rows-at-requires
+rows-at-requires c κs = let u = used (c .before) in (u .long, u .low)
+
+write-rows-requires : tie.Need-write-rows-requires
+write-rows-requires c κs =
+    let u = used (c .before .before .before) in
+    (rw (c .before .rows-at .ensures) (u .rows), rw (c .before .before .key-at .ensures) (u .width))
+
+same-length : tie.Need-same-length
+same-length c = search needs
+
+returns-3 : tie.Need-returns-3
+returns-3 c =
+    let e = c .before .before .before .before .before .before in
+    let f = e .before .before in
+    let a = f .before .before .before .before .before .args in
+    let p = f .find-place in
+    let k = c .before .before .before .before .before .key-at in
+    let r = c .before .before .before .before .rows-at in
+    status-found (now (a .area)) (a .id) (a .skip) (a .unasked) (now (a .out)) (passed (f .before)) (p .result) (p .ensures) (is-open e)
+    (k .result) (r .result) (k .ensures) (r .ensures) _ _ (c .before .before .write-rows .ensures .0) (c .before .before .write-rows .ensures .1)
+
+pub write-status-spec : {M : Type 1} → statement M
+write-status-spec =
+    tie.close
+    (tie.spec
+    judge-requires
+    refuse-requires
+    returns
+    find-place-requires
+    refuse-requires-2
+    returns-2
+    key-at-requires
+    rows-at-requires
+    write-rows-requires
+    same-length
+    returns-3)

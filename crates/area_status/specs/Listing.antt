@@ -1,0 +1,35 @@
+-- What is open in an area, for a program that takes the area up again: one transfer after the other, by index. A table's transfers
+-- stand in rising order of Id, so the index counts from the lowest Id.
+-- Assumes nothing.
+use Prim.Native.Nat.{ℕ}
+use mathlib.Core.Bool.{cond}
+use mathlib.Core.List.{List}
+use lib.ListN.{length}
+use lib.Dec.{ltb}
+use Rattle.refusals.specs.Refusals.{refusalOf}
+use Rattle.runs.specs.Holes.{edge, complete}
+use Rattle.transfer.specs.Transfers.{Transfer}
+use Rattle.area.specs.Places.{nth}
+use Rattle.area.specs.Operations.{fromTable}
+use Rattle.area_status.specs.declared.Listing.{Listing}
+use Rattle.area_status.specs.declared.Listed.{Listed}
+use Rattle.area_status.specs.declared.Listed.the-variants.{Open, Refused}
+
+-- a transfer's key, with its width in octets, the edge, whether it is complete, and the number of its runs
+unfoldable pub listingOf : Transfer → Listing
+listingOf x = record {
+  id = x .key .id;
+  width = x .key .width;
+  length = x .key .length;
+  edge = edge (x .runs);
+  complete = complete (x .key .length) (x .runs);
+  runs = length (x .runs);
+}
+
+-- the transfer with this index; 12 for an index at or past the number open
+unfoldable pub listedIn : List Transfer → ℕ → Listed
+listedIn t i = cond (ltb i (length t)) (Open (listingOf (nth t i))) (Refused (refusalOf 12))
+
+-- 22 before all
+unfoldable pub listedArea : List ℕ → ℕ → Listed
+listedArea a i = fromTable (Refused (refusalOf 22)) (λ t. listedIn t i) a

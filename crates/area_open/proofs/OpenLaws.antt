@@ -13,7 +13,8 @@ use Rattle.octets.specs.Numbers.{Octets}
 use Rattle.refusals.specs.Refusals.{refusalOf}
 use Rattle.refusals.proofs.TestLaws.{and-iff}
 use Rattle.packet_metadata.specs.Metadata.{metadataRefusal, metadataOf, readMetadata}
-use Rattle.packet_metadata.proofs.MetadataLaws.{answer-refused}
+use Rattle.packet_metadata.specs.declared.MetadataRead.the-variants as metadata-read
+use Rattle.refusals.proofs.RefusalLaws.{answered-refused}
 use Rattle.runs.specs.Runs.{Run}
 use Rattle.runs.specs.Holes.{edge, edgeFrom, progress, complete}
 use Rattle.words.specs.Words.{wordAt}
@@ -174,7 +175,7 @@ close-missing t id p h f = rw (missing-at id 0 (h .place) f (h .other))
 pub open-refused : (t : List Transfer) (s : List ℕ) → (metadataRefusal s ≡ 0 → ⊥)
     → openPacket t s ≡ record { answer = opened.Refused (refusalOf (metadataRefusal s)); table = t }
 unfolding openPacket openRead readMetadata
-open-refused t s h = rw (← answer-refused (metadataRefusal s) (metadataOf s) h)
+open-refused t s h = rw (← answered-refused metadata-read.Refused (metadataRefusal s) (metadata-read.Accepted (metadataOf s)) h)
 
 pub open-read : (t : List Transfer) (s : List ℕ) (k : Key) → metadataRefusal s ≡ 0 → k ≡ keyOf (metadataOf s) → openPacket t s ≡ openKey t k
 unfolding openPacket openRead readMetadata

@@ -2,9 +2,9 @@
 -- Assumes nothing.
 use Prim.Native.Nat.{ℕ, zero, suc, _<_, _≤_}
 use mathlib.Core.Path.{_≡_, ap, _∙_}
-use mathlib.Core.Bool.{Bool, true, false}
+use mathlib.Core.Bool.{Bool, true}
 use mathlib.Core.List.{List, [], _∷_}
-use mathlib.Core.Option.{some}
+use mathlib.Core.Option.{none, some}
 use native.Mathlib.Omega.{arith}
 use lib.ListN.{length}
 use borrow.Author.Tests.{lt-ltb, le-ltb}
@@ -19,18 +19,19 @@ use Rattle.run_rows.proofs.RowsLaws.{length-runs}
 use Rattle.words.specs.Words.{wordAt}
 use Rattle.area.specs.Places.{keyAt, rowsAt, transferAt, readTable, nth}
 use Rattle.area.specs.Judge.{judged, tableOf}
+use Rattle.area.specs.Operations.{fromFound, fromTable}
 use Rattle.area.proofs.PlaceLaws.{length-transfers, transfer-at}
 use Rattle.area.proofs.JudgeLaws.{held-valid}
 use Rattle.area.proofs.AreaLaws.{judged-held}
-use Rattle.area.proofs.OperationLaws.{from-held, from-unjudged}
+use Rattle.area.proofs.OperationLaws.{from-held}
 use Rattle.area_status.specs.Listing.{listingOf, listedIn, listedArea}
 use Rattle.area_status.specs.declared.Listing.{Listing}
 use Rattle.area_status.specs.declared.Listed.the-variants.{Open, Refused}
 
 -- 22 where the area holds no table
-pub listed-unheld : (a : List ℕ) (i : ℕ) → judged a ≡ false → listedArea a i ≡ Refused (refusalOf 22)
-unfolding listedArea
-listed-unheld a i e = from-unjudged _ (λ t. listedIn t i) a e
+pub listed-unheld : (a : List ℕ) (i : ℕ) → tableOf a ≡ none → listedArea a i ≡ Refused (refusalOf 22)
+unfolding listedArea fromTable fromFound
+listed-unheld a i e = ap (fromFound (Refused (refusalOf 22)) (λ t. listedIn t i)) e
 
 -- ---- in rising order of Id
 

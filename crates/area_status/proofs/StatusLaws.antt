@@ -4,7 +4,7 @@ use Prim.Native.Nat.{ℕ, _<_}
 use mathlib.Core.Path.{_≡_, sym, ap, _∙_}
 use mathlib.Core.Bool.{Bool, true, false, _||_}
 use mathlib.Core.List.{List}
-use mathlib.Core.Option.{some}
+use mathlib.Core.Option.{none, some}
 use native.Mathlib.Omega.{arith}
 use lib.ListN.{length}
 use Rattle.octets.specs.Put.{put}
@@ -25,10 +25,10 @@ use Rattle.words.specs.Words.{wordAt}
 use Rattle.area.specs.Places.{keyAt, rowsAt, readTable, placeIn}
 use Rattle.area.specs.Judge.{judged, tableOf}
 use Rattle.area.specs.declared.Place.{Place}
-use Rattle.area.specs.Operations.{areaStatusWritten, areaStatusBuffer}
+use Rattle.area.specs.Operations.{fromFound, fromTable, areaStatusWritten, areaStatusBuffer}
 use Rattle.area.proofs.PlaceLaws.{length-transfers, transfer-at}
 use Rattle.area.proofs.JudgeLaws.{judged-passed}
-use Rattle.area.proofs.OperationLaws.{from-held, from-judged, from-unjudged}
+use Rattle.area.proofs.OperationLaws.{from-held, from-judged}
 use Rattle.area_status.proofs.UsedLaws.{open-there, open-found, open-runs, closed-missing}
 
 -- the fields before the holes, by what the rows say
@@ -50,13 +50,10 @@ module _ (a : List ℕ) (id k : ℕ) (unasked : Bool) (old : List ℕ) where
     status-held-buffer = from-held _ (λ t. statusBuffer t id k unasked old) a t held
 
   -- 22
-  pub status-unheld : judged a ≡ false
+  pub status-unheld : tableOf a ≡ none
       → (Refused (refusalOf 22) ≡ areaStatusWritten a id k unasked old) × (old ≡ areaStatusBuffer a id k unasked old)
-  unfolding areaStatusWritten areaStatusBuffer
-  status-unheld e = (
-    sym (from-unjudged _ (λ t. statusWritten t id k unasked old) a e),
-    sym (from-unjudged _ (λ t. statusBuffer t id k unasked old) a e),
-  )
+  unfolding areaStatusWritten areaStatusBuffer fromTable fromFound
+  status-unheld e = (rw e, rw e)
 
   module _ (yes : judged a ≡ true) (p : Place) (is : p ≡ placeIn id (readTable a)) where
     -- 12

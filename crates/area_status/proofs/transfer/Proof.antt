@@ -10,6 +10,7 @@ use denote.Ref.{now}
 use Rattle.words.specs.Words.{wordAt}
 use Rattle.area.specs.Judge.{judged}
 use Rattle.area.proofs.JudgeLaws.{judged-passed}
+use Rattle.area.proofs.AreaLaws.{judged-unheld}
 use Rattle.area_status.specs.declared.Listed.the-variants.{Open}
 use Rattle.area_status.proofs.UsedLaws.{used-place}
 use Rattle.area_status.proofs.ListingLaws.{listed-unheld, listed-past-count, listed-at}
@@ -26,7 +27,7 @@ returns : tie.Need-returns
 returns c =
     let a = c .before .before .before .before .args in
     let j = c .before .before .judge in
-    rw (c .refuse .ensures) (sym (listed-unheld (now (a .area)) (a .index) (sym (j .ensures) ∙ not-true (j .result) (c .before .if1 .taken))))
+    rw (c .refuse .ensures) (sym (listed-unheld (now (a .area)) (a .index) (judged-unheld (now (a .area)) (sym (j .ensures) ∙ not-true (j .result) (c .before .if1 .taken)))))
 
 passed : (c : tie.Else1) → judged (now (c .before .before .before .args .area)) ≡ true
 passed c = sym (c .before .judge .ensures) ∙ not-false (c .before .judge .result) (c .if1 .left)

@@ -6,6 +6,7 @@ use borrow.Author.Needs.{needs}
 use borrow.Author.Tests.{not-true, not-false}
 use denote.Ref.{now}
 use Rattle.area.specs.Judge.{judged}
+use Rattle.area.proofs.AreaLaws.{judged-unheld}
 use Rattle.area_status.specs.Used.{UsedPlace}
 use Rattle.area_status.proofs.UsedLaws.{used-place}
 use Rattle.area_status.proofs.StatusLaws.{status-unheld, status-missing, open-used, status-found}
@@ -22,7 +23,7 @@ returns : tie.Need-returns
 returns c =
     let a = c .before .before .before .before .before .args in
     let j = c .before .before .judge in
-    let k = status-unheld (now (a .area)) (a .id) (a .skip) (a .unasked) (now (a .out)) (sym (j .ensures) ∙ not-true (j .result) (c .before .if1 .taken)) in
+    let k = status-unheld (now (a .area)) (a .id) (a .skip) (a .unasked) (now (a .out)) (judged-unheld (now (a .area)) (sym (j .ensures) ∙ not-true (j .result) (c .before .if1 .taken))) in
     (rw (c .refuse .ensures) (k .0), k .1)
 
 passed : (c : tie.Else1) → judged (now (c .before .before .before .before .args .area)) ≡ true

@@ -9,7 +9,7 @@ use native.Mathlib.Omega.{arith}
 use lib.ListN.{length}
 use lib.Dec.{ltb, eqb}
 use borrow.Author.Tests.{le-ltb, eq-eqb, ne-eqb}
-use Rattle.refusals.specs.Refusals.{_▹_, when}
+use Rattle.refusals.specs.Refusals.{_▹_}
 use Rattle.refusals.proofs.TestLaws.{eqb-iff, eqb-not, ltb-iff, ltb-not, both}
 use Rattle.refusals.proofs.RefusalLaws.{given-here, given-later, after-none, when-given, when-other}
 use Rattle.refusals.proofs.LimitLaws.{either, unequal-iff, when-all, chain-all, link-all, chain-iff, first-only}

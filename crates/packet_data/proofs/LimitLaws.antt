@@ -16,7 +16,7 @@ use Rattle.refusals.proofs.LimitLaws as chains
 use Rattle.header.specs.Word.{widthOf, kindOf, descriptorOctets, timestampOctets}
 use Rattle.header.specs.Start.{wordOf, typeRefusal, fileRefusal}
 use Rattle.header.specs.Descriptor.{descriptorRefusal}
-use Rattle.header.proofs.StartLaws.{TypeFine, type-fine, type-none, FileFine}
+use Rattle.header.proofs.StartLaws.{TypeFine, FileFine}
 use Rattle.header.proofs.LimitLaws as header
 use Rattle.packet_data.specs.Data.{offsetAt, payloadAt, dataRefusal}
 use Rattle.packet_data.specs.WriteData.{dataExcess, dataWriteRefusal}

@@ -4,12 +4,12 @@ use Prim.Native.Nat.{ℕ, _+_, _*_, _%_, _^_, _<_, _≤_}
 use mathlib.Core.Path.{_≡_}
 use mathlib.Core.Bool.{Bool, not}
 use mathlib.Core.List.{List}
-use mathlib.Core.Logic.{_⊎_, inl, inr, ⊎-elim, _↔_, Iff·rfl, Iff·trans}
+use mathlib.Core.Logic.{_⊎_, inr, ⊎-elim, _↔_, Iff·rfl, Iff·trans}
 use native.Mathlib.Omega.{arith}
 use lib.ListN.{length}
 use lib.Dec.{ltb, eqb}
 use borrow.Author.Tests.{ne-eqb}
-use Rattle.refusals.specs.Refusals.{_▹_, when}
+use Rattle.refusals.specs.Refusals.{_▹_}
 use Rattle.refusals.proofs.TestLaws.{eqb-iff, eqb-not, ltb-iff, ltb-not, not-iff, not-not, test-not, both}
 use Rattle.refusals.proofs.RefusalLaws.{given-here, given-later, when-given, when-other}
 use Rattle.refusals.proofs.LimitLaws as chains

@@ -68,6 +68,10 @@ pub chain-none : (m r : ℕ) → (m ▹ r ≡ 0) ↔ ((m ≡ 0) × (r ≡ 0))
 chain-none zero r = ((λ e. (refl, e)), (λ p. p .1))
 chain-none (suc m) r = ((λ e. absurd (omega arith)), (λ p. absurd (omega (arith, p .0))))
 
+pub chain-assoc : (l m r : ℕ) → (l ▹ m) ▹ r ≡ l ▹ m ▹ r
+chain-assoc zero m r = refl
+chain-assoc (suc l) m r = refl
+
 pub nothing-after : (m : ℕ) → m ▹ 0 ≡ m
 nothing-after zero = refl
 nothing-after (suc m) = refl
@@ -76,6 +80,12 @@ nothing-after (suc m) = refl
 pub alone-none : (A : Type 0) (m n : ℕ) → (n ≡ 0 → ⊥) → (m ≡ 0) ⊎ (m ≡ n) → (m ≡ n) ↔ A → (m ≡ 0) ↔ (A → ⊥)
 alone-none A m n h (inl z) i = ((λ e a. h (sym (i .1 a) ∙ z)), (λ g. z))
 alone-none A m n h (inr e) i = ((λ z. absurd (h (sym e ∙ z))), (λ g. absurd (g (i .0 e))))
+
+-- n comes from such a chain or from the rest
+pub alone-again : (m r n : ℕ) → (n ≡ 0 → ⊥) → (m ≡ 0) ⊎ (m ≡ n) → (m ▹ r ≡ n) ↔ ((m ≡ n) ⊎ (r ≡ n))
+alone-again m r n h a =
+    Iff·trans (chain-iff m r n h)
+    (⊎-elim (λ e. inl e) (λ p. inr (p .1)), ⊎-elim (λ e. inl e) (λ e. ⊎-elim (λ z. inr (z, e)) (λ q. inl q) a))
 
 -- ---- the room for a packet of so many octets
 

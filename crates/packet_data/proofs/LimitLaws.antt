@@ -1,6 +1,6 @@
 -- "Given exactly when", for DATA: 5, 6, 1 and 10 of the reader; 21, 5, 6, 1, 10, 2 and 20 of the writer.
 -- Assumes nothing.
-use Prim.Native.Nat.{ℕ, _+_, _^_, _<_, _≤_}
+use Prim.Native.Nat.{ℕ, suc, _+_, _^_, _<_, _≤_}
 use mathlib.Core.Path.{_≡_, refl, sym, _∙_}
 use mathlib.Core.Bool.{Bool, not}
 use mathlib.Core.List.{List}
@@ -8,8 +8,9 @@ use mathlib.Core.Logic.{_⊎_, inl, inr, ⊎-elim, _↔_, Iff·rfl, Iff·trans}
 use native.Mathlib.Omega.{arith}
 use lib.ListN.{length}
 use lib.Dec.{ltb, eqb}
-use Rattle.refusals.specs.Refusals.{_▹_, when}
+use Rattle.refusals.specs.Refusals.{_▹_, when, refusalOf}
 use Rattle.refusals.specs.Writing.{roomRefusal}
+use Rattle.refusals.specs.declared.Written.the-variants as written
 use Rattle.refusals.proofs.TestLaws.{eqb-iff, eqb-not, ltb-iff, ltb-not, both}
 use Rattle.refusals.proofs.RefusalLaws.{given-here, given-later, after-none, when-given, when-other}
 use Rattle.refusals.proofs.LimitLaws as chains
@@ -18,8 +19,9 @@ use Rattle.header.specs.Start.{wordOf, typeRefusal, fileRefusal}
 use Rattle.header.specs.Descriptor.{descriptorRefusal}
 use Rattle.header.proofs.StartLaws.{TypeFine, FileFine}
 use Rattle.header.proofs.LimitLaws as header
-use Rattle.packet_data.specs.Data.{offsetAt, payloadAt, dataRefusal}
-use Rattle.packet_data.specs.WriteData.{dataExcess, dataWriteRefusal}
+use Rattle.packet_data.specs.Data.{offsetAt, payloadAt, dataRefusal, dataOf, readData}
+use Rattle.packet_data.specs.declared.DataRead.the-variants.{Accepted, Refused}
+use Rattle.packet_data.specs.WriteData.{dataExcess, dataWriteRefusal, dataRefused, dataWritten}
 
 -- ---- read
 
@@ -207,3 +209,15 @@ module _ (flags id timestamp offset : ℕ) where
     write-twenty-iff =
         after-fields ((size ≤ 65535) × (room < size)) 20 (λ e. omega arith) (λ e. omega arith) (λ e. omega arith) (λ e. omega arith) (λ e. omega arith) (λ e. omega arith)
         (chains.twenty-iff size room)
+
+-- ---- the answers: refused with the number that these laws speak of
+
+pub read-refused-iff : (s : List ℕ) (n : ℕ) → (readData s ≡ Refused (refusalOf (suc n))) ↔ (dataRefusal s ≡ suc n)
+unfolding readData
+read-refused-iff s n =
+    chains.answered-iff Refused (dataRefusal s) n (Accepted (dataOf s)) (λ r e. let z : _≡_ {A = ℕ} 0 1 = cc in omega arith) (λ q r e. cc)
+
+pub write-refused-iff : (flags id : ℕ) (timestamp : List ℕ) (offset : ℕ) (payload old : List ℕ) (n : ℕ)
+    → (dataWritten flags id timestamp offset payload old ≡ written.Refused (refusalOf (suc n))) ↔ (dataRefused flags id timestamp offset payload old ≡ suc n)
+unfolding dataWritten
+write-refused-iff flags id timestamp offset payload old n = chains.written-iff (dataRefused flags id timestamp offset payload old) n (payloadAt flags + length payload)

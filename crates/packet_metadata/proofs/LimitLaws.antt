@@ -9,8 +9,9 @@ use native.Mathlib.Omega.{arith}
 use lib.ListN.{length, drop}
 use lib.Dec.{ltb, eqb}
 use borrow.Author.Tests.{eqb-true, eq-eqb, eqb-false, ne-eqb}
-use Rattle.refusals.specs.Refusals.{_▹_, when}
+use Rattle.refusals.specs.Refusals.{_▹_, when, refusalOf}
 use Rattle.refusals.specs.Writing.{roomRefusal}
+use Rattle.refusals.specs.declared.Written.the-variants as written
 use Rattle.refusals.proofs.TestLaws.{ltb-iff, ltb-not, not-iff, not-not, test-not, both}
 use Rattle.refusals.proofs.RefusalLaws.{given-later, after-none, when-given}
 use Rattle.refusals.proofs.LimitLaws as chains
@@ -24,8 +25,9 @@ use Rattle.directory_entry.specs.WriteEntry.{entryExcess, entryWriteRefusal}
 use Rattle.directory_entry.proofs.PathLaws.{PathFine}
 use Rattle.directory_entry.proofs.LimitLaws as entry
 use Rattle.packet_metadata.specs.Checksum.{pairAllowed, pairRefusal, checksumOctets}
-use Rattle.packet_metadata.specs.Metadata.{entryAt, metadataRefusal}
-use Rattle.packet_metadata.specs.WriteMetadata.{metadataExcess, checksumRefusal, metadataSize, metadataWriteRefusal}
+use Rattle.packet_metadata.specs.Metadata.{entryAt, metadataRefusal, metadataOf, readMetadata}
+use Rattle.packet_metadata.specs.declared.MetadataRead.the-variants.{Accepted, Refused}
+use Rattle.packet_metadata.specs.WriteMetadata.{metadataExcess, checksumRefusal, metadataSize, metadataWriteRefusal, metadataWritten}
 
 -- ---- the checksum pair
 
@@ -357,3 +359,17 @@ module _ (flags id : ℕ) (checksum : List ℕ) (properties size mtime ctime : �
   write-twenty-iff =
       after-checksum _ 20 (λ e. omega arith) (λ e. omega arith) (λ e. omega arith) (λ e. omega arith) (λ e. omega arith) (λ e. omega arith)
       (after-entry _ 20 (λ e. omega arith) (λ e. omega arith) (λ e. omega arith) (λ e. omega arith) (λ e. omega arith) (chains.twenty-iff octets room))
+
+-- ---- the answers: refused with the number that these laws speak of
+
+pub read-refused-iff : (s : List ℕ) (n : ℕ) → (readMetadata s ≡ Refused (refusalOf (suc n))) ↔ (metadataRefusal s ≡ suc n)
+unfolding readMetadata
+read-refused-iff s n =
+    chains.answered-iff Refused (metadataRefusal s) n (Accepted (metadataOf s)) (λ r e. let z : _≡_ {A = ℕ} 0 1 = cc in omega arith) (λ q r e. cc)
+
+module _ (flags id : ℕ) (checksum : List ℕ) (properties size mtime ctime : ℕ) (path old : List ℕ) (n : ℕ) where
+  pub write-refused-iff : (metadataWritten flags id checksum properties size mtime ctime path old ≡ written.Refused (refusalOf (suc n)))
+      ↔ (metadataWriteRefusal flags id checksum properties size mtime ctime path (length old) ≡ suc n)
+  unfolding metadataWritten
+  write-refused-iff =
+      chains.written-iff (metadataWriteRefusal flags id checksum properties size mtime ctime path (length old)) n (metadataSize flags properties (length path))

@@ -1,6 +1,6 @@
 -- "Given exactly when", for STATUS: 5, 1 and 11 of the reader, none of them for a failure; 21 and 20 of the failure writer.
 -- Assumes nothing.
-use Prim.Native.Nat.{ℕ, _+_, _*_, _%_, _^_, _<_, _≤_}
+use Prim.Native.Nat.{ℕ, zero, suc, _+_, _*_, _%_, _^_, _<_, _≤_}
 use mathlib.Core.Path.{_≡_}
 use mathlib.Core.Bool.{Bool, not}
 use mathlib.Core.List.{List}
@@ -9,7 +9,9 @@ use native.Mathlib.Omega.{arith}
 use lib.ListN.{length}
 use lib.Dec.{ltb, eqb}
 use borrow.Author.Tests.{ne-eqb}
-use Rattle.refusals.specs.Refusals.{_▹_}
+use Rattle.refusals.specs.Refusals.{_▹_, refusalOf}
+use Rattle.refusals.specs.declared.Refusal.{Refusal}
+use Rattle.refusals.specs.declared.Written.the-variants as written
 use Rattle.refusals.proofs.TestLaws.{eqb-iff, eqb-not, ltb-iff, ltb-not, not-iff, not-not, test-not, both}
 use Rattle.refusals.proofs.RefusalLaws.{given-here, given-later, when-given, when-other}
 use Rattle.refusals.proofs.LimitLaws as chains
@@ -19,8 +21,9 @@ use Rattle.header.specs.Descriptor.{descriptorRefusal}
 use Rattle.header.proofs.StartLaws.{TypeFine}
 use Rattle.header.proofs.LimitLaws as header
 use Rattle.packet_status.specs.Holes.{holesWell}
-use Rattle.packet_status.specs.Status.{progressAt, responseAt, holesAt, progressOf, responseOf, listOctets, holeList, listRefusal, successRefusal, statusRefusal}
-use Rattle.packet_status.specs.WriteFailure.{failureWriteRefusal}
+use Rattle.packet_status.specs.Status.{progressAt, responseAt, holesAt, progressOf, responseOf, listOctets, holeList, listRefusal, successRefusal, statusRefusal, acceptedStatus, readStatus}
+use Rattle.packet_status.specs.declared.StatusRead.the-variants.{Refused}
+use Rattle.packet_status.specs.WriteFailure.{failureWriteRefusal, failureWritten}
 use Rattle.packet_status.proofs.AcceptedLaws.{HoleListAccepted, holes-well-means, means-holes-well}
 
 -- ---- read
@@ -159,3 +162,19 @@ module _ (id status room : ℕ) where
       (both (eqb-not status 0)
       (Iff·trans (given-later (ltb 255 status) 21 20 _ (λ e. omega arith) (λ e. omega arith))
       (both (ltb-not 255 status) (Iff·trans (when-given (ltb room 8) 20 (λ e. omega arith)) (ltb-iff room 8)))))))
+
+-- ---- the answers: refused with the number that these laws speak of
+
+accepted-apart : (code : ℕ) (s : List ℕ) (r : Refusal) → acceptedStatus code s ≡ Refused r → ⊥
+accepted-apart zero s r e = let z : _≡_ {A = ℕ} 0 1 = cc in omega arith
+accepted-apart (suc code) s r e = let z : _≡_ {A = ℕ} 0 1 = cc in omega arith
+
+pub read-refused-iff : (s : List ℕ) (n : ℕ) → (readStatus s ≡ Refused (refusalOf (suc n))) ↔ (statusRefusal s ≡ suc n)
+unfolding readStatus
+read-refused-iff s n =
+    chains.answered-iff Refused (statusRefusal s) n (acceptedStatus (statusOf (wordOf s)) s) (accepted-apart (statusOf (wordOf s)) s) (λ q r e. cc)
+
+pub write-refused-iff : (id status : ℕ) (old : List ℕ) (n : ℕ)
+    → (failureWritten id status old ≡ written.Refused (refusalOf (suc n))) ↔ (failureWriteRefusal id status (length old) ≡ suc n)
+unfolding failureWritten
+write-refused-iff id status old n = chains.written-iff (failureWriteRefusal id status (length old)) n 8

@@ -1,13 +1,15 @@
 -- "Given exactly when": what a chain gives where a number stands in several places, and the room that a packet needs.
 -- Assumes nothing.
 use Prim.Native.Nat.{ℕ, zero, suc, _<_, _≤_}
-use mathlib.Core.Path.{_≡_, refl, sym, _∙_}
+use mathlib.Core.Path.{_≡_, refl, sym, ap, _∙_}
 use mathlib.Core.Bool.{Bool, true, false, not, true≢false, false≢true}
 use mathlib.Core.Logic.{_⊎_, inl, inr, ⊎-elim, _↔_, Iff·trans}
 use native.Mathlib.Omega.{arith}
 use lib.Dec.{ltb, eqb}
-use Rattle.refusals.specs.Refusals.{_▹_, when}
-use Rattle.refusals.specs.Writing.{roomRefusal}
+use Rattle.refusals.specs.Refusals.{_▹_, when, refusalOf, answered}
+use Rattle.refusals.specs.Writing.{roomRefusal, writtenOf}
+use Rattle.refusals.specs.declared.Refusal.{Refusal}
+use Rattle.refusals.specs.declared.Written.the-variants.{Size, Refused}
 use Rattle.refusals.proofs.TestLaws.{eqb-not, ltb-iff, ltb-not, not-iff, both}
 use Rattle.refusals.proofs.RefusalLaws.{given-here, given-later, when-given, when-other}
 
@@ -108,3 +110,17 @@ module _ (size room : ℕ) where
   pub room-all : (P : ℕ → Type 0) → P 0 → P 2 → P 20 → P (roomRefusal size room)
   unfolding roomRefusal
   room-all P z a b = link-all P (ltb 65535 size) 2 _ a (when-all P (ltb room size) 20 z b)
+
+-- ---- answers
+
+-- an operation answers the refusal n exactly when its number is n
+pub answered-iff : {A : Type 0} (refused : Refusal → A) (m n : ℕ) (result : A) → ((r : Refusal) → result ≡ refused r → ⊥)
+    → ((q r : Refusal) → refused q ≡ refused r → q ≡ r) → (answered refused m result ≡ refused (refusalOf (suc n))) ↔ (m ≡ suc n)
+answered-iff refused zero n result apart same = ((λ e. absurd (apart (refusalOf (suc n)) e)), (λ e. absurd (omega arith)))
+answered-iff refused (suc m) n result apart same = (
+  (λ e. ap (λ (r : Refusal). r .number) (same (refusalOf (suc m)) (refusalOf (suc n)) e)),
+  (λ e. ap (λ (i : ℕ). refused (refusalOf i)) e),
+)
+
+pub written-iff : (m n size : ℕ) → (writtenOf m size ≡ Refused (refusalOf (suc n))) ↔ (m ≡ suc n)
+written-iff m n size = answered-iff Refused m n (Size size) (λ r e. let z : _≡_ {A = ℕ} 0 1 = cc in omega arith) (λ q r e. cc)

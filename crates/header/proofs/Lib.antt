@@ -1,3 +1,4 @@
 pub mod DescriptorLaws
 pub mod StartLaws
 pub mod WordLaws
+pub mod LimitLaws

@@ -123,7 +123,8 @@ module _ (a w x y z : List ℕ) (d : ℕ) (key : Key) (long : areaOctets ≤ len
     head-put = record {
       rest = changed-twice (within-changed (head-within d idField 1 to (omega arith)) id-put)
           (changed-twice (within-changed (head-within d widthField 1 to (omega arith)) width-put)
-          (changed-twice (within-changed (head-within d lengthField 1 to (omega arith)) length-put) (within-changed (head-within d countField 1 to (omega arith)) count-put)));
+          (changed-twice (within-changed (head-within d lengthField 1 to (omega arith)) length-put)
+          (within-changed (head-within d countField 1 to (omega arith)) count-put)));
       heads = new-head;
       sides = λ k j l.
           changed-away count-put (runAt k d j) (inr (omega arith)) ∙ changed-away length-put (runAt k d j) (inr (omega arith))

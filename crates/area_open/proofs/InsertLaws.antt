@@ -59,7 +59,8 @@ pub record Opening (a b : List ℕ) (p n q : ℕ) (x : Transfer) : Type 0 where
   pub after : p ≤ q
   pub inside : q ≤ n
 
-pub open-start : (a : List ℕ) (p n : ℕ) (x : Transfer) → judged a ≡ true → p ≤ length (readTable a) → length (readTable a) < transferPlaces → n ≡ wordAt a 0 → Opening a a p n n x
+pub open-start : (a : List ℕ) (p n : ℕ) (x : Transfer) → judged a ≡ true → p ≤ length (readTable a) → length (readTable a) < transferPlaces
+    → n ≡ wordAt a 0 → Opening a a p n n x
 open-start a p n x j h r e =
     let t : List Transfer = readTable a in
     let l : length (insertAt p x t) ≡ length t + 1 = length-inserted p x t in
@@ -93,7 +94,8 @@ module _ (a b : List ℕ) (p n q : ℕ) (x : Transfer) (inv : Opening a b p n q 
         let z : q ≡ suc (q - 1) = omega arith in
         record {
           moving =
-              moving-next a b (insertAt p x (readTable a)) n (λ i. q < i) (λ i. i ≤ q) m (q - 1) (omega (arith, inv .inside)) (omega arith) e q (λ i. q - 1 < i) (λ i. i ≤ q - 1)
+              moving-next a b (insertAt p x (readTable a)) n (λ i. q < i) (λ i. i ≤ q) m (q - 1) (omega (arith, inv .inside)) (omega arith) e q
+              (λ i. q - 1 < i) (λ i. i ≤ q - 1)
               (omega (arith, inv .few, inv .inside)) (omega (arith, length-u, inv .inside))
               (ap (nth (insertAt p x (readTable a))) z ∙ inserted-after p x (readTable a) (q - 1) inner (omega arith)) (omega arith) c
               (λ i h. ⊎-elim (λ (o : i ≤ q). inl (omega arith)) (λ (o : q < i). inr ((λ z. omega arith), o)) (le-or-lt i q))

@@ -76,8 +76,8 @@ module _ (a b : List ℕ) (s : ℕ) (there : s < length (readTable a)) (source :
   source-count = source .heads countField (omega arith) ∙ read-holds a .heads s countField there (omega arith)
 
   -- a place to which the transfer that the new table has there is copied
-  pub copied-stored : (e : List ℕ) (u : List Transfer) (d : ℕ) → d < length u → nth u d ≡ nth (readTable a) s → length (nth (readTable a) s .runs) ≤ runPlaces
-      → PlaceKept a b d → Copied b e s d → PlaceStored a e u d
+  pub copied-stored : (e : List ℕ) (u : List Transfer) (d : ℕ) → d < length u → nth u d ≡ nth (readTable a) s
+      → length (nth (readTable a) s .runs) ≤ runPlaces → PlaceKept a b d → Copied b e s d → PlaceStored a e u d
   copied-stored e u d m same few target c =
       let n : length (nth u d .runs) ≡ length (nth (readTable a) s .runs) = ap (λ (x : Transfer). length (x .runs)) same in
       let r : wordAt b (headAt s countField) ≡ length (nth (readTable a) s .runs) = source-count in
@@ -130,14 +130,21 @@ moving-start a u n Done Rest j e d =
       rest = λ i p q. same-place a i;
     }
 
-module _ (a b : List ℕ) (u : List Transfer) (n : ℕ) (Done Rest : ℕ → Type 0) (m : Moving a b u n Done Rest) (s : ℕ) (from : s < n) (left : Rest s) where
-  pub moving-count : wordAt b (headAt s countField) ≤ runPlaces
-  moving-count =
-      omega (arith, source-count a b s (omega (arith, m .held)) (m .rest s (omega (arith, m .few)) left), m .runs s)
+module _ (a b : List ℕ) (u : List Transfer) (n : ℕ) (Done Rest : ℕ → Type 0) (m : Moving a b u n Done Rest)
+    (s : ℕ) (from : s < n) (left : Rest s) where
+  there : s < length (readTable a)
+  there = omega (arith, m .held)
 
-  pub moving-next : (e : List ℕ) (d : ℕ) (Done' Rest' : ℕ → Type 0) → d < transferPlaces → d < length u → nth u d ≡ nth (readTable a) s → Rest d → Copied b e s d
-      → ((i : ℕ) → Done' i → (i ≡ d) ⊎ ((i ≡ d → ⊥) × Done i)) → ((i : ℕ) → Rest' i → (i ≡ d → ⊥) × Rest i) → Moving a e u n Done' Rest'
-  moving-next e d Done' Rest' to there same right c more less = record {
+  source : PlaceKept a b s
+  source = m .rest s (omega (arith, m .few)) left
+
+  pub moving-count : wordAt b (headAt s countField) ≤ runPlaces
+  moving-count = omega (arith, source-count a b s there source, m .runs s)
+
+  pub moving-next : (e : List ℕ) (d : ℕ) (Done' Rest' : ℕ → Type 0) → d < transferPlaces → d < length u → nth u d ≡ nth (readTable a) s
+      → Rest d → Copied b e s d → ((i : ℕ) → Done' i → (i ≡ d) ⊎ ((i ≡ d → ⊥) × Done i)) → ((i : ℕ) → Rest' i → (i ≡ d → ⊥) × Rest i)
+      → Moving a e u n Done' Rest'
+  moving-next e d Done' Rest' to inside same right c more less = record {
     long = m .long;
     few = m .few;
     held = m .held;
@@ -146,7 +153,8 @@ module _ (a b : List ℕ) (u : List Transfer) (n : ℕ) (Done Rest : ℕ → Typ
     past = c .rest .past ∙ m .past;
     done = λ i p q.
         ⊎-elim
-        (λ (h : i ≡ d). subst (PlaceStored a e u) (sym h) (copied-stored a b s (omega (arith, m .held)) (m .rest s (omega (arith, m .few)) left) e u d there same (m .runs s) (m .rest d to right) c))
+        (λ (h : i ≡ d).
+        subst (PlaceStored a e u) (sym h) (copied-stored a b s there source e u d inside same (m .runs s) (m .rest d to right) c))
         (λ (h : (i ≡ d → ⊥) × Done i). stored-kept (m .done i p (h .1)) (c .rest .others i p (h .0)))
         (more i q);
     rest = λ i p q. let h = less i q in kept-kept (m .rest i p (h .1)) (c .rest .others i p (h .0));

@@ -12,13 +12,21 @@ use Rattle.area.specs.Judge.{judged}
 use Rattle.area.specs.Places.{readTable}
 use Rattle.area.specs.Operations.{closeArea}
 use Rattle.area.proofs.JudgeLaws.{judged-passed}
-use Rattle.area_open.proofs.OpenLaws.{place-open, place-free, close-done, close-missing, by-unjudged, by-judged, by-kept}
+use Rattle.area_open.specs.Kept.{KeptAt}
+use Rattle.area_open.proofs.KeptLaws.{place-open, place-free, by-unjudged, by-judged, by-kept}
+use Rattle.area_open.proofs.OpenLaws.{close-done, close-missing}
 use Rattle.area_open.proofs.close.Statement.{statement}
 use Rattle.area_open.proofs.close.Tie as tie
 
 -- the area passed
 passed : (c : tie.After-find-place-arg) → judged (now (c .before .before .before .before .before .args .area)) ≡ true
 passed c = sym (c .before .before .judge .ensures) ∙ c .before .if1 .taken
+
+-- the Id is open
+kept : (c : tie.After-find-place) → c .find-place .result .«open» ≡ true
+    → KeptAt (c .before .before .before .before .before .before .args .id) (readTable (now (c .before .before .before .before .before .before .args .area)))
+    (c .find-place .result .at)
+kept c h = place-open _ _ (c .find-place .result) (c .find-place .ensures) h
 
 judge-requires : tie.Need-judge-requires
 judge-requires c κs = search needs
@@ -29,9 +37,7 @@ find-place-requires c κs = passed c
 remove-at-requires : tie.Need-remove-at-requires
 remove-at-requires c κs =
     let f = c .before .before in
-    let s = f .before .before .before .before .before .before in
-    let h = place-open (s .args .id) (readTable (now (s .args .area))) (f .find-place .result) (f .find-place .ensures) (c .before .if2 .taken) in
-    (passed (f .before), omega (arith, h .inside))
+    (passed (f .before), omega (arith, kept f (c .before .if2 .taken) .inside))
 
 same-length : tie.Need-same-length
 same-length c = search needs
@@ -44,7 +50,7 @@ returns c =
     let s = f .before .before .before .before .before .before in
     let a = now (s .args .area) in
     by-judged (finished.Refused (refusalOf 22)) (λ t. closeId t (s .args .id)) a (passed (f .before)) _
-    (close-done (readTable a) (s .args .id) _ (place-open (s .args .id) (readTable a) (f .find-place .result) (f .find-place .ensures) (r .before .before .if2 .taken))) _ refl _ (r .remove-at .ensures)
+    (close-done (readTable a) (s .args .id) _ (kept f (r .before .before .if2 .taken))) _ refl _ (r .remove-at .ensures)
 
 refuse-requires : tie.Need-refuse-requires
 refuse-requires c κs = search needs
@@ -59,8 +65,9 @@ returns-2 c =
     let s = f .before .before .before .before .before .before in
     let a = now (s .args .area) in
     let j = passed (f .before) in
+    let h = place-free (s .args .id) (readTable a) (f .find-place .result) (f .find-place .ensures) (c .before .if2 .left) in
     by-kept (finished.Refused (refusalOf 22)) (λ t. closeId t (s .args .id)) a j _
-    (close-missing (readTable a) (s .args .id) _ (place-free (s .args .id) (readTable a) (f .find-place .result) (f .find-place .ensures) (c .before .if2 .left)) (judged-passed a j .1 .fine))
+    (close-missing (readTable a) (s .args .id) _ h (judged-passed a j .1 .fine))
     _ (ap finished.Refused (c .refuse .ensures)) (λ i. f .before .before .before .before .before .slice-known .given i .fits) refl
 
 refuse-requires-2 : tie.Need-refuse-requires-2

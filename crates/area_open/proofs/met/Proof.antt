@@ -2,26 +2,18 @@
 -- Assumes nothing.
 use native.Mathlib.Omega.{arith}
 use borrow.Author.Needs.{needs}
-use Prim.Native.Nat.{_≤_, _<_}
 use mathlib.Core.Path.{sym, ap, _∙_}
 use denote.Ref.{now}
-use lib.ListN.{length}
 use Rattle.table.specs.declared.Opened.the-variants as opened
-use Rattle.transfer.specs.declared.Key.{Key}
-use Rattle.area.specs.Layout.{transferPlaces, areaOctets}
-use Rattle.area.specs.Places.{readTable}
-use Rattle.area.proofs.JudgeLaws.{judged-passed}
-use Rattle.area_open.proofs.OpenLaws.{met-width, met-length, met-same, kept-key, kept-rows, kept-reached}
+use Rattle.area_open.proofs.KeptLaws.{kept-known, kept-rows, kept-reached}
+use Rattle.area_open.proofs.OpenLaws.{met-width, met-length, met-same}
 use Rattle.area_open.proofs.met.Statement.{statement}
 use Rattle.area_open.proofs.met.Tie as tie
 
-known : (c : tie.Start) → (areaOctets ≤ length (now (c .args .area))) × (c .args .i < transferPlaces)
-known c =
-    let v = judged-passed (now (c .args .area)) (c .pre .0) in
-    (v .0, omega (arith, v .1 .few, c .pre .1 .inside))
-
 key-at-requires : tie.Need-key-at-requires
-key-at-requires c κs = known (c .before)
+key-at-requires c κs =
+    let s = c .before in
+    kept-known (now (s .args .area)) (s .args .key .id) (s .args .i) (s .pre .1) (s .pre .0)
 
 refuse-requires : tie.Need-refuse-requires
 refuse-requires c κs = search needs
@@ -30,9 +22,8 @@ returns : tie.Need-returns
 returns c =
     let h = c .before .before .before .before in
     let s = h .before .before in
-    let a = now (s .args .area) in
-    let k = kept-key a (s .args .key) (s .args .i) (s .pre .1) (h .key-at .result) (h .key-at .ensures) in
-    ap opened.Refused (c .refuse .ensures) ∙ sym (met-width (readTable a) (s .args .key) (s .args .i) (s .pre .1) (λ q. omega (arith, ap (λ (x : Key). x .width) k)))
+    ap opened.Refused (c .refuse .ensures)
+    ∙ sym (met-width (now (s .args .area)) (s .args .key) (s .args .i) (s .pre .1) (h .key-at .result) (h .key-at .ensures) (λ q. omega arith))
 
 refuse-requires-2 : tie.Need-refuse-requires-2
 refuse-requires-2 c κs = search needs
@@ -41,23 +32,23 @@ returns-2 : tie.Need-returns-2
 returns-2 c =
     let h = c .before .before .before .before .before .before .before in
     let s = h .before .before in
-    let a = now (s .args .area) in
-    let k = kept-key a (s .args .key) (s .args .i) (s .pre .1) (h .key-at .result) (h .key-at .ensures) in
     ap opened.Refused (c .refuse2 .ensures)
-    ∙ sym (met-length (readTable a) (s .args .key) (s .args .i) (s .pre .1) (omega (arith, ap (λ (x : Key). x .width) k)) (λ q. omega (arith, ap (λ (x : Key). x .length) k)))
+    ∙ sym (met-length (now (s .args .area)) (s .args .key) (s .args .i) (s .pre .1) (h .key-at .result) (h .key-at .ensures) (omega arith) (λ q. omega arith))
 
 rows-at-requires : tie.Need-rows-at-requires
-rows-at-requires c κs = known (c .before .before .before .before .before .before .before .before)
+rows-at-requires c κs =
+    let s = c .before .before .before .before .before .before .before .before in
+    kept-known (now (s .args .area)) (s .args .key .id) (s .args .i) (s .pre .1) (s .pre .0)
 
 edge-of-requires : tie.Need-edge-of-requires
 edge-of-requires c κs =
     let s = c .before .before .before .before .before .before .before .before .before in
-    kept-rows (now (s .args .area)) (s .args .key) (s .args .i) (s .pre .1) (s .pre .0) (c .rows-at .result) (c .rows-at .ensures)
+    kept-rows (now (s .args .area)) (s .args .key .id) (s .args .i) (s .pre .1) (s .pre .0) (c .rows-at .result) (c .rows-at .ensures)
 
 is-complete-requires : tie.Need-is-complete-requires
 is-complete-requires c κs =
     let s = c .before .before .before .before .before .before .before .before .before .before in
-    kept-rows (now (s .args .area)) (s .args .key) (s .args .i) (s .pre .1) (s .pre .0) (c .before .rows-at .result) (c .before .rows-at .ensures)
+    kept-rows (now (s .args .area)) (s .args .key .id) (s .args .i) (s .pre .1) (s .pre .0) (c .before .rows-at .result) (c .before .rows-at .ensures)
 
 returns-3 : tie.Need-returns-3
 returns-3 c =
@@ -65,9 +56,10 @@ returns-3 c =
     let h = r .before .before .before .before .before .before .before in
     let s = h .before .before in
     let a = now (s .args .area) in
-    let k = kept-key a (s .args .key) (s .args .i) (s .pre .1) (h .key-at .result) (h .key-at .ensures) in
-    ap opened.AlreadyOpen (kept-reached a (s .args .key) (s .args .i) (s .pre .1) (r .rows-at .result) _ (r .rows-at .ensures) (c .before .edge-of .ensures) (c .is-complete .ensures))
-    ∙ sym (met-same (readTable a) (s .args .key) (s .args .i) (s .pre .1) (omega (arith, ap (λ (x : Key). x .width) k)) (omega (arith, ap (λ (x : Key). x .length) k)))
+    let x = s .args .key in
+    ap opened.AlreadyOpen
+    (kept-reached a (x .id) (s .args .i) (s .pre .1) x (r .rows-at .result) _ (r .rows-at .ensures) (c .before .edge-of .ensures) (c .is-complete .ensures))
+    ∙ sym (met-same a x (s .args .i) (s .pre .1) (h .key-at .result) (h .key-at .ensures) (omega arith) (omega arith))
 
 pub met-spec : {M : Type 1} → statement M
 met-spec =

@@ -11,7 +11,8 @@ use Rattle.table.specs.Open.{openPacket}
 use Rattle.table.specs.declared.Opened.the-variants as opened
 use Rattle.area.specs.Places.{readTable}
 use Rattle.area.specs.Operations.{openArea}
-use Rattle.area_open.proofs.OpenLaws.{open-refused, open-read, by-unjudged, by-judged, by-kept}
+use Rattle.area_open.proofs.KeptLaws.{by-unjudged, by-judged, by-kept}
+use Rattle.area_open.proofs.OpenLaws.{packet-refused, packet-read}
 use Rattle.area_open.proofs.open.Statement.{statement}
 use Rattle.area_open.proofs.open.Tie as tie
 
@@ -34,7 +35,7 @@ returns c =
     let s = j .before .before .before .before in
     let a = now (s .args .area) in
     by-kept (opened.Refused (refusalOf 22)) (λ t. openPacket t (now (s .args .packet))) a (sym (j .judge .ensures) ∙ c .before .before .before .if1 .taken) _
-    (open-refused (readTable a) (now (s .args .packet)) (λ q. omega (arith, c .before .before .metadata-refusal .ensures)))
+    (packet-refused (readTable a) (now (s .args .packet)) (λ q. omega (arith, c .before .before .metadata-refusal .ensures)))
     _ (ap opened.Refused (c .refuse .ensures ∙ ap refusalOf (c .before .before .metadata-refusal .ensures)))
     (λ i. j .before .before .before .slice-known .given i .fits) refl
 
@@ -59,7 +60,7 @@ returns-2 c =
     let s = j .before .before .before .before in
     let a = now (s .args .area) in
     by-judged (opened.Refused (refusalOf 22)) (λ t. openPacket t (now (s .args .packet))) a (sym (j .judge .ensures) ∙ k .before .before .before .before .if1 .taken) _
-    (open-read (readTable a) (now (s .args .packet)) (k .key-of .result) (omega (arith, k .before .before .before .metadata-refusal .ensures))
+    (packet-read (readTable a) (now (s .args .packet)) (k .key-of .result) (omega (arith, k .before .before .before .metadata-refusal .ensures))
     (k .key-of .ensures ∙ ap (λ (m : Metadata). keyOf m) (k .before .metadata-fields .ensures)))
     _ (o .open-key .ensures .0) _ (o .open-key .ensures .1)
 

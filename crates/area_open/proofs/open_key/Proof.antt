@@ -12,7 +12,8 @@ use Rattle.area.specs.Stored.{storedIn}
 use Rattle.area.proofs.PlaceLaws.{read-holds}
 use Rattle.area.proofs.JudgeLaws.{judged-passed}
 use Rattle.area.proofs.FindLaws.{place-le}
-use Rattle.area_open.proofs.OpenLaws.{place-open, place-free, met-table, open-full, open-new, reached-new, kept-area}
+use Rattle.area_open.proofs.KeptLaws.{place-open, place-free, kept-area}
+use Rattle.area_open.proofs.OpenLaws.{met-table, open-full, open-new, reached-new}
 use Rattle.area_open.proofs.open_key.Statement.{statement}
 use Rattle.area_open.proofs.open_key.Tie as tie
 
@@ -53,7 +54,8 @@ returns-2 c =
     let s = f .before .before .before in
     let a = now (s .args .area) in
     let h = place-free (s .args .key .id) (readTable a) (f .find-place .result) (f .find-place .ensures) (c .before .before .before .before .if1 .left) in
-    let e = open-full (readTable a) (s .args .key) _ h (judged-passed a (s .pre) .1 .fine) (omega (arith, c .before .before .open-count .ensures, read-holds a .count)) in (
+    let m = c .before .before .open-count in
+    let e = open-full (readTable a) (s .args .key) _ h (judged-passed a (s .pre) .1 .fine) (omega (arith, m .ensures, read-holds a .count)) in (
       ap opened.Refused (c .refuse .ensures) ∙ sym (ap (λ (o : Outcome Opened). o .answer) e),
       kept-area a (s .pre) (λ i. f .before .before .slice-known .given i .fits) _ (ap (λ (o : Outcome Opened). o .table) e),
     )
@@ -76,7 +78,8 @@ returns-3 c =
     let s = f .before .before .before in
     let a = now (s .args .area) in
     let h = place-free (s .args .key .id) (readTable a) (f .find-place .result) (f .find-place .ensures) (r .before .before .before .before .before .if1 .left) in
-    let e = open-new (readTable a) (s .args .key) _ h (judged-passed a (s .pre) .1 .fine) (omega (arith, r .before .before .before .open-count .ensures, read-holds a .count)) in (
+    let m = r .before .before .before .open-count in
+    let e = open-new (readTable a) (s .args .key) _ h (judged-passed a (s .pre) .1 .fine) (omega (arith, m .ensures, read-holds a .count)) in (
       ap opened.New (reached-new (s .args .key) _ refl) ∙ sym (ap (λ (o : Outcome Opened). o .answer) e),
       r .insert-at .ensures ∙ sym (ap (λ (o : Outcome Opened). storedIn a (o .table)) e),
     )

@@ -43,7 +43,8 @@ loop-again c =
     let p = c .before .before in
     let l = p .before .before .before .before .loop in
     let s = p .before .before .before .before .before .before .before in
-    (omega arith, words-more (now (s .args .area)) _ _ (s .args .k) (now (s .args .ws)) (l .i) _ (l .inv .1) (omega arith) refl (p .before .before .before .before .before .shared-slice-known .given (l .i) .fits) (p .put-word .ensures))
+    let fits = p .before .before .before .before .before .shared-slice-known .given (l .i) .fits in
+    (omega arith, words-more (now (s .args .area)) _ _ (s .args .k) (now (s .args .ws)) (l .i) _ (l .inv .1) (omega arith) refl fits (p .put-word .ensures))
 
 same-length : tie.Need-same-length Inv-loop μ-loop
 same-length c = c .before .loop .inv .1 .changed .size

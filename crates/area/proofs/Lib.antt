@@ -7,3 +7,4 @@ pub mod AreaLaws
 pub mod OperationLaws
 pub mod LoopLaws
 pub mod ToldLaws
+pub mod KeptLaws

@@ -84,6 +84,12 @@ openAt id t p = ltb p (length t) && eqb (nth t p .key .id) id
 unfoldable pub placeIn : ℕ → List Transfer → Place
 placeIn id t = record { at = placeOf id t; «open» = openAt id t (placeOf id t) }
 
+-- an Id is open, and its transfer kept at place p
+pub record KeptAt (id : ℕ) (t : List Transfer) (p : ℕ) : Type 0 where
+  pub place : p ≡ placeOf id t
+  pub inside : p < length t
+  pub same : nth t p .key .id ≡ id
+
 -- ---- a table changed at a place
 
 -- other runs for the transfer there

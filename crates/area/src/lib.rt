@@ -4,11 +4,14 @@ ghost use mathlib.Core.Bool.{true};
 ghost use Prim.Native.Nat.{_+_, _*_, _≤_, _<_};
 ghost use lib.ListN.{length};
 ghost use Rattle.words.specs.Words.{wordAt};
+ghost use Rattle.run_rows.specs.Rows.{runsIn, RowsFit};
+ghost use Rattle.transfer.specs.Transfers.{reached};
 ghost use Rattle.area.specs.Layout.{transferPlaces, runPlaces, headWords, areaOctets, headAt, runAt};
 ghost use Rattle.area.specs.Places.{keyAt, rowsAt, transferAt, transfersFrom, readTable, placeIn};
 ghost use Rattle.area.specs.Judge.{lengthTest, transferTest, fineTest, judged};
 use run_rows::Rows;
 use transfer::Key;
+use transfer::Reached;
 
 // Places for transfers, and for the runs of each.
 pub const TRANSFERS: usize = 16;
@@ -102,6 +105,16 @@ pub fn rows_at(area: &[u8], i: usize) -> Rows
         stops: stops_at(i),
         count: head(area, i, RUN_COUNT) as usize,
     }
+}
+
+// How far a transfer has come whose runs stand in these rows, and whose key is given.
+pub fn reached_in(area: &[u8], rows: Rows, key: Key) -> Reached
+    requires { ⌜ RowsFit (now area) rows ⌝ }
+    ensures { λ r. ⌜ r ≡ reached key (runsIn (now (area .entry)) rows) ⌝ }
+{
+    let edge = run_rows::edge_of(area, rows);
+    let complete = run_rows::is_complete(area, rows, key.length);
+    Reached { edge, complete }
 }
 
 // Whether the width is one of the three and the length fits it.

@@ -4,5 +4,4 @@ pub mod MoveLaws
 pub mod RemoveLaws
 pub mod InsertLaws
 pub mod FreshLaws
-pub mod KeptLaws
 pub mod OpenLaws

@@ -27,8 +27,8 @@ use Rattle.table.proofs.TableLaws.{length-keys}
 use Rattle.area.specs.Layout.{transferPlaces}
 use Rattle.area.specs.Places.{keyAt, readTable, nth, insertAt, removeAt}
 use Rattle.area.proofs.FindLaws.{found-at, runs-at, remove-at, missing-at, add-at}
-use Rattle.area_open.specs.Kept.{KeptAt}
-use Rattle.area_open.proofs.KeptLaws.{FreeAt, kept-placed, kept-transfer}
+use Rattle.area.specs.Places.{KeptAt}
+use Rattle.area.proofs.KeptLaws.{FreeAt, kept-placed, kept-transfer}
 
 -- ---- an Id that is open, with the key that is held at its place
 

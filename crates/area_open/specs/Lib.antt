@@ -1,4 +1,3 @@
 pub mod Changes
 pub mod Moves
-pub mod Kept
 pub mod Fresh

@@ -4,12 +4,11 @@ ghost use mathlib.Core.Bool.{true};
 ghost use Prim.Native.Nat.{_+_, _*_, _≤_};
 ghost use lib.ListN.{length};
 ghost use Rattle.table.specs.Open.{openKey};
-ghost use Rattle.area.specs.Places.{readTable};
+ghost use Rattle.area.specs.Places.{readTable, KeptAt};
 ghost use Rattle.area.specs.Judge.{judged};
 ghost use Rattle.area.specs.Stored.{storedIn};
 ghost use Rattle.area.specs.Operations.{freshArea, openArea, closeArea};
 ghost use Rattle.area_open.specs.Fresh.{noNumbers, WordsPut};
-ghost use Rattle.area_open.specs.Kept.{KeptAt};
 use table::Finished;
 use table::Opened;
 use transfer::Key;
@@ -84,9 +83,7 @@ fn met(area: &[u8], i: usize, key: Key) -> Opened
         return Opened::Refused(refusals::refuse(18));
     }
     let rows = area::rows_at(area, i);
-    let edge = run_rows::edge_of(area, rows);
-    let complete = run_rows::is_complete(area, rows, key.length);
-    Opened::AlreadyOpen(Reached { edge, complete })
+    Opened::AlreadyOpen(area::reached_in(area, rows, key))
 }
 
 // Opens an Id, or says what its open transfer answers.

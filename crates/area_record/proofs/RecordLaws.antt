@@ -27,15 +27,16 @@ use Rattle.table.specs.Record.{dataJudged, recordRefusal, grown, recordAs, reco
 use Rattle.table.specs.declared.Recorded.{Recorded}
 use Rattle.table.specs.declared.Recorded.the-variants.{Refused}
 use Rattle.area.specs.Layout.{transferPlaces, runPlaces, areaOctets}
-use Rattle.area.specs.Places.{keyAt, readTable, nth, placeOf, openAt, placeIn}
+use Rattle.area.specs.Places.{keyAt, readTable, nth, placeIn, KeptAt}
 use Rattle.area.specs.Judge.{judged}
 use Rattle.area.specs.Operations.{OnArea, leaves, recordArea}
 use Rattle.area.specs.declared.Place.{Place}
 use Rattle.area.proofs.PlaceLaws.{length-transfers, transfer-at}
 use Rattle.area.proofs.JudgeLaws.{judged-passed}
 use Rattle.area.proofs.StoredLaws.{held-stored}
-use Rattle.area.proofs.FindLaws.{Placed, placed, found-at, runs-at, set-at, missing-at}
+use Rattle.area.proofs.FindLaws.{set-at}
 use Rattle.area.proofs.AreaLaws.{judged-held}
+use Rattle.area.proofs.KeptLaws.{place-free, kept-placed, kept-found, kept-runs, free-missing, kept-transfer}
 use Rattle.area.proofs.OperationLaws.{on-judged, on-unjudged}
 use Rattle.area_record.specs.Record.{runsGiven}
 
@@ -81,48 +82,15 @@ module _ (a : List ℕ) (e : judged a ≡ true) where
     abbrev p : ℕ
     p = q .at
 
-    at-is : p ≡ placeOf (d .id) table
-    unfolding placeIn
-    at-is = ap (λ (x : Place). x .at) is
-
-    place-is : Placed (d .id) table p
-    place-is = rw at-is (placed (d .id) table)
-
-    open-is : q .«open» ≡ (ltb p (length table) && eqb (nth table p .key .id) (d .id))
-    unfolding placeIn openAt
-    open-is = rw at-is (ap (λ (x : Place). x .«open») is)
-
     -- 12
     pub fields-missing : q .«open» ≡ false → Octets a → record { answer = Refused (refusalOf 12); area = a } ≡ leaves a (recordData table d)
     unfolding recordData recordRefusal dataJudged recordAs
-    fields-missing s o =
-        let m : find (d .id) (keys table) ≡ none =
-        missing-at (d .id) 0 place-is (judged-passed a e .1 .fine)
-        (λ l i.
-        let y : q .«open» ≡ true = open-is ∙ and-eq-true-iff _ _ .1 (lt-ltb p (length table) l, eq-eqb (nth table p .key .id) (d .id) i) in
-        true≢false (sym y ∙ s)) in
-        rw m (refused 12 o)
-
-    -- the Id is open: its place is one of the area's
-    pub record OpenKnown : Type 0 where
-      pub long : areaOctets ≤ length a
-      pub there : p < length table
-      pub place : p < transferPlaces
-      pub id-is : nth table p .key .id ≡ d .id
-
-    pub opened : q .«open» ≡ true → OpenKnown
-    opened s =
-        let b = and-eq-true-iff (ltb p (length table)) (eqb (nth table p .key .id) (d .id)) .0 (sym open-is ∙ s) in
-        let l : p < length table = ltb-true p (length table) (b .0) in
-        let v = judged-passed a e in
-        record { long = v .0; there = l; place = omega (arith, v .1 .few); id-is = eqb-true (nth table p .key .id) (d .id) (b .1) }
+    fields-missing s o = rw (free-missing (judged-passed a e .1 .fine) (place-free (d .id) table q is s)) (refused 12 o)
 
     -- k is the key that stands there, and m is what it gives
-    module _ (s : OpenKnown) (k : Key) (key-is : k ≡ keyAt a p) (m : ℕ) (j : m ≡ keyRefusal k d) where
+    module _ (s : KeptAt (d .id) table p) (k : Key) (key-is : k ≡ keyAt a p) (m : ℕ) (j : m ≡ keyRefusal k d) where
       found : find (d .id) (keys table) ≡ some k
-      found =
-          found-at (d .id) place-is (s .there) (s .id-is)
-          ∙ ap some (ap (λ (x : Transfer). x .key) (transfer-at a p (omega (arith, s .there, length-transfers a 0 (wordAt a 0)))) ∙ sym key-is)
+      found = kept-found s ∙ ap some (ap (λ (x : Transfer). x .key) (kept-transfer a (d .id) p s) ∙ sym key-is)
 
       -- 13, 14 and 15
       pub fields-refused : (m ≡ 0 → ⊥) → Octets a → record { answer = Refused (refusalOf m); area = a } ≡ leaves a (recordData table d)
@@ -135,7 +103,7 @@ module _ (a : List ℕ) (e : judged a ≡ true) where
 
       grown-is : grown table d ≡ rest
       unfolding grown extended
-      grown-is = ap (insert (d .offset) (stopOf d)) (runs-at (d .id) place-is (s .there) (s .id-is))
+      grown-is = ap (insert (d .offset) (stopOf d)) (kept-runs s)
 
       pub fields-extended : m ≡ 0 → Octets a → runsGiven a table p k rest ≡ leaves a (recordData table d)
       unfolding recordData recordRefusal dataJudged recordAs runsRefusal runsGiven
@@ -143,6 +111,6 @@ module _ (a : List ℕ) (e : judged a ≡ true) where
           let y : keyRefusal k d ≡ 0 = sym j ∙ z in
           rw (found, y, grown-is)
           (⊎-elim
-          (λ (l : length rest ≤ runPlaces). rw (le-ltb runPlaces (length rest) l, set-at (d .id) rest place-is (s .there) (s .id-is)))
+          (λ (l : length rest ≤ runPlaces). rw (le-ltb runPlaces (length rest) l, set-at (d .id) rest (kept-placed s) (s .inside) (s .same)))
           (λ (l : runPlaces < length rest). rw (lt-ltb runPlaces (length rest) l) (refused 16 o))
           (le-or-lt (length rest) runPlaces))

@@ -4,8 +4,6 @@ ghost use mathlib.Core.Bool.{true};
 ghost use Prim.Native.Nat.{_≤_, _<_};
 ghost use lib.ListN.{length};
 ghost use Rattle.runs.specs.Runs.{insert};
-ghost use Rattle.run_rows.specs.Rows.{runsIn, RowsFit};
-ghost use Rattle.transfer.specs.Transfers.{reached};
 ghost use Rattle.table.specs.Record.{recordData};
 ghost use Rattle.area.specs.Layout.{transferPlaces, runPlaces, areaOctets};
 ghost use Rattle.area.specs.Places.{nth, readTable};
@@ -16,7 +14,6 @@ use packet_data::Data;
 use run_rows::Rows;
 use table::Recorded;
 use transfer::Key;
-use transfer::Reached;
 
 // Of the n runs at a place, those from i up to j give way to one from `lo` to `hi`.
 fn put_runs(area: &mut [u8], place: usize, n: usize, i: usize, j: usize, lo: u64, hi: u64)
@@ -27,16 +24,6 @@ fn put_runs(area: &mut [u8], place: usize, n: usize, i: usize, j: usize, lo: u64
     words::splice(area, area::stops_at(place), n, i, j, hi);
     let after = i + 1 + (n - j);
     words::put_word(area, area::head_at(place, area::RUN_COUNT), after as u64);
-}
-
-// How far a transfer has come whose runs stand in these rows, and whose key is given.
-fn reached_in(area: &[u8], rows: Rows, key: Key) -> Reached
-    requires { ⌜ RowsFit (now area) rows ⌝ }
-    ensures { λ r. ⌜ r ≡ reached key (runsIn (now (area .entry)) rows) ⌝ }
-{
-    let edge = run_rows::edge_of(area, rows);
-    let complete = run_rows::is_complete(area, rows, key.length);
-    Reached { edge, complete }
 }
 
 // The offsets from `from` on, with `to` the first after them, added at a place, whose key is given; or refused with 16 before
@@ -64,7 +51,7 @@ fn extend(area: &mut [u8], place: usize, key: Key, from: u64, to: u64) -> Record
         stops: rows.stops,
         count: after,
     };
-    Recorded::Accepted(reached_in(area, grown, key))
+    Recorded::Accepted(area::reached_in(area, grown, key))
 }
 
 // The fields of a packet recorded in an area that holds a table: 12, then what the key of its Id says, then its runs.

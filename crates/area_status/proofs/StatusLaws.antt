@@ -29,7 +29,7 @@ use Rattle.area.specs.Operations.{fromFound, fromTable, areaStatusWritten, area
 use Rattle.area.proofs.PlaceLaws.{length-transfers, transfer-at}
 use Rattle.area.proofs.JudgeLaws.{judged-passed}
 use Rattle.area.proofs.OperationLaws.{from-held, from-judged}
-use Rattle.area_status.proofs.UsedLaws.{open-there, open-found, open-runs, closed-missing}
+use Rattle.area.proofs.KeptLaws.{place-open, place-free, kept-found, kept-runs, free-missing}
 
 -- the fields before the holes, by what the rows say
 pub front-put : (key : Key) (rs : List Run) (partial unasked done told : Bool) (from to : ℕ) (old x : List ℕ)
@@ -61,25 +61,25 @@ module _ (a : List ℕ) (id k : ℕ) (unasked : Bool) (old : List ℕ) where
         → (Refused (refusalOf 12) ≡ areaStatusWritten a id k unasked old) × (old ≡ areaStatusBuffer a id k unasked old)
     unfolding areaStatusWritten areaStatusBuffer
     status-missing e =
-        let m = status-twelve (readTable a) id k unasked old (closed-missing id (readTable a) p is (judged-passed a yes .1 .fine) e) in (
+        let m = status-twelve (readTable a) id k unasked old (free-missing (judged-passed a yes .1 .fine) (place-free id (readTable a) p is e)) in (
           sym (from-judged _ (λ t. statusWritten t id k unasked old) a yes ∙ m .0),
           sym (from-judged _ (λ t. statusBuffer t id k unasked old) a yes ∙ m .1),
         )
 
     -- the place of an Id that is open is used
     pub open-used : p .«open» ≡ true → p .at < wordAt a 0
-    open-used e = omega (arith, open-there id (readTable a) p is e .0, length-transfers a 0 (wordAt a 0))
+    open-used e = omega (arith, place-open id (readTable a) p is e .inside, length-transfers a 0 (wordAt a 0))
 
     -- and its key and its runs are the Id's
     module _ (yes-open : p .«open» ≡ true) (key : Key) (rows : Rows) (key-is : key ≡ keyAt a (p .at)) (rows-are : rows ≡ rowsAt a (p .at)) where
       key-found : find id (keys (readTable a)) ≡ some key
       key-found =
-          open-found id (readTable a) p is yes-open
+          kept-found (place-open id (readTable a) p is yes-open)
           ∙ ap (λ (x : Transfer). some (x .key)) (transfer-at a (p .at) (open-used yes-open)) ∙ ap some (sym key-is)
 
       runs-found : runsOf (readTable a) id ≡ runsIn a rows
       runs-found =
-          open-runs id (readTable a) p is yes-open
+          kept-runs (place-open id (readTable a) p is yes-open)
           ∙ ap (λ (x : Transfer). x .runs) (transfer-at a (p .at) (open-used yes-open)) ∙ ap (runsIn a) (sym rows-are)
 
       pub status-found : (x : Written) (y : List ℕ) → x ≡ transferWritten key (runsIn a rows) k unasked old

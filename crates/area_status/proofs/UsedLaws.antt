@@ -39,32 +39,3 @@ used-place a i passed h =
       rows = record { fit = rows-fit a i (rowsAt a i) refl (v .0) low n; canonical = f .canonical };
       width = f .width-is;
     }
-
--- ---- what a search for an Id has found
-
-module _ (id : ℕ) (t : List Transfer) (p : Place) (is : p ≡ placeIn id t) where
-  at-is : p .at ≡ placeOf id t
-  unfolding placeIn
-  at-is = ap (λ (q : Place). q .at) is
-
-  open-is : p .«open» ≡ openAt id t (placeOf id t)
-  unfolding placeIn
-  open-is = ap (λ (q : Place). q .«open») is
-
-  pub open-there : p .«open» ≡ true → (p .at < length t) × (nth t (p .at) .key .id ≡ id)
-  unfolding openAt
-  open-there e =
-      let b = and-iff (ltb (placeOf id t) (length t)) (eqb (nth t (placeOf id t) .key .id) id) .0 (sym open-is ∙ e) in
-      rw at-is (ltb-true _ _ (b .0), eqb-true _ _ (b .1))
-
-  pub open-found : p .«open» ≡ true → find id (keys t) ≡ some (nth t (p .at) .key)
-  open-found e = let o = open-there e in found-at id (rw at-is (placed id t)) (o .0) (o .1)
-
-  pub open-runs : p .«open» ≡ true → runsOf t id ≡ nth t (p .at) .runs
-  open-runs e = let o = open-there e in runs-at id (rw at-is (placed id t)) (o .0) (o .1)
-
-  pub closed-missing : FineFrom 0 t → p .«open» ≡ false → find id (keys t) ≡ none
-  unfolding openAt
-  closed-missing f e =
-      missing-at id 0 (placed id t) f
-      (λ h s. true≢false (sym (rw (lt-ltb (placeOf id t) (length t) h, eq-eqb (nth t (placeOf id t) .key .id) id s)) ∙ sym open-is ∙ e))

@@ -12,8 +12,8 @@ use Rattle.area.specs.Judge.{judged}
 use Rattle.area.specs.Places.{readTable}
 use Rattle.area.specs.Operations.{closeArea}
 use Rattle.area.proofs.JudgeLaws.{judged-passed}
-use Rattle.area_open.specs.Kept.{KeptAt}
-use Rattle.area_open.proofs.KeptLaws.{place-open, place-free, by-unjudged, by-judged, by-kept}
+use Rattle.area.specs.Places.{KeptAt}
+use Rattle.area.proofs.KeptLaws.{place-open, place-free, by-unjudged, by-judged, by-kept}
 use Rattle.area_open.proofs.OpenLaws.{close-done, close-missing}
 use Rattle.area_open.proofs.close.Statement.{statement}
 use Rattle.area_open.proofs.close.Tie as tie

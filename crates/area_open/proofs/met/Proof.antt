@@ -4,8 +4,9 @@ use native.Mathlib.Omega.{arith}
 use borrow.Author.Needs.{needs}
 use mathlib.Core.Path.{sym, ap, _∙_}
 use denote.Ref.{now}
+use Rattle.transfer.specs.Transfers.{reached}
 use Rattle.table.specs.declared.Opened.the-variants as opened
-use Rattle.area_open.proofs.KeptLaws.{kept-known, kept-rows, kept-reached}
+use Rattle.area.proofs.KeptLaws.{kept-known, kept-rows, kept-runs-in}
 use Rattle.area_open.proofs.OpenLaws.{met-width, met-length, met-same}
 use Rattle.area_open.proofs.met.Statement.{statement}
 use Rattle.area_open.proofs.met.Tie as tie
@@ -40,25 +41,20 @@ rows-at-requires c κs =
     let s = c .before .before .before .before .before .before .before .before in
     kept-known (now (s .args .area)) (s .args .key .id) (s .args .i) (s .pre .1) (s .pre .0)
 
-edge-of-requires : tie.Need-edge-of-requires
-edge-of-requires c κs =
+reached-in-requires : tie.Need-reached-in-requires
+reached-in-requires c κs =
     let s = c .before .before .before .before .before .before .before .before .before in
     kept-rows (now (s .args .area)) (s .args .key .id) (s .args .i) (s .pre .1) (s .pre .0) (c .rows-at .result) (c .rows-at .ensures)
 
-is-complete-requires : tie.Need-is-complete-requires
-is-complete-requires c κs =
-    let s = c .before .before .before .before .before .before .before .before .before .before in
-    kept-rows (now (s .args .area)) (s .args .key .id) (s .args .i) (s .pre .1) (s .pre .0) (c .before .rows-at .result) (c .before .rows-at .ensures)
-
 returns-3 : tie.Need-returns-3
 returns-3 c =
-    let r = c .before .before in
+    let r = c .before in
     let h = r .before .before .before .before .before .before .before in
     let s = h .before .before in
     let a = now (s .args .area) in
     let x = s .args .key in
     ap opened.AlreadyOpen
-    (kept-reached a (x .id) (s .args .i) (s .pre .1) x (r .rows-at .result) _ (r .rows-at .ensures) (c .before .edge-of .ensures) (c .is-complete .ensures))
+    (c .reached-in .ensures ∙ ap (reached x) (kept-runs-in a (x .id) (s .args .i) (s .pre .1) (r .rows-at .result) (r .rows-at .ensures)))
     ∙ sym (met-same a x (s .args .i) (s .pre .1) (h .key-at .result) (h .key-at .ensures) (omega arith) (omega arith))
 
 pub met-spec : {M : Type 1} → statement M
@@ -71,6 +67,5 @@ met-spec =
     refuse-requires-2
     returns-2
     rows-at-requires
-    edge-of-requires
-    is-complete-requires
+    reached-in-requires
     returns-3)

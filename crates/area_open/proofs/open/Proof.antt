@@ -11,7 +11,7 @@ use Rattle.table.specs.Open.{openPacket}
 use Rattle.table.specs.declared.Opened.the-variants as opened
 use Rattle.area.specs.Places.{readTable}
 use Rattle.area.specs.Operations.{openArea}
-use Rattle.area_open.proofs.KeptLaws.{by-unjudged, by-judged, by-kept}
+use Rattle.area.proofs.KeptLaws.{by-unjudged, by-judged, by-kept}
 use Rattle.area_open.proofs.OpenLaws.{packet-refused, packet-read}
 use Rattle.area_open.proofs.open.Statement.{statement}
 use Rattle.area_open.proofs.open.Tie as tie

@@ -12,7 +12,7 @@ use Rattle.area.specs.Stored.{storedIn}
 use Rattle.area.proofs.PlaceLaws.{read-holds}
 use Rattle.area.proofs.JudgeLaws.{judged-passed}
 use Rattle.area.proofs.FindLaws.{place-le}
-use Rattle.area_open.proofs.KeptLaws.{place-open, place-free, kept-area}
+use Rattle.area.proofs.KeptLaws.{place-open, place-free, kept-area}
 use Rattle.area_open.proofs.OpenLaws.{met-table, open-full, open-new, reached-new}
 use Rattle.area_open.proofs.open_key.Statement.{statement}
 use Rattle.area_open.proofs.open_key.Tie as tie

@@ -8,7 +8,9 @@ use mathlib.Core.Path.{sym, ap, _∙_}
 use Rattle.octets.specs.Numbers.{Octets}
 use Rattle.transfer.proofs.ExtendLaws.{key-stop}
 use Rattle.table.specs.declared.Recorded.the-variants.{Refused}
-use Rattle.area_record.proofs.RecordLaws.{both, both-as, OpenKnown, opened, fields-missing, fields-refused, fields-extended}
+use Rattle.area.specs.Places.{readTable, KeptAt}
+use Rattle.area.proofs.KeptLaws.{place-open, kept-known}
+use Rattle.area_record.proofs.RecordLaws.{both, both-as, fields-missing, fields-refused, fields-extended}
 use Rattle.area_record.proofs.record_fields.Statement.{statement}
 use Rattle.area_record.proofs.record_fields.Tie as tie
 
@@ -36,14 +38,16 @@ returns c =
 open-known : (c : tie.Else1)
     → let f = c .before .before in
     let s = f .before .before .before in
-    OpenKnown (now (s .args .area)) (s .pre) (s .args .d) (f .find-place .result) (f .find-place .ensures)
+    KeptAt (s .args .d .id) (readTable (now (s .args .area))) (f .find-place .result .at)
 open-known c =
     let f = c .before .before in
     let s = f .before .before .before in
-    opened (now (s .args .area)) (s .pre) (s .args .d) (f .find-place .result) (f .find-place .ensures) (not-false _ (c .if1 .left))
+    place-open (s .args .d .id) (readTable (now (s .args .area))) (f .find-place .result) (f .find-place .ensures) (not-false _ (c .if1 .left))
 
 key-at-requires : tie.Need-key-at-requires
-key-at-requires c κs = let k = open-known (c .before) in (k .long, k .place)
+key-at-requires c κs =
+    let s = c .before .before .before .before .before .before in
+    kept-known (now (s .args .area)) (s .args .d .id) _ (open-known (c .before)) (s .pre)
 
 key-refusal-requires : tie.Need-key-refusal-requires
 key-refusal-requires c κs = search needs
@@ -77,7 +81,7 @@ extend-requires : tie.Need-extend-requires
 extend-requires c κs =
     let e = c .before .before .before .before .before in
     let k = open-known e in
-    (e .before .before .before .before .before .pre, omega (arith, k .there), omega arith)
+    (e .before .before .before .before .before .pre, omega (arith, k .inside), omega arith)
 
 same-length-3 : tie.Need-same-length-3
 same-length-3 c = search needs

@@ -1,9 +1,9 @@
--- `area_record::reached_in` meets its contract.
+-- `area::reached_in` meets its contract.
 -- Assumes nothing.
 use borrow.Author.Needs.{needs}
 use Rattle.transfer.specs.Transfers.{reached}
-use Rattle.area_record.proofs.reached_in.Statement.{statement}
-use Rattle.area_record.proofs.reached_in.Tie as tie
+use Rattle.area.proofs.reached_in.Statement.{statement}
+use Rattle.area.proofs.reached_in.Tie as tie
 
 edge-of-requires : tie.Need-edge-of-requires
 edge-of-requires c κs = search needs

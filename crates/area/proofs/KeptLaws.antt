@@ -4,34 +4,32 @@ use Prim.Native.Nat.{ℕ, _≤_, _<_}
 use mathlib.Core.Path.{_≡_, sym, ap, subst, _∙_}
 use mathlib.Core.Bool.{true, false, true≢false}
 use mathlib.Core.List.{List}
+use mathlib.Core.Option.{none, some}
 use native.Mathlib.Omega.{arith}
 use lib.ListN.{length}
 use lib.Dec.{ltb, eqb}
 use borrow.Author.Tests.{ltb-true, lt-ltb, eqb-true, eq-eqb}
 use Rattle.octets.specs.Numbers.{Octets}
 use Rattle.refusals.proofs.TestLaws.{and-iff}
-use Rattle.runs.specs.Holes.{edge, complete}
 use Rattle.words.specs.Words.{wordAt}
 use Rattle.run_rows.specs.Rows.{runsIn, RowsFit}
 use Rattle.run_rows.specs.declared.Rows.{Rows}
 use Rattle.run_rows.proofs.RowsLaws.{length-runs}
-use Rattle.transfer.specs.declared.Key.{Key}
-use Rattle.transfer.specs.declared.Reached.{Reached}
-use Rattle.transfer.specs.Transfers.{Transfer, reached}
+use Rattle.transfer.specs.Transfers.{Transfer}
+use Rattle.table.specs.Tables.{FineFrom, keys, find, runsOf}
 use Rattle.table.specs.Outcome.{Outcome}
 use Rattle.area.specs.Layout.{transferPlaces, runPlaces, areaOctets, countField, headAt, runAt}
-use Rattle.area.specs.Places.{rowsAt, transferAt, readTable, nth, placeOf, openAt, placeIn}
+use Rattle.area.specs.Places.{rowsAt, transferAt, readTable, nth, placeOf, openAt, placeIn, KeptAt}
 use Rattle.area.specs.Judge.{judged}
 use Rattle.area.specs.Stored.{storedIn}
 use Rattle.area.specs.Operations.{OnArea, onTable}
 use Rattle.area.specs.declared.Place.{Place}
 use Rattle.area.proofs.PlaceLaws.{length-transfers, transfer-at, rows-fit}
 use Rattle.area.proofs.JudgeLaws.{judged-passed}
 use Rattle.area.proofs.StoredLaws.{held-stored, valid-few}
-use Rattle.area.proofs.FindLaws.{Placed, placed}
+use Rattle.area.proofs.FindLaws.{Placed, placed, found-at, runs-at, missing-at}
 use Rattle.area.proofs.AreaLaws.{judged-held}
 use Rattle.area.proofs.OperationLaws.{on-judged, on-unjudged}
-use Rattle.area_open.specs.Kept.{KeptAt}
 
 -- ---- what the search says
 
@@ -68,18 +66,24 @@ module _ (id : ℕ) (t : List Transfer) (p : Place) (e : p ≡ placeIn id t) whe
 pub kept-placed : {id : ℕ} {t : List Transfer} {p : ℕ} → KeptAt id t p → Placed id t p
 kept-placed {id} {t} k = subst (Placed id t) (sym (k .place)) (placed id t)
 
+-- what the table has of an open Id stands at its place
+pub kept-found : {id : ℕ} {t : List Transfer} {p : ℕ} → KeptAt id t p → find id (keys t) ≡ some (nth t p .key)
+kept-found {id} k = found-at id (kept-placed k) (k .inside) (k .same)
+
+pub kept-runs : {id : ℕ} {t : List Transfer} {p : ℕ} → KeptAt id t p → runsOf t id ≡ nth t p .runs
+kept-runs {id} k = runs-at id (kept-placed k) (k .inside) (k .same)
+
+pub free-missing : {id : ℕ} {t : List Transfer} {p : ℕ} → FineFrom 0 t → FreeAt id t p → find id (keys t) ≡ none
+free-missing {id} f h = missing-at id 0 (h .place) f (h .other)
+
 -- ---- what is read at the place of an open Id
 
 module _ (a : List ℕ) (id i : ℕ) (h : KeptAt id (readTable a) i) where
   pub kept-transfer : nth (readTable a) i ≡ transferAt a i
   kept-transfer = transfer-at a i (omega (arith, length-transfers a 0 (wordAt a 0), h .inside))
 
-  pub kept-reached : (k : Key) (rows : Rows) (r : Reached) → rows ≡ rowsAt a i → r .edge ≡ edge (runsIn a rows)
-      → r .complete ≡ complete (k .length) (runsIn a rows) → r ≡ reached k (nth (readTable a) i .runs)
-  unfolding reached
-  kept-reached k rows r e f g =
-      let q : runsIn a rows ≡ nth (readTable a) i .runs = ap (runsIn a) e ∙ sym (ap (λ (x : Transfer). x .runs) kept-transfer) in
-      λ j. record { edge = (f ∙ ap edge q) j; complete = (g ∙ ap (complete (k .length)) q) j }
+  pub kept-runs-in : (rows : Rows) → rows ≡ rowsAt a i → runsIn a rows ≡ nth (readTable a) i .runs
+  kept-runs-in rows e = ap (runsIn a) e ∙ sym (ap (λ (x : Transfer). x .runs) kept-transfer)
 
   module _ (j : judged a ≡ true) where
     pub kept-known : (areaOctets ≤ length a) × (i < transferPlaces)

@@ -4,7 +4,7 @@ use Prim.Native.Nat.{ℕ, _≤_}
 use mathlib.Core.Path.{_≡_, refl, sym, ap, subst, _∙_}
 use mathlib.Core.Bool.{Bool}
 use mathlib.Core.List.{List, [], _∷_}
-use mathlib.Core.Option.{Option, some}
+use mathlib.Core.Option.{some}
 use native.Mathlib.Omega.{arith}
 use lib.ListN.{length}
 use Rattle.refusals.specs.Refusals.{refusalOf}
@@ -21,7 +21,7 @@ use Rattle.table.specs.declared.Finished.{Finished}
 use Rattle.area.specs.Layout.{areaOctets}
 use Rattle.area.specs.Stored.{storedIn}
 use Rattle.area.specs.Judge.{tableOf}
-use Rattle.area.specs.Operations.{OnArea, freshArea, openArea, recordArea, fromFound, fromTable, areaStatusWritten, areaStatusBuffer}
+use Rattle.area.specs.Operations.{OnArea, openArea, recordArea, fromFound, fromTable, areaStatusWritten, areaStatusBuffer}
 use Rattle.area.proofs.StoredLaws.{stored-held, length-stored}
 use Rattle.area.proofs.AreaLaws.{length-fresh}
 use Rattle.area.proofs.OperationLaws.{on-held, fresh-done, fresh-leaves}

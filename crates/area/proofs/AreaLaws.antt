@@ -1,9 +1,9 @@
 -- Areas and tables: every valid table has an image in every area that is long enough, an area holds at most one table, storing the
 -- table that is held changes nothing, and octets past the layout stay.
 -- Assumes nothing.
-use Prim.Native.Nat.{ℕ, zero, suc, _≤_, _<_}
+use Prim.Native.Nat.{ℕ, _≤_}
 use mathlib.Core.Path.{_≡_, refl, sym, ap, _∙_}
-use mathlib.Core.List.{List, [], _++_}
+use mathlib.Core.List.{List, []}
 use mathlib.Core.Bool.{true, false}
 use mathlib.Core.Option.{Option, none, some}
 use mathlib.Core.Logic.{_↔_}
@@ -18,7 +18,7 @@ use Rattle.transfer.specs.Transfers.{Transfer}
 use Rattle.table.specs.Tables.{Valid}
 use Rattle.table.proofs.ValidLaws.{fresh-valid}
 use Rattle.area.specs.Layout.{areaWords, areaOctets}
-use Rattle.area.specs.Places.{readTable, Holds}
+use Rattle.area.specs.Places.{readTable}
 use Rattle.area.specs.Judge.{judged, tableOf}
 use Rattle.area.specs.Stored.{wordOr, storedIn, freshIn}
 use Rattle.area.proofs.JudgeLaws.{judged-passed, held-passes, held-passed, held-valid}

@@ -1,23 +1,22 @@
 -- Where an Id is kept: its place is the number of Ids below it. What the table has of the Id stands there, and a table with a
 -- transfer more, changed or less is the list changed at that place.
 -- Assumes nothing.
-use Prim.Native.Nat.{ℕ, zero, suc, _≤_, _<_}
-use mathlib.Core.Path.{_≡_, refl, sym, ap, subst, _∙_}
-use mathlib.Core.Bool.{Bool, true, false, cond, true≢false, false≢true}
+use Prim.Native.Nat.{ℕ, suc, _≤_, _<_}
+use mathlib.Core.Path.{_≡_, refl, ap, _∙_}
+use mathlib.Core.Bool.{Bool, true, false, cond}
 use mathlib.Core.List.{List, [], _∷_}
 use mathlib.Core.Option.{none, some}
 use native.Mathlib.Omega.{arith}
 use lib.ListN.{length}
-use lib.Dec.{ltb, eqb}
-use borrow.Author.Tests.{ltb-true, ltb-false, lt-ltb, le-ltb, eqb-true, eqb-false, ne-eqb, eq-eqb}
+use lib.Dec.{ltb}
+use borrow.Author.Tests.{ltb-true, ltb-false, lt-ltb, le-ltb, ne-eqb, eq-eqb}
 use Rattle.runs.specs.Runs.{Run}
 use Rattle.transfer.specs.declared.Key.{Key}
 use Rattle.transfer.specs.Transfers.{Transfer, empty}
 use Rattle.table.specs.Tables.{FineFrom, keys, find, runsOf, add, setRuns, remove}
-use Rattle.table.proofs.TableLaws.{find-head, find-tail, runs-head, runs-tail, add-cases, set-cases, remove-cases}
+use Rattle.table.proofs.TableLaws.{find-head, find-tail, runs-head, runs-tail}
 use Rattle.table.proofs.FineLaws.{fine-none}
-use Rattle.area.specs.Places.{nth, placeOf, openAt, placeIn, withRuns, insertAt, removeAt}
-use Rattle.area.specs.declared.Place.{Place}
+use Rattle.area.specs.Places.{nth, placeOf, withRuns, insertAt, removeAt}
 
 -- ---- the place, step by step
 

@@ -1,10 +1,10 @@
 -- What the tests mean: a table passes exactly where it is valid, and an area exactly where the table read from it is.
 -- Assumes nothing.
 use Prim.Native.Nat.{ℕ, suc, _^_, _≤_, _<_}
-use mathlib.Core.Path.{_≡_, refl, sym, ap, _∙_}
+use mathlib.Core.Path.{_≡_, refl, ap}
 use mathlib.Core.List.{List, [], _∷_}
 use mathlib.Core.Bool.{Bool, true, false, cond}
-use mathlib.Core.Option.{Option, none, some}
+use mathlib.Core.Option.{none, some}
 use native.Mathlib.Omega.{arith}
 use lib.ListN.{length}
 use lib.Dec.{ltb, leb, eqb}
@@ -12,11 +12,10 @@ use borrow.Author.Tests.{ltb-true, leb-true, eqb-true, lt-ltb, le-leb}
 use Rattle.octets.specs.Numbers.{Width}
 use Rattle.octets.specs.Numbers.Width.{two, four, eight}
 use Rattle.words.specs.Words.{wordAt}
-use Rattle.run_rows.specs.Judge.{runsTest}
 use Rattle.run_rows.proofs.JudgeLaws.{both-true, runs-passed, runs-passes}
 use Rattle.transfer.specs.Transfers.{Transfer, TransferFine}
 use Rattle.table.specs.Tables.{FineFrom, Valid}
-use Rattle.area.specs.Layout.{transferPlaces, runPlaces, areaOctets}
+use Rattle.area.specs.Layout.{areaOctets}
 use Rattle.area.specs.Places.{readTable, Holds}
 use Rattle.area.specs.Judge.{lengthTest, transferTest, fineTest, judged, tableOf}
 use Rattle.area.proofs.PlaceLaws.{length-transfers, holds-read}

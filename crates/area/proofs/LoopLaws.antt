@@ -1,12 +1,12 @@
 -- Judging an area: one transfer, one turn of the loop over the transfers, and the whole.
 -- Assumes nothing.
 use Prim.Native.Nat.{ℕ, suc, _+_, _-_, _^_, _≤_, _<_}
-use mathlib.Core.Path.{_≡_, refl, sym, ap, _∙_}
-use mathlib.Core.List.{List, [], _∷_}
+use mathlib.Core.Path.{_≡_}
+use mathlib.Core.List.{List, _∷_}
 use mathlib.Core.Bool.{Bool, true, false}
 use native.Mathlib.Omega.{arith}
 use lib.ListN.{length}
-use lib.Dec.{ltb, leb}
+use lib.Dec.{ltb}
 use borrow.Author.Tests.{ltb-true, lt-ltb, le-ltb, le-leb, lt-leb}
 use Rattle.words.specs.Words.{wordAt}
 use Rattle.run_rows.specs.Rows.{runsFrom}
@@ -14,7 +14,7 @@ use Rattle.run_rows.specs.Judge.{runsTest}
 use Rattle.run_rows.proofs.RowsLaws.{length-runs}
 use Rattle.run_rows.proofs.JudgeLaws.{both-true}
 use Rattle.area.specs.Layout.{transferPlaces, runPlaces, areaOctets, idField, widthField, lengthField, countField, headAt, runAt}
-use Rattle.area.specs.Places.{transferAt, transfersFrom, readTable}
+use Rattle.area.specs.Places.{transferAt, transfersFrom}
 use Rattle.area.specs.Judge.{lengthTest, transferTest, fineTest, judged}
 
 -- ---- one transfer

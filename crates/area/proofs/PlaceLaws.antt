@@ -1,16 +1,15 @@
 -- The places of the layout: the number of a word is one of three forms, what is stored there, and the table that is read from them.
 -- Assumes nothing.
-use Prim.Native.Nat.{ℕ, zero, suc, _+_, _*_, _-_, _/_, _%_, _≤_, _<_}
+use Prim.Native.Nat.{ℕ, zero, suc, _+_, _-_, _/_, _%_, _≤_, _<_}
 use mathlib.Core.Path.{_≡_, refl, sym, ap, ap₂, subst, _∙_}
-use mathlib.Core.List.{List, [], _∷_}
+use mathlib.Core.List.{List}
 use mathlib.Core.Logic.{⊎-elim}
-use mathlib.Core.Bool.{Bool, true, false, cond}
+use mathlib.Core.Bool.{Bool, cond}
 use native.Mathlib.Omega.{arith}
 use native.Mathlib.Nat.{add-zero, zero-add}
-use lib.ListN.{length, getD, List·getD-eq-default}
+use lib.ListN.{length, List·getD-eq-default}
 use lib.Seq.{ext-getD}
-use lib.Dec.{ltb}
-use borrow.Author.Tests.{lt-ltb, le-ltb, eq-eqb, ne-eqb}
+use borrow.Author.Tests.{lt-ltb, le-ltb, ne-eqb}
 use Rattle.runs.specs.Runs.{Run, run, nthRun}
 use Rattle.runs.proofs.NumberLaws.{le-or-lt}
 use Rattle.words.specs.Words.{wordAt}
@@ -19,7 +18,7 @@ use Rattle.run_rows.specs.declared.Rows.{Rows}
 use Rattle.run_rows.proofs.RowsLaws.{length-runs, run-at}
 use Rattle.transfer.specs.Transfers.{Transfer}
 use Rattle.area.specs.Layout.{transferPlaces, runPlaces, headWords, headsAt, startsAt, areaWords, areaOctets, headAt, runAt, countField}
-use Rattle.area.specs.Places.{keyAt, rowsAt, transferAt, transfersFrom, readTable, unused, nth, field, sideOf, runNumber, Holds}
+use Rattle.area.specs.Places.{rowsAt, transferAt, transfersFrom, readTable, unused, nth, field, sideOf, runNumber, Holds}
 use Rattle.area.specs.Stored.{headOr, runOr, wordOr}
 
 -- ---- the three forms

@@ -1,8 +1,8 @@
 -- An area into which a table is stored: its words, what is read back from it, and when it is the area itself.
 -- Assumes nothing.
-use Prim.Native.Nat.{ℕ, zero, suc, _+_, _*_, _^_, _≤_, _<_}
-use mathlib.Core.Path.{_≡_, refl, sym, ap, _∙_}
-use mathlib.Core.List.{List, [], _∷_, _++_}
+use Prim.Native.Nat.{ℕ, zero, suc, _^_, _≤_, _<_}
+use mathlib.Core.Path.{_≡_, refl, sym, _∙_}
+use mathlib.Core.List.{List, [], _∷_}
 use mathlib.Core.Option.{some}
 use mathlib.Core.Logic.{⊎-elim}
 use native.Mathlib.Omega.{arith}
@@ -16,10 +16,10 @@ use Rattle.words.specs.Words.{wordAt, octetsBy}
 use Rattle.words.proofs.WordLaws.{length-by, word-first, by-past, by-known}
 use Rattle.transfer.specs.Transfers.{Transfer, TransferFine}
 use Rattle.table.specs.Tables.{FineFrom, Valid}
-use Rattle.area.specs.Layout.{transferPlaces, runPlaces, headWords, areaWords, areaOctets, headAt, runAt}
-use Rattle.area.specs.Places.{readTable, nth, field, sideOf, runNumber, Holds}
-use Rattle.area.specs.Judge.{judged, tableOf}
-use Rattle.area.specs.Stored.{wordOr, storedIn, freshIn}
+use Rattle.area.specs.Layout.{transferPlaces, runPlaces, areaWords, areaOctets, headAt, runAt}
+use Rattle.area.specs.Places.{nth, field, sideOf, Holds}
+use Rattle.area.specs.Judge.{tableOf}
+use Rattle.area.specs.Stored.{wordOr, storedIn}
 use Rattle.area.proofs.PlaceLaws.{or-count, or-head, or-run, head-used, run-used, run-there, Few, holds-stored, read-holds}
 use Rattle.area.proofs.JudgeLaws.{judged-passed, held-passes, held-passed}
 

@@ -2,10 +2,10 @@
 -- received", by the table that the area holds after the call. And a repeat changes no octet.
 -- Assumes nothing.
 use Prim.Native.Nat.{ℕ}
-use mathlib.Core.Path.{_≡_, refl, sym, ap, _∙_}
+use mathlib.Core.Path.{_≡_, sym, ap, _∙_}
 use mathlib.Core.Bool.{true}
 use mathlib.Core.List.{List}
-use mathlib.Core.Logic.{_⊎_, ⊎-elim, inl, inr}
+use mathlib.Core.Logic.{_⊎_, ⊎-elim}
 use mathlib.Core.Option.{some}
 use native.Mathlib.Omega.{arith}
 use Rattle.octets.specs.Numbers.{Octets}
@@ -18,7 +18,6 @@ use Rattle.packet_data.specs.declared.Data.{Data}
 use Rattle.packet_data.specs.declared.DataRead.the-variants as data-read
 use Rattle.transfer.specs.declared.Reached.{Reached}
 use Rattle.transfer.specs.Transfers.{Transfer}
-use Rattle.table.specs.Outcome.{Outcome}
 use Rattle.table.specs.Open.{openPacket}
 use Rattle.table.specs.Record.{recordPacket, recordAccepted}
 use Rattle.table.specs.Told.{Told}

@@ -2,7 +2,7 @@
 -- number of open transfers, then a head for each place of a transfer, then two rows for each: the starts of its runs, and their
 -- stops. "A fresh desk has room for 16 transfers of 64 runs".
 -- Assumes nothing.
-use Prim.Native.Nat.{ℕ, zero, suc, _+_, _*_}
+use Prim.Native.Nat.{ℕ, _+_, _*_}
 
 -- places for transfers, and for the runs of each
 abbrev pub transferPlaces : ℕ

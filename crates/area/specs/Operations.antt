@@ -1,7 +1,7 @@
 -- Fresh, opening, recording, closing and STATUS on areas: 22 before all, then what the table's own rule gives.
 -- Assumes nothing.
 use Prim.Native.Nat.{ℕ}
-use mathlib.Core.List.{List, []}
+use mathlib.Core.List.{List}
 use mathlib.Core.Bool.{Bool, cond}
 use mathlib.Core.Option.{Option, none, some}
 use lib.ListN.{length}

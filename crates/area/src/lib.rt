@@ -6,7 +6,7 @@ ghost use lib.ListN.{length};
 ghost use Rattle.words.specs.Words.{wordAt};
 ghost use Rattle.run_rows.specs.Rows.{runsIn, RowsFit};
 ghost use Rattle.transfer.specs.Transfers.{reached};
-ghost use Rattle.area.specs.Layout.{transferPlaces, runPlaces, headWords, areaOctets, headAt, runAt};
+ghost use Rattle.area.specs.Layout.{transferPlaces, headWords, areaOctets, headAt, runAt};
 ghost use Rattle.area.specs.Places.{keyAt, rowsAt, transferAt, transfersFrom, readTable, placeIn};
 ghost use Rattle.area.specs.Judge.{lengthTest, transferTest, fineTest, judged};
 use run_rows::Rows;

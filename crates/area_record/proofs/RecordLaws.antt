@@ -3,14 +3,12 @@
 -- Assumes nothing.
 use Prim.Native.Nat.{ℕ, zero, suc, _≤_, _<_}
 use mathlib.Core.Path.{_≡_, refl, sym, ap, _∙_}
-use mathlib.Core.Bool.{true, false, _&&_, and-eq-true-iff, true≢false}
+use mathlib.Core.Bool.{true, false}
 use mathlib.Core.List.{List}
-use mathlib.Core.Option.{Option, none, some}
+use mathlib.Core.Option.{Option, some}
 use mathlib.Core.Logic.{⊎-elim}
-use native.Mathlib.Omega.{arith}
 use lib.ListN.{length}
-use lib.Dec.{ltb, eqb}
-use borrow.Author.Tests.{lt-ltb, le-ltb, eq-eqb, ltb-true, eqb-true}
+use borrow.Author.Tests.{lt-ltb, le-ltb}
 use Rattle.octets.specs.Numbers.{Octets}
 use Rattle.refusals.specs.Refusals.{refusalOf}
 use Rattle.refusals.proofs.RefusalLaws.{stays}
@@ -18,7 +16,6 @@ use Rattle.packet_data.specs.Data.{dataRefusal, dataOf, readData}
 use Rattle.packet_data.specs.declared.Data.{Data}
 use Rattle.runs.specs.Runs.{Run, insert}
 use Rattle.runs.proofs.NumberLaws.{le-or-lt}
-use Rattle.words.specs.Words.{wordAt}
 use Rattle.transfer.specs.declared.Key.{Key}
 use Rattle.transfer.specs.Transfers.{Transfer}
 use Rattle.transfer.specs.Record.{stopOf, keyRefusal, extended, runsRefusal}
@@ -26,12 +23,11 @@ use Rattle.table.specs.Tables.{keys, find}
 use Rattle.table.specs.Record.{dataJudged, recordRefusal, grown, recordAs, recordData, recordRead, recordPacket}
 use Rattle.table.specs.declared.Recorded.{Recorded}
 use Rattle.table.specs.declared.Recorded.the-variants.{Refused}
-use Rattle.area.specs.Layout.{transferPlaces, runPlaces, areaOctets}
+use Rattle.area.specs.Layout.{runPlaces}
 use Rattle.area.specs.Places.{keyAt, readTable, nth, placeIn, KeptAt}
 use Rattle.area.specs.Judge.{judged}
 use Rattle.area.specs.Operations.{OnArea, leaves, recordArea}
 use Rattle.area.specs.declared.Place.{Place}
-use Rattle.area.proofs.PlaceLaws.{length-transfers, transfer-at}
 use Rattle.area.proofs.JudgeLaws.{judged-passed}
 use Rattle.area.proofs.StoredLaws.{held-stored}
 use Rattle.area.proofs.FindLaws.{set-at}

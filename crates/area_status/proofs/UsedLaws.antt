@@ -1,27 +1,20 @@
 -- The used places of an area that holds a table: what stands there, and at which of them an Id is open.
 -- Assumes nothing.
 use Prim.Native.Nat.{ℕ, _≤_, _<_}
-use mathlib.Core.Path.{_≡_, refl, sym, ap, _∙_}
-use mathlib.Core.Bool.{true, false, true≢false}
+use mathlib.Core.Path.{_≡_, refl}
+use mathlib.Core.Bool.{true}
 use mathlib.Core.List.{List}
-use mathlib.Core.Option.{none, some}
 use native.Mathlib.Omega.{arith}
 use lib.ListN.{length}
-use lib.Dec.{ltb, eqb}
-use borrow.Author.Tests.{ltb-true, eqb-true, lt-ltb, eq-eqb}
-use Rattle.refusals.proofs.TestLaws.{and-iff}
 use Rattle.words.specs.Words.{wordAt}
 use Rattle.run_rows.proofs.RowsLaws.{length-runs}
-use Rattle.transfer.specs.Transfers.{Transfer, TransferFine}
-use Rattle.table.specs.Tables.{FineFrom, keys, find, runsOf}
+use Rattle.transfer.specs.Transfers.{TransferFine}
 use Rattle.area.specs.Layout.{transferPlaces, runPlaces, countField, headAt, runAt}
-use Rattle.area.specs.Places.{rowsAt, transferAt, readTable, nth, placeOf, openAt, placeIn}
+use Rattle.area.specs.Places.{rowsAt, transferAt, readTable}
 use Rattle.area.specs.Judge.{judged}
-use Rattle.area.specs.declared.Place.{Place}
 use Rattle.area.proofs.PlaceLaws.{length-transfers, transfer-at, rows-fit}
 use Rattle.area.proofs.JudgeLaws.{judged-passed}
 use Rattle.area.proofs.StoredLaws.{fine-at}
-use Rattle.area.proofs.FindLaws.{placed, found-at, runs-at, missing-at}
 use Rattle.area_status.specs.Used.{UsedPlace}
 
 pub used-place : (a : List ℕ) (i : ℕ) → judged a ≡ true → i < wordAt a 0 → UsedPlace a i

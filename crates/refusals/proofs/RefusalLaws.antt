@@ -7,7 +7,7 @@ use mathlib.Core.List.{List, [], _∷_}
 use mathlib.Core.Logic.{_↔_}
 use native.Mathlib.Omega.{arith}
 use lib.Dec.{eqb}
-use borrow.Author.Tests.{eqb-true, ne-eqb}
+use borrow.Author.Tests.{eqb-true}
 use Rattle.refusals.specs.Refusals.{_▹_, when, codes, codeIn, codeOf, refusalOf, answered}
 use Rattle.refusals.specs.declared.Refusal.{Refusal}
 

@@ -1,8 +1,6 @@
 -- `refusals::code_of` meets its contract: each arm has the code that stands beside its number, and every other number has 0.
 -- Assumes nothing.
-use mathlib.Core.Path.{_≡_, sym, ap}
-use native.Mathlib.Omega.{arith}
-use Rattle.refusals.specs.Refusals.{codes, codeIn, codeOf}
+use Rattle.refusals.specs.Refusals.{codeOf}
 use Rattle.refusals.proofs.RefusalLaws.{code-same, no-code}
 use Rattle.refusals.proofs.code_of.Statement.{statement}
 use Rattle.refusals.proofs.code_of.Tie as tie

@@ -56,3 +56,7 @@ added-full a i b h = record {
 -- the same text, said in another way
 pub added-as : {a : List ℕ} {i : ℕ} {s t : List ℕ} {b : List ℕ} {j : ℕ} → s ≡ t → Added a i s b j → Added a i t b j
 added-as {a} {i} {s} {t} {b} {j} e p = rw e at p
+
+-- a line that starts here and has room is the text, whole
+pub added-whole : {a : List ℕ} {t : List ℕ} {b : List ℕ} {j : ℕ} → Added a 0 t b j → length t ≤ length a → take j b ≡ t
+added-whole {a} {t} p h = p .line ∙ take-all (length a) t h

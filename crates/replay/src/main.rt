@@ -1,6 +1,4 @@
 // Reads the records of a pass from standard input, or from the file that the first argument names, and writes the answer to each.
-ghost use mathlib.Core.Path.{_≡_};
-ghost use Prim.Native.Nat.{_≤_, min};
 use libc::STDIN_FILENO;
 use libc::STDOUT_FILENO;
 
@@ -37,16 +35,6 @@ fn cut_short(number: u64, out: &mut [u8]) -> bool {
     false
 }
 
-// How many octets of a body are kept: all, but no more than there is room for.
-fn kept(n: u64, room: usize) -> usize
-    ensures { λ r. ⌜ (r ≤ room) × (r ≤ n) × (r ≡ min n room) ⌝ }
-{
-    if n < room as u64 {
-        return n as usize;
-    }
-    room
-}
-
 // Answers one record, and says whether to go on.
 fn step(
     fd: i32,
@@ -65,7 +53,7 @@ fn step(
         return cut_short(number, out);
     }
     let n = replay_steps::body_length(&head);
-    let keep = kept(n, body.len());
+    let keep = replay_steps::within(n, body.len());
     let had = io::read_full(fd, &mut body[..keep]);
     if had < keep {
         return cut_short(number, out);

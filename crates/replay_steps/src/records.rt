@@ -95,14 +95,14 @@ fn write(
     put_written(out, 0, number, w, lent)
 }
 
-// The room of a STATUS: what the record says, and at most what is lent.
-fn room_of(asked: u64, most: usize) -> usize
-    ensures { λ r. ⌜ r ≡ min asked most ⌝ }
+// As many octets as are asked for, and at most as many as there is room for.
+pub fn within(asked: u64, room: usize) -> usize
+    ensures { λ r. ⌜ r ≡ min asked room ⌝ }
 {
-    if asked < most as u64 {
+    if asked < room as u64 {
         return asked as usize;
     }
-    most
+    room
 }
 
 // `S`: writes STATUS. The body is Id, k, unasked and room, of 4, 8, 1 and 4 octets.
@@ -115,7 +115,7 @@ fn status(area: &[u8], number: u64, body: &[u8], lent: &mut [u8], out: &mut [u8]
     let id = octets::read_number(body, 0, 4);
     let skip = octets::read_number(body, 4, 8);
     let unasked = body[12] != 0;
-    let room = room_of(octets::read_number(body, 13, 4), lent.len());
+    let room = within(octets::read_number(body, 13, 4), lent.len());
     write(area, number, id, skip, unasked, &mut lent[..room], out)
 }
 

@@ -2,7 +2,7 @@
 -- Assumes nothing.
 use Prim.Native.Nat.{ℕ, zero, suc, _+_, _≤_, _<_}
 use mathlib.Core.Path.{_≡_, refl, ap, sym, _∙_}
-use mathlib.Core.List.{List, [], _∷_, _++_, append-assoc}
+use mathlib.Core.List.{List, [], _∷_, _++_, append-assoc, append-nil}
 use native.Mathlib.Nat.{le-refl}
 use native.Mathlib.Numerals.{add-one}
 use native.Mathlib.Omega.{arith}
@@ -15,10 +15,6 @@ cut-again : (n : ℕ) (x t : List ℕ) → take n (take n x ++ t) ≡ take n (x 
 cut-again zero x t = refl
 cut-again (suc n) [] t = refl
 cut-again (suc n) (y ∷ ys) t = ap (λ (l : List ℕ). y ∷ l) (cut-again n ys t)
-
-append-nil : (l : List ℕ) → l ++ [] ≡ l
-append-nil [] = refl
-append-nil (x ∷ xs) = ap (λ (l : List ℕ). x ∷ l) (append-nil xs)
 
 -- one text, then another
 infixr 4 _then_

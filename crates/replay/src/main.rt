@@ -1,4 +1,5 @@
 // Reads the records of a pass from standard input, or from the file that the first argument names, and writes the answer to each.
+ghost use Rattle.replay_steps.specs.Room.{Room};
 use libc::STDIN_FILENO;
 use libc::STDOUT_FILENO;
 
@@ -43,7 +44,9 @@ fn step(
     body: &mut [u8],
     lent: &mut [u8],
     out: &mut [u8],
-) -> bool {
+) -> bool
+    requires { ⌜ Room (now body) (now lent) (now out) ⌝ }
+{
     let mut head = [0u8; 5];
     let got = io::read_full(fd, &mut head);
     if got == 0 {
@@ -66,7 +69,9 @@ fn step(
 }
 
 // A proved loop has to end, and nothing says that the input does. So the records are counted, up to a number that no input reaches.
-fn replay(fd: i32, area: &mut [u8], body: &mut [u8], lent: &mut [u8], out: &mut [u8]) {
+fn replay(fd: i32, area: &mut [u8], body: &mut [u8], lent: &mut [u8], out: &mut [u8])
+    requires { ⌜ Room (now body) (now lent) (now out) ⌝ }
+{
     area_open::fresh(area);
     let mut number = 1;
     while number < u64::MAX && step(fd, number, area, body, lent, out) {

@@ -23,31 +23,22 @@ use Rattle.replay_answers.specs.Answers.{openText, recordText, readText}
 use Rattle.replay_answers.proofs.CaseLaws.{read-cases}
 use Rattle.replay_answers.proofs.LengthLaws.{open-most, record-text-most, read-most, success-line-most}
 use Rattle.replay_steps.specs.Deliver.{deliverLines}
+use Rattle.replay_steps.specs.Room.{bodyMost, lentMost, outLeast, Room}
 use Rattle.replay_steps.specs.Records.{cutLine, freshLines, closeLines, statusLines, recordLines}
 use Rattle.replay_steps.proofs.LengthLaws.{refusal-lines-most, opened-lines-most, recorded-lines-most, status-lines-most, fresh-lines-most, close-lines-most}
 
--- the buffers of crates/replay/src/main.rt: `body`, `lent` and `out`
-abbrev pub bodyRoom : ℕ
-bodyRoom = 65536
-
-abbrev pub lentRoom : ℕ
-lentRoom = 65535
-
-abbrev pub outRoom : ℕ
-outRoom = 262144
-
-module _ (n : ℕ) (body area room : List ℕ) (o : Octets body) (b : AtMost body bodyRoom) (r : AtMost room lentRoom) where
-  deliver-most : AtMost (deliverLines n body (readPacket body) area room) outRoom
+module _ (n : ℕ) (body area room : List ℕ) (o : Octets body) (b : AtMost body bodyMost) (r : AtMost room lentMost) where
+  deliver-most : AtMost (deliverLines n body (readPacket body) area room) outLeast
   unfolding deliverLines
   deliver-most =
-      read-cases (λ x. AtMost (deliverLines n body x area room) outRoom) body
+      read-cases (λ x. AtMost (deliverLines n body x area room) outLeast) body
       (at-most (opened-lines-most r n body (metadataOf body) (openArea area body .answer)) (omega arith))
       (at-most (recorded-lines-most r n body (dataOf body) (recordArea area body .answer) (recordArea area body .area)) (omega arith))
       (at-most (success-line-most n body o b) (omega arith))
       (at-most (failure-most n (failureOf body)) (omega arith))
       (λ x. at-most (refusal-lines-most r n body x) (omega arith))
 
-  kind-most : (kind : ℕ) → AtMost (recordLines n kind body area room) outRoom
+  kind-most : (kind : ℕ) → AtMost (recordLines n kind body area room) outLeast
   unfolding recordLines
   kind-most kind = go (eqb kind 0x46) (eqb kind 0x4f) (eqb kind 0x44) (eqb kind 0x52) (eqb kind 0x53) (eqb kind 0x43) (eqb kind 0x50)
     where
@@ -59,7 +50,7 @@ module _ (n : ℕ) (body area room : List ℕ) (o : Octets body) (b : AtMost bod
           (cond s (statusLines n body area room)
           (cond c (closeLines n body area)
           (cond p (deliverLines n body (readPacket body) area room)
-          (unknownLine n kind)))))))) outRoom
+          (unknownLine n kind)))))))) outLeast
       go true o d q s c p = at-most (fresh-lines-most n body area) (omega arith)
       go false true d q s c p = at-most (open-most n (readMetadata body) (openArea area body .answer)) (omega arith)
       go false false true q s c p = at-most (record-text-most n (readData body) (recordArea area body .answer)) (omega arith)
@@ -69,18 +60,17 @@ module _ (n : ℕ) (body area room : List ℕ) (o : Octets body) (b : AtMost bod
       go false false false false false false true = deliver-most
       go false false false false false false false = at-most (unknown-most n kind) (omega arith)
 
--- a record of any number and kind, over any area: its lines fit
-pub record-lines-fit : (n kind : ℕ) (body area room : List ℕ) → Octets body → length body ≤ bodyRoom → length room ≤ lentRoom
-    → length (recordLines n kind body area room) ≤ outRoom
+-- the lines of a record of any number and kind, over any area, fit
+pub record-lines-fit : (n kind : ℕ) (body area room : List ℕ) → Octets body → length body ≤ bodyMost → length room ≤ lentMost
+    → length (recordLines n kind body area room) ≤ outLeast
 record-lines-fit n kind body area room o b r = kind-most n body area room o (record { most = b }) (record { most = r }) kind .most
 
 -- and so does that of a record inside which the input ends
-pub cut-line-fits : (n : ℕ) → length (cutLine n) ≤ outRoom
+pub cut-line-fits : (n : ℕ) → length (cutLine n) ≤ outLeast
 cut-line-fits n = omega (arith, plain-most n w-cut .most)
 
--- so what `answer` leaves at the start of `out` is the lines, whole
-pub record-lines-whole : (n kind : ℕ) (body area room out after : List ℕ) (size : ℕ) → Octets body → length body ≤ bodyRoom → length room ≤ lentRoom
-    → length out ≡ outRoom → Added out 0 (recordLines n kind body area room) after size
-    → take size after ≡ recordLines n kind body area room
-record-lines-whole n kind body area room out after size o b r e a =
-    added-whole a (omega (arith, record-lines-fit n kind body area room o b r))
+-- so what stands at the start of `out` is the lines, whole
+pub record-lines-whole : (n kind : ℕ) (body area room : List ℕ) {out after : List ℕ} {size : ℕ} → Octets body → Room body room out
+    → Added out 0 (recordLines n kind body area room) after size → take size after ≡ recordLines n kind body area room
+record-lines-whole n kind body area room o h a =
+    added-whole a (omega (arith, h .out-holds, record-lines-fit n kind body area room o (h .body-fits) (h .lent-fits)))

@@ -1,6 +1,7 @@
 // Records: the kind, the length of the body, and what is answered to each.
 ghost use mathlib.Core.Path.{_≡_};
-ghost use Prim.Native.Nat.{min};
+ghost use Prim.Native.Nat.{_≤_, min};
+ghost use lib.ListN.{length, take};
 ghost use Rattle.area.specs.Operations.{openArea, recordArea};
 ghost use Rattle.packet.specs.Read.{readPacket};
 ghost use Rattle.packet_data.specs.Data.{readData};
@@ -8,6 +9,7 @@ ghost use Rattle.packet_metadata.specs.Metadata.{readMetadata};
 ghost use Rattle.text.specs.Added.{Added};
 ghost use Rattle.replay_answers.specs.Answers.{openText, recordText, readText};
 ghost use Rattle.replay_steps.specs.Records.{bodyLength, cutLine, badLine, freshLines, freshAfter, closeLines, closeAfter, writtenLine, statusLines, recordLines, areaAfter};
+ghost use Rattle.replay_steps.specs.Room.{Room};
 use crate::deliver::deliver;
 use replay_answers::put_close;
 use replay_answers::put_fresh;
@@ -132,8 +134,8 @@ fn close(area: &mut [u8], number: u64, body: &[u8], out: &mut [u8]) -> usize
     put_close(out, 0, number, id, a)
 }
 
-// The lines of one record, at the start of `out`, and their length. `lent` is the buffer that STATUS is written into.
-pub fn answer(
+// The lines of one record, as far as `out` has room. `lent` is the buffer that STATUS is written into.
+fn lines(
     area: &mut [u8],
     number: u64,
     kind: u8,
@@ -166,4 +168,21 @@ pub fn answer(
         return deliver(area, number, body, lent, out);
     }
     replay_lines::put_unknown(out, 0, number, kind as u64)
+}
+
+// The lines of one record, whole, at the start of `out`, and their length.
+pub fn answer(
+    area: &mut [u8],
+    number: u64,
+    kind: u8,
+    body: &[u8],
+    lent: &mut [u8],
+    out: &mut [u8],
+) -> usize
+    requires { ⌜ Room (now body) (now lent) (now out) ⌝ }
+    ensures { λ r. ⌜ (r ≤ length (now (out .exit)))
+        × (take r (now (out .exit)) ≡ recordLines number kind (now (body .entry)) (now (area .entry)) (now (lent .entry)))
+        × (now (area .exit) ≡ areaAfter kind (now (body .entry)) (now (area .entry))) ⌝ }
+{
+    lines(area, number, kind, body, lent, out)
 }

@@ -7,6 +7,7 @@ use denote.Ref.{now}
 use lib.ListN.{length, take, drop, length-append}
 use lib.Seq.{length-take-le}
 use borrow.Author.Needs.{needs}
+use Rattle.text.proofs.LengthLaws.{taken}
 use Rattle.replay.proofs.step.Statement.{statement}
 use Rattle.replay.proofs.step.Tie as tie
 
@@ -91,13 +92,22 @@ slice-aggregate-answer c =
     sym (length-take-le (k .result) (r .last .1 .0 ++ drop (k .result) body) (omega (arith, length-append (r .last .1 .0) (drop (k .result) body), r .kept .1 .0)))
 
 answer-requires : tie.Need-answer-requires
-answer-requires c κs = search needs
+answer-requires c κs =
+    let w = c .before .before .before .before .before .before .before .before .before .before .before in
+    let s = w .before .before .before .before .before .before .before .before .before .before .before .before in
+    let k = w .within in
+    let kept = c .before .before .before .before .before .before .before .before .before .read-full2 .last .1 .0 ++ drop (k .result) (now (s .args .body)) in
+    record {
+      body-fits = omega (arith, taken (k .result) kept .most, k .ensures, s .pre .body-fits);
+      lent-fits = s .pre .lent-fits;
+      out-holds = s .pre .out-holds;
+    }
 
 slice-reshare-prefix-write-all : tie.Need-slice-reshare-prefix-write-all
 slice-reshare-prefix-write-all c = search needs
 
 slice-aggregate-write-all : tie.Need-slice-aggregate-write-all
-slice-aggregate-write-all c = sym (length-take-le (c .before .before .before .before .before .before .before .answer .result) (c .before .before .before .before .before .before .before .answer .last .1 .1 .1 .1 .1 .0) (c .before .before .before .before .before .before .before .answer .ensures .0 .within))
+slice-aggregate-write-all c = sym (length-take-le (c .before .before .before .before .before .before .before .answer .result) (c .before .before .before .before .before .before .before .answer .last .1 .1 .1 .1 .1 .0) (c .before .before .before .before .before .before .before .answer .ensures .0))
 
 write-all-requires : tie.Need-write-all-requires
 write-all-requires c κs = search needs

@@ -21,7 +21,10 @@ loop-holds : tie.Need-loop-holds Inv-loop μ-loop
 loop-holds c = (refl, refl, refl, refl)
 
 step-requires : tie.Need-step-requires Inv-loop μ-loop
-step-requires c κs = tt
+step-requires c κs =
+    let l = c .before .before .before .before .before .loop .inv in
+    let p = c .before .before .before .before .before .before .before .before .before .before .before .before .before .before .pre in
+    record { body-fits = rw (l .1) (p .body-fits); lent-fits = rw (l .2) (p .lent-fits); out-holds = rw (l .3) (p .out-holds) }
 
 add-number : tie.Need-add-number Inv-loop μ-loop
 add-number c = omega arith

@@ -41,8 +41,8 @@ shared-slice-read-unasked c = search needs
 read-number-requires-3 : tie.Need-read-number-requires-3
 read-number-requires-3 c κs = (four, omega arith)
 
-room-of-requires : tie.Need-room-of-requires
-room-of-requires c κs = search needs
+within-requires : tie.Need-within-requires
+within-requires c κs = search needs
 
 slice-relend-prefix-write : tie.Need-slice-relend-prefix-write
 slice-relend-prefix-write c = search needs
@@ -50,7 +50,7 @@ slice-relend-prefix-write c = search needs
 slice-aggregate-write : tie.Need-slice-aggregate-write
 slice-aggregate-write c =
     let a = c .before .before .before .before .before .before .before .before .before .before .before .args in
-    sym (length-take-le (c .before .room-of .result) (now (a .lent)) (omega (arith, c .before .room-of .ensures)))
+    sym (length-take-le (c .before .within .result) (now (a .lent)) (omega (arith, c .before .within .ensures)))
 
 write-requires : tie.Need-write-requires
 write-requires c κs = search needs
@@ -68,7 +68,7 @@ returns-2 c =
     let id = c .before .before .before .before .before .before .before .before .before .before .before .read-number in
     let k = c .before .before .before .before .before .before .before .before .before .before .read-number2 in
     let n = c .before .before .before .before .before .before .before .before .read-number3 in
-    let room = c .before .before .before .before .before .before .before .room-of in
+    let room = c .before .before .before .before .before .before .before .within in
     let unasked = not (eqb (getD (now (a .body)) 12 0) 0) in
     let asked : n .result ≡ numberAt 13 4 (now (a .body)) = n .ensures in
     let l = ap (λ (r : ℕ). take r (now (a .lent))) (room .ensures ∙ ap (λ (r : ℕ). min r (length (now (a .lent)))) asked) in
@@ -88,7 +88,7 @@ status-spec =
     read-number-requires-2
     shared-slice-read-unasked
     read-number-requires-3
-    room-of-requires
+    within-requires
     slice-relend-prefix-write
     slice-aggregate-write
     write-requires

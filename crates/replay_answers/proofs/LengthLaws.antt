@@ -29,7 +29,7 @@ use Rattle.table.specs.declared.Recorded.the-variants as recorded
 use Rattle.text.proofs.LengthLaws.{AtMost, words, at-most, part-most}
 use Rattle.replay_fields.specs.Words.{w-already, w-fresh, w-new, w-send, w-written}
 use Rattle.replay_lines.specs.Lines.{refusedLine, successLine}
-use Rattle.replay_lines.proofs.LengthLaws.{plain-most, refused-most, close-most, openedMost, opened-most, record-most, failure-most, octets-most, metadata-most, data-most}
+use Rattle.replay_lines.proofs.LengthLaws.{plain-most, refused-most, close-most, openedMost, opened-most, record-most, failure-most, octets-most, metadataMost, metadata-most, data-most}
 use Rattle.replay_lines.proofs.HoleLengthLaws.{successMost, success-most}
 use Rattle.replay_answers.specs.Answers.{freshText, closeText, openingText, openText, recordingText, recordText, readText, statusText, sentText}
 use Rattle.replay_answers.proofs.CaseLaws.{read-cases}
@@ -85,28 +85,25 @@ unfolding sentText
 sent-most n (written.Size k) h = at-most (octets-most n w-send (part-most k 0 h)) (omega arith)
 sent-most n (written.Refused x) h = at-most (words []) (omega arith)
 
--- ---- what a packet was read as: none is longer than a success STATUS
+-- ---- what a packet of k octets was read as
 
--- what replay keeps of a body: one octet more than a packet may have
-abbrev pub bodyMost : ℕ
-bodyMost = 65536
-
--- a timestamp has 16 octets
-abbrev pub readMost : ℕ
-readMost = successMost 16 bodyMost
-
+-- a checksum has at most 60 octets, and a timestamp 16
 checksum-le : (w : ℕ) → checksumOctets w ≤ 60
 checksum-le w = omega arith
 
-pub success-line-most : (n : ℕ) (p : List ℕ) → Octets p → AtMost p bodyMost → AtMost (successLine n p (successOf p)) readMost
-success-line-most n p o h = at-most (success-most n o h) (omega (arith, timestamp-le (wordOf p)))
+-- the words and numbers of METADATA are the longest, and the holes of a STATUS the longest octets: three for one
+abbrev pub readMost : ℕ → ℕ
+readMost k = metadataMost 60 0 + 3 * k
 
-pub read-most : (n : ℕ) (p : List ℕ) → Octets p → AtMost p bodyMost → AtMost (readText n p (readPacket p)) readMost
+pub success-line-most : (n : ℕ) {p : List ℕ} {k : ℕ} → Octets p → AtMost p k → AtMost (successLine n p (successOf p)) (successMost 16 k)
+success-line-most n {p} o h = at-most (success-most n o h) (omega (arith, timestamp-le (wordOf p)))
+
+pub read-most : (n : ℕ) (p : List ℕ) {k : ℕ} → Octets p → AtMost p k → AtMost (readText n p (readPacket p)) (readMost k)
 unfolding readText metadataOf dataOf
-read-most n p o h =
-    read-cases (λ r. AtMost (readText n p r) readMost) p
+read-most n p {k} o h =
+    read-cases (λ r. AtMost (readText n p r) (readMost k)) p
     (at-most (metadata-most n (metadataOf p) h) (omega (arith, checksum-le (wordOf p))))
     (at-most (data-most n p (dataOf p)) (omega (arith, timestamp-le (wordOf p))))
-    (success-line-most n p o h)
+    (at-most (success-line-most n o h) (omega arith))
     (at-most (failure-most n (failureOf p)) (omega arith))
     (λ x. at-most (refused-short n x) (omega arith))

@@ -34,7 +34,7 @@ module _ (n : ℕ) (body area room : List ℕ) (o : Octets body) (b : AtMost bod
       read-cases (λ x. AtMost (deliverLines n body x area room) outLeast) body
       (at-most (opened-lines-most r n body (metadataOf body) (openArea area body .answer)) (omega arith))
       (at-most (recorded-lines-most r n body (dataOf body) (recordArea area body .answer) (recordArea area body .area)) (omega arith))
-      (at-most (success-line-most n body o b) (omega arith))
+      (at-most (success-line-most n o b) (omega arith))
       (at-most (failure-most n (failureOf body)) (omega arith))
       (λ x. at-most (refusal-lines-most r n body x) (omega arith))
 

@@ -21,7 +21,7 @@ use Rattle.replay_lines.specs.Lines.{refusedLine, successLine, failureLine}
 use Rattle.replay_answers.specs.Answers.{openingText, recordingText, sentText}
 
 -- "A packet that is refused with a code other than 0 and has an Id (8 octets at least) gets a failure STATUS with that Id
--- and code"
+-- and code". The writer would refuse code 0 too (21); that there is nothing to send for it is said here, where the rule is
 unfoldable pub failureSent : ℕ → List ℕ → ℕ → List ℕ → List ℕ
 failureSent n p code room =
     cond (eqb code 0) []

@@ -12,7 +12,7 @@ bodyMost = 65536
 abbrev pub lentMost : ℕ
 lentMost = 65535
 
--- "the line's buffer has 262,144"
+-- room for the longest answer, which is a success STATUS: docs/REPLAY.md, "No line is cut"
 abbrev pub outLeast : ℕ
 outLeast = 262144
 

@@ -12,7 +12,7 @@ use Rattle.transfer.specs.Transfers.{Transfer}
 use Rattle.table.specs.Tables.{Valid}
 use Rattle.table.specs.Open.{openPacket, openAccepted}
 use Rattle.table.specs.Record.{recordPacket, recordAccepted}
-use Rattle.table.specs.Status.{statusWritten, statusBuffer}
+use Rattle.table.specs.WriteStatus.{statusWritten, statusBuffer}
 use Rattle.table.specs.declared.Opened.{Opened}
 use Rattle.table.specs.declared.Opened.the-variants as opened
 use Rattle.table.specs.declared.Recorded.{Recorded}

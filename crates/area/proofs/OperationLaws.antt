@@ -12,7 +12,7 @@ use borrow.Author.Tests.{le-ltb, lt-ltb}
 use Rattle.octets.specs.Numbers.{Octets}
 use Rattle.refusals.specs.Refusals.{refusalOf}
 use Rattle.refusals.specs.declared.Refusal.{Refusal}
-use Rattle.runs.proofs.NumberLaws.{le-or-lt}
+use Rattle.runs.proofs.CompareLaws.{le-or-lt}
 use Rattle.transfer.specs.Transfers.{Transfer}
 use Rattle.table.specs.Tables.{Valid}
 use Rattle.table.specs.Outcome.{Outcome}

@@ -11,7 +11,7 @@ use lib.ListN.{length, List·getD-eq-default}
 use lib.Seq.{ext-getD}
 use borrow.Author.Tests.{lt-ltb, le-ltb, ne-eqb}
 use Rattle.runs.specs.Runs.{Run, run, nthRun}
-use Rattle.runs.proofs.NumberLaws.{le-or-lt}
+use Rattle.runs.proofs.CompareLaws.{le-or-lt}
 use Rattle.words.specs.Words.{wordAt}
 use Rattle.run_rows.specs.Rows.{runsIn, RowsFit}
 use Rattle.run_rows.specs.declared.Rows.{Rows}

@@ -11,7 +11,7 @@ use lib.ListN.{length, drop, length-append, length-drop}
 use Rattle.octets.specs.Numbers.{Octets}
 use Rattle.octets.proofs.NumberLaws.{width-le}
 use Rattle.runs.specs.Runs.{Run, nthRun, CanonicalFrom, StopsTo}
-use Rattle.runs.proofs.NumberLaws.{le-or-lt}
+use Rattle.runs.proofs.CompareLaws.{le-or-lt}
 use Rattle.words.specs.Words.{wordAt, octetsBy}
 use Rattle.words.proofs.WordLaws.{length-by, word-first, by-past, by-known}
 use Rattle.transfer.specs.Transfers.{Transfer, TransferFine}

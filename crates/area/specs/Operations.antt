@@ -14,7 +14,7 @@ use Rattle.table.specs.Outcome.{Outcome}
 use Rattle.table.specs.Open.{openPacket}
 use Rattle.table.specs.Record.{recordPacket}
 use Rattle.table.specs.Close.{closeId}
-use Rattle.table.specs.Status.{statusWritten, statusBuffer}
+use Rattle.table.specs.WriteStatus.{statusWritten, statusBuffer}
 use Rattle.table.specs.declared.Opened.{Opened}
 use Rattle.table.specs.declared.Opened.the-variants as opened
 use Rattle.table.specs.declared.Recorded.{Recorded}

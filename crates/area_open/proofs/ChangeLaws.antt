@@ -7,7 +7,7 @@ use mathlib.Core.Logic.{_⊎_, inl, inr, ⊎-elim}
 use native.Mathlib.Omega.{arith}
 use lib.ListN.{length, take, drop}
 use Rattle.octets.specs.Numbers.{leValue}
-use Rattle.runs.proofs.NumberLaws.{le-or-lt}
+use Rattle.runs.proofs.CompareLaws.{le-or-lt}
 use Rattle.words.specs.Words.{wordAt, putWord, movedWords}
 use Rattle.words.proofs.RowLaws.{put-length, put-other, put-after, moved-length, moved-before, moved-past}
 use Rattle.area.specs.Layout.{transferPlaces, runPlaces, headWords, areaWords, areaOctets, headAt, runAt}

@@ -1,7 +1,7 @@
 pub mod ChangeLaws
 pub mod CopyLaws
-pub mod MoveLaws
-pub mod RemoveLaws
-pub mod InsertLaws
+pub mod TransferMoves
+pub mod TakeOutLaws
+pub mod PutInLaws
 pub mod FreshLaws
 pub mod OpenLaws

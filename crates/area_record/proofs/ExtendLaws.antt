@@ -29,8 +29,8 @@ use Rattle.area.proofs.PlaceLaws.{length-transfers, transfer-at, rows-fit, read
 use Rattle.area.proofs.JudgeLaws.{judged-passed}
 use Rattle.area.proofs.StoredLaws.{fine-at, valid-few}
 use Rattle.area_record.specs.Record.{runsAfter, splicedArea, runsGiven}
-use Rattle.area_record.proofs.SpliceLaws.{spliced, spliced-length}
-use Rattle.area_record.proofs.ChangeLaws.{spliced-holds, spliced-stored}
+use Rattle.area_record.proofs.SplicedRowLaws.{spliced, spliced-length}
+use Rattle.area_record.proofs.SplicedAreaLaws.{spliced-holds, spliced-stored}
 
 -- the three changes in a row
 pub put-chain : (a x y z : List ℕ) (p n i j lo hi s e h : ℕ) → s ≡ runAt 0 p 0 → e ≡ runAt 1 p 0 → h ≡ headAt p countField

@@ -1,5 +1,5 @@
-pub mod SpliceLaws
-pub mod KeptLaws
-pub mod ChangeLaws
+pub mod SplicedRowLaws
+pub mod OverlayLaws
+pub mod SplicedAreaLaws
 pub mod ExtendLaws
 pub mod RecordLaws

@@ -1,3 +1,3 @@
 pub mod UsedLaws
-pub mod StatusLaws
+pub mod WriteStatusLaws
 pub mod ListingLaws

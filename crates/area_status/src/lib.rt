@@ -7,7 +7,7 @@ ghost use Rattle.octets.specs.Numbers.{Width};
 ghost use Rattle.octets.specs.Put.{put};
 ghost use Rattle.runs.specs.Holes.{edge, holes, progress, complete};
 ghost use Rattle.run_rows.specs.Rows.{runsIn, RowsFit, RowsFine};
-ghost use Rattle.transfer.specs.Status.{statusFlags, statusFields, pairs, transferWritten, transferBuffer};
+ghost use Rattle.transfer.specs.WriteStatus.{statusFlags, statusFields, pairs, transferWritten, transferBuffer};
 ghost use Rattle.area.specs.Places.{transferAt};
 ghost use Rattle.area.specs.Operations.{areaStatusWritten, areaStatusBuffer};
 ghost use Rattle.area_status.specs.Used.{UsedPlace};

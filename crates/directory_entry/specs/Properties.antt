@@ -5,7 +5,7 @@ use mathlib.Core.Path.{_≡_}
 use mathlib.Core.Bool.{not}
 use lib.Dec.{eqb}
 use Rattle.refusals.specs.Refusals.{_▹_, when}
-use Rattle.header.specs.Word.{bits}
+use Rattle.header.specs.FirstWord.{bits}
 use Rattle.directory_entry.specs.declared.Properties.{Properties}
 
 -- "Property bits 6, 7 and 10 (special, directory, bundle) must be 0; bits 8 and 9 give the width"

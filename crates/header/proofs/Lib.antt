@@ -1,4 +1,4 @@
 pub mod DescriptorLaws
 pub mod StartLaws
-pub mod WordLaws
+pub mod FirstWordLaws
 pub mod LimitLaws

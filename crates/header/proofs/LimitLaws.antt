@@ -13,7 +13,7 @@ use Rattle.refusals.specs.Refusals.{_▹_}
 use Rattle.refusals.proofs.TestLaws.{eqb-iff, eqb-not, ltb-iff, ltb-not, both}
 use Rattle.refusals.proofs.RefusalLaws.{given-here, given-later, after-none, when-given, when-other}
 use Rattle.refusals.proofs.LimitLaws.{either, unequal-iff, when-all, chain-all, link-all, chain-iff, first-only}
-use Rattle.header.specs.Word.{markOf, typeOf, widthOf, kindOf}
+use Rattle.header.specs.FirstWord.{markOf, typeOf, widthOf, kindOf}
 use Rattle.header.specs.Start.{wordOf, startRefusal, typeRefusal, fileRefusal}
 use Rattle.header.specs.Descriptor.{descriptorRefusal}
 use Rattle.header.proofs.StartLaws.{StartFine, start-fine, TypeFine, type-fine, type-none, FileFine, file-fine}

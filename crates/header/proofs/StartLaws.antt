@@ -11,7 +11,7 @@ use borrow.Author.Tests.{le-ltb, eq-eqb, ltb-false, eqb-true, eqb-false, not-fal
 use Rattle.octets.specs.Numbers.{Width}
 use Rattle.octets.proofs.NumberLaws.{width-of}
 use Rattle.refusals.specs.Refusals.{when}
-use Rattle.header.specs.Word.{markOf, typeOf, widthOf, kindOf, descriptorOctets}
+use Rattle.header.specs.FirstWord.{markOf, typeOf, widthOf, kindOf, descriptorOctets}
 use Rattle.header.specs.Start.{wordOf, startRefusal, typeRefusal, fileRefusal}
 use Rattle.refusals.proofs.RefusalLaws.{first-none, rest-none, failed}
 

@@ -1,3 +1,3 @@
-pub mod Word
+pub mod FirstWord
 pub mod Start
 pub mod Descriptor

@@ -3,7 +3,7 @@ ghost use mathlib.Core.Path.{_≡_};
 ghost use Prim.Native.Nat.{_+_, _*_, _<_, _≤_, _^_};
 ghost use lib.ListN.{length};
 ghost use Rattle.octets.specs.Numbers.{Width};
-ghost use Rattle.header.specs.Word.{Splits, descriptorOctets, timestampOctets, wordFor};
+ghost use Rattle.header.specs.FirstWord.{Splits, descriptorOctets, timestampOctets, wordFor};
 ghost use Rattle.header.specs.Start.{wordOf, idOf, startRefusal, typeRefusal, fileRefusal};
 ghost use Rattle.header.specs.Descriptor.{descriptorAt, descriptorRefusal};
 

@@ -8,7 +8,7 @@ use native.Mathlib.Omega.{arith}
 use lib.Dec.{eqb}
 use Rattle.refusals.specs.Refusals.{refusalOf, answered}
 use Rattle.refusals.specs.declared.Refusal.{Refusal}
-use Rattle.header.specs.Word.{typeOf}
+use Rattle.header.specs.FirstWord.{typeOf}
 use Rattle.header.specs.Start.{wordOf, startRefusal, typeRefusal}
 use Rattle.refusals.proofs.RefusalLaws.{first-none}
 use Rattle.header.proofs.StartLaws.{type-fine}

@@ -5,7 +5,7 @@ use mathlib.Core.Path.{_≡_, _∙_}
 use mathlib.Core.List.{List}
 use Rattle.refusals.specs.Refusals.{refusalOf}
 use Rattle.refusals.proofs.RefusalLaws.{answered-refused}
-use Rattle.header.specs.Word.{typeOf}
+use Rattle.header.specs.FirstWord.{typeOf}
 use Rattle.header.specs.Start.{wordOf, startRefusal}
 use Rattle.packet.specs.Read.{readType, readPacket}
 use Rattle.packet.specs.declared.Read.{Read}

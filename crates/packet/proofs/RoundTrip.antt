@@ -9,7 +9,7 @@ use lib.ListN.{length, take, drop}
 use Rattle.octets.specs.Numbers.{Octets}
 use Rattle.octets.specs.Put.{put}
 use Rattle.octets.proofs.PutLaws.{take-put}
-use Rattle.header.specs.Word.{descriptorOctets, timestampOctets, wantedOf, eodOf}
+use Rattle.header.specs.FirstWord.{descriptorOctets, timestampOctets, wantedOf, eodOf}
 use Rattle.refusals.specs.Writing.{writtenOf}
 use Rattle.refusals.specs.declared.Written.the-variants.{Size}
 use Rattle.refusals.proofs.RefusalLaws.{first-none}

@@ -8,13 +8,13 @@ use lib.ListN.{length}
 use lib.Dec.{eqb}
 use borrow.Author.Tests.{eqb-false}
 use Rattle.refusals.specs.Refusals.{answered}
-use Rattle.header.specs.Word.{descriptorOctets}
+use Rattle.header.specs.FirstWord.{descriptorOctets}
 use Rattle.header.specs.Start.{wordOf, typeRefusal, fileRefusal}
 use Rattle.header.specs.Descriptor.{descriptorRefusal}
 use Rattle.refusals.proofs.RefusalLaws.{first-none, rest-none, failed}
 use Rattle.header.proofs.StartLaws.{TypeFine, type-fine, FileFine, file-fine}
 use Rattle.header.proofs.DescriptorLaws.{descriptor-there}
-use Rattle.header.proofs.WordLaws.{octets-le}
+use Rattle.header.proofs.FirstWordLaws.{octets-le}
 use Rattle.packet_data.specs.Data.{offsetAt, payloadAt, dataRefusal, dataOf, readData, payloadPart}
 use Rattle.packet_data.specs.declared.Data.{Data}
 use Rattle.packet_data.specs.declared.DataRead.the-variants.{Accepted, Refused}

@@ -11,13 +11,13 @@ use Rattle.octets.specs.Numbers.{beDigits, Octets}
 use Rattle.octets.specs.Put.{put}
 use Rattle.octets.proofs.PutLaws.{refold}
 use Rattle.octets.proofs.NumberLaws.{value-digits, length-digits, part-digits, part-lt}
-use Rattle.header.specs.Word.{flagsOf, descriptorOctets, timestampOctets, wantedOf, eodOf, markOf, typeOf, wordFor}
+use Rattle.header.specs.FirstWord.{flagsOf, descriptorOctets, timestampOctets, wantedOf, eodOf, markOf, typeOf, wordFor}
 use Rattle.header.specs.Start.{wordOf, idOf, startRefusal, typeRefusal}
 use Rattle.refusals.specs.Writing.{roomRefusal}
 use Rattle.refusals.specs.declared.Written.the-variants.{Size}
 use Rattle.header.specs.Descriptor.{descriptorAt}
 use Rattle.header.proofs.DescriptorLaws.{descriptor-none}
-use Rattle.header.proofs.WordLaws.{mark-for, type-for, flags-for, octets-for, timestamp-for, file-for, octets-flags, timestamp-flags, file-flags, flags-lt, word-again}
+use Rattle.header.proofs.FirstWordLaws.{mark-for, type-for, flags-for, octets-for, timestamp-for, file-for, octets-flags, timestamp-flags, file-flags, flags-lt, word-again}
 use Rattle.packet_data.specs.Data.{offsetAt, offsetOf, payloadAt, dataRefusal, dataOf, readData, payloadOf}
 use Rattle.packet_data.specs.WriteData.{dataExcess, dataWriteRefusal, dataOctets, dataWritten, dataBuffer}
 use Rattle.packet_data.specs.declared.DataRead.the-variants.{Accepted}

@@ -5,7 +5,7 @@ use mathlib.Core.List.{List, []}
 use lib.ListN.{length, drop}
 use lib.Dec.{eqb}
 use Rattle.refusals.specs.Refusals.{_▹_, when, answered}
-use Rattle.header.specs.Word.{flagsOf, descriptorOctets, timestampOctets, wantedOf, eodOf}
+use Rattle.header.specs.FirstWord.{flagsOf, descriptorOctets, timestampOctets, wantedOf, eodOf}
 use Rattle.header.specs.Start.{wordOf, idOf, typeRefusal, fileRefusal}
 use Rattle.header.specs.Descriptor.{descriptorAt, descriptorRefusal}
 use Rattle.packet_data.specs.declared.Data.{Data}

@@ -8,7 +8,7 @@ use lib.ListN.{length}
 use lib.Dec.{ltb, eqb}
 use Rattle.octets.specs.Numbers.{beDigits}
 use Rattle.refusals.specs.Refusals.{_▹_, when}
-use Rattle.header.specs.Word.{descriptorOctets, timestampOctets, wordFor}
+use Rattle.header.specs.FirstWord.{descriptorOctets, timestampOctets, wordFor}
 use Rattle.header.specs.Start.{fileRefusal}
 use Rattle.refusals.specs.Writing.{roomRefusal, writtenOf, bufferAfter}
 use Rattle.refusals.specs.declared.Written.{Written}

@@ -15,7 +15,7 @@ use Rattle.refusals.specs.declared.Written.the-variants as written
 use Rattle.refusals.proofs.TestLaws.{ltb-iff, ltb-not, not-iff, not-not, test-not, both}
 use Rattle.refusals.proofs.RefusalLaws.{given-later, after-none, when-given}
 use Rattle.refusals.proofs.LimitLaws as chains
-use Rattle.header.specs.Word.{widthOf, kindOf, descriptorOctets, sumType, sumWords}
+use Rattle.header.specs.FirstWord.{widthOf, kindOf, descriptorOctets, sumType, sumWords}
 use Rattle.header.specs.Start.{wordOf, typeRefusal, fileRefusal}
 use Rattle.header.proofs.StartLaws.{TypeFine, FileFine}
 use Rattle.header.proofs.LimitLaws as header

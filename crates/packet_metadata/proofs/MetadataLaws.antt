@@ -8,7 +8,7 @@ use lib.ListN.{length, drop}
 use lib.Dec.{ltb}
 use borrow.Author.Tests.{ltb-false}
 use Rattle.refusals.specs.Refusals.{when, answered}
-use Rattle.header.specs.Word.{descriptorOctets}
+use Rattle.header.specs.FirstWord.{descriptorOctets}
 use Rattle.header.specs.Start.{wordOf, typeRefusal, fileRefusal}
 use Rattle.refusals.proofs.RefusalLaws.{first-none, rest-none, failed}
 use Rattle.header.proofs.StartLaws.{TypeFine, type-fine}

@@ -5,7 +5,7 @@ use mathlib.Core.List.{List}
 use lib.ListN.{length, drop}
 use lib.Dec.{ltb}
 use Rattle.refusals.specs.Refusals.{_▹_, when, answered}
-use Rattle.header.specs.Word.{flagsOf, descriptorOctets}
+use Rattle.header.specs.FirstWord.{flagsOf, descriptorOctets}
 use Rattle.header.specs.Start.{wordOf, idOf, typeRefusal, fileRefusal}
 use Rattle.directory_entry.specs.Entry.{entryRefusal, entryOf}
 use Rattle.packet_metadata.specs.Checksum.{pairRefusal, checksumOctets}

@@ -11,7 +11,7 @@ use Rattle.octets.specs.Numbers.{beDigits}
 use Rattle.octets.specs.Put.{put}
 use Rattle.octets.proofs.PutLaws.{put-next}
 use Rattle.refusals.specs.Refusals.{when}
-use Rattle.header.specs.Word.{wordFor}
+use Rattle.header.specs.FirstWord.{wordFor}
 use Rattle.refusals.proofs.RefusalLaws.{first-none, rest-none, failed}
 use Rattle.packet_status.specs.WriteFailure.{failureWriteRefusal, failureOctets}
 

@@ -1,4 +1,4 @@
-pub mod HoleLaws
+pub mod HoleListLaws
 pub mod AcceptedLaws
 pub mod StatusLaws
 pub mod FailureLaws

@@ -15,12 +15,12 @@ use Rattle.refusals.specs.declared.Written.the-variants as written
 use Rattle.refusals.proofs.TestLaws.{eqb-iff, eqb-not, ltb-iff, ltb-not, not-iff, not-not, test-not, both}
 use Rattle.refusals.proofs.RefusalLaws.{given-here, given-later, when-given, when-other}
 use Rattle.refusals.proofs.LimitLaws as chains
-use Rattle.header.specs.Word.{widthOf, descriptorOctets, partialOf, statusOf}
+use Rattle.header.specs.FirstWord.{widthOf, descriptorOctets, partialOf, statusOf}
 use Rattle.header.specs.Start.{wordOf, typeRefusal}
 use Rattle.header.specs.Descriptor.{descriptorRefusal}
 use Rattle.header.proofs.StartLaws.{TypeFine}
 use Rattle.header.proofs.LimitLaws as header
-use Rattle.packet_status.specs.Holes.{holesWell}
+use Rattle.packet_status.specs.HoleList.{holesWell}
 use Rattle.packet_status.specs.Status.{progressAt, responseAt, holesAt, progressOf, responseOf, listOctets, holeList, listRefusal, successRefusal, statusRefusal, acceptedStatus, readStatus}
 use Rattle.packet_status.specs.declared.StatusRead.the-variants.{Refused}
 use Rattle.packet_status.specs.WriteFailure.{failureWriteRefusal, failureWritten}

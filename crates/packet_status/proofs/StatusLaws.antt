@@ -11,7 +11,7 @@ use lib.Dec.{eqb}
 use borrow.Author.Tests.{ltb-true, eqb-true, eqb-false, lt-ltb, le-ltb, eq-eqb, ne-eqb, not-false}
 use Rattle.octets.specs.Numbers.{Width}
 use Rattle.refusals.specs.Refusals.{when, refusalOf}
-use Rattle.header.specs.Word.{widthOf, descriptorOctets, partialOf, statusOf}
+use Rattle.header.specs.FirstWord.{widthOf, descriptorOctets, partialOf, statusOf}
 use Rattle.header.specs.Start.{wordOf, typeRefusal}
 use Rattle.refusals.proofs.RefusalLaws.{first-none, rest-none, failed}
 use Rattle.header.specs.Descriptor.{descriptorRefusal}
@@ -21,7 +21,7 @@ use Rattle.packet_status.specs.Status.{progressAt, responseAt, holesAt, 
 use Rattle.runs.specs.declared.Hole.{Hole}
 use Rattle.packet_status.specs.declared.HoleRead.the-variants as hole-read
 use Rattle.packet_status.specs.declared.StatusRead.the-variants.{Failure, Refused}
-use Rattle.packet_status.proofs.HoleLaws.{length-holes, hole-of-list}
+use Rattle.packet_status.proofs.HoleListLaws.{length-holes, hole-of-list}
 use Rattle.packet_status.proofs.AcceptedLaws.{HoleListAccepted, holes-well-means, means-holes-well}
 
 -- a success STATUS with refusal 0

@@ -8,7 +8,7 @@ use Rattle.octets.specs.Put.{put}
 use Rattle.refusals.specs.Refusals.{refusalOf}
 use Rattle.header.specs.Start.{startRefusal, typeRefusal}
 use Rattle.header.specs.Descriptor.{descriptorRefusal}
-use Rattle.packet_status.specs.Holes.{startsWell, holesWell}
+use Rattle.packet_status.specs.HoleList.{startsWell, holesWell}
 use Rattle.packet_status.specs.Status.{holeList, listRefusal, successRefusal, statusRefusal, successOf, failureOf, readStatus, holeRefusal, indexedHole, readHole}
 use Rattle.packet_status.specs.WriteFailure.{failureWriteRefusal, failureOctets, failureBuffer}
 use Rattle.packet_status.specs.declared.HoleRead.the-variants as hole-read

@@ -6,10 +6,10 @@ use mathlib.Core.List.{List}
 use lib.ListN.{length}
 use lib.Dec.{ltb, eqb}
 use Rattle.refusals.specs.Refusals.{_▹_, when, answered}
-use Rattle.header.specs.Word.{flagsOf, widthOf, descriptorOctets, timestampOctets, partialOf, statusOf}
+use Rattle.header.specs.FirstWord.{flagsOf, widthOf, descriptorOctets, timestampOctets, partialOf, statusOf}
 use Rattle.header.specs.Start.{wordOf, idOf, typeRefusal}
 use Rattle.header.specs.Descriptor.{descriptorAt, descriptorRefusal}
-use Rattle.packet_status.specs.Holes.{holeAt, holesOf, holesWell}
+use Rattle.packet_status.specs.HoleList.{holeAt, holesOf, holesWell}
 use Rattle.runs.specs.declared.Hole.{Hole}
 use Rattle.packet_status.specs.declared.HoleRead.{HoleRead}
 use Rattle.packet_status.specs.declared.HoleRead.the-variants as hole-read

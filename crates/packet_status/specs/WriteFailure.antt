@@ -7,7 +7,7 @@ use lib.ListN.{length}
 use lib.Dec.{ltb, eqb}
 use Rattle.octets.specs.Numbers.{beDigits}
 use Rattle.refusals.specs.Refusals.{_▹_, when}
-use Rattle.header.specs.Word.{wordFor}
+use Rattle.header.specs.FirstWord.{wordFor}
 use Rattle.refusals.specs.Writing.{writtenOf, bufferAfter}
 use Rattle.refusals.specs.declared.Written.{Written}
 

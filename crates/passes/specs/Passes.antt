@@ -19,7 +19,7 @@ use Rattle.table.specs.Tables.{runsOf}
 use Rattle.table.specs.Open.{openPacket}
 use Rattle.table.specs.Record.{recordPacket, recordAccepted}
 use Rattle.table.specs.Close.{closeId}
-use Rattle.table.specs.Status.{statusWritten, statusBuffer}
+use Rattle.table.specs.WriteStatus.{statusWritten, statusBuffer}
 use Rattle.transfer.specs.declared.Reached.{Reached}
 use Rattle.table.specs.declared.Opened.the-variants as opened
 use Rattle.table.specs.declared.Recorded.the-variants as recorded

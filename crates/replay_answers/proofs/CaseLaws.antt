@@ -6,7 +6,7 @@ use mathlib.Core.List.{List}
 use lib.Dec.{eqb}
 use Rattle.refusals.specs.Refusals.{refusalOf, answered}
 use Rattle.refusals.specs.declared.Refusal.{Refusal}
-use Rattle.header.specs.Word.{typeOf, statusOf}
+use Rattle.header.specs.FirstWord.{typeOf, statusOf}
 use Rattle.header.specs.Start.{wordOf, startRefusal}
 use Rattle.packet_metadata.specs.Metadata.{metadataRefusal, metadataOf, readMetadata}
 use Rattle.packet_metadata.specs.declared.MetadataRead.the-variants as metadata-read

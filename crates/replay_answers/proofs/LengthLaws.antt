@@ -8,7 +8,7 @@ use Rattle.refusals.specs.declared.Refusal.{Refusal}
 use Rattle.refusals.specs.declared.Written.{Written}
 use Rattle.refusals.specs.declared.Written.the-variants as written
 use Rattle.header.specs.Start.{wordOf}
-use Rattle.header.proofs.WordLaws.{timestamp-le}
+use Rattle.header.proofs.FirstWordLaws.{timestamp-le}
 use Rattle.packet.specs.Read.{readPacket}
 use Rattle.packet_data.specs.Data.{dataOf}
 use Rattle.packet_data.specs.declared.Data.{Data}
@@ -27,11 +27,11 @@ use Rattle.table.specs.declared.Opened.the-variants as opened
 use Rattle.table.specs.declared.Recorded.{Recorded}
 use Rattle.table.specs.declared.Recorded.the-variants as recorded
 use Rattle.text.proofs.LengthLaws.{AtMost, words, at-most, part-most}
-use Rattle.replay_fields.specs.Words.{w-already, w-fresh, w-new, w-send, w-written}
+use Rattle.replay_fields.specs.LineWords.{w-already, w-fresh, w-new, w-send, w-written}
 use Rattle.replay_lines.specs.Lines.{refusedLine, successLine}
 use Rattle.replay_lines.proofs.LengthLaws.{plain-most, refused-most, close-most, openedMost, opened-most, record-most, failure-most, octets-most, metadataMost, metadata-most, data-most}
 use Rattle.replay_lines.proofs.HoleLengthLaws.{successMost, success-most}
-use Rattle.replay_answers.specs.Answers.{freshText, closeText, openingText, openText, recordingText, recordText, readText, statusText, sentText}
+use Rattle.replay_answers.specs.AnswerLines.{freshText, closeText, openingText, openText, recordingText, recordText, readText, statusText, sentText}
 use Rattle.replay_answers.proofs.CaseLaws.{read-cases}
 
 -- ---- lines of words and numbers alone: none is longer than that of an opening

@@ -8,7 +8,7 @@ use Rattle.octets.specs.Numbers.{beDigits}
 use Rattle.octets.proofs.NumberLaws.{length-digits}
 use Rattle.transfer.specs.declared.Reached.{Reached}
 use Rattle.text.proofs.LengthLaws.{AtMost, words, _and_, decimalMost, decimal-most, hex-most}
-use Rattle.replay_fields.specs.Words.{w-edge, w-complete}
+use Rattle.replay_fields.specs.LineWords.{w-edge, w-complete}
 use Rattle.replay_fields.specs.Fields.{field, octetsField, numberField, flagOf, reachedText}
 
 abbrev pub fieldMost : List ℕ → ℕ

@@ -10,13 +10,13 @@ use lib.ListN.{length, take, drop}
 use Rattle.octets.specs.Numbers.{beValue, Octets}
 use Rattle.octets.proofs.NumberLaws.{value-lt, octets-take, octets-drop}
 use Rattle.refusals.specs.Refusals.{answered}
-use Rattle.header.specs.Word.{widthOf, descriptorOctets, timestampOctets}
+use Rattle.header.specs.FirstWord.{widthOf, descriptorOctets, timestampOctets}
 use Rattle.header.specs.Start.{wordOf}
 use Rattle.runs.specs.declared.Hole.{Hole}
 use Rattle.packet_status.specs.Status.{holesAt, listOctets, holeCount, holeRefusal, indexedHole, readHole, successOf}
 use Rattle.packet_status.specs.declared.HoleRead.the-variants as hole-read
 use Rattle.text.proofs.LengthLaws.{AtMost, words, _and_, at-most, taken, decimal-octets}
-use Rattle.replay_fields.specs.Words.{comma, dash, newline, w-holes, w-progress, w-response, w-success, w-timestamp}
+use Rattle.replay_fields.specs.LineWords.{comma, dash, newline, w-holes, w-progress, w-response, w-success, w-timestamp}
 use Rattle.replay_fields.proofs.LengthLaws.{fieldMost, field-most, octets-field-most}
 use Rattle.replay_lines.specs.Lines.{holeText, nextHole, holeAfter, holesText, successLine}
 use Rattle.replay_lines.proofs.LengthLaws.{headMost, head-most}

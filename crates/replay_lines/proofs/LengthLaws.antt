@@ -11,7 +11,7 @@ use Rattle.packet_data.specs.declared.Data.{Data}
 use Rattle.packet_status.specs.declared.FailureStatus.{FailureStatus}
 use Rattle.transfer.specs.declared.Reached.{Reached}
 use Rattle.text.proofs.LengthLaws.{AtMost, words, _and_, taken, part-most, decimalMost, decimal-most}
-use Rattle.replay_fields.specs.Words.{newline, w-checksum, w-close, w-code, w-ctime, w-data, w-failure, w-flags, w-length, w-metadata, w-mtime, w-offset, w-open, w-path, w-properties, w-record, w-refused, w-size, w-status, w-timestamp, w-unknown, w-width}
+use Rattle.replay_fields.specs.LineWords.{newline, w-checksum, w-close, w-code, w-ctime, w-data, w-failure, w-flags, w-length, w-metadata, w-mtime, w-offset, w-open, w-path, w-properties, w-record, w-refused, w-size, w-status, w-timestamp, w-unknown, w-width}
 use Rattle.replay_fields.specs.Fields.{bitsOf}
 use Rattle.replay_fields.proofs.LengthLaws.{fieldMost, field-most, octets-field-most, number-field-most, reachedMost, reached-most}
 use Rattle.replay_lines.specs.Lines.{plainLine, refusedLine, closeLine, octetsLine, unknownLine, openedLine, recordLine, headText, entryText, metadataLine, dataLine, failureLine}

@@ -18,7 +18,7 @@ use Rattle.packet_status.specs.declared.HoleRead.{HoleRead}
 use Rattle.packet_status.specs.declared.HoleRead.the-variants as hole-read
 use Rattle.transfer.specs.declared.Reached.{Reached}
 use Rattle.text.specs.Decimal.{decimalOf}
-use Rattle.replay_fields.specs.Words.{comma, dash, newline, w-checksum, w-close, w-code, w-ctime, w-data, w-failure, w-flags, w-holes, w-length, w-metadata, w-mtime, w-offset, w-open, w-path, w-progress, w-properties, w-record, w-refused, w-response, w-size, w-status, w-success, w-timestamp, w-unknown, w-width}
+use Rattle.replay_fields.specs.LineWords.{comma, dash, newline, w-checksum, w-close, w-code, w-ctime, w-data, w-failure, w-flags, w-holes, w-length, w-metadata, w-mtime, w-offset, w-open, w-path, w-progress, w-properties, w-record, w-refused, w-response, w-size, w-status, w-success, w-timestamp, w-unknown, w-width}
 use Rattle.replay_fields.specs.Fields.{field, octetsField, numberField, bitsOf, reachedText}
 
 -- words alone, which end the line

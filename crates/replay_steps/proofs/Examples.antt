@@ -23,14 +23,14 @@ use Rattle.table.specs.Record.{dataJudged, recordRefusal, grown, recordAs, reco
 use Rattle.table.specs.Open.{judgeFound, judgeOpen, openAs, openKey, openRead, openPacket}
 use Rattle.table.specs.Tables.{keys, find, runsOf, add}
 use Rattle.transfer.specs.Transfers.{reached, Transfer}
-use Rattle.table.specs.Status.{writtenFor, bufferFor, statusWritten, statusBuffer}
-use Rattle.transfer.specs.Status.{skipsTooMany, leastRoom, sizeRefusal, transferWritten, transferBuffer, statusFields, holeRoom, holesSent, partialSent, widthBits, statusFlags, pairs, statusOctets, statusPacket}
+use Rattle.table.specs.WriteStatus.{writtenFor, bufferFor, statusWritten, statusBuffer}
+use Rattle.transfer.specs.WriteStatus.{skipsTooMany, leastRoom, sizeRefusal, transferWritten, transferBuffer, statusFields, holeRoom, holesSent, partialSent, widthBits, statusFlags, pairs, statusOctets, statusPacket}
 use Rattle.area.specs.Judge.{tableOf}
 use Rattle.area.specs.Operations.{onFound, onTable, openArea, recordArea, fromFound, fromTable, areaStatusWritten, areaStatusBuffer}
 use Rattle.text.specs.Decimal.{decimalOnto, decimalOf}
 use Rattle.text.specs.Hex.{hexOf}
 use Rattle.replay_lines.specs.Lines.{plainLine, refusedLine, octetsLine, unknownLine, openedLine}
-use Rattle.replay_answers.specs.Answers.{openingText, openText, recordingText, statusText, sentText}
+use Rattle.replay_answers.specs.AnswerLines.{openingText, openText, recordingText, statusText, sentText}
 use Rattle.replay_steps.specs.Deliver.{failureSent, refusalLines, recordedSent, recordedLines, deliverLines}
 use Rattle.replay_steps.specs.Records.{bodyLength, closeLines, writtenLine, statusLines, recordLines}
 

@@ -22,10 +22,10 @@ use Rattle.packet_status.proofs.FailureLaws.{failure-fine}
 use Rattle.packet_status.proofs.RoundTrip.{failure-length}
 use Rattle.transfer.specs.declared.Key.{Key}
 use Rattle.transfer.specs.Transfers.{Transfer}
-use Rattle.transfer.specs.Status.{statusPacket, transferRefused, transferBuffer}
+use Rattle.transfer.specs.WriteStatus.{statusPacket, transferRefused, transferBuffer}
 use Rattle.transfer.proofs.StatusSize.{status-size-fits}
 use Rattle.table.specs.Tables.{Valid, keys, find, runsOf}
-use Rattle.table.specs.Status.{bufferFor, statusBuffer}
+use Rattle.table.specs.WriteStatus.{bufferFor, statusBuffer}
 use Rattle.table.specs.declared.Opened.{Opened}
 use Rattle.table.specs.declared.Recorded.{Recorded}
 use Rattle.table.specs.declared.Recorded.the-variants as recorded
@@ -34,9 +34,9 @@ use Rattle.area.specs.Judge.{tableOf}
 use Rattle.area.specs.Operations.{fromFound, fromTable, freshArea, closeArea, areaStatusWritten, areaStatusBuffer}
 use Rattle.area.proofs.JudgeLaws.{held-valid}
 use Rattle.text.proofs.LengthLaws.{AtMost, words, _and_, at-most, part-most}
-use Rattle.replay_fields.specs.Words.{w-bad}
+use Rattle.replay_fields.specs.LineWords.{w-bad}
 use Rattle.replay_lines.proofs.LengthLaws.{plain-most}
-use Rattle.replay_answers.specs.Answers.{freshText, closeText, sentText}
+use Rattle.replay_answers.specs.AnswerLines.{freshText, closeText, sentText}
 use Rattle.replay_answers.proofs.LengthLaws.{shortMost, refused-short, fresh-most, close-text-most, opening-most, recording-most, status-text-most, sent-most}
 use Rattle.replay_steps.specs.Deliver.{failureSent, refusalLines, openedCode, openedLines, wantedSent, recordedSent, recordedLines}
 use Rattle.replay_steps.specs.Records.{numberAt, badLine, freshLines, closeLines, writtenLine, statusLines}

@@ -16,10 +16,10 @@ use Rattle.area.specs.Operations.{openArea, recordArea}
 use Rattle.text.specs.Added.{Added}
 use Rattle.text.proofs.AddedLaws.{added-whole}
 use Rattle.text.proofs.LengthLaws.{AtMost, at-most}
-use Rattle.replay_fields.specs.Words.{w-cut}
+use Rattle.replay_fields.specs.LineWords.{w-cut}
 use Rattle.replay_lines.specs.Lines.{unknownLine}
 use Rattle.replay_lines.proofs.LengthLaws.{plain-most, unknown-most, failure-most}
-use Rattle.replay_answers.specs.Answers.{openText, recordText, readText}
+use Rattle.replay_answers.specs.AnswerLines.{openText, recordText, readText}
 use Rattle.replay_answers.proofs.CaseLaws.{read-cases}
 use Rattle.replay_answers.proofs.LengthLaws.{open-most, record-text-most, read-most, success-line-most}
 use Rattle.replay_steps.specs.Deliver.{deliverLines}

@@ -18,7 +18,7 @@ use Rattle.table.specs.declared.Recorded.{Recorded}
 use Rattle.table.specs.declared.Recorded.the-variants as recorded
 use Rattle.area.specs.Operations.{openArea, recordArea, areaStatusWritten, areaStatusBuffer}
 use Rattle.replay_lines.specs.Lines.{refusedLine, successLine, failureLine}
-use Rattle.replay_answers.specs.Answers.{openingText, recordingText, sentText}
+use Rattle.replay_answers.specs.AnswerLines.{openingText, recordingText, sentText}
 
 -- "A packet that is refused with a code other than 0 and has an Id (8 octets at least) gets a failure STATUS with that Id
 -- and code". The writer would refuse code 0 too (21); that there is nothing to send for it is said here, where the rule is

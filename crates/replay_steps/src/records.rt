@@ -7,7 +7,7 @@ ghost use Rattle.packet.specs.Read.{readPacket};
 ghost use Rattle.packet_data.specs.Data.{readData};
 ghost use Rattle.packet_metadata.specs.Metadata.{readMetadata};
 ghost use Rattle.text.specs.Added.{Added};
-ghost use Rattle.replay_answers.specs.Answers.{openText, recordText, readText};
+ghost use Rattle.replay_answers.specs.AnswerLines.{openText, recordText, readText};
 ghost use Rattle.replay_steps.specs.Records.{bodyLength, cutLine, badLine, freshLines, freshAfter, closeLines, closeAfter, writtenLine, statusLines, recordLines, areaAfter};
 ghost use Rattle.replay_steps.specs.Room.{Room};
 use crate::deliver::deliver;

@@ -1,6 +1,5 @@
 pub mod RowsLaws
-pub mod ReadLaws
+pub mod RowReads
 pub mod JudgeLaws
 pub mod LoopLaws
 pub mod CutLaws
-pub mod SpliceLaws

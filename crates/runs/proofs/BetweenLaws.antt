@@ -8,7 +8,7 @@ use native.Mathlib.Omega.{arith}
 use lib.ListN.{length}
 use Rattle.runs.specs.Runs.{Run, nthRun, CanonicalFrom, Canonical, insert, absorbed}
 use Rattle.runs.specs.Splice.{stopsBelow, startsUpTo, splicedRuns}
-use Rattle.runs.proofs.NumberLaws.{le-or-lt}
+use Rattle.runs.proofs.CompareLaws.{le-or-lt}
 use Rattle.runs.proofs.SpliceLaws.{below-yes, below-no, to-yes, to-no, insert-spliced, absorbed-spliced}
 use Rattle.runs.proofs.RunPlaces.{starts-from, stops-from, run-some}
 

@@ -10,7 +10,7 @@ use lib.ListN.{length}
 use lib.Dec.{leb}
 use borrow.Author.Tests.{le-leb, lt-leb}
 use Rattle.runs.specs.Runs.{Run, run, CanonicalFrom, Canonical, insert, absorbed}
-use Rattle.runs.proofs.NumberLaws.{le-or-lt}
+use Rattle.runs.proofs.CompareLaws.{le-or-lt}
 use Rattle.runs.proofs.InsertLaws.{insert-cases}
 
 -- whether the first run is taken up: it is where it overlaps or touches

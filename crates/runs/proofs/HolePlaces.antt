@@ -13,7 +13,7 @@ use borrow.Author.Tests.{eq-eqb, ne-eqb}
 use Rattle.runs.specs.Runs.{Run, run, nthRun, CanonicalFrom, Canonical}
 use Rattle.runs.specs.Holes.{hole, holesFrom, holes}
 use Rattle.runs.specs.declared.Hole.{Hole}
-use Rattle.runs.proofs.NumberLaws.{le-or-lt}
+use Rattle.runs.proofs.CompareLaws.{le-or-lt}
 use Rattle.runs.proofs.HoleLaws.{holes-before, holes-after}
 
 -- ---- their number

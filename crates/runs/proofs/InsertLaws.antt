@@ -9,7 +9,7 @@ use native.Mathlib.Omega.{arith}
 use lib.Dec.{ltb}
 use borrow.Author.Tests.{lt-ltb, le-ltb}
 use Rattle.runs.specs.Runs.{Run, run, Within, Member, CanonicalFrom, Canonical, StopsTo, insert}
-use Rattle.runs.proofs.NumberLaws.{le-or-lt}
+use Rattle.runs.proofs.CompareLaws.{le-or-lt}
 use Rattle.runs.proofs.CanonicalLaws.{canonical-weaken}
 
 -- what `insert` does at the head of a list, by its two tests: whether r lies below, and whether it lies above

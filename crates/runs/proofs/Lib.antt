@@ -1,4 +1,4 @@
-pub mod NumberLaws
+pub mod CompareLaws
 pub mod CanonicalLaws
 pub mod RunLaws
 pub mod InsertLaws

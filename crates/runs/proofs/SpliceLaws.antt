@@ -11,7 +11,7 @@ use lib.Seq.{length-take-le}
 use borrow.Author.Tests.{lt-ltb, le-ltb, le-leb, lt-leb}
 use Rattle.runs.specs.Runs.{Run, run, nthRun, CanonicalFrom, Canonical, insert, absorbed}
 use Rattle.runs.specs.Splice.{stopsBelow, startsUpTo, lowOf, highOf, splicedRuns}
-use Rattle.runs.proofs.NumberLaws.{le-or-lt}
+use Rattle.runs.proofs.CompareLaws.{le-or-lt}
 use Rattle.runs.proofs.InsertLaws.{insert-join, insert-before, insert-after}
 use Rattle.runs.proofs.CountLaws.{insert-count}
 

@@ -13,7 +13,7 @@ use Rattle.packet_data.specs.Data.{readData}
 use Rattle.packet_data.specs.declared.Data.{Data}
 use Rattle.packet_data.specs.declared.DataRead.the-variants as data-read
 use Rattle.transfer.specs.declared.Reached.{Reached}
-use Rattle.transfer.specs.Status.{bit}
+use Rattle.transfer.specs.WriteStatus.{bit}
 use Rattle.transfer.proofs.StatusFlags.{bit-iff}
 use Rattle.table.specs.Open.{openAccepted}
 use Rattle.table.specs.Record.{recordAccepted}

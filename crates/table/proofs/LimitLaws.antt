@@ -13,7 +13,7 @@ use Rattle.refusals.proofs.TestLaws.{eqb-iff, ltb-iff, ltb-not, and-iff, test-n
 use Rattle.refusals.proofs.RefusalLaws.{after-none}
 use Rattle.packet_data.specs.declared.Data.{Data}
 use Rattle.runs.specs.Runs.{Run}
-use Rattle.runs.proofs.NumberLaws.{le-or-lt}
+use Rattle.runs.proofs.CompareLaws.{le-or-lt}
 use Rattle.transfer.specs.declared.Key.{Key}
 use Rattle.transfer.specs.Record.{runsRefusal}
 use Rattle.transfer.proofs.LimitLaws.{key-refusal-not-12, key-refusal-le, sixteen-iff}

@@ -23,8 +23,8 @@ use Rattle.runs.specs.Holes.{edge, holes, progress, complete}
 use Rattle.transfer.specs.declared.Key.{Key}
 use Rattle.transfer.specs.Transfers.{Transfer}
 use Rattle.table.specs.Tables.{Valid, keys, find, runsOf}
-use Rattle.table.specs.Status.{writtenFor, bufferFor, statusWritten, statusBuffer}
-use Rattle.transfer.specs.Status.{holesSent, partialSent, statusFlags, statusPacket, transferRefused, transferWritten, transferBuffer}
+use Rattle.table.specs.WriteStatus.{writtenFor, bufferFor, statusWritten, statusBuffer}
+use Rattle.transfer.specs.WriteStatus.{holesSent, partialSent, statusFlags, statusPacket, transferRefused, transferWritten, transferBuffer}
 use Rattle.table.proofs.FindLaws.{Found, found-fine}
 use Rattle.transfer.proofs.StatusSize.{status-size, status-size-fits}
 use Rattle.transfer.proofs.StatusReads.{status-read, status-holes-read}

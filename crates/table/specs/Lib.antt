@@ -3,5 +3,5 @@ pub mod Tables
 pub mod Open
 pub mod Record
 pub mod Close
-pub mod Status
+pub mod WriteStatus
 pub mod Told

@@ -7,7 +7,7 @@ use native.Mathlib.Omega.{arith}
 use lib.ListN.{length, drop}
 use Rattle.octets.specs.Numbers.{Octets, Width}
 use Rattle.octets.proofs.NumberLaws.{part-lt}
-use Rattle.header.specs.Word.{descriptorOctets}
+use Rattle.header.specs.FirstWord.{descriptorOctets}
 use Rattle.header.specs.Start.{wordOf}
 use Rattle.header.proofs.StartLaws.{file-fine}
 use Rattle.directory_entry.specs.Entry.{entryOf}

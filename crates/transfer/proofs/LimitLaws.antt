@@ -16,7 +16,7 @@ use Rattle.packet_data.specs.declared.Data.{Data}
 use Rattle.runs.specs.Runs.{Run}
 use Rattle.transfer.specs.declared.Key.{Key}
 use Rattle.transfer.specs.Record.{stopOf, keyRefusal, runsRefusal}
-use Rattle.transfer.specs.Status.{skipsTooMany, leastRoom, sizeRefusal}
+use Rattle.transfer.specs.WriteStatus.{skipsTooMany, leastRoom, sizeRefusal}
 
 -- ---- recording
 

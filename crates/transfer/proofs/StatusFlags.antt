@@ -9,9 +9,9 @@ use lib.Bits.{bitOr, or-shifted}
 use lib.Dec.{eqb}
 use Rattle.octets.specs.Numbers.{Width}
 use Rattle.octets.specs.Numbers.Width.{two, four, eight}
-use Rattle.header.specs.Word.{bits, markOf, typeOf, flagsOf, widthOf, descriptorOctets, timestampOctets, partialOf, statusOf, wordFor}
-use Rattle.header.proofs.WordLaws.{mark-for, type-for, flags-for}
-use Rattle.transfer.specs.Status.{bit, widthBits, statusFlags}
+use Rattle.header.specs.FirstWord.{bits, markOf, typeOf, flagsOf, widthOf, descriptorOctets, timestampOctets, partialOf, statusOf, wordFor}
+use Rattle.header.proofs.FirstWordLaws.{mark-for, type-for, flags-for}
+use Rattle.transfer.specs.WriteStatus.{bit, widthBits, statusFlags}
 
 width-bits-lt : (d : ℕ) → widthBits d < 3
 unfolding widthBits

@@ -11,8 +11,8 @@ use lib.Seq.{take-all}
 use lib.Dec.{ltb}
 use borrow.Author.Tests.{ltb-true, ltb-false, lt-ltb}
 use Rattle.runs.specs.declared.Hole.{Hole}
-use Rattle.runs.proofs.NumberLaws.{le-or-lt}
-use Rattle.transfer.specs.Status.{holeRoom, holesSent, partialSent}
+use Rattle.runs.proofs.CompareLaws.{le-or-lt}
+use Rattle.transfer.specs.WriteStatus.{holeRoom, holesSent, partialSent}
 use Rattle.transfer.proofs.StatusSize.{holes-sent-count}
 
 pub or-iff : (a b : Bool) → (a || b ≡ true) ↔ ((a ≡ true) ⊎ (b ≡ true))

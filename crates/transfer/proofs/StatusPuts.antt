@@ -12,11 +12,11 @@ use Rattle.octets.specs.Numbers.{beDigits}
 use Rattle.octets.specs.Put.{put}
 use Rattle.octets.proofs.NumberLaws.{length-digits}
 use Rattle.octets.proofs.PutLaws.{put-next, put-nil}
-use Rattle.header.specs.Word.{wordFor}
+use Rattle.header.specs.FirstWord.{wordFor}
 use Rattle.packet_data.proofs.WriteDataLaws.{puts}
 use Rattle.runs.specs.declared.Hole.{Hole}
 use Rattle.runs.specs.Holes.{hole}
-use Rattle.transfer.specs.Status.{statusFields, pair, pairs, statusOctets}
+use Rattle.transfer.specs.WriteStatus.{statusFields, pair, pairs, statusOctets}
 use Rattle.transfer.proofs.StatusSize.{pair-length, pairs-length, fields-length}
 
 -- ---- the fields

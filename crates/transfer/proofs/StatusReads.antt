@@ -13,10 +13,10 @@ use borrow.Author.Tests.{lt-ltb, le-ltb, le-leb, eq-eqb}
 use Rattle.octets.specs.Numbers.{beValue, beDigits, Width}
 use Rattle.octets.proofs.NumberLaws.{value-digits, length-digits, width-le, width-some}
 use Rattle.refusals.specs.Refusals.{refusalOf}
-use Rattle.header.specs.Word.{markOf, typeOf, flagsOf, widthOf, descriptorOctets, timestampOctets, partialOf, statusOf, wordFor}
+use Rattle.header.specs.FirstWord.{markOf, typeOf, flagsOf, widthOf, descriptorOctets, timestampOctets, partialOf, statusOf, wordFor}
 use Rattle.header.specs.Start.{wordOf, idOf, startRefusal, typeRefusal}
 use Rattle.runs.specs.declared.Hole.{Hole}
-use Rattle.packet_status.specs.Holes.{holesOf, holesAfter, startsWell, holesWell}
+use Rattle.packet_status.specs.HoleList.{holesOf, holesAfter, startsWell, holesWell}
 use Rattle.packet_status.specs.Status.{holesAt, progressOf, responseOf, listOctets, holeCount, holeList, successRefusal, statusRefusal, successOf, readStatus, readHole}
 use Rattle.packet_status.specs.declared.StatusRead.the-variants.{Success}
 use Rattle.packet_status.specs.declared.HoleRead.the-variants as hole-read
@@ -28,7 +28,7 @@ use Rattle.runs.proofs.HoleLaws.{apart-drop, apart-take}
 use Rattle.runs.proofs.HolePlaces.{holes-few}
 use Rattle.runs.proofs.ProgressLaws.{progress-edge, holes-between, progress-no-holes, progress-first-hole}
 use Rattle.transfer.specs.Transfers.{Transfer, TransferFine}
-use Rattle.transfer.specs.Status.{holeRoom, holesSent, partialSent, statusFlags, statusFields, pairs, statusOctets, statusPacket}
+use Rattle.transfer.specs.WriteStatus.{holeRoom, holesSent, partialSent, statusFlags, statusFields, pairs, statusOctets, statusPacket}
 use Rattle.transfer.proofs.StatusSize.{holes-sent-count, status-octets-size}
 use Rattle.transfer.proofs.StatusPartial.{whole-sent}
 use Rattle.transfer.proofs.StatusFlags.{bit-test, flags-fit, flags-mark, flags-type, flags-flags, flags-narrow, flags-octets, flags-timestamp, flags-partial, flags-status}

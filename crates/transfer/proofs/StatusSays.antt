@@ -7,7 +7,7 @@ use mathlib.Core.Bool.{Bool, true, false, _||_}
 use mathlib.Core.List.{List, [], _∷_, _++_}
 use mathlib.Core.Logic.{_⊎_, inl, inr, ⊎-elim, _↔_}
 use lib.ListN.{length, take, drop, take-append-drop}
-use Rattle.header.specs.Word.{bits, partialOf}
+use Rattle.header.specs.FirstWord.{bits, partialOf}
 use Rattle.header.specs.Start.{wordOf}
 use Rattle.runs.specs.declared.Hole.{Hole}
 use Rattle.runs.specs.Runs.{Run, Member}
@@ -17,7 +17,7 @@ use Rattle.runs.proofs.HoleLaws.{hole-iff}
 use Rattle.runs.proofs.ProgressLaws.{progress-lowest}
 use Rattle.runs.proofs.CompleteLaws.{complete-iff}
 use Rattle.transfer.specs.Transfers.{Transfer, TransferFine}
-use Rattle.transfer.specs.Status.{holeRoom, holesSent, partialSent, bit, statusPacket}
+use Rattle.transfer.specs.WriteStatus.{holeRoom, holesSent, partialSent, bit, statusPacket}
 use Rattle.transfer.proofs.StatusPartial.{or-iff, partial-iff, whole-sent}
 use Rattle.transfer.proofs.StatusFlags.{bit-iff, flags-partial, flags-unasked}
 use Rattle.transfer.proofs.StatusReads.{status-word}

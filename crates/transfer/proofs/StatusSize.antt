@@ -18,9 +18,9 @@ use Rattle.runs.specs.declared.Hole.{Hole}
 use Rattle.refusals.proofs.RefusalLaws.{first-none, rest-none, failed}
 use Rattle.runs.specs.Runs.{Run}
 use Rattle.runs.specs.Holes.{holes}
-use Rattle.runs.proofs.NumberLaws.{le-or-lt}
+use Rattle.runs.proofs.CompareLaws.{le-or-lt}
 use Rattle.transfer.specs.declared.Key.{Key}
-use Rattle.transfer.specs.Status.{skipsTooMany, leastRoom, sizeRefusal, holeRoom, holesSent, statusFields, pair, pairs, statusOctets, statusPacket}
+use Rattle.transfer.specs.WriteStatus.{skipsTooMany, leastRoom, sizeRefusal, holeRoom, holesSent, statusFields, pair, pairs, statusOctets, statusPacket}
 
 -- ---- what is asked of a STATUS that is written
 

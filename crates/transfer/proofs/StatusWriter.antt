@@ -17,9 +17,9 @@ use Rattle.refusals.proofs.WritingLaws.{written-refused, buffer-refused}
 use Rattle.runs.specs.declared.Hole.{Hole}
 use Rattle.runs.specs.Runs.{Run}
 use Rattle.runs.specs.Holes.{edge, holes, progress, complete}
-use Rattle.runs.proofs.NumberLaws.{le-or-lt}
+use Rattle.runs.proofs.CompareLaws.{le-or-lt}
 use Rattle.transfer.specs.declared.Key.{Key}
-use Rattle.transfer.specs.Status.{sizeRefusal, holeRoom, holesSent, partialSent, statusFlags, statusFields, pairs, statusOctets, statusPacket, transferRefused, transferWritten, transferBuffer}
+use Rattle.transfer.specs.WriteStatus.{sizeRefusal, holeRoom, holesSent, partialSent, statusFlags, statusFields, pairs, statusOctets, statusPacket, transferRefused, transferWritten, transferBuffer}
 use Rattle.transfer.proofs.StatusSize.{status-fits, skip-there, hole-room-iff, status-octets-size}
 use Rattle.transfer.proofs.StatusPuts.{part-length, holes-put}
 

@@ -1,3 +1,3 @@
 pub mod Transfers
 pub mod Record
-pub mod Status
+pub mod WriteStatus

@@ -5,7 +5,7 @@ ghost use Prim.Native.Nat.{_+_, _*_, _-_, _≤_, _<_, min};
 ghost use lib.ListN.{length};
 ghost use Rattle.octets.specs.Numbers.{Width};
 ghost use Rattle.octets.specs.Put.{put};
-ghost use Rattle.transfer.specs.Status.{skipsTooMany, leastRoom, sizeRefusal, holeRoom, partialSent, bit, widthBits, statusFlags, statusFields, pair};
+ghost use Rattle.transfer.specs.WriteStatus.{skipsTooMany, leastRoom, sizeRefusal, holeRoom, partialSent, bit, widthBits, statusFlags, statusFields, pair};
 use crate::Key;
 use runs::Hole;
 

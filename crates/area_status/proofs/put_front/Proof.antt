@@ -3,7 +3,7 @@
 use borrow.Author.Needs.{needs}
 use denote.Ref.{now}
 use Rattle.run_rows.specs.Rows.{runsIn}
-use Rattle.area_status.proofs.StatusLaws.{front-put}
+use Rattle.area_status.proofs.WriteStatusLaws.{front-put}
 use Rattle.area_status.proofs.put_front.Statement.{statement}
 use Rattle.area_status.proofs.put_front.Tie as tie
 

@@ -11,7 +11,7 @@ use Rattle.runs.specs.Holes.{holes}
 use Rattle.runs.proofs.HolePlaces.{holes-few}
 use Rattle.run_rows.specs.Rows.{runsIn}
 use Rattle.run_rows.proofs.RowsLaws.{length-runs}
-use Rattle.transfer.specs.Status.{pairs}
+use Rattle.transfer.specs.WriteStatus.{pairs}
 use Rattle.transfer.proofs.StatusPuts.{one-less, pairs-step, pairs-end}
 use Rattle.area_status.proofs.put_pairs.Statement.{statement}
 use Rattle.area_status.proofs.put_pairs.Tie as tie

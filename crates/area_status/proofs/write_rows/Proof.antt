@@ -9,7 +9,7 @@ use lib.ListN.{length}
 use Rattle.octets.proofs.NumberLaws.{width-le}
 use Rattle.runs.specs.Holes.{holes}
 use Rattle.run_rows.specs.Rows.{runsIn}
-use Rattle.transfer.specs.Status.{sizeRefusal, holeRoom, transferRefused}
+use Rattle.transfer.specs.WriteStatus.{sizeRefusal, holeRoom, transferRefused}
 use Rattle.transfer.proofs.StatusSize.{skip-there}
 use Rattle.transfer.proofs.StatusWriter.{sent-room, transfer-refused, transfer-written}
 use Rattle.area_status.proofs.write_rows.Statement.{statement}

@@ -9,7 +9,7 @@ use Rattle.area.specs.Judge.{judged}
 use Rattle.area.proofs.AreaLaws.{judged-unheld}
 use Rattle.area_status.specs.Used.{UsedPlace}
 use Rattle.area_status.proofs.UsedLaws.{used-place}
-use Rattle.area_status.proofs.StatusLaws.{status-unheld, status-missing, open-used, status-found}
+use Rattle.area_status.proofs.WriteStatusLaws.{status-unheld, status-missing, open-used, status-found}
 use Rattle.area_status.proofs.write_status.Statement.{statement}
 use Rattle.area_status.proofs.write_status.Tie as tie
 

@@ -1,6 +1,6 @@
 -- `header::file_refusal` meets its contract: a return for each test. Assumes nothing.
 use borrow.Author.Tests.{eq-eqb, ne-eqb}
-use Rattle.header.specs.Word.{widthOf, kindOf}
+use Rattle.header.specs.FirstWord.{widthOf, kindOf}
 use Rattle.header.specs.Start.{fileRefusal}
 use borrow.Author.Needs.{needs}
 use native.Mathlib.Omega.{arith}

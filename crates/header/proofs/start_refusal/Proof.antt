@@ -2,7 +2,7 @@
 use lib.ListN.{length}
 use denote.Ref.{now}
 use borrow.Author.Tests.{lt-ltb, le-ltb, eq-eqb, ne-eqb}
-use Rattle.header.specs.Word.{markOf}
+use Rattle.header.specs.FirstWord.{markOf}
 use Rattle.header.specs.Start.{wordOf, startRefusal}
 use borrow.Author.Needs.{needs}
 use native.Mathlib.Omega.{arith}

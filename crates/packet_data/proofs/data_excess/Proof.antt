@@ -4,7 +4,7 @@ use mathlib.Core.Bool.{true, false}
 use Prim.Native.Nat.{ℕ, _^_}
 use lib.Dec.{ltb}
 use borrow.Author.Tests.{lt-ltb, le-ltb, not-true, not-false}
-use Rattle.header.specs.Word.{descriptorOctets, timestampOctets}
+use Rattle.header.specs.FirstWord.{descriptorOctets, timestampOctets}
 use Rattle.packet_data.specs.WriteData.{dataExcess}
 use borrow.Author.Needs.{needs}
 use native.Mathlib.Omega.{arith}

@@ -4,12 +4,12 @@ use mathlib.Core.Path.{_≡_, sym, ap, _∙_}
 use denote.Ref.{now}
 use lib.ListN.{length}
 use borrow.Author.Tests.{eq-eqb, ne-eqb}
-use Rattle.header.specs.Word.{descriptorOctets}
+use Rattle.header.specs.FirstWord.{descriptorOctets}
 use Rattle.header.specs.Start.{wordOf, typeRefusal, fileRefusal}
 use Rattle.header.specs.Descriptor.{descriptorRefusal}
 use Rattle.refusals.proofs.RefusalLaws.{stays}
 use Rattle.header.proofs.StartLaws.{type-fine}
-use Rattle.header.proofs.WordLaws.{octets-le}
+use Rattle.header.proofs.FirstWordLaws.{octets-le}
 use Rattle.packet_data.specs.Data.{offsetAt, payloadAt, dataRefusal}
 use borrow.Author.Needs.{needs}
 use native.Mathlib.Omega.{arith}

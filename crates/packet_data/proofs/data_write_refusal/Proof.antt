@@ -3,7 +3,7 @@
 use mathlib.Core.Path.{_≡_, sym, ap, _∙_}
 use Prim.Native.Nat.{ℕ, _+_}
 use borrow.Author.Tests.{lt-ltb, le-ltb, eq-eqb, ne-eqb}
-use Rattle.header.specs.Word.{timestampOctets}
+use Rattle.header.specs.FirstWord.{timestampOctets}
 use Rattle.header.specs.Start.{fileRefusal}
 use Rattle.refusals.specs.Writing.{roomRefusal}
 use Rattle.refusals.proofs.RefusalLaws.{stays}

@@ -6,7 +6,7 @@ use denote.Ref.{now}
 use lib.ListN.{length}
 use Rattle.octets.specs.Numbers.{beDigits}
 use Rattle.octets.proofs.NumberLaws.{length-digits}
-use Rattle.header.specs.Word.{descriptorOctets, timestampOctets, wordFor}
+use Rattle.header.specs.FirstWord.{descriptorOctets, timestampOctets, wordFor}
 use Rattle.packet_data.specs.Data.{offsetAt, payloadAt}
 use Rattle.packet_data.specs.WriteData.{dataOctets}
 use Rattle.packet_data.proofs.WriteDataLaws.{puts}

@@ -4,7 +4,7 @@ use Prim.Native.Nat.{ℕ, _+_, _≤_}
 use mathlib.Core.Path.{_≡_, ap, _∙_}
 use denote.Ref.{now}
 use lib.ListN.{length, drop}
-use Rattle.header.specs.Word.{flagsOf, descriptorOctets}
+use Rattle.header.specs.FirstWord.{flagsOf, descriptorOctets}
 use Rattle.header.specs.Start.{wordOf}
 use Rattle.directory_entry.specs.Entry.{entryOf}
 use Rattle.directory_entry.proofs.EntryLaws.{rest-part}

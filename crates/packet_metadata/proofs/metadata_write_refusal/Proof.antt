@@ -3,7 +3,7 @@ use Prim.Native.Nat.{ℕ}
 use mathlib.Core.Path.{_≡_, sym, ap, _∙_}
 use denote.Ref.{now}
 use lib.ListN.{length}
-use Rattle.header.specs.Word.{descriptorOctets}
+use Rattle.header.specs.FirstWord.{descriptorOctets}
 use Rattle.refusals.specs.Writing.{roomRefusal}
 use Rattle.refusals.proofs.RefusalLaws.{stays}
 use Rattle.directory_entry.specs.WriteEntry.{entryExcess, entryWriteRefusal}

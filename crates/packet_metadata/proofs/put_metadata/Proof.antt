@@ -4,7 +4,7 @@ use mathlib.Core.Path.{_≡_, refl}
 use denote.Ref.{now}
 use lib.ListN.{length}
 use Rattle.octets.specs.Numbers.{beDigits}
-use Rattle.header.specs.Word.{wordFor}
+use Rattle.header.specs.FirstWord.{wordFor}
 use Rattle.directory_entry.specs.WriteEntry.{entryOctets, entrySize}
 use Rattle.directory_entry.proofs.EntryLaws.{length-entry}
 use Rattle.packet_metadata.specs.WriteMetadata.{metadataOctets}

@@ -3,7 +3,7 @@
 use mathlib.Core.Path.{_≡_, sym, ap, _∙_}
 use borrow.Author.Tests.{eq-eqb, ne-eqb, lt-ltb, le-ltb}
 use denote.Ref.{now}
-use Rattle.header.specs.Word.{statusOf}
+use Rattle.header.specs.FirstWord.{statusOf}
 use Rattle.header.specs.Start.{wordOf}
 use Rattle.refusals.proofs.RefusalLaws.{stays}
 use Rattle.packet_status.specs.Status.{holeCount, statusRefusal, successOf, holeRefusal}

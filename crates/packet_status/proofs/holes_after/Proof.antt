@@ -6,8 +6,8 @@ use mathlib.Core.List.{_∷_}
 use borrow.Author.Tests.{le-ltb, lt-ltb, le-leb, lt-leb}
 use denote.Ref.{now}
 use lib.ListN.{length}
-use Rattle.packet_status.specs.Holes.{holesOf, holesAfter}
-use Rattle.packet_status.proofs.HoleLaws.{less-one, holes-step}
+use Rattle.packet_status.specs.HoleList.{holesOf, holesAfter}
+use Rattle.packet_status.proofs.HoleListLaws.{less-one, holes-step}
 use native.Mathlib.Omega.{arith}
 use Rattle.packet_status.proofs.holes_after.Statement.{statement}
 use Rattle.packet_status.proofs.holes_after.Tie as tie

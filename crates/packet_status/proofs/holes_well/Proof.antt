@@ -7,8 +7,8 @@ use mathlib.Core.List.{_∷_}
 use borrow.Author.Tests.{le-ltb, lt-ltb, le-leb, lt-leb, not-true, not-false}
 use denote.Ref.{now}
 use lib.ListN.{length}
-use Rattle.packet_status.specs.Holes.{holesOf, startsWell, holesWell}
-use Rattle.packet_status.proofs.HoleLaws.{less-one, holes-step}
+use Rattle.packet_status.specs.HoleList.{holesOf, startsWell, holesWell}
+use Rattle.packet_status.proofs.HoleListLaws.{less-one, holes-step}
 use borrow.Author.Needs.{needs}
 use native.Mathlib.Omega.{arith}
 use Rattle.packet_status.proofs.holes_well.Statement.{statement}

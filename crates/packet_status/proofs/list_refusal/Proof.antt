@@ -10,10 +10,10 @@ use lib.ListN.{length}
 use Rattle.octets.specs.Numbers.{Width}
 use Rattle.octets.proofs.NumberLaws.{width-some}
 use Rattle.refusals.specs.Refusals.{when}
-use Rattle.header.specs.Word.{descriptorOctets, timestampOctets, partialOf}
+use Rattle.header.specs.FirstWord.{descriptorOctets, timestampOctets, partialOf}
 use Rattle.header.specs.Start.{wordOf}
-use Rattle.header.proofs.WordLaws.{octets-le}
-use Rattle.packet_status.specs.Holes.{holesWell}
+use Rattle.header.proofs.FirstWordLaws.{octets-le}
+use Rattle.packet_status.specs.HoleList.{holesWell}
 use Rattle.packet_status.specs.Status.{holesAt, progressOf, responseOf, listOctets, holeList, listRefusal}
 use Rattle.packet_status.proofs.StatusLaws.{list-fits}
 use borrow.Author.Needs.{needs}

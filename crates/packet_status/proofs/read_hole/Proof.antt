@@ -5,7 +5,7 @@ use mathlib.Core.Path.{_≡_, ap, _∙_}
 use denote.Ref.{now}
 use lib.ListN.{length}
 use Rattle.octets.specs.Numbers.{Width}
-use Rattle.header.specs.Word.{descriptorOctets, timestampOctets}
+use Rattle.header.specs.FirstWord.{descriptorOctets, timestampOctets}
 use Rattle.header.specs.Start.{wordOf}
 use Rattle.packet_status.specs.Status.{holeRefusal, indexedHole, readHole}
 use Rattle.packet_status.proofs.StatusLaws.{success-octets, hole-fine, hole-fits}

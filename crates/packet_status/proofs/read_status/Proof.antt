@@ -2,7 +2,7 @@
 -- Assumes nothing.
 use mathlib.Core.Path.{_≡_}
 use denote.Ref.{now}
-use Rattle.header.specs.Word.{statusOf}
+use Rattle.header.specs.FirstWord.{statusOf}
 use Rattle.header.specs.Start.{wordOf}
 use Rattle.packet_status.specs.Status.{statusRefusal, failureOf, readStatus}
 use Rattle.packet_status.proofs.StatusLaws.{status-fine, failure-accepted}

@@ -3,7 +3,7 @@
 use mathlib.Core.Path.{_≡_, sym, _∙_}
 use borrow.Author.Tests.{eq-eqb, ne-eqb}
 use denote.Ref.{now}
-use Rattle.header.specs.Word.{statusOf}
+use Rattle.header.specs.FirstWord.{statusOf}
 use Rattle.header.specs.Start.{wordOf, typeRefusal}
 use Rattle.refusals.proofs.RefusalLaws.{stays}
 use Rattle.header.proofs.StartLaws.{type-fine}

@@ -5,9 +5,9 @@ use mathlib.Core.Path.{_≡_, ap, _∙_}
 use denote.Ref.{now}
 use lib.ListN.{length}
 use Rattle.octets.specs.Numbers.{Width}
-use Rattle.header.specs.Word.{descriptorOctets, timestampOctets}
+use Rattle.header.specs.FirstWord.{descriptorOctets, timestampOctets}
 use Rattle.header.specs.Start.{wordOf}
-use Rattle.header.proofs.WordLaws.{octets-le}
+use Rattle.header.proofs.FirstWordLaws.{octets-le}
 use Rattle.packet_status.specs.Status.{holesAt, successOf}
 use Rattle.packet_status.proofs.StatusLaws.{success-fine, success-octets}
 use Rattle.octets.proofs.NumberLaws.{width-some}

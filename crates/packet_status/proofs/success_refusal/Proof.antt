@@ -4,10 +4,10 @@ use mathlib.Core.Path.{_≡_, sym, ap, _∙_}
 use borrow.Author.Tests.{eq-eqb, ne-eqb}
 use denote.Ref.{now}
 use Rattle.refusals.proofs.RefusalLaws.{stays}
-use Rattle.header.specs.Word.{widthOf, descriptorOctets, timestampOctets}
+use Rattle.header.specs.FirstWord.{widthOf, descriptorOctets, timestampOctets}
 use Rattle.header.specs.Start.{wordOf}
 use Rattle.header.specs.Descriptor.{descriptorRefusal}
-use Rattle.header.proofs.WordLaws.{octets-le}
+use Rattle.header.proofs.FirstWordLaws.{octets-le}
 use Rattle.header.proofs.StartLaws.{narrow-octets}
 use Rattle.header.proofs.DescriptorLaws.{descriptor-there}
 use Rattle.packet_status.specs.Status.{progressAt, responseAt, successRefusal}

@@ -2,7 +2,7 @@
 -- Assumes nothing.
 use mathlib.Core.Path.{sym, ap}
 use Rattle.text.proofs.AddedLaws.{added-as}
-use Rattle.replay_answers.specs.Answers.{freshText}
+use Rattle.replay_answers.specs.AnswerLines.{freshText}
 use borrow.Author.Needs.{needs}
 use Rattle.replay_answers.proofs.put_fresh.Statement.{statement}
 use Rattle.replay_answers.proofs.put_fresh.Tie as tie

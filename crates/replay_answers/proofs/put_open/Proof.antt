@@ -3,7 +3,7 @@
 use mathlib.Core.Path.{sym, ap}
 use Rattle.packet_metadata.specs.declared.MetadataRead.{MetadataRead}
 use Rattle.text.proofs.AddedLaws.{added-as}
-use Rattle.replay_answers.specs.Answers.{openText}
+use Rattle.replay_answers.specs.AnswerLines.{openText}
 use borrow.Author.Needs.{needs}
 use Rattle.replay_answers.proofs.put_open.Statement.{statement}
 use Rattle.replay_answers.proofs.put_open.Tie as tie

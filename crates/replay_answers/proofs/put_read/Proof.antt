@@ -3,7 +3,7 @@
 use mathlib.Core.Path.{sym, ap}
 use denote.Ref.{now}
 use Rattle.text.proofs.AddedLaws.{added-as}
-use Rattle.replay_answers.specs.Answers.{readText}
+use Rattle.replay_answers.specs.AnswerLines.{readText}
 use borrow.Author.Needs.{needs}
 use Rattle.replay_answers.proofs.put_read.Statement.{statement}
 use Rattle.replay_answers.proofs.put_read.Tie as tie

@@ -3,7 +3,7 @@
 use mathlib.Core.Path.{sym, ap}
 use Rattle.packet_data.specs.declared.DataRead.{DataRead}
 use Rattle.text.proofs.AddedLaws.{added-as}
-use Rattle.replay_answers.specs.Answers.{recordText}
+use Rattle.replay_answers.specs.AnswerLines.{recordText}
 use borrow.Author.Needs.{needs}
 use Rattle.replay_answers.proofs.put_record.Statement.{statement}
 use Rattle.replay_answers.proofs.put_record.Tie as tie

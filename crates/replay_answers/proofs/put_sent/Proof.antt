@@ -5,8 +5,8 @@ use denote.Ref.{now}
 use Rattle.refusals.specs.declared.Written.{Written}
 use Rattle.text.proofs.AddedLaws.{added-as, added-none}
 use Rattle.replay_lines.specs.Lines.{octetsLine}
-use Rattle.replay_fields.specs.Words.{w-send}
-use Rattle.replay_answers.specs.Answers.{sentText}
+use Rattle.replay_fields.specs.LineWords.{w-send}
+use Rattle.replay_answers.specs.AnswerLines.{sentText}
 use borrow.Author.Needs.{needs}
 use Rattle.replay_answers.proofs.put_sent.Statement.{statement}
 use Rattle.replay_answers.proofs.put_sent.Tie as tie

@@ -5,8 +5,8 @@ use denote.Ref.{now}
 use Rattle.refusals.specs.declared.Written.{Written}
 use Rattle.text.proofs.AddedLaws.{added-as}
 use Rattle.replay_lines.specs.Lines.{octetsLine}
-use Rattle.replay_fields.specs.Words.{w-written}
-use Rattle.replay_answers.specs.Answers.{statusText}
+use Rattle.replay_fields.specs.LineWords.{w-written}
+use Rattle.replay_answers.specs.AnswerLines.{statusText}
 use borrow.Author.Needs.{needs}
 use Rattle.replay_answers.proofs.put_written.Statement.{statement}
 use Rattle.replay_answers.proofs.put_written.Tie as tie

@@ -4,7 +4,7 @@ use borrow.Author.Needs.{needs}
 use mathlib.Core.Path.{ap}
 use Rattle.text.proofs.AddedLaws.{_then_, added-as}
 use Rattle.replay_fields.specs.Fields.{field}
-use Rattle.replay_fields.specs.Words.{w-complete}
+use Rattle.replay_fields.specs.LineWords.{w-complete}
 use Rattle.replay_fields.proofs.put_reached.Statement.{statement}
 use Rattle.replay_fields.proofs.put_reached.Tie as tie
 

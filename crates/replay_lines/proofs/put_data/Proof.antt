@@ -7,7 +7,7 @@ use lib.ListN.{length}
 use borrow.Author.Needs.{needs}
 use Rattle.text.proofs.AddedLaws.{_then_, added-as}
 use Rattle.replay_fields.specs.Fields.{field, octetsField}
-use Rattle.replay_fields.specs.Words.{w-timestamp, w-length}
+use Rattle.replay_fields.specs.LineWords.{w-timestamp, w-length}
 use Rattle.replay_lines.specs.Lines.{dataLine}
 use Rattle.replay_lines.proofs.put_data.Statement.{statement}
 use Rattle.replay_lines.proofs.put_data.Tie as tie

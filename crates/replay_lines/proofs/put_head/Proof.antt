@@ -4,7 +4,7 @@ use mathlib.Core.Path.{ap}
 use borrow.Author.Needs.{needs}
 use Rattle.text.proofs.AddedLaws.{_then_, added-as}
 use Rattle.replay_fields.specs.Fields.{field}
-use Rattle.replay_fields.specs.Words.{w-width}
+use Rattle.replay_fields.specs.LineWords.{w-width}
 use Rattle.replay_lines.proofs.put_head.Statement.{statement}
 use Rattle.replay_lines.proofs.put_head.Tie as tie
 

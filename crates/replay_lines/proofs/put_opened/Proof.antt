@@ -4,7 +4,7 @@ use borrow.Author.Needs.{needs}
 use mathlib.Core.Path.{ap}
 use Rattle.text.proofs.AddedLaws.{_then_, added-as}
 use Rattle.replay_fields.specs.Fields.{field}
-use Rattle.replay_fields.specs.Words.{w-width}
+use Rattle.replay_fields.specs.LineWords.{w-width}
 use Rattle.replay_lines.specs.Lines.{openedLine}
 use Rattle.replay_lines.proofs.put_opened.Statement.{statement}
 use Rattle.replay_lines.proofs.put_opened.Tie as tie

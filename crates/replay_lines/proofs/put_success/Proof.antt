@@ -4,7 +4,7 @@ use mathlib.Core.Path.{ap}
 use borrow.Author.Needs.{needs}
 use Rattle.text.proofs.AddedLaws.{_then_, added-as}
 use Rattle.replay_fields.specs.Fields.{octetsField}
-use Rattle.replay_fields.specs.Words.{w-timestamp}
+use Rattle.replay_fields.specs.LineWords.{w-timestamp}
 use Rattle.replay_lines.specs.Lines.{successLine}
 use Rattle.replay_lines.proofs.put_success.Statement.{statement}
 use Rattle.replay_lines.proofs.put_success.Tie as tie

@@ -2,7 +2,7 @@
 use borrow.Author.Needs.{needs}
 use native.Mathlib.Omega.{arith}
 use denote.Ref.{now}
-use Rattle.run_rows.proofs.ReadLaws.{edge-none, edge-some}
+use Rattle.run_rows.proofs.RowReads.{edge-none, edge-some}
 use Rattle.run_rows.proofs.edge_of.Statement.{statement}
 use Rattle.run_rows.proofs.edge_of.Tie as tie
 

@@ -4,7 +4,7 @@ use borrow.Author.Needs.{needs}
 use native.Mathlib.Omega.{arith}
 use denote.Ref.{now}
 use Prim.Native.Nat.{_+_, _<_}
-use Rattle.run_rows.proofs.ReadLaws.{hole-some, hole-below, hole-within, hole-low, hole-first, hole-next}
+use Rattle.run_rows.proofs.RowReads.{hole-some, hole-below, hole-within, hole-low, hole-first, hole-next}
 use Rattle.run_rows.proofs.hole_at.Statement.{statement}
 use Rattle.run_rows.proofs.hole_at.Tie as tie
 

@@ -3,7 +3,7 @@
 use borrow.Author.Needs.{needs}
 use native.Mathlib.Omega.{arith}
 use denote.Ref.{now}
-use Rattle.run_rows.proofs.ReadLaws.{holes-none, holes-low, holes-high}
+use Rattle.run_rows.proofs.RowReads.{holes-none, holes-low, holes-high}
 use Rattle.run_rows.proofs.hole_count.Statement.{statement}
 use Rattle.run_rows.proofs.hole_count.Tie as tie
 

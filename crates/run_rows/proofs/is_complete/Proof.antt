@@ -2,7 +2,7 @@
 -- another function is refused at what it gives. Assumes nothing.
 use borrow.Author.Needs.{needs}
 use native.Mathlib.Omega.{arith}
-use Rattle.run_rows.proofs.ReadLaws.{complete-by}
+use Rattle.run_rows.proofs.RowReads.{complete-by}
 use Rattle.run_rows.proofs.is_complete.Statement.{statement}
 use Rattle.run_rows.proofs.is_complete.Tie as tie
 

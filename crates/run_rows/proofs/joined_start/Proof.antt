@@ -2,7 +2,7 @@
 use borrow.Author.Needs.{needs}
 use native.Mathlib.Omega.{arith}
 use denote.Ref.{now}
-use Rattle.run_rows.proofs.ReadLaws.{start-alone, start-joined}
+use Rattle.run_rows.proofs.RowReads.{start-alone, start-joined}
 use Rattle.run_rows.proofs.joined_start.Statement.{statement}
 use Rattle.run_rows.proofs.joined_start.Tie as tie
 

@@ -2,7 +2,7 @@
 use borrow.Author.Needs.{needs}
 use native.Mathlib.Omega.{arith}
 use denote.Ref.{now}
-use Rattle.run_rows.proofs.ReadLaws.{stop-alone, stop-joined}
+use Rattle.run_rows.proofs.RowReads.{stop-alone, stop-joined}
 use Rattle.run_rows.proofs.joined_stop.Statement.{statement}
 use Rattle.run_rows.proofs.joined_stop.Tie as tie
 

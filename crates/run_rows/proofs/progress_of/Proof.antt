@@ -2,7 +2,7 @@
 use borrow.Author.Needs.{needs}
 use native.Mathlib.Omega.{arith}
 use denote.Ref.{now}
-use Rattle.run_rows.proofs.ReadLaws.{progress-none, progress-low, progress-high}
+use Rattle.run_rows.proofs.RowReads.{progress-none, progress-low, progress-high}
 use Rattle.run_rows.proofs.progress_of.Statement.{statement}
 use Rattle.run_rows.proofs.progress_of.Tie as tie
 

@@ -6,7 +6,7 @@ use native.Mathlib.Omega.{arith}
 use denote.Ref.{now}
 use Rattle.transfer.specs.Transfers.{empty}
 use Rattle.area.proofs.JudgeLaws.{judged-passed}
-use Rattle.area_open.proofs.InsertLaws.{Opening, open-start, open-long, open-count, open-next, open-end}
+use Rattle.area_open.proofs.PutInLaws.{Opening, open-start, open-long, open-count, open-next, open-end}
 use Rattle.area_open.proofs.moves.insert_at.Statement.{statement}
 use Rattle.area_open.proofs.moves.insert_at.Tie as tie
 

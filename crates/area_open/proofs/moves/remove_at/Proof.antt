@@ -6,7 +6,7 @@ use native.Mathlib.Omega.{arith}
 use Prim.Native.Nat.{_-_}
 use denote.Ref.{now}
 use Rattle.area.proofs.JudgeLaws.{judged-passed}
-use Rattle.area_open.proofs.RemoveLaws.{Closing, close-start, close-long, close-count, close-next, close-end}
+use Rattle.area_open.proofs.TakeOutLaws.{Closing, close-start, close-long, close-count, close-next, close-end}
 use Rattle.area_open.proofs.moves.remove_at.Statement.{statement}
 use Rattle.area_open.proofs.moves.remove_at.Tie as tie
 

@@ -8,7 +8,7 @@ use borrow.Author.Tests.{eq-eqb, ne-eqb, lt-ltb, le-ltb}
 use borrow.Author.Needs.{needs}
 use Rattle.packet_status.specs.WriteFailure.{failureWritten, failureBuffer}
 use Rattle.text.proofs.AddedLaws.{added-as, added-none}
-use Rattle.replay_answers.specs.Answers.{sentText}
+use Rattle.replay_answers.specs.AnswerLines.{sentText}
 use Rattle.replay_steps.specs.Deliver.{failureSent}
 use Rattle.replay_steps.proofs.deliver.put_failure_sent.Statement.{statement}
 use Rattle.replay_steps.proofs.deliver.put_failure_sent.Tie as tie

@@ -6,7 +6,7 @@ use denote.Ref.{now}
 use borrow.Author.Tests.{eq-eqb, ne-eqb}
 use borrow.Author.Needs.{needs}
 use Rattle.text.proofs.AddedLaws.{added-as, added-none}
-use Rattle.replay_answers.specs.Answers.{sentText}
+use Rattle.replay_answers.specs.AnswerLines.{sentText}
 use Rattle.replay_steps.specs.Deliver.{wantedSent}
 use Rattle.replay_steps.proofs.deliver.put_wanted_sent.Statement.{statement}
 use Rattle.replay_steps.proofs.deliver.put_wanted_sent.Tie as tie

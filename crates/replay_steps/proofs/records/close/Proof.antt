@@ -10,7 +10,7 @@ use borrow.Author.Needs.{needs}
 use Rattle.octets.specs.Numbers.{four}
 use Rattle.area.specs.Operations.{closeArea}
 use Rattle.text.proofs.AddedLaws.{added-as}
-use Rattle.replay_answers.specs.Answers.{closeText}
+use Rattle.replay_answers.specs.AnswerLines.{closeText}
 use Rattle.replay_steps.specs.Records.{closeLines, closeAfter}
 use Rattle.replay_steps.proofs.records.close.Statement.{statement}
 use Rattle.replay_steps.proofs.records.close.Tie as tie

@@ -6,7 +6,7 @@ use lib.ListN.{length}
 use borrow.Author.Tests.{eq-eqb, ne-eqb}
 use borrow.Author.Needs.{needs}
 use Rattle.text.proofs.AddedLaws.{added-as}
-use Rattle.replay_answers.specs.Answers.{freshText}
+use Rattle.replay_answers.specs.AnswerLines.{freshText}
 use Rattle.replay_steps.specs.Records.{freshLines, freshAfter}
 use Rattle.replay_steps.proofs.records.fresh.Statement.{statement}
 use Rattle.replay_steps.proofs.records.fresh.Tie as tie

@@ -3,7 +3,7 @@
 use mathlib.Core.Path.{ap₂}
 use borrow.Author.Needs.{needs}
 use Rattle.text.proofs.AddedLaws.{added-as}
-use Rattle.replay_answers.specs.Answers.{openText}
+use Rattle.replay_answers.specs.AnswerLines.{openText}
 use Rattle.replay_steps.proofs.records.open.Statement.{statement}
 use Rattle.replay_steps.proofs.records.open.Tie as tie
 

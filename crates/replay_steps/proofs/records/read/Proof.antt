@@ -4,7 +4,7 @@ use mathlib.Core.Path.{ap}
 use denote.Ref.{now}
 use borrow.Author.Needs.{needs}
 use Rattle.text.proofs.AddedLaws.{added-as}
-use Rattle.replay_answers.specs.Answers.{readText}
+use Rattle.replay_answers.specs.AnswerLines.{readText}
 use Rattle.replay_steps.proofs.records.read.Statement.{statement}
 use Rattle.replay_steps.proofs.records.read.Tie as tie
 

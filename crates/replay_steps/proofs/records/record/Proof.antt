@@ -3,7 +3,7 @@
 use mathlib.Core.Path.{ap₂}
 use borrow.Author.Needs.{needs}
 use Rattle.text.proofs.AddedLaws.{added-as}
-use Rattle.replay_answers.specs.Answers.{recordText}
+use Rattle.replay_answers.specs.AnswerLines.{recordText}
 use Rattle.replay_steps.proofs.records.record.Statement.{statement}
 use Rattle.replay_steps.proofs.records.record.Tie as tie
 

@@ -3,7 +3,7 @@
 use mathlib.Core.Path.{ap₂}
 use borrow.Author.Needs.{needs}
 use Rattle.text.proofs.AddedLaws.{added-as}
-use Rattle.replay_answers.specs.Answers.{statusText}
+use Rattle.replay_answers.specs.AnswerLines.{statusText}
 use Rattle.replay_steps.specs.Records.{writtenLine}
 use Rattle.replay_steps.proofs.records.write.Statement.{statement}
 use Rattle.replay_steps.proofs.records.write.Tie as tie

@@ -1,7 +1,7 @@
 -- `transfer::status::hole_room` meets its contract.
 -- Assumes nothing.
 use mathlib.Core.Path.{refl}
-use Rattle.transfer.specs.Status.{holeRoom}
+use Rattle.transfer.specs.WriteStatus.{holeRoom}
 use borrow.Author.Needs.{needs}
 use Rattle.transfer.proofs.status.hole_room.Statement.{statement}
 use Rattle.transfer.proofs.status.hole_room.Tie as tie

@@ -1,7 +1,7 @@
 -- `transfer::status::least_room` meets its contract: with holes there is room for one pair more.
 -- Assumes nothing.
 use borrow.Author.Tests.{eq-eqb, ne-eqb}
-use Rattle.transfer.specs.Status.{leastRoom}
+use Rattle.transfer.specs.WriteStatus.{leastRoom}
 use borrow.Author.Needs.{needs}
 use native.Mathlib.Omega.{arith}
 use Rattle.transfer.proofs.status.least_room.Statement.{statement}

@@ -4,7 +4,7 @@ use Prim.Native.Nat.{_-_}
 use mathlib.Core.Path.{_≡_}
 use borrow.Author.Tests.{lt-ltb, le-ltb}
 use native.Mathlib.Omega.{arith}
-use Rattle.transfer.specs.Status.{partialSent}
+use Rattle.transfer.specs.WriteStatus.{partialSent}
 use Rattle.transfer.proofs.StatusSize.{fields-room}
 use Rattle.transfer.proofs.status.partial_sent.Statement.{statement}
 use Rattle.transfer.proofs.status.partial_sent.Tie as tie

@@ -5,7 +5,7 @@ use borrow.Author.Needs.{needs}
 use native.Mathlib.Omega.{arith}
 use Rattle.transfer.proofs.StatusFlags.{flags-fit}
 use Rattle.transfer.proofs.StatusPuts.{fields-put}
-use Rattle.transfer.specs.Status.{statusFlags}
+use Rattle.transfer.specs.WriteStatus.{statusFlags}
 use Rattle.transfer.proofs.status.put_fields.Statement.{statement}
 use Rattle.transfer.proofs.status.put_fields.Tie as tie
 

@@ -3,7 +3,7 @@
 use mathlib.Core.Path.{_≡_, sym, _∙_}
 use mathlib.Core.Bool.{true, false}
 use borrow.Author.Tests.{lt-ltb, le-ltb}
-use Rattle.transfer.specs.Status.{skipsTooMany, leastRoom, sizeRefusal}
+use Rattle.transfer.specs.WriteStatus.{skipsTooMany, leastRoom, sizeRefusal}
 use borrow.Author.Needs.{needs}
 use native.Mathlib.Omega.{arith}
 use Rattle.transfer.proofs.status.size_refusal.Statement.{statement}

@@ -7,8 +7,8 @@ use mathlib.Core.Logic.{⊎-elim}
 use lib.Dec.{leb, ltb}
 use borrow.Author.Tests.{eq-eqb, ne-eqb, le-leb, lt-leb, lt-ltb, le-ltb}
 use native.Mathlib.Omega.{arith}
-use Rattle.runs.proofs.NumberLaws.{le-or-lt}
-use Rattle.transfer.specs.Status.{skipsTooMany}
+use Rattle.runs.proofs.CompareLaws.{le-or-lt}
+use Rattle.transfer.specs.WriteStatus.{skipsTooMany}
 use Rattle.transfer.proofs.status.skips_too_many.Statement.{statement}
 use Rattle.transfer.proofs.status.skips_too_many.Tie as tie
 

@@ -1,7 +1,7 @@
 -- `transfer::status::width_bits` meets its contract: by the three widths.
 -- Assumes nothing.
 use borrow.Author.Tests.{eq-eqb, ne-eqb}
-use Rattle.transfer.specs.Status.{widthBits}
+use Rattle.transfer.specs.WriteStatus.{widthBits}
 use native.Mathlib.Omega.{arith}
 use Rattle.transfer.proofs.status.width_bits.Statement.{statement}
 use Rattle.transfer.proofs.status.width_bits.Tie as tie

@@ -5,7 +5,7 @@ use mathlib.Core.Path.{_≡_, sym, _∙_}
 use mathlib.Core.List.{List}
 use mathlib.Core.Logic.{⊎-elim}
 use lib.ListN.{length}
-use Rattle.runs.proofs.NumberLaws.{le-or-lt}
+use Rattle.runs.proofs.CompareLaws.{le-or-lt}
 use Rattle.words.specs.Words.{wordAt}
 use Rattle.transfer.specs.Transfers.{Transfer}
 use Rattle.area.specs.Layout.{transferPlaces, runPlaces, headWords, areaWords, headAt, runAt}

@@ -12,7 +12,7 @@ use borrow.Author.Tests.{eq-eqb, ne-eqb, lt-ltb, le-ltb}
 use Rattle.runs.specs.Runs.{Run, nthRun, Canonical}
 use Rattle.runs.specs.Holes.{edgeFrom, edge, hole, holesFrom, holes, progress, complete}
 use Rattle.runs.specs.Splice.{lowOf, highOf}
-use Rattle.runs.proofs.NumberLaws.{le-or-lt}
+use Rattle.runs.proofs.CompareLaws.{le-or-lt}
 use Rattle.runs.proofs.RunPlaces.{edge-is-last-stop, progress-by-first}
 use Rattle.runs.proofs.HolePlaces.{holes-number-low, holes-number-high, hole-place-low, hole-place-first, hole-place-next}
 use Rattle.words.specs.Words.{wordAt}

@@ -6,7 +6,7 @@ use mathlib.Core.List.{List, _∷_}
 use native.Mathlib.Nat.{suc-mul}
 use native.Mathlib.Omega.{arith}
 use lib.ListN.{length, getD}
-use Rattle.packet_status.specs.Holes.{holeAt, holesOf}
+use Rattle.packet_status.specs.HoleList.{holeAt, holesOf}
 use Rattle.runs.specs.declared.Hole.{Hole}
 
 -- one element less

@@ -9,7 +9,7 @@ use native.Mathlib.Omega.{arith}
 use lib.ListN.{length, drop, List·getD-eq-default}
 use Rattle.octets.specs.Numbers.{Octets}
 use Rattle.runs.specs.Runs.{nthRun}
-use Rattle.runs.proofs.NumberLaws.{le-or-lt}
+use Rattle.runs.proofs.CompareLaws.{le-or-lt}
 use Rattle.words.specs.Words.{wordAt}
 use Rattle.transfer.specs.Transfers.{Transfer}
 use Rattle.area.specs.Layout.{transferPlaces, runPlaces, headWords, areaOctets, countField, headAt, runAt}

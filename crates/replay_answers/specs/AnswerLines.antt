@@ -21,7 +21,7 @@ use Rattle.table.specs.declared.Opened.the-variants as opened
 use Rattle.table.specs.declared.Recorded.{Recorded}
 use Rattle.table.specs.declared.Recorded.the-variants as recorded
 use Rattle.replay_lines.specs.Lines.{plainLine, refusedLine, closeLine, octetsLine, openedLine, recordLine, metadataLine, dataLine, successLine, failureLine}
-use Rattle.replay_fields.specs.Words.{w-already, w-fresh, w-new, w-send, w-written}
+use Rattle.replay_fields.specs.LineWords.{w-already, w-fresh, w-new, w-send, w-written}
 
 -- "`fresh`"; refused where the area is too short, as replay's own never is
 unfoldable pub freshText : ℕ → Finished → List ℕ

@@ -4,7 +4,7 @@ use Prim.Native.Nat.{ℕ, _*_, _^_, _<_, _≤_}
 use mathlib.Core.Path.{_≡_, ap}
 use native.Mathlib.Nat.{pow-le-pow-right}
 use native.Mathlib.Omega.{arith}
-use Rattle.header.specs.Word.{markOf, typeOf, flagsOf, widthOf, kindOf, descriptorOctets, timestampOctets, wordFor}
+use Rattle.header.specs.FirstWord.{markOf, typeOf, flagsOf, widthOf, kindOf, descriptorOctets, timestampOctets, wordFor}
 use Rattle.header.specs.Start.{fileRefusal}
 
 pub octets-le : (w : ℕ) → descriptorOctets w ≤ 16

@@ -9,7 +9,7 @@ use Rattle.octets.specs.Numbers.{beDigits}
 use Rattle.refusals.specs.Refusals.{_▹_, when}
 use Rattle.refusals.specs.Writing.{writtenOf, bufferAfter}
 use Rattle.refusals.specs.declared.Written.{Written}
-use Rattle.header.specs.Word.{wordFor}
+use Rattle.header.specs.FirstWord.{wordFor}
 use Rattle.runs.specs.Runs.{Run}
 use Rattle.runs.specs.Holes.{edge, holes, progress, complete}
 use Rattle.runs.specs.declared.Hole.{Hole}

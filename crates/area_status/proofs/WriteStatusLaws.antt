@@ -17,9 +17,9 @@ use Rattle.run_rows.specs.Rows.{runsIn}
 use Rattle.run_rows.specs.declared.Rows.{Rows}
 use Rattle.transfer.specs.declared.Key.{Key}
 use Rattle.transfer.specs.Transfers.{Transfer}
-use Rattle.transfer.specs.Status.{statusFlags, statusFields, transferWritten, transferBuffer}
+use Rattle.transfer.specs.WriteStatus.{statusFlags, statusFields, transferWritten, transferBuffer}
 use Rattle.table.specs.Tables.{keys, find, runsOf}
-use Rattle.table.specs.Status.{writtenFor, bufferFor, statusWritten, statusBuffer}
+use Rattle.table.specs.WriteStatus.{writtenFor, bufferFor, statusWritten, statusBuffer}
 use Rattle.table.proofs.StatusWritten.{status-twelve}
 use Rattle.words.specs.Words.{wordAt}
 use Rattle.area.specs.Places.{keyAt, rowsAt, readTable, placeIn}

@@ -9,7 +9,7 @@ use native.Mathlib.Omega.{arith}
 use native.Mathlib.Numerals.{add-one}
 use lib.ListN.{length}
 use Rattle.octets.specs.Numbers.{Octets}
-use Rattle.runs.proofs.NumberLaws.{le-or-lt}
+use Rattle.runs.proofs.CompareLaws.{le-or-lt}
 use Rattle.words.specs.Words.{wordAt, putWord}
 use Rattle.words.proofs.RowLaws.{put-at}
 use Rattle.transfer.specs.Transfers.{Transfer}
@@ -20,7 +20,7 @@ use Rattle.area.specs.Stored.{storedIn}
 use Rattle.area.proofs.PlaceLaws.{read-holds}
 use Rattle.area_open.specs.Moves.{Copied}
 use Rattle.area_open.proofs.ChangeLaws.{changed-away, put-changed}
-use Rattle.area_open.proofs.MoveLaws.{Moving, moving-start, moving-count, moving-next, stored-kept, kept-free, all-stored}
+use Rattle.area_open.proofs.TransferMoves.{Moving, moving-start, moving-count, moving-next, stored-kept, kept-free, all-stored}
 
 -- ---- the list
 

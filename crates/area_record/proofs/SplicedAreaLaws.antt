@@ -10,7 +10,7 @@ use lib.ListN.{length, drop, length-set}
 use lib.Seq.{getD-set-same, getD-set-other}
 use Rattle.octets.specs.Numbers.{Octets}
 use Rattle.runs.specs.Runs.{Run, nthRun}
-use Rattle.runs.proofs.NumberLaws.{le-or-lt}
+use Rattle.runs.proofs.CompareLaws.{le-or-lt}
 use Rattle.words.specs.Words.{wordAt, putWord, splicedRow}
 use Rattle.words.proofs.RowLaws.{splice-length, splice-after, put-length, put-at, put-other, put-after}
 use Rattle.transfer.specs.Transfers.{Transfer}
@@ -20,8 +20,8 @@ use Rattle.area.specs.Stored.{storedIn}
 use Rattle.area.proofs.PlaceLaws.{Few}
 use Rattle.area.proofs.StoredLaws.{stored-is}
 use Rattle.area_record.specs.Record.{runsAfter, splicedArea}
-use Rattle.area_record.proofs.SpliceLaws.{spliced, spliced-length, row-new, row-off}
-use Rattle.area_record.proofs.KeptLaws.{kept-words}
+use Rattle.area_record.proofs.SplicedRowLaws.{spliced, spliced-length, row-new, row-off}
+use Rattle.area_record.proofs.OverlayLaws.{kept-words}
 
 same-or : (a b : ℕ) → (a ≡ b) ⊎ (a ≡ b → ⊥)
 same-or a b =

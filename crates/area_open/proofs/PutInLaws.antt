@@ -8,7 +8,7 @@ use mathlib.Core.Logic.{inl, inr, ⊎-elim}
 use native.Mathlib.Omega.{arith}
 use lib.ListN.{length}
 use Rattle.octets.specs.Numbers.{Octets}
-use Rattle.runs.proofs.NumberLaws.{le-or-lt}
+use Rattle.runs.proofs.CompareLaws.{le-or-lt}
 use Rattle.words.specs.Words.{wordAt, putWord}
 use Rattle.words.proofs.RowLaws.{put-at}
 use Rattle.transfer.specs.declared.Key.{Key}
@@ -21,7 +21,7 @@ use Rattle.area.proofs.PlaceLaws.{read-holds, head-used, run-free}
 use Rattle.area_open.specs.Changes.{PlaceKept}
 use Rattle.area_open.specs.Moves.{Copied, HeadPut}
 use Rattle.area_open.proofs.ChangeLaws.{changed-away, put-changed, kept-kept}
-use Rattle.area_open.proofs.MoveLaws.{PlaceStored, Moving, moving-start, moving-count, moving-next, stored-kept, kept-same, all-stored}
+use Rattle.area_open.proofs.TransferMoves.{PlaceStored, Moving, moving-start, moving-count, moving-next, stored-kept, kept-same, all-stored}
 
 -- ---- the list
 

@@ -28,10 +28,13 @@ head-requires c κs = omega (arith, c .before .loop .inv .few, c .before .loop .
 
 returns : tie.Need-returns Inv-loop μ-loop
 returns c =
-    let s = c .before .before .before .before .before .before in
-    let l = c .before .before .before .loop in
+    let loop-place = c .before .before .before in
+    let open-count-place = loop-place .before in
+    let before-place = open-count-place .before in
+    let s = before-place .before in
+    let l = loop-place .loop in
     let w = c .before .head in
-    search-here (now (s .args .area)) (s .args .id) (c .before .before .before .before .open-count .result) (l .i) (l .inv) (w .result) (omega arith) (w .ensures) (omega arith)
+    search-here (now (s .args .area)) (s .args .id) (open-count-place .open-count .result) (l .i) (l .inv) (w .result) (omega arith) (w .ensures) (omega arith)
 
 add-i : tie.Need-add-i Inv-loop μ-loop
 add-i c = omega (arith, c .before .before .before .loop .inv .few)
@@ -41,10 +44,13 @@ loop-less c = omega (arith, c .before .before .before .loop .inv .few)
 
 loop-again : tie.Need-loop-again Inv-loop μ-loop
 loop-again c =
-    let s = c .before .before .before .before .before .before in
-    let l = c .before .before .before .loop in
+    let loop-place = c .before .before .before in
+    let open-count-place = loop-place .before in
+    let before-place = open-count-place .before in
+    let s = before-place .before in
+    let l = loop-place .loop in
     let w = c .before .head in
-    search-more (now (s .args .area)) (s .args .id) (c .before .before .before .before .open-count .result) (l .i) (l .inv) (w .result) (omega arith) (w .ensures) (omega arith)
+    search-more (now (s .args .area)) (s .args .id) (open-count-place .open-count .result) (l .i) (l .inv) (w .result) (omega arith) (w .ensures) (omega arith)
 
 returns-2 : tie.Need-returns-2 Inv-loop μ-loop
 returns-2 c =

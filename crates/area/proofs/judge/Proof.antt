@@ -22,8 +22,10 @@ transfers-ok-requires c κs = search needs
 
 returns-3 : tie.Need-returns-3
 returns-3 c =
-    let w = c .before .before .open-count in
-    judged-rest (now (c .before .before .before .before .before .args .area)) (w .result) (omega arith) (w .ensures) _ (omega arith) (c .transfers-ok .ensures)
+    let open-count-place = c .before .before in
+    let start = open-count-place .before .before .before in
+    let w = open-count-place .open-count in
+    judged-rest (now (start .args .area)) (w .result) (omega arith) (w .ensures) _ (omega arith) (c .transfers-ok .ensures)
 
 pub judge-spec : {M : Type 1} → statement M
 judge-spec = tie.close (tie.spec returns open-count-requires returns-2 transfers-ok-requires returns-3)

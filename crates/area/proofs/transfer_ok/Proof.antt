@@ -40,8 +40,10 @@ returns-2 c =
 
 runs-ok-requires : tie.Need-runs-ok-requires
 runs-ok-requires c κs =
-    let s = c .before .before .before .before .before .before .before .before .before .before in
-    rows-fit (now (s .args .area)) (s .args .i) _ (c .before .before .rows-at .ensures) (s .pre .0) (s .pre .1) (omega arith)
+    let rows-at-place = c .before .before in
+    let before-place = rows-at-place .before .before .before .before .before .before .before in
+    let s = before-place .before in
+    rows-fit (now (s .args .area)) (s .args .i) _ (rows-at-place .rows-at .ensures) (s .pre .0) (s .pre .1) (omega arith)
 
 returns-3 : tie.Need-returns-3
 returns-3 c =

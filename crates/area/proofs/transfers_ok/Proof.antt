@@ -34,10 +34,13 @@ transfer-ok-requires c κs = search needs
 
 add-least : tie.Need-add-least Inv-loop μ-loop
 add-least c =
+    let head-place = c .before .before .before in
+    let loop-place = head-place .before .before in
+    let start = loop-place .before .before in
     let t = c .before .transfer-ok in
-    let h = c .before .before .before .head in
-    let a = c .before .before .before .before .before .before .before .args in
-    let l = c .before .before .before .before .before .loop in
+    let h = head-place .head in
+    let a = start .args in
+    let l = loop-place .loop in
     omega (arith, h .ensures, id-small (now (a .area)) (l .i) (sym (t .ensures) ∙ c .if2 .taken))
 
 add-i : tie.Need-add-i Inv-loop μ-loop
@@ -48,16 +51,20 @@ loop-less c = search needs
 
 loop-again : tie.Need-loop-again Inv-loop μ-loop
 loop-again c =
-    let l = c .before .before .before .before .before .loop in
+    let head-place = c .before .before .before in
+    let loop-place = head-place .before .before in
+    let l = loop-place .loop in
     let t = c .before .transfer-ok in
-    let h = c .before .before .before .head in
+    let h = head-place .head in
     (omega arith, fine-more _ _ _ _ _ (l .inv .1) _ (omega arith) (h .ensures) _ (omega arith) (t .ensures) (c .if2 .taken))
 
 returns-2 : tie.Need-returns-2 Inv-loop μ-loop
 returns-2 c =
-    let l = c .before .before .before .before .before .loop in
+    let head-place = c .before .before .before in
+    let loop-place = head-place .before .before in
+    let l = loop-place .loop in
     let t = c .before .transfer-ok in
-    let h = c .before .before .before .head in
+    let h = head-place .head in
     fine-not _ _ _ _ _ (l .inv .1) _ (omega arith) (h .ensures) _ (omega arith) (t .ensures) (c .if2 .left)
 
 returns-3 : tie.Need-returns-3 Inv-loop μ-loop

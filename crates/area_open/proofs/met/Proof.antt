@@ -31,19 +31,22 @@ refuse-requires-2 c κs = search needs
 
 returns-2 : tie.Need-returns-2
 returns-2 c =
-    let h = c .before .before .before .before .before .before .before in
+    let before-place = c .before .before .before .before .before .before in
+    let h = before-place .before in
     let s = h .before .before in
     ap opened.Refused (c .refuse2 .ensures)
     ∙ sym (met-length (now (s .args .area)) (s .args .key) (s .args .i) (s .pre .1) (h .key-at .result) (h .key-at .ensures) (omega arith) (λ q. omega arith))
 
 rows-at-requires : tie.Need-rows-at-requires
 rows-at-requires c κs =
-    let s = c .before .before .before .before .before .before .before .before in
+    let before-place = c .before .before .before .before .before .before .before in
+    let s = before-place .before in
     kept-known (now (s .args .area)) (s .args .key .id) (s .args .i) (s .pre .1) (s .pre .0)
 
 reached-in-requires : tie.Need-reached-in-requires
 reached-in-requires c κs =
-    let s = c .before .before .before .before .before .before .before .before .before in
+    let before-place = c .before .before .before .before .before .before .before .before in
+    let s = before-place .before in
     kept-rows (now (s .args .area)) (s .args .key .id) (s .args .i) (s .pre .1) (s .pre .0) (c .rows-at .result) (c .rows-at .ensures)
 
 returns-3 : tie.Need-returns-3

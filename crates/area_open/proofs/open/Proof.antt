@@ -46,7 +46,10 @@ key-of-requires : tie.Need-key-of-requires
 key-of-requires c κs = search needs
 
 open-key-requires : tie.Need-open-key-requires
-open-key-requires c κs = sym (c .before .before .before .before .before .before .judge .ensures) ∙ c .before .before .before .before .before .if1 .taken
+open-key-requires c κs =
+    let if1-place = c .before .before .before .before .before in
+    let judge-place = if1-place .before in
+    sym (judge-place .judge .ensures) ∙ if1-place .if1 .taken
 
 same-length-2 : tie.Need-same-length-2
 same-length-2 c = search needs
@@ -73,9 +76,11 @@ same-length-3 c = search needs
 returns-3 : tie.Need-returns-3
 unfolding openArea
 returns-3 c =
-    let s = c .before .before .before .before .before .before in
+    let judge-place = c .before .before in
+    let before-place = judge-place .before .before .before in
+    let s = before-place .before in
     by-unjudged (opened.Refused (refusalOf 22)) (λ t. openPacket t (now (s .args .packet))) (now (s .args .area)) _
-    (sym (c .before .before .judge .ensures) ∙ c .before .if1 .left) (ap opened.Refused (c .refuse2 .ensures))
+    (sym (judge-place .judge .ensures) ∙ c .before .if1 .left) (ap opened.Refused (c .refuse2 .ensures))
 
 pub open-spec : {M : Type 1} → statement M
 open-spec =

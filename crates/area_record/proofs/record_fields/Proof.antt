@@ -46,7 +46,8 @@ open-known c =
 
 key-at-requires : tie.Need-key-at-requires
 key-at-requires c κs =
-    let s = c .before .before .before .before .before .before in
+    let before-place = c .before .before .before .before .before in
+    let s = before-place .before in
     kept-known (now (s .args .area)) (s .args .d .id) _ (open-known (c .before)) (s .pre)
 
 key-refusal-requires : tie.Need-key-refusal-requires

@@ -20,8 +20,10 @@ same-length c = search needs
 
 returns : tie.Need-returns
 returns c =
-    let e : c .before .before .before .before .before .before .before .args .width ≡ 2 = omega arith in
-    rw e (c .before .before .put-pairs .ensures)
+    let put-pairs-place = c .before .before in
+    let start = put-pairs-place .before .before .before .before .before in
+    let e : start .args .width ≡ 2 = omega arith in
+    rw e (put-pairs-place .put-pairs .ensures)
 
 put-pairs-requires-2 : tie.Need-put-pairs-requires-2
 put-pairs-requires-2 c κs =
@@ -34,8 +36,10 @@ same-length-2 c = search needs
 
 returns-2 : tie.Need-returns-2
 returns-2 c =
-    let e : c .before .before .before .before .before .before .before .before .args .width ≡ 4 = omega arith in
-    rw e (c .before .before .put-pairs2 .ensures)
+    let put-pairs2-place = c .before .before in
+    let start = put-pairs2-place .before .before .before .before .before .before in
+    let e : start .args .width ≡ 4 = omega arith in
+    rw e (put-pairs2-place .put-pairs2 .ensures)
 
 -- neither 2 nor 4
 last-width : (d : ℕ) → Width d → (d ≡ 2 → ⊥) → (d ≡ 4 → ⊥) → d ≡ 8
@@ -54,9 +58,11 @@ same-length-3 c = search needs
 
 returns-3 : tie.Need-returns-3
 returns-3 c =
-    let s = c .before .before .before .before .before .before .before .before in
+    let put-pairs3-place = c .before .before in
+    let before-place = put-pairs3-place .before .before .before .before .before in
+    let s = before-place .before in
     let e : s .args .width ≡ 8 = last-width (s .args .width) (s .pre .0) (λ z. omega arith) (λ z. omega arith) in
-    rw e (c .before .before .put-pairs3 .ensures)
+    rw e (put-pairs3-place .put-pairs3 .ensures)
 
 pub put-holes-spec : {M : Type 1} → statement M
 put-holes-spec =

@@ -38,17 +38,20 @@ put-hole-requires c κs =
 
 mul-at : tie.Need-mul-at Inv-loop μ-loop
 mul-at c =
-    let l = c .before .before .before .before .before .before in
+    let before-place = c .before .before .before .before .before in
+    let l = before-place .before in
     omega (arith, one-less (2 * l .before .before .before .args .width) (l .loop .left) (omega arith))
 
 add-at : tie.Need-add-at Inv-loop μ-loop
 add-at c =
-    let l = c .before .before .before .before .before .before in
+    let before-place = c .before .before .before .before .before in
+    let l = before-place .before in
     omega (arith, one-less (2 * l .before .before .before .args .width) (l .loop .left) (omega arith))
 
 add-j : tie.Need-add-j Inv-loop μ-loop
 add-j c =
-    let s = c .before .before .before .before .before .before .before .before .before in
+    let before-place = c .before .before .before .before .before .before .before .before in
+    let s = before-place .before in
     let r = s .args .rows in
     omega (arith, length-runs (now (s .args .area)) (r .starts) (r .stops) (r .count), holes-few (runsIn (now (s .args .area)) r) (s .pre .0 .canonical), s .pre .0 .fit .starts-fit)
 
@@ -60,14 +63,17 @@ loop-less c = omega arith
 
 loop-again : tie.Need-loop-again Inv-loop μ-loop
 loop-again c =
-    let p = c .before .before .before .before .before .before in
+    let put-hole-place = c .before .before in
+    let hole-at-place = put-hole-place .before .before in
+    let before-place = hole-at-place .before in
+    let p = before-place .before in
     let a = p .before .before .before .args in
     let l = p .loop in (
-      c .before .before .put-hole .kept .0 ∙ l .inv .0,
+      put-hole-place .put-hole .kept .0 ∙ l .inv .0,
       omega (arith, one-less (2 * a .width) (l .left) (omega arith)),
       omega arith,
-      pairs-step (a .width) (holes (runsIn (now (a .area)) (a .rows))) (c .before .before .before .before .hole-at .result) (l .j) (l .left) (l .at) (l .out) _ _
-          (omega arith) (l .inv .2) (omega arith) (c .before .before .before .before .hole-at .ensures) (c .before .before .put-hole .ensures) (l .inv .3),
+      pairs-step (a .width) (holes (runsIn (now (a .area)) (a .rows))) (hole-at-place .hole-at .result) (l .j) (l .left) (l .at) (l .out) _ _
+          (omega arith) (l .inv .2) (omega arith) (hole-at-place .hole-at .ensures) (put-hole-place .put-hole .ensures) (l .inv .3),
     )
 
 same-length : tie.Need-same-length Inv-loop μ-loop

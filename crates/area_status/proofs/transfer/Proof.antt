@@ -49,7 +49,8 @@ below c = omega (arith, c .before .open-count .ensures)
 
 listing-at-requires : tie.Need-listing-at-requires
 listing-at-requires c κs =
-    let a = c .before .before .before .before .before .args in
+    let start = c .before .before .before .before .before in
+    let a = start .args in
     used-place (now (a .area)) (a .index) (passed (c .before .before)) (below c)
 
 returns-3 : tie.Need-returns-3

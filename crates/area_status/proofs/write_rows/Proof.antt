@@ -54,7 +54,8 @@ known : (c : tie.After-holes-to-send)
     (a .skip + c .holes-to-send .result ≤ length (holes (runsIn (now (a .area)) (a .rows))))
     × (8 + 2 * a .key .width + 2 * a .key .width * c .holes-to-send .result ≤ length (now (a .out)))
 known c =
-    let s = c .before .before .before .before .before .before in
+    let before-place = c .before .before .before .before .before in
+    let s = before-place .before in
     let a = s .args in
     let n = length (holes (runsIn (now (a .area)) (a .rows))) in
     let z = none (c .before) in
@@ -86,12 +87,16 @@ add-size : tie.Need-add-size
 add-size c = omega (arith, known (c .before) .1)
 
 put-front-requires : tie.Need-put-front-requires
-put-front-requires c κs = (c .before .before .before .before .before .before .before .before .pre .0 .fit, omega (arith, known (c .before .before) .1))
+put-front-requires c κs =
+    let start = c .before .before .before .before .before .before .before .before in
+    (start .pre .0 .fit, omega (arith, known (c .before .before) .1))
 
 put-holes-requires : tie.Need-put-holes-requires
 put-holes-requires c κs =
-    let s = c .before .before .before .before .before .before .before .before .before .before .before .before in
-    let k = known (c .before .before .before .before .before .before) in
+    let before-place = c .before .before .before .before .before in
+    let before-place-11 = before-place .before .before .before .before .before .before in
+    let s = before-place-11 .before in
+    let k = known (before-place .before) in
     (s .pre .1, s .pre .0, omega (arith, k .0), search needs)
 
 same-length : tie.Need-same-length
@@ -99,14 +104,17 @@ same-length c = search needs
 
 returns-2 : tie.Need-returns-2
 returns-2 c =
-    let h = c .before .before .before .before .before .before .before .before .before in
+    let put-holes-place = c .before .before in
+    let put-front-place = put-holes-place .before .before .before .before in
+    let before-place = put-front-place .before .before in
+    let h = before-place .before in
     let s = h .before .before .before .before .before .before in
     let a = s .args in
-    let p = c .before .before .before .before .before .before .before .before .partial-sent in
+    let p = before-place .partial-sent in
     transfer-written (a .key) (runsIn (now (a .area)) (a .rows)) (a .skip) (a .unasked) (now (a .out)) (s .pre .1) (none (h .before))
     (p .result) _ (h .holes-to-send .result) _ _ _
     (p .ensures ∙ rw (h .before .before .before .hole-count .ensures)) refl (count-is h) refl
-    (c .before .before .before .before .before .before .put-front .ensures) (c .before .before .put-holes .ensures)
+    (put-front-place .put-front .ensures) (put-holes-place .put-holes .ensures)
 
 pub write-rows-spec : {M : Type 1} → statement M
 write-rows-spec =

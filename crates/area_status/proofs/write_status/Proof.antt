@@ -21,8 +21,10 @@ refuse-requires c κs = search needs
 
 returns : tie.Need-returns
 returns c =
-    let a = c .before .before .before .before .before .args in
-    let j = c .before .before .judge in
+    let judge-place = c .before .before in
+    let start = judge-place .before .before .before in
+    let a = start .args in
+    let j = judge-place .judge in
     let k = status-unheld (now (a .area)) (a .id) (a .skip) (a .unasked) (now (a .out)) (judged-unheld (now (a .area)) (sym (j .ensures) ∙ not-true (j .result) (c .before .if1 .taken))) in
     (rw (c .refuse .ensures) (k .0), k .1)
 
@@ -72,14 +74,17 @@ same-length c = search needs
 
 returns-3 : tie.Need-returns-3
 returns-3 c =
-    let e = c .before .before .before .before .before .before in
+    let write-rows-place = c .before .before in
+    let rows-at-place = write-rows-place .before .before in
+    let before-place = rows-at-place .before in
+    let e = before-place .before in
     let f = e .before .before in
     let a = f .before .before .before .before .before .args in
     let p = f .find-place in
-    let k = c .before .before .before .before .before .key-at in
-    let r = c .before .before .before .before .rows-at in
+    let k = before-place .key-at in
+    let r = rows-at-place .rows-at in
     status-found (now (a .area)) (a .id) (a .skip) (a .unasked) (now (a .out)) (passed (f .before)) (p .result) (p .ensures) (is-open e)
-    (k .result) (r .result) (k .ensures) (r .ensures) _ _ (c .before .before .write-rows .ensures .0) (c .before .before .write-rows .ensures .1)
+    (k .result) (r .result) (k .ensures) (r .ensures) _ _ (write-rows-place .write-rows .ensures .0) (write-rows-place .write-rows .ensures .1)
 
 pub write-status-spec : {M : Type 1} → statement M
 write-status-spec =

@@ -35,7 +35,8 @@ property c = c .property-refusal .ensures ∙ ap propertyRefusal (c .before .rea
 returns-2 : tie.Need-returns-2
 unfolding entryRefusal
 returns-2 c =
-    let e = now (c .before .before .before .before .before .args .e) in
+    let start = c .before .before .before .before .before in
+    let e = now (start .args .e) in
     let p = property (c .before) in
     rw (le-ltb (length e) 2 (omega arith)) (p ∙ sym (stays (propertyRefusal (propertiesOf e)) _ (omega arith)))
 
@@ -45,8 +46,10 @@ size-octets-requires c κs = search needs
 known : (c : tie.After-size-octets)
     → (c .size-octets .result ≡ sizeOctets (propertiesOf (now (c .before .before .before .before .before .before .args .e)))) × (c .size-octets .result ≤ 16) × (propertyRefusal (propertiesOf (now (c .before .before .before .before .before .before .args .e))) ≡ 0)
 known c =
-    let k : c .size-octets .result ≡ sizeOctets (propertiesOf (now (c .before .before .before .before .before .before .args .e))) = c .size-octets .ensures ∙ ap (λ (x : ℕ). sizeOctets x) (c .before .before .before .read-number .ensures) in
-    (k, omega (arith, size-le (propertiesOf (now (c .before .before .before .before .before .before .args .e)))), omega (arith, property (c .before .before)))
+    let read-number-place = c .before .before .before in
+    let start = read-number-place .before .before .before in
+    let k : c .size-octets .result ≡ sizeOctets (propertiesOf (now (start .args .e))) = c .size-octets .ensures ∙ ap (λ (x : ℕ). sizeOctets x) (read-number-place .read-number .ensures) in
+    (k, omega (arith, size-le (propertiesOf (now (start .args .e)))), omega (arith, property (c .before .before)))
 
 descriptor-refusal-requires : tie.Need-descriptor-refusal-requires
 descriptor-refusal-requires c κs = omega (arith, known c)
@@ -59,7 +62,9 @@ judged c = c .descriptor-refusal .ensures ∙ rw (known (c .before) .0)
 returns-3 : tie.Need-returns-3
 unfolding entryRefusal
 returns-3 c =
-    let e = now (c .before .before .before .before .before .before .before .before .args .e) in
+    let before-place-7 = c .before .before .before .before .before .before .before in
+    let start = before-place-7 .before in
+    let e = now (start .args .e) in
     let k = known (c .before .before) in
     let j = judged (c .before) in
     rw (le-ltb (length e) 2 (omega arith), k .2) (j ∙ sym (stays (descriptorRefusal (sizeOctets (propertiesOf e)) 2 e) _ (omega arith)))
@@ -74,8 +79,10 @@ add-at c = omega (arith, known (c .before .before))
 returns-4 : tie.Need-returns-4
 unfolding entryRefusal
 returns-4 c =
-    let e = now (c .before .before .before .before .before .before .before .before .before .args .e) in
-    let k = known (c .before .before .before) in
+    let before-place = c .before .before in
+    let start = before-place .before .before .before .before .before .before .before in
+    let e = now (start .args .e) in
+    let k = known (before-place .before) in
     rw (le-ltb (length e) 2 (omega arith), k .2, there (c .before), lt-ltb (length e) (pathAt (propertiesOf e)) (omega arith))
 
 sub-path-refusal : tie.Need-sub-path-refusal
@@ -92,34 +99,44 @@ path-refusal-requires c κs = search needs
 
 path : (c : tie.After-path-refusal) → c .path-refusal .result ≡ pathRefusal (afterTimes (now (c .before .before .before .before .before .before .before .before .before .before .before .args .e)))
 path c =
-    let e = now (c .before .before .before .before .before .before .before .before .before .before .before .args .e) in
-    let p = c .before .before .before .before .before in
+    let before-place = c .before .before .before .before in
+    let start = before-place .before .before .before .before .before .before .before in
+    let e = now (start .args .e) in
+    let p = before-place .before in
     c .path-refusal .ensures ∙ ap pathRefusal (rest-part e (10 + p .size-octets .result) ∙ ap (λ (n : ℕ). drop (10 + n) e) (known p .0))
 
 returns-5 : tie.Need-returns-5
 unfolding entryRefusal
 returns-5 c =
-    let e = now (c .before .before .before .before .before .before .before .before .before .before .before .before .args .e) in
-    let k = known (c .before .before .before .before .before .before) in
+    let before-place = c .before .before .before in
+    let before-place-5 = before-place .before .before in
+    let start = before-place-5 .before .before .before .before .before .before .before in
+    let e = now (start .args .e) in
+    let k = known (before-place-5 .before) in
     let p = path (c .before) in
-    rw (le-ltb (length e) 2 (omega arith), k .2, there (c .before .before .before .before), le-ltb (length e) (pathAt (propertiesOf e)) (omega arith))
+    rw (le-ltb (length e) 2 (omega arith), k .2, there (before-place .before), le-ltb (length e) (pathAt (propertiesOf e)) (omega arith))
     (p ∙ sym (stays (pathRefusal (afterTimes e)) _ (omega arith)))
 
 descriptor-requires : tie.Need-descriptor-requires
 descriptor-requires c κs =
-    let e = now (c .before .before .before .before .before .before .before .before .before .before .before .before .args .e) in
-    let k = known (c .before .before .before .before .before .before) in
+    let before-place = c .before .before .before in
+    let before-place-5 = before-place .before .before in
+    let start = before-place-5 .before .before .before .before .before .before .before in
+    let e = now (start .args .e) in
+    let k = known (before-place-5 .before) in
     let f = properties-fine (propertiesOf e) (k .2) in
-    (rw (k .0) (f .octets), rw (k .0) (descriptor-there (sizeOctets (propertiesOf e)) 2 e (there (c .before .before .before .before))))
+    (rw (k .0) (f .octets), rw (k .0) (descriptor-there (sizeOctets (propertiesOf e)) 2 e (there (before-place .before))))
 
 fits-requires : tie.Need-fits-requires
 fits-requires c κs = search needs
 
 size : (c : tie.After-fits2) → ltb (sizeOf (now (c .before .before .before .before .before .before .before .before .before .before .before .before .before .before .args .e))) (256 ^ c .before .before .before .before .before .before .before .before .before .before .before .before .before .before .args .d) ≡ c .fits2 .result
 size c =
-    let e = now (c .before .before .before .before .before .before .before .before .before .before .before .before .before .before .args .e) in
-    let d = c .before .before .before .before .before .before .before .before .before .before .before .before .before .before .args .d in
-    sym (c .fits2 .ensures ∙ ap (λ (n : ℕ). ltb n (256 ^ d)) (c .before .descriptor .ensures ∙ ap (λ (n : ℕ). descriptorAt n 2 e) (known (c .before .before .before .before .before .before .before .before) .0)))
+    let before-place = c .before .before .before .before .before .before .before in
+    let start = before-place .before .before .before .before .before .before .before in
+    let e = now (start .args .e) in
+    let d = start .args .d in
+    sym (c .fits2 .ensures ∙ ap (λ (n : ℕ). ltb n (256 ^ d)) (c .before .descriptor .ensures ∙ ap (λ (n : ℕ). descriptorAt n 2 e) (known (before-place .before) .0)))
 
 passed : (c : tie.After-fits2) → pathRefusal (afterTimes (now (c .before .before .before .before .before .before .before .before .before .before .before .before .before .before .args .e))) ≡ 0
 passed c = omega (arith, path (c .before .before .before))
@@ -127,12 +144,15 @@ passed c = omega (arith, path (c .before .before .before))
 returns-6 : tie.Need-returns-6
 unfolding entryRefusal
 returns-6 c =
-    let e = now (c .before .before .before .before .before .before .before .before .before .before .before .before .before .before .before .args .e) in
-    let k = known (c .before .before .before .before .before .before .before .before .before) in
+    let before-place = c .before .before .before .before .before .before in
+    let before-place-8 = before-place .before .before in
+    let start = before-place-8 .before .before .before .before .before .before .before in
+    let e = now (start .args .e) in
+    let k = known (before-place-8 .before) in
     rw (
       le-ltb (length e) 2 (omega arith),
       k .2,
-      there (c .before .before .before .before .before .before .before),
+      there (before-place .before),
       le-ltb (length e) (pathAt (propertiesOf e)) (omega arith),
       passed (c .before),
       size (c .before),
@@ -142,12 +162,15 @@ returns-6 c =
 returns-7 : tie.Need-returns-7
 unfolding entryRefusal
 returns-7 c =
-    let e = now (c .before .before .before .before .before .before .before .before .before .before .before .before .before .before .before .args .e) in
-    let k = known (c .before .before .before .before .before .before .before .before .before) in
+    let before-place = c .before .before .before .before .before .before in
+    let before-place-8 = before-place .before .before in
+    let start = before-place-8 .before .before .before .before .before .before .before in
+    let e = now (start .args .e) in
+    let k = known (before-place-8 .before) in
     rw (
       le-ltb (length e) 2 (omega arith),
       k .2,
-      there (c .before .before .before .before .before .before .before),
+      there (before-place .before),
       le-ltb (length e) (pathAt (propertiesOf e)) (omega arith),
       passed (c .before),
       size (c .before),

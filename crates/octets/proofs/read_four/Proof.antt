@@ -32,7 +32,8 @@ join-four-requires c κs = search needs
 
 returns : tie.Need-returns
 returns c =
-    let p = c .before .before .before .before .before .before in
+    let before-place = c .before .before .before .before .before in
+    let p = before-place .before in
     omega (arith, four-octets (now (p .args .s)) (p .args .at) (p .pre))
 
 pub read-four-spec : {M : Type 1} → statement M

@@ -32,9 +32,11 @@ file-refusal-requires c κs = search needs
 returns-2 : tie.Need-returns-2
 unfolding dataRefusal
 returns-2 c =
-    let s = now (c .before .before .before .before .before .before .args .p) in
+    let word-place = c .before .before in
+    let start = word-place .before .before .before .before in
+    let s = now (start .args .p) in
     let z : typeRefusal 3 s ≡ 0 = omega arith in
-    let f : c .before .file-refusal .result ≡ fileRefusal (wordOf s) = c .before .file-refusal .ensures ∙ ap fileRefusal (c .before .before .word .ensures) in
+    let f : c .before .file-refusal .result ≡ fileRefusal (wordOf s) = c .before .file-refusal .ensures ∙ ap fileRefusal (word-place .word .ensures) in
     rw z (f ∙ sym (stays (fileRefusal (wordOf s)) _ (omega arith)))
 
 offset-at-requires : tie.Need-offset-at-requires
@@ -62,8 +64,9 @@ known c =
 returns-3 : tie.Need-returns-3
 unfolding dataRefusal
 returns-3 c =
+    let start = c .before .before .before .before .before .before .before .before .before .before in
     let k = known (c .before) in
-    let s = now (c .before .before .before .before .before .before .before .before .before .before .args .p) in
+    let s = now (start .args .p) in
     let w = wordOf s in
     rw (k .0, k .1) (k .2 ∙ sym (stays (descriptorRefusal (descriptorOctets w) (offsetAt w) s) _ (omega arith)))
 
@@ -76,23 +79,28 @@ there : (c : tie.After-payload-at)
     let w = wordOf s in
     (descriptorRefusal (descriptorOctets w) (offsetAt w) s ≡ 0) × (c .payload-at .result ≡ payloadAt w)
 there c =
+    let word-place = c .before .before .before .before .before .before .before in
     let k = known (c .before .before) in
-    (omega arith, c .payload-at .ensures ∙ ap payloadAt (c .before .before .before .before .before .before .before .word .ensures))
+    (omega arith, c .payload-at .ensures ∙ ap payloadAt (word-place .word .ensures))
 
 returns-4 : tie.Need-returns-4
 unfolding dataRefusal
 returns-4 c =
-    let k = known (c .before .before .before) in
+    let before-place = c .before .before in
+    let start = before-place .before .before .before .before .before .before .before .before .before .before in
+    let k = known (before-place .before) in
     let h = there (c .before) in
-    let s = now (c .before .before .before .before .before .before .before .before .before .before .before .before .args .p) in
+    let s = now (start .args .p) in
     rw (k .0, k .1, h .0, eq-eqb (length s) (payloadAt (wordOf s)) (omega arith))
 
 returns-5 : tie.Need-returns-5
 unfolding dataRefusal
 returns-5 c =
-    let k = known (c .before .before .before) in
+    let before-place = c .before .before in
+    let start = before-place .before .before .before .before .before .before .before .before .before .before in
+    let k = known (before-place .before) in
     let h = there (c .before) in
-    let s = now (c .before .before .before .before .before .before .before .before .before .before .before .before .args .p) in
+    let s = now (start .args .p) in
     rw (k .0, k .1, h .0, ne-eqb (length s) (payloadAt (wordOf s)) (omega arith))
 
 pub data-refusal-spec : {M : Type 1} → statement M

@@ -45,13 +45,15 @@ word c =
 returns-2 : tie.Need-returns-2
 unfolding metadataRefusal
 returns-2 c =
+    let start = c .before .before .before .before .before .before .before in
     let k = word (c .before) in
-    rw (k .0) (k .1 ∙ sym (stays (fileRefusal (wordOf (now (c .before .before .before .before .before .before .before .args .p)))) _ (omega arith)))
+    rw (k .0) (k .1 ∙ sym (stays (fileRefusal (wordOf (now (start .args .p)))) _ (omega arith)))
 
 returns-3 : tie.Need-returns-3
 unfolding metadataRefusal
 returns-3 c =
-    let s = now (c .before .before .before .before .before .before .before .before .args .p) in
+    let start = c .before .before .before .before .before .before .before .before in
+    let s = now (start .args .p) in
     let k = word (c .before .before) in
     let f : fileRefusal (wordOf s) ≡ 0 = omega arith in
     rw (k .0, f) (k .2 ∙ sym (stays (pairRefusal (wordOf s)) _ (omega arith)))
@@ -66,13 +68,16 @@ known : (c : tie.After-checksum-octets)
     → (typeRefusal 2 (now (c .before .before .before .before .before .before .before .before .before .args .p)) ≡ 0) × (fileRefusal (wordOf (now (c .before .before .before .before .before .before .before .before .before .args .p))) ≡ 0) × (pairRefusal (wordOf (now (c .before .before .before .before .before .before .before .before .before .args .p))) ≡ 0)
     × (c .checksum-octets .result ≡ checksumOctets (wordOf (now (c .before .before .before .before .before .before .before .before .before .args .p))))
 known c =
-    let k = word (c .before .before .before) in
-    (k .0, omega arith, omega arith, c .checksum-octets .ensures ∙ ap (λ (x : ℕ). checksumOctets x) (c .before .before .before .before .before .word .ensures))
+    let before-place = c .before .before in
+    let word-place = before-place .before .before .before in
+    let k = word (before-place .before) in
+    (k .0, omega arith, omega arith, c .checksum-octets .ensures ∙ ap (λ (x : ℕ). checksumOctets x) (word-place .word .ensures))
 
 returns-4 : tie.Need-returns-4
 unfolding metadataRefusal
 returns-4 c =
-    let s = now (c .before .before .before .before .before .before .before .before .before .before .args .p) in
+    let start = c .before .before .before .before .before .before .before .before .before .before in
+    let s = now (start .args .p) in
     let k = known (c .before) in
     rw (k .0, k .1, k .2, lt-ltb (length s) (entryAt (wordOf s)) (omega arith))
 
@@ -94,13 +99,17 @@ entry-refusal-requires c κs = search needs
 returns-5 : tie.Need-returns-5
 unfolding metadataRefusal
 returns-5 c =
-    let s = now (c .before .before .before .before .before .before .before .before .before .before .before .before .before .args .p) in
-    let k = known (c .before .before .before .before) in
-    let n = c .before .before .before .before .checksum-octets .result in
+    let before-place = c .before .before .before in
+    let checksum-octets-place = before-place .before in
+    let word-place = checksum-octets-place .before .before .before .before .before in
+    let start = word-place .before .before .before .before in
+    let s = now (start .args .p) in
+    let k = known (before-place .before) in
+    let n = checksum-octets-place .checksum-octets .result in
     rw (k .0, k .1, k .2, le-ltb (length s) (entryAt (wordOf s)) (omega arith))
     (c .entry-refusal .ensures
     ∙ ap (entryRefusal (c .before .descriptor-octets .result)) (rest-part s (8 + n))
-    ∙ rw (c .before .descriptor-octets .ensures, k .3, c .before .before .before .before .before .before .before .before .before .word .ensures))
+    ∙ rw (c .before .descriptor-octets .ensures, k .3, word-place .word .ensures))
 
 pub metadata-refusal-spec : {M : Type 1} → statement M
 metadata-refusal-spec =

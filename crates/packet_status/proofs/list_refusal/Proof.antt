@@ -45,10 +45,12 @@ known : (c : tie.After-timestamp-octets)
     × (holesAt (wordOf s) ≤ length s)
     × Width (c .before .descriptor-octets .result)
 known c =
-    let s = now (c .before .before .before .before .before .args .p) in
-    let e : c .before .before .before .word .result ≡ wordOf s = c .before .before .before .word .ensures in
+    let word-place = c .before .before .before in
+    let start = word-place .before .before in
+    let s = now (start .args .p) in
+    let e : word-place .word .result ≡ wordOf s = word-place .word .ensures in
     let d : c .before .descriptor-octets .result ≡ descriptorOctets (wordOf s) = c .before .descriptor-octets .ensures ∙ ap descriptorOctets e in
-    let pre = c .before .before .before .before .before .pre in
+    let pre = start .pre in
     (e, d, c .timestamp-octets .ensures ∙ ap timestampOctets e, pre .1, rw d (pre .0))
 
 mul-holes : tie.Need-mul-holes
@@ -76,7 +78,8 @@ rest c = let k = known c in rw (k .1, k .2)
 returns : tie.Need-returns
 unfolding listRefusal
 returns c =
-    let s = now (c .before .before .before .before .before .before .args .p) in
+    let start = c .before .before .before .before .before .before in
+    let s = now (start .args .p) in
     rw (ne-eqb (listOctets s % (2 * descriptorOctets (wordOf s))) 0 (λ z. c .if1 .taken (rest (c .before) ∙ z)))
 
 descriptor-requires : tie.Need-descriptor-requires
@@ -96,8 +99,10 @@ div-holes-well c = omega (arith, width-some (known (c .before .before .before) .
 
 holes-well-requires : tie.Need-holes-well-requires
 holes-well-requires c κs =
-    let k = known (c .before .before .before .before) in
-    (k .4, rw (k .1, k .2) (list-fits (now (c .before .before .before .before .before .before .before .before .before .args .p)) (k .3)))
+    let before-place = c .before .before .before in
+    let start = before-place .before .before .before .before .before .before in
+    let k = known (before-place .before) in
+    (k .4, rw (k .1, k .2) (list-fits (now (start .args .p)) (k .3)))
 
 -- the judgement is that of the packet's list
 list : (c : tie.After-holes-well)
@@ -105,15 +110,21 @@ list : (c : tie.After-holes-well)
     c .holes-well .result ≡ holesWell (eqb (partialOf (wordOf s)) 1) (progressOf s) (responseOf s) (holeList s)
 unfolding holeList
 list c =
-    let k = known (c .before .before .before .before .before) in
-    c .holes-well .ensures ∙ simp (c .before .before .before .descriptor .ensures, c .before .before .descriptor2 .ensures, c .before .before .before .before .before .before .before .split .ensures .partial-is, k .0, k .1, k .2)
+    let descriptor2-place = c .before .before in
+    let descriptor-place = descriptor2-place .before in
+    let before-place = descriptor-place .before in
+    let split-place = before-place .before .before .before in
+    let k = known (before-place .before) in
+    c .holes-well .ensures ∙ simp (descriptor-place .descriptor .ensures, descriptor2-place .descriptor2 .ensures, split-place .split .ensures .partial-is, k .0, k .1, k .2)
 
 -- and it gives the refusal
 judged : (c : tie.After-holes-well) → listRefusal (now (c .before .before .before .before .before .before .before .before .before .before .args .p)) ≡ when (not (c .holes-well .result)) 11
 unfolding listRefusal
 judged c =
-    let s = now (c .before .before .before .before .before .before .before .before .before .before .args .p) in
-    rw (eq-eqb (listOctets s % (2 * descriptorOctets (wordOf s))) 0 (sym (rest (c .before .before .before .before .before)) ∙ c .before .before .before .before .if1 .left))
+    let before-place = c .before .before .before .before in
+    let start = before-place .before .before .before .before .before .before in
+    let s = now (start .args .p) in
+    rw (eq-eqb (listOctets s % (2 * descriptorOctets (wordOf s))) 0 (sym (rest (before-place .before)) ∙ before-place .if1 .left))
     (ap (λ (b : Bool). when (not b) 11) (sym (list c)))
 
 returns-2 : tie.Need-returns-2

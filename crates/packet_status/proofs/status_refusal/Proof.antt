@@ -29,7 +29,8 @@ split-requires c κs = search needs
 returns-2 : tie.Need-returns-2
 unfolding statusRefusal
 returns-2 c =
-    let s = now (c .before .before .before .before .before .before .before .args .p) in
+    let start = c .before .before .before .before .before .before .before in
+    let s = now (start .args .p) in
     let z : typeRefusal 4 s ≡ 0 = omega arith in
     rw (z, ne-eqb (statusOf (wordOf s)) 0 (omega arith))
 
@@ -39,7 +40,8 @@ success-refusal-requires c κs = type-fine 4 (now (c .before .before .before .be
 returns-3 : tie.Need-returns-3
 unfolding statusRefusal
 returns-3 c =
-    let s = now (c .before .before .before .before .before .before .before .before .args .p) in
+    let start = c .before .before .before .before .before .before .before .before in
+    let s = now (start .args .p) in
     let z : typeRefusal 4 s ≡ 0 = omega arith in
     rw (z, eq-eqb (statusOf (wordOf s)) 0 (omega arith)) (c .success-refusal .ensures)
 

@@ -40,9 +40,11 @@ known : (c : tie.After-timestamp-octets)
     × (holesAt (wordOf s) ≤ length s)
     × Width (c .before .descriptor-octets .result)
 known c =
-    let s = now (c .before .before .before .before .before .args .p) in
-    let e : c .before .before .before .word .result ≡ wordOf s = c .before .before .before .word .ensures in
-    let f = success-fine s (c .before .before .before .before .before .pre .1) in
+    let word-place = c .before .before .before in
+    let start = word-place .before .before in
+    let s = now (start .args .p) in
+    let e : word-place .word .result ≡ wordOf s = word-place .word .ensures in
+    let f = success-fine s (start .pre .1) in
     let d : c .before .descriptor-octets .result ≡ descriptorOctets (wordOf s) = c .before .descriptor-octets .ensures ∙ ap descriptorOctets e in
     (e, d, c .timestamp-octets .ensures ∙ ap timestampOctets e, f .long, rw d (success-octets s f))
 
@@ -76,8 +78,10 @@ div-t15 c = omega (arith, width-some (known (c .before .before .before) .4))
 returns : tie.Need-returns
 unfolding successOf
 returns c =
-    let k = known (c .before .before .before) in
-    rw (c .before .before .id .ensures, c .before .descriptor .ensures, c .descriptor2 .ensures, c .before .before .before .before .before .split .ensures .flags-is, k .0, k .1, k .2)
+    let before-place = c .before .before in
+    let split-place = before-place .before .before .before in
+    let k = known (before-place .before) in
+    rw (before-place .id .ensures, c .before .descriptor .ensures, c .descriptor2 .ensures, split-place .split .ensures .flags-is, k .0, k .1, k .2)
 
 pub success-fields-spec : {M : Type 1} → statement M
 success-fields-spec =

@@ -24,7 +24,9 @@ split-requires c κs = search needs
 
 returns : tie.Need-returns
 unfolding successRefusal
-returns c = let s = now (c .before .before .before .before .before .args .p) in rw (eq-eqb (widthOf (wordOf s)) 3 (omega arith))
+returns c =
+    let start = c .before .before .before .before .before in
+    let s = now (start .args .p) in rw (eq-eqb (widthOf (wordOf s)) 3 (omega arith))
 
 descriptor-octets-requires : tie.Need-descriptor-octets-requires
 descriptor-octets-requires c κs = search needs
@@ -36,7 +38,9 @@ add-at : tie.Need-add-at
 add-at c = search needs
 
 descriptor-refusal-requires : tie.Need-descriptor-refusal-requires
-descriptor-refusal-requires c κs = omega (arith, octets-le (c .before .before .before .before .before .word .result))
+descriptor-refusal-requires c κs =
+    let word-place = c .before .before .before .before .before in
+    omega (arith, octets-le (word-place .word .result))
 
 -- the octets of the packet's descriptors, which are not of 128 bits, and the refusal of Progress
 known : (c : tie.After-descriptor-refusal)
@@ -47,27 +51,35 @@ known : (c : tie.After-descriptor-refusal)
     × (widthOf w ≡ 3 → ⊥)
     × (c .descriptor-refusal .result ≡ descriptorRefusal (descriptorOctets w) (progressAt w) s)
 known c =
-    let s = now (c .before .before .before .before .before .before .before .before .args .p) in
+    let descriptor-octets-place = c .before .before in
+    let word-place = descriptor-octets-place .before .before .before .before in
+    let start = word-place .before .before in
+    let s = now (start .args .p) in
     let w = wordOf s in
-    let e : c .before .before .before .before .before .before .word .result ≡ w = c .before .before .before .before .before .before .word .ensures in
+    let e : word-place .word .result ≡ w = word-place .word .ensures in
     let n : widthOf w ≡ 3 → ⊥ = omega arith in
-    let d : c .before .before .descriptor-octets .result ≡ descriptorOctets w = c .before .before .descriptor-octets .ensures ∙ ap descriptorOctets e in
+    let d : descriptor-octets-place .descriptor-octets .result ≡ descriptorOctets w = descriptor-octets-place .descriptor-octets .ensures ∙ ap descriptorOctets e in
     let t : c .before .timestamp-octets .result ≡ timestampOctets w = c .before .timestamp-octets .ensures ∙ ap timestampOctets e in
     (d, t, n, c .descriptor-refusal .ensures ∙ rw (d, t))
 
 returns-2 : tie.Need-returns-2
 unfolding successRefusal
 returns-2 c =
-    let s = now (c .before .before .before .before .before .before .before .before .before .args .p) in
+    let start = c .before .before .before .before .before .before .before .before .before in
+    let s = now (start .args .p) in
     let w = wordOf s in
     let k = known (c .before) in
     rw (ne-eqb (widthOf w) 3 (k .2)) (k .3 ∙ sym (stays (descriptorRefusal (descriptorOctets w) (progressAt w) s) _ (omega arith)))
 
 add-descriptor-refusal : tie.Need-add-descriptor-refusal
-add-descriptor-refusal c = omega (arith, octets-le (c .before .before .before .before .before .before .before .word .result))
+add-descriptor-refusal c =
+    let word-place = c .before .before .before .before .before .before .before in
+    omega (arith, octets-le (word-place .word .result))
 
 descriptor-refusal-requires-2 : tie.Need-descriptor-refusal-requires-2
-descriptor-refusal-requires-2 c κs = omega (arith, octets-le (c .before .before .before .before .before .before .before .word .result))
+descriptor-refusal-requires-2 c κs =
+    let word-place = c .before .before .before .before .before .before .before in
+    omega (arith, octets-le (word-place .word .result))
 
 -- Progress is there, and the refusal of In-Response-To
 second : (c : tie.After-descriptor-refusal2)
@@ -82,9 +94,11 @@ second c =
 returns-3 : tie.Need-returns-3
 unfolding successRefusal
 returns-3 c =
-    let s = now (c .before .before .before .before .before .before .before .before .before .before .before .args .p) in
+    let before-place = c .before .before in
+    let start = before-place .before .before .before .before .before .before .before .before .before in
+    let s = now (start .args .p) in
     let w = wordOf s in
-    let k = known (c .before .before .before) in
+    let k = known (before-place .before) in
     let h = second (c .before) in
     rw (ne-eqb (widthOf w) 3 (k .2), h .0) (h .1 ∙ sym (stays (descriptorRefusal (descriptorOctets w) (responseAt w) s) _ (omega arith)))
 
@@ -95,16 +109,20 @@ there c = omega (arith, second (c .before) .1)
 
 list-refusal-requires : tie.Need-list-refusal-requires
 list-refusal-requires c κs =
-    let s = now (c .before .before .before .before .before .before .before .before .before .before .before .args .p) in
+    let before-place = c .before .before in
+    let start = before-place .before .before .before .before .before .before .before .before .before in
+    let s = now (start .args .p) in
     let w = wordOf s in
-    (narrow-octets w (known (c .before .before .before) .2), omega (arith, descriptor-there (descriptorOctets w) (responseAt w) s (there c)))
+    (narrow-octets w (known (before-place .before) .2), omega (arith, descriptor-there (descriptorOctets w) (responseAt w) s (there c)))
 
 returns-4 : tie.Need-returns-4
 unfolding successRefusal
 returns-4 c =
-    let w = wordOf (now (c .before .before .before .before .before .before .before .before .before .before .before .before .args .p)) in
+    let before-place-3 = c .before .before .before in
+    let start = before-place-3 .before .before .before .before .before .before .before .before .before in
+    let w = wordOf (now (start .args .p)) in
     let h = second (c .before .before) in
-    rw (ne-eqb (widthOf w) 3 (known (c .before .before .before .before) .2), h .0, there (c .before)) (c .list-refusal .ensures)
+    rw (ne-eqb (widthOf w) 3 (known (before-place-3 .before) .2), h .0, there (c .before)) (c .list-refusal .ensures)
 
 pub success-refusal-spec : {M : Type 1} → statement M
 success-refusal-spec =

@@ -14,7 +14,8 @@ word-requires c κs = search needs
 
 returns-2 : tie.Need-returns-2
 returns-2 c =
-    let a = c .before .before .before .before .before .args in
+    let start = c .before .before .before .before .before in
+    let a = start .args in
     progress-high (now (a .buf)) (a .rows) _ (omega arith) (c .before .word .ensures) (omega arith)
 
 word-requires-2 : tie.Need-word-requires-2
@@ -22,8 +23,10 @@ word-requires-2 c κs = search needs
 
 returns-3 : tie.Need-returns-3
 returns-3 c =
-    let a = c .before .before .before .before .before .before .args in
-    progress-low (now (a .buf)) (a .rows) _ (omega arith) (c .before .before .word .ensures) _ (omega arith) (c .word2 .ensures)
+    let word-place = c .before .before in
+    let start = word-place .before .before .before .before in
+    let a = start .args in
+    progress-low (now (a .buf)) (a .rows) _ (omega arith) (word-place .word .ensures) _ (omega arith) (c .word2 .ensures)
 
 pub progress-of-spec : {M : Type 1} → statement M
 progress-of-spec = tie.close (tie.spec returns word-requires returns-2 word-requires-2 returns-3)

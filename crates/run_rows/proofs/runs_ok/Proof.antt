@@ -31,15 +31,19 @@ word-requires-2 c κs = search needs
 
 returns-2 : tie.Need-returns-2 Inv-loop μ-loop
 returns-2 c =
-    let a = c .before .before .before .before .before .args in
-    first-not (now (a .buf)) (a .rows .starts) (a .rows .stops) (a .rows .count) (a .size) _ _ (omega arith) (c .before .word2 .ensures) (c .before .before .word .ensures) (omega arith)
+    let word-place = c .before .before in
+    let start = word-place .before .before .before in
+    let a = start .args in
+    first-not (now (a .buf)) (a .rows .starts) (a .rows .stops) (a .rows .count) (a .size) _ _ (omega arith) (c .before .word2 .ensures) (word-place .word .ensures) (omega arith)
 
 loop-holds : tie.Need-loop-holds Inv-loop μ-loop
 loop-holds c =
-    let a = c .before .before .before .before .before .args in (
+    let word-place = c .before .before in
+    let start = word-place .before .before .before in
+    let a = start .args in (
       omega arith,
       omega arith,
-      first-more (now (a .buf)) (a .rows .starts) (a .rows .stops) (a .rows .count) (a .size) _ _ (omega arith) (c .before .word2 .ensures) (c .before .before .word .ensures) (omega arith),
+      first-more (now (a .buf)) (a .rows .starts) (a .rows .stops) (a .rows .count) (a .size) _ _ (omega arith) (c .before .word2 .ensures) (word-place .word .ensures) (omega arith),
     )
 
 add-word : tie.Need-add-word Inv-loop μ-loop
@@ -61,8 +65,10 @@ word-requires-4 c κs = search needs
 
 returns-4 : tie.Need-returns-4 Inv-loop μ-loop
 returns-4 c =
-    let l = c .before .before .before .before .before .loop in
-    later-empty _ _ _ _ _ _ _ _ (l .inv .2) _ (omega arith) (c .before .before .before .word3 .ensures) _ (c .before .word4 .ensures) (omega arith) (omega arith)
+    let word3-place = c .before .before .before in
+    let loop-place = word3-place .before .before in
+    let l = loop-place .loop in
+    later-empty _ _ _ _ _ _ _ _ (l .inv .2) _ (omega arith) (word3-place .word3 .ensures) _ (c .before .word4 .ensures) (omega arith) (omega arith)
 
 add-k : tie.Need-add-k Inv-loop μ-loop
 add-k c = search needs
@@ -72,10 +78,12 @@ loop-less c = search needs
 
 loop-again : tie.Need-loop-again Inv-loop μ-loop
 loop-again c =
-    let l = c .before .before .before .before .before .loop in (
+    let word3-place = c .before .before .before in
+    let loop-place = word3-place .before .before in
+    let l = loop-place .loop in (
       omega arith,
       omega arith,
-      later-more _ _ _ _ _ _ _ _ (l .inv .2) _ (omega arith) (c .before .before .before .word3 .ensures) _ (c .before .word4 .ensures) (omega arith) (omega arith),
+      later-more _ _ _ _ _ _ _ _ (l .inv .2) _ (omega arith) (word3-place .word3 .ensures) _ (c .before .word4 .ensures) (omega arith) (omega arith),
     )
 
 returns-5 : tie.Need-returns-5 Inv-loop μ-loop

@@ -31,14 +31,19 @@ returns c = let s = c .before .before .before in
     rw (ne-eqb (s .args .d .width) (s .args .key .width) (omega arith))
 
 returns-2 : tie.Need-returns-2
-returns-2 c = let a = c .before .before .before .before .before .args in too-long (a .key) (a .d) (omega arith) (omega arith)
+returns-2 c =
+    let start = c .before .before .before .before .before in
+    let a = start .args in too-long (a .key) (a .d) (omega arith) (omega arith)
 
 returns-3 : tie.Need-returns-3
-returns-3 c = let a = c .before .before .before .before .before .before .before .before .args in too-long (a .key) (a .d) (omega arith) (omega arith)
+returns-3 c =
+    let start = c .before .before .before .before .before .before .before .before in
+    let a = start .args in too-long (a .key) (a .d) (omega arith) (omega arith)
 
 returns-4 : tie.Need-returns-4
 returns-4 c =
-    let a = c .before .before .before .before .before .before .before .before .before .before .args in
+    let start = c .before .before .before .before .before .before .before .before .before .before in
+    let a = start .args in
     rw (within (a .key) (a .d) (omega arith) (omega arith), ne-eqb (a .d .eod) 1 (omega arith))
 
 add-if5 : tie.Need-add-if5
@@ -46,12 +51,14 @@ add-if5 c = search needs
 
 returns-5 : tie.Need-returns-5
 returns-5 c =
-    let a = c .before .before .before .before .before .before .before .before .before .before .before .before .before .args in
+    let start = c .before .before .before .before .before .before .before .before .before .before .before .before .before in
+    let a = start .args in
     rw (within (a .key) (a .d) (omega arith) (omega arith), eq-eqb (a .d .eod) 1 (omega arith), ne-eqb (stopOf (a .d)) (a .key .length) (omega arith))
 
 returns-6 : tie.Need-returns-6
 returns-6 c =
-    let a = c .before .before .before .before .before .before .before .before .before .before .before .before .before .args in
+    let start = c .before .before .before .before .before .before .before .before .before .before .before .before .before in
+    let a = start .args in
     rw (within (a .key) (a .d) (omega arith) (omega arith), eq-eqb (a .d .eod) 1 (omega arith), eq-eqb (stopOf (a .d)) (a .key .length) (omega arith))
 
 pub key-refusal-spec : {M : Type 1} → statement M

@@ -20,9 +20,11 @@ same-length c = search needs
 
 returns : tie.Need-returns
 returns c =
-    let a = c .before .before .before .before .before .before .args in
+    let put-word-place = c .before .before in
+    let start = put-word-place .before .before .before .before in
+    let a = start .args in
     splice-one (now (a .buf)) (a .k) (a .n) (a .i) (a .j) (a .v) (omega arith) (omega arith) (omega arith) (omega arith) _
-    (omega arith) (c .before .before .put-word .ensures)
+    (omega arith) (put-word-place .put-word .ensures)
 
 mul-from : tie.Need-mul-from
 mul-from c = search needs
@@ -47,10 +49,12 @@ same-length-2 c = search needs
 
 returns-2 : tie.Need-returns-2
 returns-2 c =
-    let p = c .before .before .before .before .before .before in
+    let put-word2-place = c .before .before in
+    let before-place = put-word2-place .before .before .before in
+    let p = before-place .before in
     let a = p .before .before .before .before .before .args in
     splice-up (now (a .buf)) (a .k) (a .n) (a .i) (a .j) (a .v) (omega arith) (omega arith) (omega arith) (omega arith) _ _
-    (omega arith) (p .move-up .ensures) (c .before .before .put-word2 .ensures)
+    (omega arith) (p .move-up .ensures) (put-word2-place .put-word2 .ensures)
 
 add-move-down : tie.Need-add-move-down
 add-move-down c = search needs
@@ -81,10 +85,12 @@ same-length-3 c = search needs
 
 returns-3 : tie.Need-returns-3
 returns-3 c =
-    let p = c .before .before .before .before .before .before in
+    let put-word3-place = c .before .before in
+    let before-place = put-word3-place .before .before .before in
+    let p = before-place .before in
     let a = p .before .before .before .before .before .args in
     splice-moved (now (a .buf)) (a .k) (a .n) (a .i) (a .j) (a .v) (omega arith) (omega arith) (omega arith) (omega arith) _ _
-    (p .move-down .ensures) (c .before .before .put-word3 .ensures)
+    (p .move-down .ensures) (put-word3-place .put-word3 .ensures)
 
 pub splice-spec : {M : Type 1} → statement M
 splice-spec =

@@ -58,8 +58,10 @@ same-length c = search needs
 
 returns : tie.Need-returns Inv-loop μ-loop
 returns c =
-    let l = c .before .before .before .before .before .loop in
-    close-end _ _ _ _ _ (l .inv) (omega arith) _ (λ i. c .slice-known3 .given i .fits) (c .before .before .put-word .ensures)
+    let put-word-place = c .before .before in
+    let loop-place = put-word-place .before .before .before in
+    let l = loop-place .loop in
+    close-end _ _ _ _ _ (l .inv) (omega arith) _ (λ i. c .slice-known3 .given i .fits) (put-word-place .put-word .ensures)
 
 pub remove-at-spec : {M : Type 1} → statement M
 remove-at-spec =

@@ -20,7 +20,8 @@ same-length-3 c = search needs
 
 returns : tie.Need-returns
 returns c =
-    let l = c .before .before .before .before .before .before in
+    let before-place = c .before .before .before .before .before in
+    let l = before-place .before in
     let k = l .before .before .before .before .before .before in
     let s = k .before .before in
     let a = s .args in

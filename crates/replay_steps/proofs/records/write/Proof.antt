@@ -23,9 +23,12 @@ same-length-2 c = search needs
 returns : tie.Need-returns
 unfolding writtenLine
 returns c =
-    let a = c .before .before .before .before .before .before .before .before .before .before .before .before .args in
-    let w = c .before .before .before .before .before .before .before .write-status .ensures in
-    added-as (ap₂ (statusText (a .number)) (w .0) (w .1)) (c .before .before .put-written .ensures)
+    let put-written-place = c .before .before in
+    let write-status-place = put-written-place .before .before .before .before .before in
+    let start = write-status-place .before .before .before .before .before in
+    let a = start .args in
+    let w = write-status-place .write-status .ensures in
+    added-as (ap₂ (statusText (a .number)) (w .0) (w .1)) (put-written-place .put-written .ensures)
 
 pub write-spec : {M : Type 1} → statement M
 write-spec =

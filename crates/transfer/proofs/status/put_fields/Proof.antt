@@ -37,7 +37,9 @@ same-length c = search needs
 
 returns : tie.Need-returns
 returns c =
-    let third = c .before .before .before .before .before .before in
+    let write-number4-place = c .before .before in
+    let before-place = write-number4-place .before .before .before in
+    let third = before-place .before in
     let second = third .before .before .before .before in
     let first = second .before .before .before .before in
     let word = first .before in
@@ -46,7 +48,7 @@ returns c =
     fields-put (statusFlags (a .key .width) (a .partial) (a .unasked)) (a .key .id) (a .key .width) (a .progress) (a .edge)
     (word .join .result) (flags .status-flags .result) (now (a .out)) _ _ _ _ (omega arith)
     (flags .status-flags .ensures) (word .join .ensures) (first .write-number .ensures) (second .write-number2 .ensures)
-    (third .write-number3 .ensures) (c .before .before .write-number4 .ensures)
+    (third .write-number3 .ensures) (write-number4-place .write-number4 .ensures)
 
 pub put-fields-spec : {M : Type 1} → statement M
 put-fields-spec =

@@ -12,7 +12,9 @@ ghost use Rattle.area.specs.Places.{transferAt};
 ghost use Rattle.area.specs.Operations.{areaStatusWritten, areaStatusBuffer};
 ghost use Rattle.area_status.specs.Used.{UsedPlace};
 ghost use Rattle.area_status.specs.Listing.{listingOf, listedArea};
+
 pub mod by_id;
+
 use refusals::Refusal;
 use refusals::Written;
 use run_rows::Rows;

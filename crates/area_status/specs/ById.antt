@@ -1,5 +1,5 @@
 -- One transfer of an area by its Id: how it stands, and its holes. Document 01 has neither operation; the numbers are those it has for
--- an Id that is not open and for a hole that the list lacks (DECISIONS: 34, 35, 20).
+-- an Id that is not open and for a hole that the list lacks (DECISIONS: 20, 34, 36).
 -- Assumes nothing.
 use Prim.Native.Nat.{ℕ}
 use mathlib.Core.Bool.{cond}

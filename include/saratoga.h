@@ -13,8 +13,8 @@
  *
  * After a refusal whose `code` isn't 0, the failure STATUS goes out by saratoga_write_failure with that code and the Id
  * in octets 4 to 7 of the packet that was refused, the highest octet first. They are there: a refusal of a packet has a
- * code only where the first 8 octets were found. (A packet of another type may have other octets in that place: BEACON
- * has no Id. 4 is the refusal to look at before answering.)
+ * code only where the first 8 octets were found. After refusal 4 they need not be an Id, as a BEACON has none: answer
+ * METADATA, DATA and STATUS alone.
  *
  * The library is for x86-64. It uses no heap and holds no state; each call needs less than 2,000 octets of stack
  * (docs/AREA.md has them by function).
@@ -37,13 +37,13 @@ extern "C" {
 #define SARATOGA_VERSION "0.1"
 
 /* Limits. */
-#define SARATOGA_TRANSFERS 16        /* Ids that can be open at a time */
-#define SARATOGA_RUNS 64             /* runs of a transfer, and so at most as many holes */
-#define SARATOGA_PACKET_OCTETS 65535 /* of the longest packet that is read or written */
-#define SARATOGA_PATH_OCTETS 1023    /* of the longest path, without the closing zero octet */
+#define SARATOGA_TRANSFERS 16         /* Ids that can be open at a time */
+#define SARATOGA_RUNS 64              /* runs of a transfer, and so at most as many holes */
+#define SARATOGA_PACKET_OCTETS 65535  /* of the longest packet that is read or written */
+#define SARATOGA_PATH_OCTETS 1023     /* of the longest path, without the closing zero octet */
 #define SARATOGA_METADATA_OCTETS 1110 /* of the longest METADATA that is written */
-#define SARATOGA_STATUS_OCTETS 1048  /* of the longest STATUS that is written: room for any, with 64 holes */
-#define SARATOGA_FAILURE_OCTETS 8    /* of a failure STATUS */
+#define SARATOGA_STATUS_OCTETS 1048   /* of the longest STATUS that is written: room for any, with 64 holes */
+#define SARATOGA_FAILURE_OCTETS 8     /* of a failure STATUS */
 
 /* Packet types. */
 #define SARATOGA_TYPE_METADATA 2

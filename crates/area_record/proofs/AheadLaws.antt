@@ -1,13 +1,12 @@
 -- A splice of runs that is not made: its edge and its progress are those that `edgeWith` and `progressWith` say.
 -- Assumes nothing.
 use Prim.Native.Nat.{ℕ, zero, suc, _≤_, _<_}
-use mathlib.Core.Path.{_≡_, refl, sym, ap, ap₂, _∙_}
-use mathlib.Core.Bool.{Bool, cond}
+use mathlib.Core.Path.{_≡_, refl, sym, ap₂, _∙_}
 use mathlib.Core.List.{List, [], _∷_, _++_}
 use mathlib.Core.Logic.{⊎-elim}
 use native.Mathlib.Omega.{arith}
 use lib.ListN.{length, take, drop}
-use lib.Dec.{ltb, leb, eqb}
+use lib.Dec.{leb}
 use borrow.Author.Tests.{eq-eqb, ne-eqb, lt-ltb, le-ltb}
 use Rattle.runs.specs.Runs.{Run, run}
 use Rattle.runs.specs.Holes.{edgeFrom, edge, progress, complete}
@@ -69,23 +68,23 @@ reached-with key rs i j lo hi e p h f g =
 -- ---- as the code finds them
 
 module _ (a : List ℕ) (r : Rows) (j hi : ℕ) where
-  pub edge-above : j < r .count → edgeWith (runsIn a r) j hi ≡ edge (runsIn a r)
+  pub edge-with-above : j < r .count → edgeWith (runsIn a r) j hi ≡ edge (runsIn a r)
   unfolding edgeWith
-  edge-above h = rw (lt-ltb j (length (runsIn a r)) (omega (arith, length-runs a (r .starts) (r .stops) (r .count))))
+  edge-with-above h = rw (lt-ltb j (length (runsIn a r)) (omega (arith, length-runs a (r .starts) (r .stops) (r .count))))
 
-  pub edge-joined : r .count ≤ j → edgeWith (runsIn a r) j hi ≡ hi
+  pub edge-with-joined : r .count ≤ j → edgeWith (runsIn a r) j hi ≡ hi
   unfolding edgeWith
-  edge-joined h = rw (le-ltb j (length (runsIn a r)) (omega (arith, length-runs a (r .starts) (r .stops) (r .count))))
+  edge-with-joined h = rw (le-ltb j (length (runsIn a r)) (omega (arith, length-runs a (r .starts) (r .stops) (r .count))))
 
 module _ (rs : List Run) (i lo hi : ℕ) where
-  pub progress-below : 0 < i → progressWith rs i lo hi ≡ progress rs
+  pub progress-with-below : 0 < i → progressWith rs i lo hi ≡ progress rs
   unfolding progressWith
-  progress-below h = rw (lt-ltb 0 i h)
+  progress-with-below h = rw (lt-ltb 0 i h)
 
-  pub progress-high : i ≤ 0 → (lo ≡ 0 → ⊥) → progressWith rs i lo hi ≡ 0
+  pub progress-with-high : i ≤ 0 → (lo ≡ 0 → ⊥) → progressWith rs i lo hi ≡ 0
   unfolding progressWith
-  progress-high h z = rw (le-ltb 0 i h, ne-eqb lo 0 z)
+  progress-with-high h z = rw (le-ltb 0 i h, ne-eqb lo 0 z)
 
-  pub progress-low : i ≤ 0 → lo ≡ 0 → progressWith rs i lo hi ≡ hi
+  pub progress-with-low : i ≤ 0 → lo ≡ 0 → progressWith rs i lo hi ≡ hi
   unfolding progressWith
-  progress-low h z = rw (le-ltb 0 i h, eq-eqb lo 0 z)
+  progress-with-low h z = rw (le-ltb 0 i h, eq-eqb lo 0 z)

@@ -4,7 +4,7 @@ use Prim.Native.Nat.{ℕ, _≤_, _<_}
 use mathlib.Core.Path.{_≡_, refl, ap, _∙_}
 use mathlib.Core.Bool.{true, false}
 use mathlib.Core.List.{List}
-use mathlib.Core.Option.{none, some}
+use mathlib.Core.Option.{none}
 use lib.ListN.{length, getD}
 use borrow.Author.Tests.{lt-ltb, le-ltb}
 use Rattle.refusals.specs.Refusals.{refusalOf}
@@ -14,7 +14,7 @@ use Rattle.run_rows.specs.declared.Rows.{Rows}
 use Rattle.packet_status.specs.declared.HoleRead.the-variants as hole-read
 use Rattle.transfer.specs.Transfers.{Transfer}
 use Rattle.table.specs.Tables.{keys, find}
-use Rattle.area.specs.Places.{keyAt, rowsAt, transferAt, readTable, nth, placeIn, KeptAt}
+use Rattle.area.specs.Places.{keyAt, rowsAt, transferAt, readTable, placeIn, KeptAt}
 use Rattle.area.specs.Judge.{judged, tableOf}
 use Rattle.area.specs.declared.Place.{Place}
 use Rattle.area.specs.Operations.{fromFound, fromTable}

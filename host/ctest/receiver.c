@@ -105,7 +105,7 @@ static void open_as(const char *what, uint8_t *area, size_t len, uint64_t id, si
     free(lent);
 }
 
-/* DATA with `payload` octets, with end of data or without. */
+/* DATA with `payload` octets, with end of data or without. What it would be answered is asked before. */
 static void record_as(const char *what, uint8_t *area, size_t len, uint64_t id, size_t width, uint64_t offset,
                       size_t payload, int last, struct saratoga_recorded want)
 {
@@ -116,6 +116,7 @@ static void record_as(const char *what, uint8_t *area, size_t len, uint64_t id, 
     put(packet + 4, id, 4);
     put(packet + 8, offset, width);
     lent = lend(packet, size);
+    same_recorded(what, saratoga_try_record(area, len, lent, size), want);
     same_recorded(what, saratoga_record(area, len, lent, size), want);
     same_octets(what, lent, packet, size);
     if (want.number != 0)
@@ -157,6 +158,27 @@ static void list_as(const char *what, const uint8_t *area, size_t len, uint64_t 
 {
     uint8_t *before = lend(area, len);
     same_listed(what, saratoga_transfer(area, len, index), want);
+    same_octets(what, area, before, len);
+    free(before);
+}
+
+static void find_as(const char *what, const uint8_t *area, size_t len, uint64_t id, struct saratoga_listed want)
+{
+    uint8_t *before = lend(area, len);
+    same_listed(what, saratoga_find(area, len, id), want);
+    same_octets(what, area, before, len);
+    free(before);
+}
+
+static void hole_as(const char *what, const uint8_t *area, size_t len, uint64_t id, uint64_t index,
+                    struct saratoga_hole want)
+{
+    uint8_t *before = lend(area, len);
+    struct saratoga_hole got = saratoga_transfer_hole(area, len, id, index);
+    SAME(number);
+    SAME(code);
+    SAME(start);
+    SAME(end);
     same_octets(what, area, before, len);
     free(before);
 }
@@ -525,6 +547,11 @@ static void unwritten_words(void)
     same_listed(what, saratoga_transfer(area, AREA, 1),
                 (struct saratoga_listed){.id = 7, .width = 2, .length = 3000, .edge = 3000, .runs = 2});
     same_listed(what, saratoga_transfer(area, AREA, 4), REFUSED(listed, SARATOGA_REFUSED_NOT_OPEN, 0x06));
+    same_listed(what, saratoga_find(area, AREA, 7),
+                (struct saratoga_listed){.id = 7, .width = 2, .length = 3000, .edge = 3000, .runs = 2});
+    same_listed(what, saratoga_find(area, AREA, 10), REFUSED(listed, SARATOGA_REFUSED_NOT_OPEN, 0x06));
+    if (saratoga_transfer_hole(area, AREA, 7, 0).end != 2000)
+        fail(what, "end", saratoga_transfer_hole(area, AREA, 7, 0).end, 2000);
     same_written(what, saratoga_write_status(area, AREA, 7, 0, 0, out, 16), (struct saratoga_written){.size = 16});
     same_octets(what, out, hole, 16);
     received(what, area, 1000, 1000, 3000, 1);
@@ -537,6 +564,61 @@ static void unwritten_words(void)
     printf("ctest: unwritten words\n");
 }
 
+/* The longest STATUS: 64 holes at width 64. */
+static void longest_status(void)
+{
+    const char *what = "the longest STATUS";
+    uint8_t *area = empty_area(AREA), *out = lend(NULL, SARATOGA_STATUS_OCTETS);
+    uint64_t run;
+    open_as(what, area, AREA, 7, 8, 3000, (struct saratoga_opened){0, 0, 0, 0, 0});
+    for (run = 0; run < SARATOGA_RUNS; run++)
+        record_as(what, area, AREA, 7, 8, 2 * run + 1, 1, 0, (struct saratoga_recorded){.edge = 2 * run + 2});
+    same_written(what, saratoga_write_status(area, AREA, 7, 0, 0, out, SARATOGA_STATUS_OCTETS),
+                 (struct saratoga_written){.size = SARATOGA_STATUS_OCTETS});
+    if ((saratoga_read(out, SARATOGA_STATUS_OCTETS).flags & SARATOGA_FLAG_INCOMPLETE) != 0)
+        fail(what, "bit 14", 1, 0);
+    for (run = 0; run < SARATOGA_RUNS; run++)
+        hole_as(what, area, AREA, 7, run, (struct saratoga_hole){.start = 2 * run, .end = 2 * run + 1});
+    free(area);
+    free(out);
+    printf("ctest: the longest STATUS\n");
+}
+
+/* What recording would answer, and one transfer by its Id: the area is only read. */
+static void asked_alone(void)
+{
+    static const uint8_t data[] = {0x43, 0, 0, 0, 0, 0, 0, 7, 0x03, 0xE8, 1, 2, 3};
+    const char *what = "asked alone";
+    uint8_t *area = empty_area(AREA), *before, *short_area;
+    open_as(what, area, AREA, 7, 2, 3000, (struct saratoga_opened){0, 0, 0, 0, 0});
+    open_as(what, area, AREA, 9, 8, 10, (struct saratoga_opened){0, 0, 0, 0, 0});
+    received(what, area, 10, 90, 100, 0);
+    received(what, area, 200, 100, 300, 0);
+    before = lend(area, AREA);
+    same_recorded(what, saratoga_try_record(area, AREA, data, sizeof data), (struct saratoga_recorded){.edge = 1003});
+    same_octets(what, area, before, AREA);
+    same_recorded(what, saratoga_try_record(area, AREA, data, 10), REFUSED(recorded, SARATOGA_REFUSED_NO_PAYLOAD, 0x01));
+    same_recorded(what, saratoga_try_record(area, AREA - 1, data, 10), REFUSED(recorded, SARATOGA_REFUSED_AREA, 0));
+    free(before);
+
+    find_as("Id 7", area, AREA, 7, (struct saratoga_listed){.id = 7, .width = 2, .length = 3000, .edge = 300, .runs = 2});
+    find_as("Id 9", area, AREA, 9, (struct saratoga_listed){.id = 9, .width = 8, .length = 10});
+    find_as("Id 8", area, AREA, 8, REFUSED(listed, SARATOGA_REFUSED_NOT_OPEN, 0x06));
+    find_as("an Id over 32 bits", area, AREA, 7 + (UINT64_C(1) << 32), REFUSED(listed, SARATOGA_REFUSED_NOT_OPEN, 0x06));
+    hole_as("hole 0", area, AREA, 7, 0, (struct saratoga_hole){.end = 10});
+    hole_as("hole 1", area, AREA, 7, 1, (struct saratoga_hole){.start = 100, .end = 200});
+    hole_as("hole 2 of 2", area, AREA, 7, 2, REFUSED(hole, SARATOGA_REFUSED_INDEX, 0));
+    hole_as("the last index", area, AREA, 7, UINT64_MAX, REFUSED(hole, SARATOGA_REFUSED_INDEX, 0));
+    hole_as("no hole", area, AREA, 9, 0, REFUSED(hole, SARATOGA_REFUSED_INDEX, 0));
+    hole_as("no such Id", area, AREA, 8, 0, REFUSED(hole, SARATOGA_REFUSED_NOT_OPEN, 0x06));
+    short_area = lend(area, AREA - 1);
+    find_as("too short", short_area, AREA - 1, 7, REFUSED(listed, SARATOGA_REFUSED_AREA, 0));
+    hole_as("too short", short_area, AREA - 1, 7, 0, REFUSED(hole, SARATOGA_REFUSED_AREA, 0));
+    free(short_area);
+    free(area);
+    printf("ctest: asked alone\n");
+}
+
 int main(void)
 {
     page_with_a_hole();
@@ -547,6 +629,8 @@ int main(void)
     seventeen_ids();
     recording_refused();
     areas();
+    longest_status();
+    asked_alone();
     unwritten_words();
     return report("ctest receiver");
 }

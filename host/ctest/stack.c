@@ -96,6 +96,11 @@ static void record(void) { saratoga_record(area, AREA, packet, size); }
 static void status(void) { saratoga_write_status(area, AREA, 80, 0, 1, out, sizeof out); }
 static void status_of_last(void) { saratoga_write_status(area, AREA, 160, RUNS - 1, 0, out, 40); }
 static void list(void) { saratoga_transfer(area, AREA, IDS - 1); }
+static void try_record(void) { saratoga_try_record(area, AREA, packet, size); }
+static void find_last(void) { saratoga_find(area, AREA, 160); }
+static void find_none(void) { saratoga_find(area, AREA, 11); }
+static void last_hole(void) { saratoga_transfer_hole(area, AREA, 160, RUNS - 1); }
+static void no_hole(void) { saratoga_transfer_hole(area, AREA, 160, RUNS); }
 static void close_first(void) { saratoga_close(area, AREA, 10); }
 static void close_last(void) { saratoga_close(area, AREA, 160); }
 static void close_none(void) { saratoga_close(area, AREA, 11); }
@@ -126,11 +131,22 @@ static const struct way {
     {"saratoga_record", past_the_end, record},
     {"saratoga_record", a_65th_run, record},
     {"saratoga_record", no_table, record},
+    {"saratoga_try_record", in_front, try_record},
+    {"saratoga_try_record", behind, try_record},
+    {"saratoga_try_record", joins_some, try_record},
+    {"saratoga_try_record", a_65th_run, try_record},
+    {"saratoga_try_record", no_table, try_record},
     {"saratoga_write_status", use_full, status},
     {"saratoga_write_status", use_full, status_of_last},
     {"saratoga_write_status", no_table, status},
     {"saratoga_transfer", use_full, list},
     {"saratoga_transfer", no_table, list},
+    {"saratoga_find", use_full, find_last},
+    {"saratoga_find", use_full, find_none},
+    {"saratoga_find", no_table, find_last},
+    {"saratoga_transfer_hole", use_full, last_hole},
+    {"saratoga_transfer_hole", use_full, no_hole},
+    {"saratoga_transfer_hole", no_table, last_hole},
     {"saratoga_close", use_full, close_first},
     {"saratoga_close", use_full, close_last},
     {"saratoga_close", use_full, close_none},

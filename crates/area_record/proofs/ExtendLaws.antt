@@ -115,6 +115,15 @@ module _ (a : List ℕ) (p : ℕ) (e : judged a ≡ true) (there : p < length (r
       unfolding runsGiven
       extend-over k h = rw (lt-ltb runPlaces (length new) (omega (arith, length-new)))
 
+      -- the answer where there is room, which the runs after the splice decide
+      pub extend-answer : (k : Key) (lo hi : ℕ) (q : Reached) → lo ≡ lowOf from (runsIn a r) i j → hi ≡ highOf to (runsIn a r) i j
+          → runsAfter (r .count) i j ≤ runPlaces → q ≡ reached k (spliced (runsIn a r) i j (run lo hi))
+          → Accepted q ≡ runsGiven a (readTable a) p k new .answer
+      unfolding runsGiven
+      extend-answer k lo hi q f g room y =
+          rw (le-ltb runPlaces (length new) (omega (arith, length-new)))
+          (ap Accepted (y ∙ ap (λ (l : List Run). reached k (spliced l i j (run lo hi))) runs-here ∙ ap (reached k) (sym (inserted lo hi f g))))
+
       -- what is left of the area where there is room
       module _ (lo hi : ℕ) (f : lo ≡ lowOf from (runsIn a r) i j) (g : hi ≡ highOf to (runsIn a r) i j) (lo-fits : lo < 2 ^ 64) (hi-fits : hi < 2 ^ 64)
           (room : runsAfter (r .count) i j ≤ runPlaces) (b : List ℕ) (x : b ≡ splicedArea a p (r .count) i j lo hi) where

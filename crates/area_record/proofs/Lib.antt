@@ -3,3 +3,4 @@ pub mod OverlayLaws
 pub mod SplicedAreaLaws
 pub mod ExtendLaws
 pub mod RecordLaws
+pub mod AheadLaws

@@ -10,6 +10,9 @@ ghost use Rattle.area.specs.Places.{nth, readTable};
 ghost use Rattle.area.specs.Judge.{judged};
 ghost use Rattle.area.specs.Operations.{leaves, recordArea};
 ghost use Rattle.area_record.specs.Record.{runsAfter, splicedArea, runsGiven};
+
+pub mod ahead;
+
 use packet_data::Data;
 use run_rows::Rows;
 use table::Recorded;

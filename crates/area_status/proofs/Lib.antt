@@ -1,3 +1,4 @@
 pub mod UsedLaws
 pub mod WriteStatusLaws
 pub mod ListingLaws
+pub mod ByIdLaws

@@ -1,12 +1,10 @@
 -- STATUS from an area: 22, then 12, then the STATUS of the transfer at the Id's place. Where the area holds a table, it is the table's.
 -- Assumes nothing.
-use Prim.Native.Nat.{ℕ, _<_}
-use mathlib.Core.Path.{_≡_, sym, ap, _∙_}
+use Prim.Native.Nat.{ℕ}
+use mathlib.Core.Path.{_≡_, sym, _∙_}
 use mathlib.Core.Bool.{Bool, true, false, _||_}
 use mathlib.Core.List.{List}
 use mathlib.Core.Option.{none, some}
-use native.Mathlib.Omega.{arith}
-use lib.ListN.{length}
 use Rattle.octets.specs.Put.{put}
 use Rattle.refusals.specs.Refusals.{refusalOf}
 use Rattle.refusals.specs.declared.Written.{Written}
@@ -18,18 +16,16 @@ use Rattle.run_rows.specs.declared.Rows.{Rows}
 use Rattle.transfer.specs.declared.Key.{Key}
 use Rattle.transfer.specs.Transfers.{Transfer}
 use Rattle.transfer.specs.WriteStatus.{statusFlags, statusFields, transferWritten, transferBuffer}
-use Rattle.table.specs.Tables.{keys, find, runsOf}
 use Rattle.table.specs.WriteStatus.{writtenFor, bufferFor, statusWritten, statusBuffer}
 use Rattle.table.proofs.StatusWritten.{status-twelve}
-use Rattle.words.specs.Words.{wordAt}
 use Rattle.area.specs.Places.{keyAt, rowsAt, readTable, placeIn}
 use Rattle.area.specs.Judge.{judged, tableOf}
 use Rattle.area.specs.declared.Place.{Place}
 use Rattle.area.specs.Operations.{fromFound, fromTable, areaStatusWritten, areaStatusBuffer}
-use Rattle.area.proofs.PlaceLaws.{length-transfers, transfer-at}
 use Rattle.area.proofs.JudgeLaws.{judged-passed}
 use Rattle.area.proofs.OperationLaws.{from-held, from-judged}
-use Rattle.area.proofs.KeptLaws.{place-open, place-free, kept-found, kept-runs, free-missing}
+use Rattle.area.proofs.KeptLaws.{place-free, free-missing}
+use Rattle.area_status.proofs.UsedLaws.{key-found, runs-found}
 
 -- the fields before the holes, by what the rows say
 pub front-put : (key : Key) (rs : List Run) (partial unasked done told : Bool) (from to : ℕ) (old x : List ℕ)
@@ -66,27 +62,13 @@ module _ (a : List ℕ) (id k : ℕ) (unasked : Bool) (old : List ℕ) where
           sym (from-judged _ (λ t. statusBuffer t id k unasked old) a yes ∙ m .1),
         )
 
-    -- the place of an Id that is open is used
-    pub open-used : p .«open» ≡ true → p .at < wordAt a 0
-    open-used e = omega (arith, place-open id (readTable a) p is e .inside, length-transfers a 0 (wordAt a 0))
-
-    -- and its key and its runs are the Id's
+    -- where it is open, the transfer's
     module _ (yes-open : p .«open» ≡ true) (key : Key) (rows : Rows) (key-is : key ≡ keyAt a (p .at)) (rows-are : rows ≡ rowsAt a (p .at)) where
-      key-found : find id (keys (readTable a)) ≡ some key
-      key-found =
-          kept-found (place-open id (readTable a) p is yes-open)
-          ∙ ap (λ (x : Transfer). some (x .key)) (transfer-at a (p .at) (open-used yes-open)) ∙ ap some (sym key-is)
-
-      runs-found : runsOf (readTable a) id ≡ runsIn a rows
-      runs-found =
-          kept-runs (place-open id (readTable a) p is yes-open)
-          ∙ ap (λ (x : Transfer). x .runs) (transfer-at a (p .at) (open-used yes-open)) ∙ ap (runsIn a) (sym rows-are)
-
       pub status-found : (x : Written) (y : List ℕ) → x ≡ transferWritten key (runsIn a rows) k unasked old
           → y ≡ transferBuffer key (runsIn a rows) k unasked old
           → (x ≡ areaStatusWritten a id k unasked old) × (y ≡ areaStatusBuffer a id k unasked old)
       unfolding areaStatusWritten areaStatusBuffer statusWritten statusBuffer writtenFor bufferFor
       status-found x y e f = (
-        e ∙ sym (from-judged _ (λ t. statusWritten t id k unasked old) a yes ∙ rw (key-found, runs-found)),
-        f ∙ sym (from-judged _ (λ t. statusBuffer t id k unasked old) a yes ∙ rw (key-found, runs-found)),
+        e ∙ sym (from-judged _ (λ t. statusWritten t id k unasked old) a yes ∙ rw (key-found a id yes p is yes-open key key-is, runs-found a id yes p is yes-open rows rows-are)),
+        f ∙ sym (from-judged _ (λ t. statusBuffer t id k unasked old) a yes ∙ rw (key-found a id yes p is yes-open key key-is, runs-found a id yes p is yes-open rows rows-are)),
       )

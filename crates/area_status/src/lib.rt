@@ -12,6 +12,9 @@ ghost use Rattle.area.specs.Places.{transferAt};
 ghost use Rattle.area.specs.Operations.{areaStatusWritten, areaStatusBuffer};
 ghost use Rattle.area_status.specs.Used.{UsedPlace};
 ghost use Rattle.area_status.specs.Listing.{listingOf, listedArea};
+
+pub mod by_id;
+
 use refusals::Refusal;
 use refusals::Written;
 use run_rows::Rows;
@@ -151,7 +154,7 @@ pub fn write_status(area: &[u8], id: u64, skip: u64, unasked: bool, out: &mut [u
 // ---- what is open
 
 // The transfer at place i.
-fn listing_at(area: &[u8], i: usize) -> Listing
+pub fn listing_at(area: &[u8], i: usize) -> Listing
     requires { ⌜ UsedPlace (now area) i ⌝ }
     ensures { λ r. ⌜ r ≡ listingOf (transferAt (now (area .entry)) i) ⌝ }
 {

@@ -263,6 +263,26 @@ pub fn written_answer(a: Written) -> WrittenAnswer
     }
 }
 
+// What C gets of a hole.
+pub fn hole_answer(a: HoleRead) -> HoleAnswer
+    ensures { λ r. ⌜ r ≡ holeAnswer a ⌝ }
+{
+    match a {
+        HoleRead::Accepted(h) => HoleAnswer {
+            number: 0,
+            code: 0,
+            start: h.start,
+            end: h.end,
+        },
+        HoleRead::Refused(refusal) => HoleAnswer {
+            number: refusal.number,
+            code: refusal.code,
+            start: 0,
+            end: 0,
+        },
+    }
+}
+
 // DATA comes most often and is answered first, without the enum. Each case has its own `return`: where they met in one
 // place, the compiler would bring 24 fields there over the stack.
 #[no_mangle]
@@ -286,21 +306,7 @@ pub extern "C" fn saratoga_read(packet: &[u8]) -> PacketAnswer
 pub extern "C" fn saratoga_read_hole(packet: &[u8], index: u64) -> HoleAnswer
     ensures { λ r. ⌜ r ≡ holeAnswer (readHole index (now (packet .entry))) ⌝ }
 {
-    let a = packet_status::read_hole(packet, index);
-    match a {
-        HoleRead::Accepted(h) => HoleAnswer {
-            number: 0,
-            code: 0,
-            start: h.start,
-            end: h.end,
-        },
-        HoleRead::Refused(refusal) => HoleAnswer {
-            number: refusal.number,
-            code: refusal.code,
-            start: 0,
-            end: 0,
-        },
-    }
+    hole_answer(packet_status::read_hole(packet, index))
 }
 
 #[no_mangle]

@@ -2,6 +2,7 @@
 //! where the table has a number for it; the others may hold anything, and keep it.
 
 use crate::layout::largest;
+use crate::read::Hole;
 use crate::received::Received;
 use crate::refusal::Refusal;
 use crate::table::{Listed, Opened, State, Table, Transfer, MAX_RUNS, MAX_TRANSFERS};
@@ -108,6 +109,11 @@ pub fn record(area: &mut [u8], packet: &[u8]) -> Result<State, Refusal> {
     change(area, |table| table.record(packet))
 }
 
+/// What recording would answer, the area only read.
+pub fn try_record(area: &[u8], packet: &[u8]) -> Result<State, Refusal> {
+    take_up(area)?.try_record(packet)
+}
+
 /// Closing.
 pub fn close(area: &mut [u8], id: u64) -> Result<(), Refusal> {
     change(area, |table| table.close(id))
@@ -121,6 +127,16 @@ pub fn write_status(area: &[u8], id: u64, skip: u64, unasked: bool, out: &mut [u
 /// Listing.
 pub fn transfer_at(area: &[u8], index: u64) -> Result<Listed, Refusal> {
     take_up(area)?.transfer(index)
+}
+
+/// One transfer by its Id.
+pub fn find(area: &[u8], id: u64) -> Result<Listed, Refusal> {
+    take_up(area)?.find(id)
+}
+
+/// One of its holes.
+pub fn hole(area: &[u8], id: u64, index: u64) -> Result<Hole, Refusal> {
+    take_up(area)?.hole(id, index)
 }
 
 /// "Desk and buffers keep what they held" where the rule refuses; else what it gives is stored.

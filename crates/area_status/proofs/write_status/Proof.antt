@@ -8,8 +8,8 @@ use denote.Ref.{now}
 use Rattle.area.specs.Judge.{judged}
 use Rattle.area.proofs.AreaLaws.{judged-unheld}
 use Rattle.area_status.specs.Used.{UsedPlace}
-use Rattle.area_status.proofs.UsedLaws.{used-place}
-use Rattle.area_status.proofs.WriteStatusLaws.{status-unheld, status-missing, open-used, status-found}
+use Rattle.area_status.proofs.UsedLaws.{used-place, open-used}
+use Rattle.area_status.proofs.WriteStatusLaws.{status-unheld, status-missing, status-found}
 use Rattle.area_status.proofs.write_status.Statement.{statement}
 use Rattle.area_status.proofs.write_status.Tie as tie
 
@@ -56,7 +56,7 @@ used c =
     let a = f .before .before .before .before .before .args in
     let p = f .find-place in
     used-place (now (a .area)) (p .result .at) (passed (f .before))
-    (open-used (now (a .area)) (a .id) (a .skip) (a .unasked) (now (a .out)) (passed (f .before)) (p .result) (p .ensures) (is-open c))
+    (open-used (now (a .area)) (a .id) (passed (f .before)) (p .result) (p .ensures) (is-open c))
 
 key-at-requires : tie.Need-key-at-requires
 key-at-requires c κs = let u = used c in (u .long, u .low)

@@ -102,6 +102,7 @@ fn full_table(check: &mut Check) -> Step {
 fn list(check: &mut Check, held: &Held) -> Step {
     for index in (0..18).chain([1 << 32, u64::MAX]) {
         check.transfer(held, index)?;
+        check.find(held, index)?;
     }
     Ok(())
 }
@@ -115,16 +116,19 @@ fn small_sets(check: &mut Check) -> Step {
             for len in 1..7 {
                 for end_of_data in [false, true] {
                     let packet = recording(&mut check.rng, 9, 0, offset, len, end_of_data).octets(&mut check.rng);
+                    check.try_record(&held, &packet)?;
                     check.record(&mut held.clone(), &packet)?;
                 }
             }
         }
         for skip in 0..4 {
+            check.transfer_hole(&held, 9, skip)?;
             for room in 0..26 {
                 check.write_status(&held, Ask { id: 9, skip, unasked: 0 }, room)?;
             }
         }
         check.transfer(&held, 0)?;
+        check.find(&held, 9)?;
     }
     Ok(())
 }
@@ -137,6 +141,7 @@ fn many_runs(check: &mut Check) -> Step {
         for offset in 0..300 {
             for len in 1..5 {
                 let packet = recording(&mut check.rng, 9, 1, offset, len, false).octets(&mut check.rng);
+                check.try_record(&held, &packet)?;
                 check.record(&mut held.clone(), &packet)?;
             }
         }
@@ -228,6 +233,7 @@ fn packet_faults(check: &mut Check) -> Step {
             fault(&mut packet, rng);
             let packet = packet.octets(rng);
             let mut held = Held::holding(one(9, 4, 300, &[]), rng);
+            check.try_record(&held, &packet)?;
             let got = check.record(&mut held, &packet)?.number;
             require(got == number, || format!("recording: refusal {number} is expected, not {got}"))?;
         }
@@ -279,6 +285,7 @@ fn recording_order(check: &mut Check) -> Step {
             packet.ending = Ending::Cut(9);
         }
         let packet = packet.octets(rng);
+        check.try_record(&held, &packet)?;
         check.record(&mut held, &packet)?;
     }
     Ok(())

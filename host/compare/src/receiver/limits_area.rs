@@ -61,7 +61,10 @@ fn octets(check: &mut Check) -> Step {
 fn judged(check: &mut Check, held: &mut Held) -> Step {
     check.open(held, &[])?;
     check.record(held, &[])?;
+    check.try_record(held, &[])?;
     check.transfer(held, 20)?;
+    check.find(held, 1 << 40)?;
+    check.transfer_hole(held, 1 << 40, 0)?;
     check.close(held, 1 << 40)?;
     check.write_status(held, Ask { id: 1 << 40, skip: 0, unasked: 0 }, 0)?;
     Ok(())

@@ -90,6 +90,18 @@ wrong! {
     /// Holes are listed for runs.
     HolesForRuns,
 
+    // Asking before recording, and by the Id.
+    /// What recording would answer is told of the transfer as it stands.
+    TryAsItStands,
+    /// A 65th run is foreseen.
+    TryNeverSixteen,
+    /// For an Id that isn't open, the transfer with the next is found.
+    FindsNext,
+    /// From the edge to the length is a transfer's hole.
+    HoleAfterLast,
+    /// A transfer's hole ends at its last octet.
+    HoleClosedEnd,
+
     // STATUS.
     /// From the edge to the length is a hole.
     HoleToLength,

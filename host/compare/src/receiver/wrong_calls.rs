@@ -4,7 +4,7 @@ use paper::area::take_up;
 use paper::read;
 use paper::table::Transfer;
 
-use crate::answer::{Done, Listed, Opened, Recorded, Written};
+use crate::answer::{Done, Hole, Listed, Opened, Recorded, Written};
 use crate::codec::{Codec, Paper};
 use crate::receiver::words::{self, entries, store, Entry, OCTETS};
 use crate::receiver::wrong::Wrong::{self, *};
@@ -108,6 +108,19 @@ impl Receiver for Wrong {
         wrong
     }
 
+    /// What this receiver's recording answers, of a copy.
+    fn try_record(&self, area: &[u8], packet: &[u8]) -> Recorded {
+        let right = self.record(&mut area.to_vec(), packet);
+        match self {
+            TryAsItStands if right.number == 0 => {
+                let found = Paper.find(area, Paper.read(packet).id);
+                Recorded { edge: found.edge, complete: found.complete, ..right }
+            }
+            TryNeverSixteen if right.number == 16 => Recorded::default(),
+            _ => right,
+        }
+    }
+
     fn close(&self, area: &mut [u8], id: u64) -> Done {
         if let Some(mut mended) = self.mended(area) {
             return Paper.close(&mut mended, id);
@@ -169,6 +182,43 @@ impl Receiver for Wrong {
                 let holes = take_up(area).unwrap_or_default().transfers[&right.id].received.holes().len();
                 Listed { runs: holes as u64, ..right }
             }
+            _ => right,
+        }
+    }
+
+    fn find(&self, area: &[u8], id: u64) -> Listed {
+        if let Some(mended) = self.mended(area) {
+            return Paper.find(&mended, id);
+        }
+        let right = self.laid_out(&mut area.to_vec(), |area| Paper.find(area, id));
+        match self {
+            _ if self.refuses(area) => Listed { number: 22, ..Listed::default() },
+            IdWraps => Paper.find(area, id % (1 << 32)),
+            FindsNext if right.number == 12 => {
+                let table = take_up(area).unwrap_or_default();
+                Paper.transfer(area, table.transfers.range(..id).count() as u64)
+            }
+            _ => right,
+        }
+    }
+
+    fn transfer_hole(&self, area: &[u8], id: u64, index: u64) -> Hole {
+        if let Some(mended) = self.mended(area) {
+            return Paper.transfer_hole(&mended, id, index);
+        }
+        let right = self.laid_out(&mut area.to_vec(), |area| Paper.transfer_hole(area, id, index));
+        match self {
+            _ if self.refuses(area) => Hole { number: 22, ..Hole::default() },
+            IdWraps => Paper.transfer_hole(area, id % (1 << 32), index),
+            HoleAfterLast if right.number == 19 => {
+                let found = Paper.find(area, id);
+                let holes = take_up(area).unwrap_or_default().transfers[&id].received.holes().len();
+                if index != holes as u64 || found.edge == found.length {
+                    return right;
+                }
+                Hole { start: found.edge, end: found.length, ..Hole::default() }
+            }
+            HoleClosedEnd if right.number == 0 => Hole { end: right.end - 1, ..right },
             _ => right,
         }
     }

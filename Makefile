@@ -11,11 +11,12 @@
 PREFIX ?= /usr/local
 VERSION = 0.1
 ARCHIVE = target/staticlib/libsaratoga.a
+C_FLAGS = -std=c99 -Wall -Wextra -pedantic -O2
 BENCH_FLAGS = -O2 -Wall -Wextra -Iinclude
 
 PASS ?= host/passes/page611.pass
 
-.PHONY: test lib replay-program replay compare soak stack bench-program bench bench-instructions link install clean help
+.PHONY: test lib replay-program front replay compare soak stack bench-program bench bench-instructions link install clean help
 
 help:
 	@sed -n 's/^# make/make/p' Makefile
@@ -58,8 +59,14 @@ link: lib
 replay-program:
 	@rt check replay >&2
 
-replay: replay-program
-	@target/bin/replay "$(PASS)"
+# The program that a user runs, in the folders in which it is installed: it starts the proved one (host/replay/replay.c).
+front: replay-program
+	@mkdir -p target/front/bin target/front/libexec/saratoga
+	@ln -sf ../../../bin/replay target/front/libexec/saratoga/replay
+	@$(CC) $(C_FLAGS) -DVERSION='"$(VERSION)"' host/replay/replay.c -o target/front/bin/replay
+
+replay: front
+	@target/front/bin/replay -- "$(PASS)"
 
 install: lib replay-program
 	install -d $(DESTDIR)$(PREFIX)/include $(DESTDIR)$(PREFIX)/lib/pkgconfig $(DESTDIR)$(PREFIX)/bin $(DESTDIR)$(PREFIX)/share/man/man1

@@ -93,7 +93,8 @@ def enhanced(octets, order="<", which=0, length=None, time=0):
     length = len(octets) if length is None else length
     padded = octets + bytes(-len(octets) % 4)
     comment = struct.pack(order + "HH8sHH", 1, 7, b"comment\0", 0, 0)
-    return block(6, struct.pack(order + "IIIII", which, time >> 32, time & 0xFFFFFFFF, len(octets), length) + padded + comment, order)
+    start = struct.pack(order + "IIIII", which, time >> 32, time & 0xFFFFFFFF, len(octets), length)
+    return block(6, start + padded + comment, order)
 
 
 def simple(octets, order="<", length=None):

@@ -142,6 +142,11 @@ class Drawn(unittest.TestCase):
         shown = ("1 metadata id=7 flags=000000 width=16 checksum= properties=0000 size=3000 mtime=0 ctime=0 "
                  "path=706167653631312e706c61\n2 open id=7 width=16 length=3000 edge=0 complete=0 new\n")
         self.assertIn("Transfer 7, page611.pla: 3,000 octets, width 16", texts(drawing(shown)))
+        linked = ("1 open id=7 width=16 length=1 edge=0 complete=0 new\n"
+                  "2 record id=7 offset=0 length=1 edge=1 complete=1\n"
+                  "2 complete id=7 length=1 file=00000007.page mtime=0 ctime=0 checksum= path=plant/page611.pla\n"
+                  "3 lost id=7 offset=0 length=1\n4 too-large id=8 length=9 code=3\n5 close id=7 to-make-room\n")
+        self.assertIn("Transfer 7, plant/page611.pla: 1 octet, width 16", texts(drawing(linked)))
         long = record(b"P", metadata(7, 16, 3000, b"a" * 500 + b"z" * 500))
         svg = drawing("1 open id=7 width=16 length=3000 edge=0 complete=0 new\n", passed=long)
         self.assertTrue(all(len(text) < 110 for text in texts(svg)), texts(svg))

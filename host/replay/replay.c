@@ -6,6 +6,7 @@
 #define _GNU_SOURCE
 #include <errno.h>
 #include <fcntl.h>
+#include <poll.h>
 #include <signal.h>
 #include <stdio.h>
 #include <stdlib.h>
@@ -55,12 +56,22 @@ static int wrong_usage(const char *name, const char *what)
     return USAGE;
 }
 
+/* Whether to try again: after a signal, and where another program has set the file not to wait, once it is ready. */
+static int again(int fd, short what)
+{
+    if (errno == EAGAIN || errno == EWOULDBLOCK) {
+        struct pollfd ready = {.fd = fd, .events = what};
+        return poll(&ready, 1, -1) >= 0 || errno == EINTR;
+    }
+    return errno == EINTR;
+}
+
 static ssize_t read_some(int fd, char *octets, size_t size)
 {
     ssize_t got;
     do
         got = read(fd, octets, size);
-    while (got < 0 && errno == EINTR);
+    while (got < 0 && again(fd, POLLIN));
     return got;
 }
 
@@ -68,7 +79,7 @@ static int write_all(int fd, const char *octets, size_t size)
 {
     while (size > 0) {
         ssize_t put = write(fd, octets, size);
-        if (put < 0 && errno == EINTR)
+        if (put < 0 && again(fd, POLLOUT))
             continue;
         if (put < 0)
             return -1;
@@ -264,6 +275,7 @@ int main(int argc, char **argv)
     int no_input;
     signal(SIGPIPE, SIG_IGN);
     signal(SIGXFSZ, SIG_IGN);
+    signal(SIGCHLD, SIG_DFL); /* where the caller ignores it, nobody could be waited for */
     if (standard_files(&no_input) != 0)
         return FAILED;
     const char *name = NULL;

@@ -4,6 +4,7 @@ import shutil
 import signal
 import subprocess
 import tempfile
+import threading
 import time
 import unittest
 
@@ -137,6 +138,34 @@ class Replay(unittest.TestCase):
         with self.assertRaises(BrokenPipeError):
             os.write(pour, PASS)
         os.close(pour)
+
+    def test_files_that_do_not_wait(self):
+        """Another program may have set what it shares with replay to O_NONBLOCK."""
+        passed = PASS * 20000
+        feed, pour = os.pipe()
+        drain, lines = os.pipe()
+        os.set_blocking(feed, False)
+        os.set_blocking(lines, False)
+        run = subprocess.Popen([self.program], stdin=feed, stdout=lines, stderr=subprocess.PIPE)
+        os.close(feed)
+        os.close(lines)
+
+        def write():
+            time.sleep(0.1)
+            with os.fdopen(pour, "wb") as file:
+                file.write(passed)
+
+        writer = threading.Thread(target=write)
+        writer.start()
+        time.sleep(0.3)
+        with os.fdopen(drain, "rb") as file:
+            self.assertEqual(file.read().count(b"\n"), 40000)
+        writer.join()
+        self.assertEqual((run.wait(10), run.stderr.read()), (0, b""))
+        run.stderr.close()
+
+    def test_a_caller_that_waits_for_nobody(self):
+        self.ends([], LINES, "", 0, PASS, preexec_fn=lambda: signal.signal(signal.SIGCHLD, signal.SIG_IGN))
 
     def test_killed(self):
         """What it started ends with it."""

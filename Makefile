@@ -12,12 +12,12 @@
 PREFIX ?= /usr/local
 VERSION = 0.1
 ARCHIVE = target/staticlib/libsaratoga.a
-C_FLAGS = -std=c99 -Wall -Wextra -pedantic -O2
 BENCH_FLAGS = -O2 -Wall -Wextra -Iinclude
 
 PASS ?= host/passes/page611.pass
 
-.PHONY: test lib replay-program front replay compare soak stack bench-program bench bench-instructions link install uninstall clean help
+.PHONY: test lib replay-program front replay compare soak stack bench-program bench bench-instructions link
+.PHONY: install uninstall clean help
 
 help:
 	@sed -n '/^[^#]/q; s/^# //p' Makefile
@@ -60,17 +60,19 @@ link: lib
 replay-program:
 	@rt check replay >&2
 
-# The program that a user runs, in the folders in which it is installed: it starts the proved one (host/replay/replay.c).
+# The program that a user runs, in the folders in which it is installed; it starts the proved one.
+FRONT_FLAGS = -std=c99 -Wall -Wextra -pedantic -O2 -DVERSION='"$(VERSION)"'
+
 front: replay-program
 	@mkdir -p target/front/bin target/front/libexec/saratoga
 	@ln -sf ../../../bin/replay target/front/libexec/saratoga/replay
-	@$(CC) $(C_FLAGS) -DVERSION='"$(VERSION)"' host/replay/replay.c -o target/front/bin/replay
+	@$(CC) $(FRONT_FLAGS) host/replay/replay.c -o target/front/bin/replay
 
 replay: front
 	@target/front/bin/replay -- "$(PASS)"
 
-# All that a user runs, with man pages. Nothing is written outside of PREFIX, and no owner is changed: with a PREFIX of one's
-# own, such as PREFIX=$$HOME/.local, it needs no root. The tools stand beside their modules, with links in bin.
+# All that a user runs, with man pages. Nothing is written outside of PREFIX, and no owner is changed: below a PREFIX of
+# one's own it needs no root. The tools stand beside their modules, with links in bin.
 AT = $(DESTDIR)$(PREFIX)
 TOOLS = pcap2pass passtext passplot
 MODULES = saratoga_pass.py saratoga_tool.py

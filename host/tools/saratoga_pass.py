@@ -27,9 +27,14 @@ def number(value, width):
     return value.to_bytes(width // 8, "big")
 
 
+def word(kind, flags):
+    """The first four octets: bits 0 1, the type, the flags (bits 8 to 31)."""
+    return number(0x40000000 | kind << 24 | flags, 32)
+
+
 def header(kind, flags, ident):
-    """The first eight octets: bits 0 1, the type, the flags (bits 8 to 31), the Id."""
-    return struct.pack(">II", 0x40000000 | kind << 24 | flags, ident)
+    """The first eight octets: the word and the Id."""
+    return word(kind, flags) + number(ident, 32)
 
 
 def metadata(ident, width, length, path=b"page611.pla", flags=0, checksum=b"", mtime=0, ctime=0, properties=0,

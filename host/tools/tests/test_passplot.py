@@ -196,6 +196,19 @@ class Drawn(unittest.TestCase):
                                     for first, last, low, high in covered), (record, start, stop))
             self.assertLess(len(svg), 2_500_000)
 
+    def test_low_holes_leave_room_for_what_was_received(self):
+        """Many holes in few pixels: together they cover no more than half of what they lie in, or little more."""
+        lines, runs = ["1 open id=7 width=32 length=60000000 edge=0 complete=0 new"], 60
+        for number in range(2, 2 + runs):
+            start = (number - 2) * 100000
+            lines.append(f"{number} record id=7 offset={start} length=99000 edge={start + 99000} complete=0")
+        lines.append(f"{2 + runs} record id=7 offset=59999999 length=1 edge=60000000 complete=0")
+        svg = drawing("\n".join(lines))
+        low = [float(box.get("height")) for box in boxes(svg, passplot.HOLE) if float(box.get("height")) < 1]
+        self.assertEqual(len(low), runs - 1)
+        self.assertLess(sum(low), 0.7 * 210 * 6000000 / 60000000)
+        self.assertGreater(min(low), 0.1)
+
     def test_many_transfers(self):
         """A line for each, with its name, and the drawing stays low."""
         lines, passed = [], b""

@@ -89,6 +89,7 @@ void open_directory(void);
 int lock_directory(void);
 int open_file(const char *name, int flags);
 int replace_file(const char *name, const uint8_t *octets, size_t count);
+int id_of_name(const char *name, uint64_t *id);
 void name_of(char name[NAME_OCTETS], const struct transfer *t, const char *suffix);
 int make_files(struct transfer *t);
 int find_files(struct transfer *t);

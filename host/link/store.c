@@ -121,6 +121,12 @@ static const char *parse_name(const char *name, uint64_t *id, unsigned *generati
     return NULL;
 }
 
+int id_of_name(const char *name, uint64_t *id)
+{
+    unsigned generation;
+    return parse_name(name, id, &generation) != NULL;
+}
+
 static DIR *list_directory(void)
 {
     int fd = openat(directory, ".", O_RDONLY | O_DIRECTORY | O_CLOEXEC);

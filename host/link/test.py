@@ -27,9 +27,9 @@ import plant  # noqa: E402
 def nothing_promised_is_missing(place, originals, lines=()):
     """Each octet that the area on disk holds as received is on disk, and so is each page that was reported."""
     for ident, (length, runs) in (stored(place) or {}).items():
-        original = originals[ident]
-        check(length == len(original), f"transfer {ident} of {length} octets")
         check(stem(place, ident), f"transfer {ident} is in the area and has no .meta")
+        original = original_of(originals, ident, content(place, stem(place, ident) + ".meta").decode())
+        check(length == len(original), f"transfer {ident} of {length} octets")
         check(f"\nlength={length}\n".encode() in content(place, stem(place, ident) + ".meta"), f"the .meta of {ident}")
         names = [name for name in (stem(place, ident) + end for end in (".part", ".page")) if name in os.listdir(place)]
         check(names, f"transfer {ident} is in the area and has no file")
@@ -40,7 +40,7 @@ def nothing_promised_is_missing(place, originals, lines=()):
         words = line.split()
         if words[1] == "complete":
             ident, name = int(words[2][3:]), words[4][5:]
-            check(holds(place, name, originals[ident]), f"{line}: the page isn't on disk")
+            check(holds(place, name, original_of(originals, ident, line)), f"{line}: the page isn't on disk")
     for ident, told in statuses(lines).items():
         if ident in (stored(place) or {}):
             for start, stop in told:
@@ -48,11 +48,19 @@ def nothing_promised_is_missing(place, originals, lines=()):
                       f"a STATUS says that {start} to {stop} of transfer {ident} came, and the area on disk doesn't")
 
 
+def original_of(originals, ident, known):
+    """The file of an Id; where an Id has several, the one whose path ends this text."""
+    original = originals[ident]
+    return original if isinstance(original, bytes) else original.get(known.split("path=")[-1].strip(), b"")
+
+
 def statuses(lines):
     """For each Id the stretches that its last STATUS among the lines said to be received, at width 16."""
     told = {}
     for line in lines:
         words = line.split()
+        if words[1] == "close":
+            told.pop(int(words[2][3:]), None)
         if words[1] == "send" and words[2][6:8] == "00":
             packet = bytes.fromhex(words[2])
             ends = [value for value, in struct.iter_unpack(">H", packet[8:])]
@@ -220,10 +228,16 @@ def two_transfers():
     return originals, b"".join(record(b"P", packet) for packet in packets)
 
 
-def cut_everywhere(program, place):
+def last_of(originals, ident):
+    """The file that is to be complete in the end."""
+    original = originals[ident]
+    return original if isinstance(original, bytes) else original["b"]
+
+
+def cut_everywhere(program, place, make=two_transfers):
     """The program is ended at each place between two writes, and inside each write; then the pass comes again. Gives
     the number of places."""
-    originals, octets = two_transfers()
+    originals, octets = make()
     count = 0
     while True:
         count += 1
@@ -242,10 +256,11 @@ def cut_everywhere(program, place):
                 break
             cuts += 1
             cut = count if cuts < 4 else 0
-        for ident, original in originals.items():
-            check(holds(here, stem(here, ident) + ".page", original), f"page {ident} after a cut at place {count}")
+        for ident in originals:
+            check(holds(here, stem(here, ident) + ".page", last_of(originals, ident)), f"page {ident} after a cut at place {count}")
             check(any(f"complete id={ident} " in line for line in reported), f"page {ident} was never reported")
-        check(not os.path.exists(os.path.join(here, "00000007.part")), "a part is left")
+        plant.no_mixture(here, originals)
+        check(not any(name.endswith(".part") for name in os.listdir(here)), "a part is left")
         if cuts == 0:
             return count - 1
 
@@ -307,10 +322,10 @@ def after_the_cut(disk, place, target, how, chance):
             file.write(octets)
 
 
-def power_cuts(program, plain, place):
+def power_cuts(program, plain, place, make=two_transfers):
     """The power goes at each call that writes, renames or forces to disk. Whatever then is on disk, nothing that was
     said is missing, and the pass, sent again to the plain program, completes both pages. Gives the number of calls."""
-    originals, octets = two_transfers()
+    originals, octets = make()
     chance = random.Random(613)
     count = 0
     while True:
@@ -326,10 +341,11 @@ def power_cuts(program, plain, place):
             nothing_promised_is_missing(left, originals, lines)
             if plain and number < 4:
                 again, told, ended = run(plain, left, "--no-fsync", "-", octets=octets)
-                check((told, ended) == ("", 0), f"call {count}, {how}: {told}")
+                check(ended == 0 and all(" is kept as " in line for line in told.splitlines()), f"{count}, {how}: {told}")
                 nothing_promised_is_missing(left, originals, again)
-                for ident, original in originals.items():
-                    check(holds(left, stem(left, ident) + ".page", original), f"page {ident} after call {count}, {how}")
+                plant.no_mixture(left, originals)
+                for ident in originals:
+                    check(holds(left, stem(left, ident) + ".page", last_of(originals, ident)), f"page {ident} after call {count}, {how}")
         if status == 0:
             return count - 1
 
@@ -577,9 +593,13 @@ def main():
             checked = program
         any_octets(checked, fresh("any"))
         print("link: passes, damaged packets, restarts and wrong input are as expected")
-        places = cut_everywhere(cutting, fresh("cuts")), cut_while_an_id_is_used_again(cutting, fresh("again"))
+        plant.all_of_it(program, fresh)
+        print("link: Ids used again, lost files, a full table, the operator, a full disk and traps are as expected")
+        places = cut_everywhere(cutting, fresh("cuts")), cut_while_an_id_is_used_again(cutting, fresh("again")), (
+            cut_everywhere(cutting, fresh("replaced"), plant.two_files_of_one_id))
         print(f"link: ended at each of {sum(places)} places between and inside writes, nothing promised is missing")
-        calls = power_cuts(power, program, fresh("power"))
+        calls = power_cuts(power, program, fresh("power")) + (
+            power_cuts(power, program, fresh("power-replaced"), plant.two_files_of_one_id))
         print(f"link: power cut at each of {calls} calls, whatever of the rest is on disk nothing promised is missing")
         wrong_programs(fresh("wrong"))
         print(f"link: {len(WRONG)} programs with another order of writes are found")

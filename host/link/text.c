@@ -134,23 +134,23 @@ size_t escape(char *out, size_t room, const uint8_t *octets, size_t count)
  */
 int id_of_text(const char *text, uint64_t *id)
 {
+    const char *digits = "0123456789";
     int base = 10;
     char *end;
-    size_t digits = strspn(text, "0123456789abcdef");
+    if (id_of_name(text, id))
+        return 1;
     if (strncmp(text, "id=", 3) == 0) {
         text += 3;
     } else if (strncmp(text, "0x", 2) == 0) {
         text += 2;
-        base = 16;
-    } else if (digits == 8 && text[8] == '.') {
+        digits = "0123456789abcdef";
         base = 16;
     }
-    int is_digit = (text[0] >= '0' && text[0] <= '9') || (base == 16 && text[0] >= 'a' && text[0] <= 'f');
-    if (!is_digit || (base == 10 && text[0] == '0' && text[1] != '\0'))
+    if (text[0] == '\0' || text[strspn(text, digits)] != '\0' || (base == 10 && text[0] == '0' && text[1] != '\0'))
         return 0;
     errno = 0;
     unsigned long long value = strtoull(text, &end, base);
-    if (errno != 0 || value > UINT32_MAX || (*end != '\0' && !(base == 16 && *end == '.' && end == text + 8)))
+    if (errno != 0 || value > UINT32_MAX)
         return 0;
     *id = value;
     return 1;

@@ -118,6 +118,8 @@ static struct transfer *open_transfer(const uint8_t *packet, size_t packet_len, 
     }
     cut_point("between files and opening");
     *opened = saratoga_open(area, sizeof area, packet, packet_len);
+    if (opened->number != 0)
+        die("opening is refused after all, with %" PRIu64 ": the program has a fault", opened->number);
     table_changed();
     return save() ? t : NULL;
 }
@@ -134,8 +136,12 @@ static void take_metadata(uint64_t number, const struct peer *peer, const uint8_
         send_failure(number, peer, read->id, CODE_TOO_LARGE);
         return;
     }
-    if (t != NULL && (t->meta_len != text_len || memcmp(t->meta, text, text_len) != 0)) {
-        if (!may_end(number, t) || !end_transfer(number, t, "other-metadata")) {
+    int is_lost = t != NULL && !t->delivered && !part_is_there(t);
+    if (is_lost)
+        warn("the .part of transfer %" PRIu64 " is gone; it is closed and must begin anew", read->id);
+    if (is_lost || (t != NULL && (t->meta_len != text_len || memcmp(t->meta, text, text_len) != 0))) {
+        const char *why = is_lost ? "lost" : "other-metadata";
+        if ((!is_lost && !may_end(number, t)) || !end_transfer(number, t, why)) {
             say(number, "lost id=%" PRIu64, read->id);
             return;
         }
@@ -208,6 +214,8 @@ static void take_data(uint64_t number, const struct peer *peer, const uint8_t *p
 
         /* 3. Record. The same octets on an equal area: the answer is the one above. */
         recorded = saratoga_record(area, sizeof area, packet, packet_len);
+        if (recorded.number != 0)
+            die("recording is refused after all, with %" PRIu64 ": the program has a fault", recorded.number);
         table_changed();
     }
     struct transfer *t = transfer_of(read->id);

@@ -6,6 +6,7 @@
  *     dispatch.c  what is done with a packet, and what is answered
  *     table.c     the transfer table: in memory, on disk, and taken up again
  *     store.c     files of a transfer: .part, .page, .aside and .meta
+ *     disk.c      plain files: written, forced to disk, replaced; and where there is no room
  *     meta.c      METADATA as text
  *     control.c   what an operator asks of a program that runs
  *     text.c      lines and messages, and octets of packets made fit to be printed
@@ -16,6 +17,7 @@
 #define _POSIX_C_SOURCE 200809L
 #define _FILE_OFFSET_BITS 64
 
+#include <dirent.h>
 #include <inttypes.h>
 #include <signal.h>
 #include <stddef.h>
@@ -55,7 +57,9 @@ struct transfer {
     unsigned generation;           /* 1: its files are ID.part .., 2: ID.2.part .., and so on */
     int fd;                        /* of its .part file; -1 where it isn't open */
     int written;                   /* since it was last forced to disk */
-    int delivered;                 /* its page has its name, and was reported or taken away */
+    int named;                     /* its file has the name of a page */
+    int delivered;                 /* and was reported, or taken away */
+    int told;                      /* that its page can't get its name */
     uint64_t heard;                /* when a packet of it last came; greater is later */
     size_t meta_len;
     char meta[MOST_META];          /* what its .meta file holds */
@@ -84,11 +88,26 @@ size_t meta_text(char out[MOST_META], const uint8_t *packet, const struct sarato
 int meta_is_of(const char *meta, size_t meta_len, const struct saratoga_listed *one);
 void meta_for_report(char out[MOST_META], const struct transfer *t);
 
-/* store.c */
+/* disk.c */
 void open_directory(void);
 int lock_directory(void);
+DIR *list_directory(void);
 int open_file(const char *name, int flags);
+int write_at(int fd, const uint8_t *octets, size_t count, uint64_t offset);
+int force_to_disk(int fd, const char *name);
+int force_directory(void);
 int replace_file(const char *name, const uint8_t *octets, size_t count);
+int rename_file(const char *name, const char *new_name);
+void remove_file(const char *name);
+int is_there(const char *name);
+int has_name(int fd, const char *name);
+int file_has_length(const char *name, uint64_t length);
+int64_t length_of(const char *name);
+int is_lack_of_room(int error);
+void room_is_lacking(const char *what, int error);
+void there_is_room(void);
+
+/* store.c */
 int id_of_name(const char *name, uint64_t *id);
 void name_of(char name[NAME_OCTETS], const struct transfer *t, const char *suffix);
 int make_files(struct transfer *t);
@@ -96,16 +115,10 @@ int find_files(struct transfer *t);
 int write_payload(struct transfer *t, const uint8_t *octets, size_t count, uint64_t offset);
 int part_is_there(const struct transfer *t);
 int force_files(void);
-int file_has_length(const char *name, uint64_t length);
-int64_t length_of(const char *name);
-void remove_file(const char *name);
 int name_page(struct transfer *t);
 void set_aside(struct transfer *t);
 void set_orphans_aside(void);
 void forget_files(struct transfer *t);
-int is_lack_of_room(int error);
-void room_is_lacking(const char *what, int error);
-void there_is_room(void);
 
 /* table.c */
 extern uint8_t area[SARATOGA_AREA_OCTETS];

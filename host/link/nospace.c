@@ -1,7 +1,8 @@
 /*
  * For the tests of the link program: a disk that is full. The linker puts these functions in the place of openat,
  * pwrite, renameat and fsync (--wrap). While the file named by NOSPACE holds the letter of a call (o, w, r, f), that
- * call fails with ENOSPC; o only where a file is to be made.
+ * call fails with ENOSPC; o only where a file is to be made. Letter p is a page that is to get its name, d the force to
+ * disk after that.
  */
 #define _POSIX_C_SOURCE 200809L
 #define _FILE_OFFSET_BITS 64
@@ -23,6 +24,8 @@ ssize_t __wrap_pwrite(int fd, const void *octets, size_t count, off_t offset);
 ssize_t __wrap_pwrite64(int fd, const void *octets, size_t count, off_t offset);
 int __wrap_renameat(int directory, const char *name, int other, const char *new_name);
 int __wrap_fsync(int fd);
+
+static int page_was_named;
 
 static int full(char call)
 {
@@ -62,10 +65,14 @@ ssize_t __wrap_pwrite64(int fd, const void *octets, size_t count, off_t offset)
 
 int __wrap_renameat(int directory, const char *name, int other, const char *new_name)
 {
-    return full('r') ? -1 : __real_renameat(directory, name, other, new_name);
+    int is_page = strstr(new_name, ".page") != NULL;
+    if (full('r') || (is_page && full('p')))
+        return -1;
+    page_was_named |= is_page;
+    return __real_renameat(directory, name, other, new_name);
 }
 
 int __wrap_fsync(int fd)
 {
-    return full('f') ? -1 : __real_fsync(fd);
+    return full('f') || (page_was_named && full('d')) ? -1 : __real_fsync(fd);
 }

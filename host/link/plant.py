@@ -33,7 +33,7 @@ class Link:
         self.port = int(line.split("port=")[1])
         self.socket = socket.socket(socket.AF_INET, socket.SOCK_DGRAM)
         self.socket.bind((sender, 0))
-        self.socket.settimeout(0.5)
+        self.socket.settimeout(0.25)
 
     @staticmethod
     def read(stream, lines):
@@ -49,7 +49,7 @@ class Link:
         check(False, "it didn't happen in 5 seconds")
 
     def send(self, *packets):
-        """Sends packets; gives the answer to the last, None where there is none in half a second."""
+        """Sends packets; gives the answer to the last, None where there is none in a quarter of a second."""
         for packet in packets:
             self.socket.sendto(packet, ("127.0.0.1", self.port))
         return self.heard()
@@ -227,7 +227,8 @@ def operator(program, place):
           ["0000001f.2.aside", "0000001f.3.aside", "0000001f.4.aside", "0000001f.5.aside", "0000001f.aside"],
           os.listdir(place))
     check(run(program, place, "--close", "32")[1:] == ("saratoga-link: transfer 32 isn't open\n", 1), "32")
-    for form in ("", "0000001f", "031", "1f", "id=", "0x", "0x1g", "4294967296", "31 ", "-1", "0000001f.part/../x"[:9] + "\n"):
+    for form in ("", "0000001f", "031", "1f", "id=", "0x", "0x1g", "4294967296", "31 ", "-1", "0000001f.", "0000001f.x",
+                 "0000001f.part/../x", "0000001f.02.part"):
         check(run(program, place, "--close", form)[2] in (1, 2) and 31 in stored(place), f"taken as an Id: {form!r}")
     # By hand; what is no Id is told, and does no harm.
     for asked in (b"\x1b]0;x\x07%s%n\n", b"x" * 200, b"\0\n"):
@@ -285,8 +286,8 @@ def what_is_known(program, place):
 def runs(program, place):
     chance = random.Random(616)
     opening = metadata(7, 32, 20000)
-    came = [at for at in range(20000) if chance.random() >= 0.01]
-    sent = [opening] + [data(7, 32, at, b"x") for at in came]
+    came = {at for at in range(20000) if chance.random() >= 0.01}
+    sent = [opening] + [data(7, 32, at, b"x") for at in sorted(came)]
     for option, answered in ((), "44000003"), (("--repair-status",), "44410000"):
         here = os.path.join(place, str(len(option)))
         os.mkdir(here)
@@ -302,8 +303,8 @@ def runs(program, place):
     os.mkdir(here)
     for start in range(0, 20000, 4000):
         window = range(start, start + 4000)
-        sent += [data(7, 32, at, b"x") for at in window if at in set(came)]
-        sent += [data(7, 32, at, b"x") for at in window if at not in set(came)]
+        sent += [data(7, 32, at, b"x") for at in window if at in came]
+        sent += [data(7, 32, at, b"x") for at in window if at not in came]
     lines, told, status = run(program, here, "--no-fsync", "-", octets=records(sent))
     check(status == 0 and not any(" refused " in line for line in lines), told)
     check(content(here, "00000007.page") == b"x" * 20000, "not complete")
@@ -366,6 +367,27 @@ def no_room(program, place):
         link.quiet_send(metadata(7, 16, 100), data(7, 16, 0, text[:50], WANTED))
         check(is_complete(link.send(data(7, 16, 50, text[50:], WANTED)), 100), f"no way back: {link.told}")
         check(link.end() == 0 and content(here, "00000007.page") == text, link.told)
+
+
+def no_room_for_a_name(program, place):
+    """`program` is built with nospace.c. A complete page waits for its name, and isn't said to be complete before."""
+    text, marker = page(100, 33), os.path.join(os.path.dirname(place), "nospace")
+    for calls in ("p", "d"):
+        here = os.path.join(place, calls)
+        os.mkdir(here)
+        link = Link(program, here, NOSPACE=marker)
+        link.quiet_send(metadata(7, 16, 100), data(7, 16, 0, text[:20], WANTED))
+        with open(marker, "w", encoding="ascii") as file:
+            file.write(calls)
+        for _ in range(3):
+            check(link.send(data(7, 16, 20, text[20:], WANTED)) is None, "complete without a name")
+        check(not any(" complete id=7 " in line for line in link.lines), link.lines)
+        check(link.send(metadata(7, 16, 100, b"other")) is None, "ended while its page waits")
+        os.remove(marker)
+        link.wait(lambda: any(" complete id=7 " in line for line in link.lines))
+        check(is_complete(link.send(data(7, 16, 20, text[20:], WANTED)), 100), link.lines)
+        check(link.end() == 0 and content(here, "00000007.page") == text, link.told)
+        check(sum("can't be stored" in line for line in link.told) == 1, link.told)
 
 
 def limits(program, place):
@@ -466,3 +488,4 @@ def all_of_it(program, place):
         except AssertionError as reason:
             raise AssertionError(f"{test.__name__}: {reason}") from reason
     no_room(full, place("no_room"))
+    no_room_for_a_name(full, place("no_room_for_a_name"))

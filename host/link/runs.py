@@ -46,8 +46,8 @@ def packets_before_refusal(loss, window, chance):
 
 
 def table():
-    lines = ["| Loss | Sent without a pause: first refusal after | Largest window never refused in 400 pages | Refused at the next larger window tried |",
-             "|---|---|---|---|"]
+    lines = ["| Loss | Sent without a pause: first refusal after | Largest window never refused in 400 pages "
+             "| Refused at the next larger window tried |", "|---|---|---|---|"]
     for loss in LOSSES:
         chance = random.Random(int(loss * 1000))
         ends = [packets_before_refusal(loss, PACKETS, chance) for _ in range(TRIALS)]

@@ -176,7 +176,7 @@ int deliver(uint64_t number, struct transfer *t)
         return 1;
     name_of(part, t, "part");
     name_of(page, t, "page");
-    if (!part_is_there(t) || !file_has_length(part, one.length)) {
+    if (!part_is_there(t) || !file_has_length(t->named ? page : part, one.length)) {
         warn("%s/%s: isn't there with its %" PRIu64 " octets; transfer %" PRIu64 " is closed and must begin anew",
              options.directory, part, one.length, t->id);
         return end_transfer(number, t, "lost") ? -1 : 0;
@@ -184,8 +184,9 @@ int deliver(uint64_t number, struct transfer *t)
     if (name_page(t) != 0) {
         if (is_lack_of_room(errno))
             room_is_lacking(page, errno);
-        else
+        else if (!t->told)
             warn("%s/%s: can't get its name, and stays %s: %s", options.directory, page, part, strerror(errno));
+        t->told = 1;
         return 0;
     }
     cut_point("between the page's name and its report");
@@ -238,6 +239,7 @@ static const char *fault_of(struct transfer *t, const struct saratoga_listed *on
     if (part_len >= 0)
         return file_has_length(part, one->length) ? NULL : "its .part hasn't its length";
     t->delivered = page_len < 0; /* reported, and taken away */
+    t->named = page_len >= 0;
     return page_len < 0 || file_has_length(page, one->length) ? NULL : "its .page hasn't its length";
 }
 
@@ -258,19 +260,10 @@ static void end_faulty(struct transfer *t, const char *fault)
 /* A transfer whose page has its name already is reported again: nobody knows whether the report was read. */
 static void take_up_one(struct transfer *t, const struct saratoga_listed *one)
 {
-    char page[NAME_OCTETS], meta[MOST_META];
     say(0, "taken-up id=%" PRIu64 " width=%" PRIu64 " length=%" PRIu64 " edge=%" PRIu64 " complete=%" PRIu64, one->id,
         8 * one->width, one->length, one->edge, one->complete);
-    name_of(page, t, "page");
-    if (!one->complete || t->delivered)
-        return;
-    if (length_of(page) < 0) {
+    if (one->complete)
         deliver(0, t);
-        return;
-    }
-    t->delivered = 1;
-    meta_for_report(meta, t);
-    report("0 complete id=%" PRIu64 " length=%" PRIu64 " file=%s %s", one->id, one->length, page, meta);
 }
 
 /* Takes up what an earlier run left, or begins with nothing open. */

@@ -1,6 +1,7 @@
 #!/usr/bin/env python3
 """Tests the link program end to end: on passes, cut off at every place between two writes, and over a lossy loopback
-while it is killed again and again. Needs a C compiler, python3 and the archive; under a minute.
+while it is killed again and again; plant.py has the tests of what a plant does. Needs a C compiler, python3 and the
+archive; one or two minutes.
 
     host/link/test.py [SECONDS]     SECONDS bounds the part that kills the program (else 6)
 
@@ -257,7 +258,8 @@ def cut_everywhere(program, place, make=two_transfers):
             cuts += 1
             cut = count if cuts < 4 else 0
         for ident in originals:
-            check(holds(here, stem(here, ident) + ".page", last_of(originals, ident)), f"page {ident} after a cut at place {count}")
+            check(holds(here, stem(here, ident) + ".page", last_of(originals, ident)),
+                  f"page {ident} after a cut at place {count}")
             check(any(f"complete id={ident} " in line for line in reported), f"page {ident} was never reported")
         plant.no_mixture(here, originals)
         check(not any(name.endswith(".part") for name in os.listdir(here)), "a part is left")
@@ -345,7 +347,8 @@ def power_cuts(program, plain, place, make=two_transfers):
                 nothing_promised_is_missing(left, originals, again)
                 plant.no_mixture(left, originals)
                 for ident in originals:
-                    check(holds(left, stem(left, ident) + ".page", last_of(originals, ident)), f"page {ident} after call {count}, {how}")
+                    check(holds(left, stem(left, ident) + ".page", last_of(originals, ident)),
+                          f"page {ident} after call {count}, {how}")
         if status == 0:
             return count - 1
 
@@ -534,8 +537,7 @@ WRONG = {
         CUT, "            t->written = 0;\n        }\n    }\n    return force_directory();",
         "            t->written = 0;\n        }\n    }\n    return 0;"),
     "reports a page whose new name isn't on disk": (
-        CUT, "    forget_files(t);\n    directory_changed = 1;\n    return force_directory();",
-        "    forget_files(t);\n    directory_changed = 1;\n    return 0;"),
+        CUT, "    forget_files(t);\n    return force_directory();", "    forget_files(t);\n    return 0;"),
     "opens a transfer whose .meta isn't on disk": (CUT, " || force_to_disk(fd, meta) != 0;", ";"),
     "opens a transfer before its files are made": (
         ENDED, "    if (make_files(t) != 0) {",

@@ -73,7 +73,7 @@ void room_is_lacking(const char *what, int error)
 void there_is_room(void)
 {
     if (lacking && lost_since_saved == 0) {
-        warn("%s: there is room again; %" PRIu64 " packets counted as lost", options.directory, lost);
+        warn("%s: there is room again; at least %" PRIu64 " packets counted as lost", options.directory, lost);
         lacking = 0;
         lost = 0;
     }

@@ -28,7 +28,7 @@ static void send_failure(uint64_t number, const struct peer *peer, uint64_t id, 
         answer(number, peer, out, (size_t)written.size);
 }
 
-/* REQUEST, METADATA, DATA and STATUS have an Id in octets 4 to 7. A BEACON has none, and nobody knows of other types. */
+/* REQUEST, METADATA, DATA and STATUS have an Id in octets 4 to 7. A BEACON has none; of other types nobody knows. */
 static int has_id(const uint8_t *packet, size_t packet_len)
 {
     return packet_len >= 8 && (packet[0] & 0x3f) >= 1 && (packet[0] & 0x3f) <= 4;
@@ -76,7 +76,7 @@ static int may_end(uint64_t number, struct transfer *t)
     return !listed(t->id).complete || t->delivered || (save() && deliver(number, t) == 1);
 }
 
-/* Ends a transfer to make room for another: a complete one, or by option the one heard longest ago. Gives 0 for none. */
+/* Ends a transfer to make room: a complete one, or by option the one heard longest ago. Gives 0 where there is none. */
 static int make_room(uint64_t number)
 {
     struct transfer *chosen = NULL;

@@ -1,5 +1,5 @@
-"""Tests of the link program as a plant uses it: Ids used again, files taken away, a full table, a full disk, and packets
-and files that mean harm. Run by test.py; each function takes the program and an empty directory."""
+"""Tests of the link program as a plant uses it: Ids used again, files taken away, a full table, a full disk, and
+packets and files that mean harm. Run by test.py; each function takes the program and an empty directory."""
 import os
 import random
 import resource
@@ -95,7 +95,8 @@ def other_metadata():
     first = metadata(7, 16, 100, b"a", mtime=5, ctime=6)
     properties = bytearray(first)
     properties[8] |= 0x80
-    others = {"path": metadata(7, 16, 100, b"b", mtime=5, ctime=6), "mtime": metadata(7, 16, 100, b"a", mtime=4, ctime=6),
+    others = {"path": metadata(7, 16, 100, b"b", mtime=5, ctime=6),
+              "mtime": metadata(7, 16, 100, b"a", mtime=4, ctime=6),
               "ctime": metadata(7, 16, 100, b"a", mtime=5, ctime=7), "properties": bytes(properties),
               "checksum": metadata(7, 16, 100, b"a", flags=0x11, checksum=b"\1\2\3\4", mtime=5, ctime=6),
               "size": metadata(7, 16, 101, b"a", mtime=5, ctime=6)}

@@ -2,9 +2,11 @@
  * Files of a transfer. Names come from the Id alone, eight hexadecimal digits, and a number where the Id was used
  * before: a path in METADATA is what the sender wrote, and used as a name it could point anywhere.
  *
- *     0000001f.part   octets of transfer 31, not complete       0000001f.2.part   the same, of the next file under Id 31
- *     0000001f.page   the complete file                         0000001f.aside    what a transfer had that was ended
- *     0000001f.meta   its METADATA as text
+ *     0000001f.part    octets of transfer 31, not complete
+ *     0000001f.page    the complete file
+ *     0000001f.meta    its METADATA as text
+ *     0000001f.aside   what a transfer had that was ended
+ *     0000001f.2.part  the same, of the next file under Id 31
  *
  * The transfer that is open is the one of the highest number that has a .meta. Nothing that holds an octet is ever
  * written over: a new transfer takes the next number. No symbolic link is followed.

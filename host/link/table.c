@@ -61,8 +61,8 @@ struct saratoga_listed listed(uint64_t id)
 }
 
 /*
- * What recording would answer, with the area untouched; and whether it would add anything. A recording that adds nothing
- * leaves every octet of the area as it is, and no other does.
+ * What recording would answer, with the area untouched; and whether it would add anything. A recording that adds
+ * nothing leaves every octet of the area as it is, and no other does.
  */
 struct saratoga_recorded would_record(const uint8_t *packet, size_t packet_len, int *adds)
 {
@@ -243,7 +243,7 @@ static const char *fault_of(struct transfer *t, const struct saratoga_listed *on
     return page_len < 0 || file_has_length(page, one->length) ? NULL : "its .page hasn't its length";
 }
 
-/* Ends a transfer whose files aren't what the area says. Without room it is ended in memory; the next start does it too. */
+/* Ends a transfer whose files aren't what the area says. Without room it is ended in memory, and at the next start. */
 static void end_faulty(struct transfer *t, const char *fault)
 {
     warn("transfer %" PRIu64 ": %s; it is closed and must begin anew", t->id, fault);
@@ -253,6 +253,7 @@ static void end_faulty(struct transfer *t, const char *fault)
     if (done.number != 0)
         die("transfer %" PRIu64 " can't be closed, refusal %" PRIu64 ": the program has a fault", t->id, done.number);
     memcpy(area, saved, sizeof area);
+    table_changed(); /* so that it is tried again */
     set_aside(t);
     forget(t);
 }

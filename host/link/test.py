@@ -19,7 +19,7 @@ import threading
 import time
 
 sys.dont_write_bytecode = True
-from harness import (AREA_OCTETS, POWERCUT, SOURCES, WRAPPED, build, check, content, holds, page, run, stem,  # noqa: E402
+from harness import (POWERCUT, SOURCES, WRAPPED, build, check, content, holds, page, run, stem,  # noqa: E402
                      stored)
 from packets import END_OF_DATA, WANTED, data, failure, metadata, record, success  # noqa: E402
 import plant  # noqa: E402
@@ -343,7 +343,8 @@ def power_cuts(program, plain, place, make=two_transfers):
             nothing_promised_is_missing(left, originals, lines)
             if plain and number < 4:
                 again, told, ended = run(plain, left, "--no-fsync", "-", octets=octets)
-                check(ended == 0 and all(" is kept as " in line for line in told.splitlines()), f"{count}, {how}: {told}")
+                check(ended == 0 and all(" is kept as " in line for line in told.splitlines()),
+                      f"call {count}, {how}: {told}")
                 nothing_promised_is_missing(left, originals, again)
                 plant.no_mixture(left, originals)
                 for ident in originals:
@@ -512,7 +513,7 @@ def loopback(program, place, address, seconds, options):
 # Programs that write in another order, which the tests must find.
 
 
-ENDED, CUT = "ended", "power cut"  # which test finds it
+ENDED, CUT, REPLACED = "ended", "power cut", "ended while a file is replaced"  # which test finds it
 
 WRONG = {
     "records and saves before the payload is written": (
@@ -543,6 +544,10 @@ WRONG = {
         ENDED, "    if (make_files(t) != 0) {",
         "    *opened = saratoga_open(area, sizeof area, packet, packet_len); table_changed(); save();\n"
         "    if (make_files(t) != 0) {"),
+    "mixes two files of one Id": (REPLACED, "memcmp(t->meta, text, text_len) != 0", "0"),
+    "sets a file aside before its transfer is closed on disk": (
+        REPLACED, "    close_in_area(t->id);\n    if (!save())", "    set_aside(t);\n    close_in_area(t->id);\n    if (!save())"),
+    "writes a file over what another had": (REPLACED, "length_of(part) == 0 && !is_there(page) && !is_there(aside)", "1"),
 }
 
 
@@ -564,6 +569,9 @@ def wrong_programs(place):
         try:
             if test == ENDED:
                 cut_everywhere(build(paths, here + ".out", "-DLINK_CUT_POINTS", "-Wno-error"), here)
+            elif test == REPLACED:
+                cut_everywhere(build(paths, here + ".out", "-DLINK_CUT_POINTS", "-Wno-error"), here,
+                               plant.two_files_of_one_id)
             else:
                 power_cuts(build([*paths, POWERCUT], here + ".out", "-Wno-error", *WRAPPED), None, here)
         except AssertionError as reason:
@@ -595,7 +603,7 @@ def main():
             checked = program
         any_octets(checked, fresh("any"))
         print("link: passes, damaged packets, restarts and wrong input are as expected")
-        plant.all_of_it(program, fresh)
+        plant.all_of_it(checked, fresh)
         print("link: Ids used again, lost files, a full table, the operator, a full disk and traps are as expected")
         places = cut_everywhere(cutting, fresh("cuts")), cut_while_an_id_is_used_again(cutting, fresh("again")), (
             cut_everywhere(cutting, fresh("replaced"), plant.two_files_of_one_id))

@@ -12,6 +12,7 @@
 PREFIX ?= /usr/local
 VERSION = 0.1
 ARCHIVE = target/staticlib/libsaratoga.a
+LINK_SOURCES = $(addprefix host/link/,link.c source.c dispatch.c table.c store.c disk.c meta.c control.c text.c)
 BENCH_FLAGS = -O2 -Wall -Wextra -Iinclude
 
 PASS ?= host/passes/page611.pass
@@ -55,7 +56,7 @@ bench-instructions: bench-program
 
 link: lib
 	mkdir -p target/link
-	$(CC) -std=c99 -Wall -Wextra -pedantic -O2 -Iinclude host/link/link.c $(ARCHIVE) -o target/link/saratoga-link
+	$(CC) -std=c99 -Wall -Wextra -pedantic -O2 -Iinclude $(LINK_SOURCES) $(ARCHIVE) -o target/link/saratoga-link
 
 replay-program:
 	@rt check replay >&2

@@ -20,10 +20,13 @@ NOSPACE = os.path.join(PLACE, "nospace.c")
 class Link:
     """The program on a socket of loopback, and a sender beside it."""
 
+    started = []
+
     def __init__(self, program, place, *options, sender="127.0.0.1", peer=("--peer", "127.0.0.1"), **environment):
         self.lines, self.told = [], []
         self.process = subprocess.Popen([program, "-d", place, "--udp", "0", *peer, *options], stdout=subprocess.PIPE,
                                         stderr=subprocess.PIPE, env=dict(os.environ, **environment))
+        self.started.append(self.process)
         self.threads = [threading.Thread(target=self.read, args=pair, daemon=True)
                         for pair in ((self.process.stdout, self.lines), (self.process.stderr, self.told))]
         for thread in self.threads:
@@ -482,11 +485,14 @@ def command_line(program, place):
 def all_of_it(program, place):
     """Runs everything; `place` gives a new directory for a name."""
     full = build([*SOURCES, NOSPACE], program + "-full", *WRAPPED)
-    for test in (used_again, never_overwritten, taken_away, full_table, operator, who_is_heard, what_is_known, runs,
-                 answers, limits, traps, command_line):
+    tests = [(test, program) for test in (used_again, never_overwritten, taken_away, full_table, operator, who_is_heard,
+                                          what_is_known, runs, answers, limits, traps, command_line)]
+    for test, tested in tests + [(no_room, full), (no_room_for_a_name, full)]:
         try:
-            test(program, place(test.__name__))
+            test(tested, place(test.__name__))
         except AssertionError as reason:
             raise AssertionError(f"{test.__name__}: {reason}") from reason
-    no_room(full, place("no_room"))
-    no_room_for_a_name(full, place("no_room_for_a_name"))
+        finally:
+            for process in Link.started:  # a test that failed leaves none behind
+                if process.poll() is None:
+                    process.kill()

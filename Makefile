@@ -1,24 +1,27 @@
 # make test     the gate: proofs, must-fail edits, host tests
 # make lib      proves the library and builds target/staticlib/libsaratoga.a
-# make replay   proves and builds target/bin/replay, and runs it on the pass of page 611, or on PASS=file (docs/REPLAY.md)
+# make replay   proves and builds replay, and runs it on the pass of page 611, or on PASS=file (docs/REPLAY.md)
 # make compare  compares the archive with the codec and receiver of host/paper; SEED=N and CALLS=N are optional
 # make soak     the same over 3 x 10^8 calls, an hour or more; or for SECONDS=N seconds
 # make stack    prints the stack that each function needs
 # make bench    measures the library beside plain C and prints the ratios; docs/BENCHMARKS.md
 # make bench-instructions   the same in instructions, by callgrind
 # make link     builds the link program, target/link/saratoga-link (docs/LINK.md)
-# make install  header, archive, pkg-config file, and replay with its man page below PREFIX (default /usr/local)
+# make install  header, archive, pkg-config file, replay, the tools and the link program, with man pages, below PREFIX
+#               (default /usr/local; PREFIX=$HOME/.local needs no root); make uninstall takes them away
 PREFIX ?= /usr/local
 VERSION = 0.1
 ARCHIVE = target/staticlib/libsaratoga.a
+LINK_SOURCES = $(addprefix host/link/,link.c source.c dispatch.c table.c store.c disk.c meta.c control.c text.c)
 BENCH_FLAGS = -O2 -Wall -Wextra -Iinclude
 
 PASS ?= host/passes/page611.pass
 
-.PHONY: test lib replay-program replay compare soak stack bench-program bench bench-instructions link install clean help
+.PHONY: test lib replay-program front replay compare soak stack bench-program bench bench-instructions link
+.PHONY: install uninstall clean help
 
 help:
-	@sed -n 's/^# make/make/p' Makefile
+	@sed -n '/^[^#]/q; s/^# //p' Makefile
 
 test:
 	bash .ci/run
@@ -53,22 +56,47 @@ bench-instructions: bench-program
 
 link: lib
 	mkdir -p target/link
-	$(CC) -std=c99 -Wall -Wextra -pedantic -O2 -Iinclude host/link/link.c $(ARCHIVE) -o target/link/saratoga-link
+	$(CC) -std=c99 -Wall -Wextra -pedantic -O2 -Iinclude $(LINK_SOURCES) $(ARCHIVE) -o target/link/saratoga-link
 
 replay-program:
 	@rt check replay >&2
 
-replay: replay-program
-	@target/bin/replay "$(PASS)"
+# The program that a user runs, in the folders in which it is installed; it starts the proved one.
+FRONT_FLAGS = -std=c99 -Wall -Wextra -pedantic -O2 -DVERSION='"$(VERSION)"'
 
-install: lib replay-program
-	install -d $(DESTDIR)$(PREFIX)/include $(DESTDIR)$(PREFIX)/lib/pkgconfig $(DESTDIR)$(PREFIX)/bin $(DESTDIR)$(PREFIX)/share/man/man1
-	install -m 755 target/bin/replay $(DESTDIR)$(PREFIX)/bin/replay
-	install -m 644 include/saratoga.h $(DESTDIR)$(PREFIX)/include/saratoga.h
-	install -m 644 $(ARCHIVE) $(DESTDIR)$(PREFIX)/lib/libsaratoga.a
-	sed 's|@PREFIX@|$(PREFIX)|;s|@VERSION@|$(VERSION)|' host/saratoga.pc.in >$(DESTDIR)$(PREFIX)/lib/pkgconfig/saratoga.pc
-	chmod 644 $(DESTDIR)$(PREFIX)/lib/pkgconfig/saratoga.pc
-	install -m 644 host/man/replay.1 $(DESTDIR)$(PREFIX)/share/man/man1/replay.1
+front: replay-program
+	@mkdir -p target/front/bin target/front/libexec/saratoga
+	@ln -sf ../../../bin/replay target/front/libexec/saratoga/replay
+	@$(CC) $(FRONT_FLAGS) host/replay/replay.c -o target/front/bin/replay
+
+replay: front
+	@target/front/bin/replay -- "$(PASS)"
+
+# All that a user runs, with man pages. Nothing is written outside of PREFIX, and no owner is changed: below a PREFIX of
+# one's own it needs no root. The tools stand beside their modules, with links in bin.
+AT = $(DESTDIR)$(PREFIX)
+TOOLS = pcap2pass passtext passplot
+MODULES = saratoga_pass.py saratoga_tool.py
+PAGES = replay pcap2pass passtext passplot saratoga-link
+
+install: lib front link
+	install -d "$(AT)/include" "$(AT)/lib/pkgconfig" "$(AT)/bin" "$(AT)/libexec/saratoga" "$(AT)/share/man/man1"
+	install -m 644 include/saratoga.h "$(AT)/include/saratoga.h"
+	install -m 644 $(ARCHIVE) "$(AT)/lib/libsaratoga.a"
+	sed 's|@PREFIX@|$(PREFIX)|;s|@VERSION@|$(VERSION)|' host/saratoga.pc.in >"$(AT)/lib/pkgconfig/saratoga.pc"
+	chmod 644 "$(AT)/lib/pkgconfig/saratoga.pc"
+	install -m 755 target/front/bin/replay target/link/saratoga-link "$(AT)/bin"
+	install -m 755 target/bin/replay $(TOOLS:%=host/tools/%) "$(AT)/libexec/saratoga"
+	install -m 644 $(MODULES:%=host/tools/%) "$(AT)/libexec/saratoga"
+	for tool in $(TOOLS); do ln -sf "../libexec/saratoga/$$tool" "$(AT)/bin/$$tool" || exit 1; done
+	install -m 644 $(PAGES:%=host/man/%.1) "$(AT)/share/man/man1"
+
+uninstall:
+	rm -f "$(AT)/include/saratoga.h" "$(AT)/lib/libsaratoga.a" "$(AT)/lib/pkgconfig/saratoga.pc"
+	for file in replay saratoga-link $(TOOLS); do rm -f "$(AT)/bin/$$file" || exit 1; done
+	for page in $(PAGES); do rm -f "$(AT)/share/man/man1/$$page.1" || exit 1; done
+	for file in replay $(TOOLS) $(MODULES); do rm -f "$(AT)/libexec/saratoga/$$file" || exit 1; done
+	if [ -d "$(AT)/libexec/saratoga" ]; then rmdir "$(AT)/libexec/saratoga"; fi
 
 clean:
 	rm -rf target

@@ -11,6 +11,14 @@
  * else readable and writable. A buffer or an area to be written must not overlap any other argument.
  * Apart from that, any octets and any numbers may be passed.
  *
+ * After a refusal whose `code` isn't 0, the failure STATUS goes out by saratoga_write_failure with that code and the Id
+ * in octets 4 to 7 of the packet that was refused, the highest octet first. They are there: a refusal of a packet has a
+ * code only where the first 8 octets were found. After refusal 4 they need not be an Id, as a BEACON has none: answer
+ * METADATA, DATA and STATUS alone.
+ *
+ * The library is for x86-64. It uses no heap and holds no state; each call needs less than 2,000 octets of stack
+ * (docs/AREA.md has them by function).
+ *
  * Bits count from 0, the highest bit of the first octet. All numbers in packets are big-endian.
  */
 #ifndef SARATOGA_H
@@ -23,6 +31,20 @@
 extern "C" {
 #endif
 
+/* The version of this header and of the library that is installed with it. */
+#define SARATOGA_VERSION_MAJOR 0
+#define SARATOGA_VERSION_MINOR 1
+#define SARATOGA_VERSION "0.1"
+
+/* Limits. */
+#define SARATOGA_TRANSFERS 16         /* Ids that can be open at a time */
+#define SARATOGA_RUNS 64              /* runs of a transfer, and so at most as many holes */
+#define SARATOGA_PACKET_OCTETS 65535  /* of the longest packet that is read or written */
+#define SARATOGA_PATH_OCTETS 1023     /* of the longest path, without the closing zero octet */
+#define SARATOGA_METADATA_OCTETS 1110 /* of the longest METADATA that is written */
+#define SARATOGA_STATUS_OCTETS 1048   /* of the longest STATUS that is written: room for any, with 64 holes */
+#define SARATOGA_FAILURE_OCTETS 8     /* of a failure STATUS */
+
 /* Packet types. */
 #define SARATOGA_TYPE_METADATA 2
 #define SARATOGA_TYPE_DATA 3
@@ -30,13 +52,57 @@ extern "C" {
 
 /*
  * Masks on `flags`, which is bits 8 to 31 of the packet as a 24-bit number: bit b is 1 << (31 - b).
- * Bits 8 and 9 are the descriptor width: 0x000000 is 16, 0x400000 is 32, 0x800000 is 64 bits.
  */
+#define SARATOGA_WIDTH_MASK UINT64_C(0xC00000) /* bits 8 and 9: the descriptor width; both set is refused with 5 */
+#define SARATOGA_WIDTH_16 UINT64_C(0x000000)
+#define SARATOGA_WIDTH_32 UINT64_C(0x400000)
+#define SARATOGA_WIDTH_64 UINT64_C(0x800000)
+#define SARATOGA_KIND_MASK UINT64_C(0x300000) /* bits 10 and 11 of METADATA and DATA: 0 is a file, the one kind taken */
+#define SARATOGA_FLAG_ENDED UINT64_C(0x080000)         /* bit 12 of METADATA: the transfer was ended by its sender */
+#define SARATOGA_FLAG_ERRORS_TAKEN UINT64_C(0x040000)  /* bit 13 of METADATA: the content may come with errors */
 #define SARATOGA_FLAG_TIMESTAMP UINT64_C(0x080000)     /* bit 12 of DATA and STATUS: 16 octets of timestamp */
+#define SARATOGA_FLAG_NO_METADATA UINT64_C(0x040000)   /* bit 13 of STATUS: METADATA has not been received */
 #define SARATOGA_FLAG_INCOMPLETE UINT64_C(0x020000)    /* bit 14 of STATUS: the hole list is not complete */
 #define SARATOGA_FLAG_UNASKED UINT64_C(0x010000)       /* bit 15 of STATUS: it was sent unasked */
 #define SARATOGA_FLAG_STATUS_WANTED UINT64_C(0x010000) /* bit 15 of DATA: the sender wants a STATUS */
 #define SARATOGA_FLAG_END_OF_DATA UINT64_C(0x008000)   /* bit 16 of DATA: it holds the last octet */
+
+/*
+ * The checksum of METADATA, in bits 24 to 31 of `flags`: its type (bits 28 to 31) with its length in 32-bit words (bits 24
+ * to 27). No checksum is computed or compared here.
+ */
+#define SARATOGA_CHECKSUM_TYPE_MASK UINT64_C(0x0F)
+#define SARATOGA_CHECKSUM_WORDS_MASK UINT64_C(0xF0)
+#define SARATOGA_CHECKSUM_NONE UINT64_C(0x00)
+#define SARATOGA_CHECKSUM_CRC32 UINT64_C(0x11) /* 4 octets */
+#define SARATOGA_CHECKSUM_MD5 UINT64_C(0x42)   /* 16 octets */
+#define SARATOGA_CHECKSUM_SHA1 UINT64_C(0x53)  /* 20 octets */
+
+/* Bits 8 and 9 of `properties`, of 16 bits: the width in which METADATA has the size. */
+#define SARATOGA_PROPERTIES_WIDTH_MASK UINT64_C(0x00C0)
+#define SARATOGA_PROPERTIES_WIDTH_16 UINT64_C(0x0000)
+#define SARATOGA_PROPERTIES_WIDTH_32 UINT64_C(0x0040)
+#define SARATOGA_PROPERTIES_WIDTH_64 UINT64_C(0x0080)
+
+/* Status codes, bits 24 to 31 of STATUS, as the draft names them. A refusal's `code` is 0x00, 01, 03, 06, 09 or 0A. */
+#define SARATOGA_CODE_SUCCESS 0x00            /* no error; as the `code` of a refusal: send nothing */
+#define SARATOGA_CODE_UNSPECIFIED 0x01        /* unspecified error */
+#define SARATOGA_CODE_SENDER_RESOURCES 0x02   /* unable to send the file due to resource constraints */
+#define SARATOGA_CODE_RECEIVER_RESOURCES 0x03 /* unable to receive the file due to resource constraints */
+#define SARATOGA_CODE_NOT_FOUND 0x04          /* file not found */
+#define SARATOGA_CODE_DENIED 0x05             /* access denied */
+#define SARATOGA_CODE_UNKNOWN_ID 0x06         /* unknown Id */
+#define SARATOGA_CODE_NOT_DELETED 0x07        /* did not delete the file */
+#define SARATOGA_CODE_TOO_LONG 0x08           /* file longer than the receiver can support */
+#define SARATOGA_CODE_DESCRIPTORS 0x09        /* descriptors do not match expected use or the file's length */
+#define SARATOGA_CODE_TYPE 0x0A               /* unsupported packet type */
+#define SARATOGA_CODE_REQUEST_TYPE 0x0B       /* unsupported request type */
+#define SARATOGA_CODE_TIMEOUT 0x0C            /* request ended by a timeout */
+#define SARATOGA_CODE_FLAGS_CHANGED 0x0D      /* flags of DATA have changed unexpectedly */
+#define SARATOGA_CODE_NOT_INTERESTED 0x0E     /* receiver no longer wants the file */
+#define SARATOGA_CODE_IN_USE 0x0F             /* file is in use */
+#define SARATOGA_CODE_METADATA_FIRST 0x10     /* METADATA required before the transfer is accepted */
+#define SARATOGA_CODE_UNEXPECTED 0x11         /* a STATUS with an error came unexpectedly, the request is ended */
 
 /* Refusal numbers, each with its `code`. */
 #define SARATOGA_REFUSED_TRUNCATED 1     /* 0x00: packet ends inside a field, or in a path of fewer than 1,024 octets */
@@ -60,7 +126,64 @@ extern "C" {
 #define SARATOGA_REFUSED_INDEX 19        /* 0x00: no hole has that index, or that many can't be skipped */
 #define SARATOGA_REFUSED_BUFFER 20       /* 0x00: buffer too small, or the area to be made fresh */
 #define SARATOGA_REFUSED_FIELD 21        /* 0x00: a field to be written exceeds its bits, or failure code 0 */
-#define SARATOGA_REFUSED_AREA 22         /* 0x00: area too short, or its octets are no image of a transfer table */
+#define SARATOGA_REFUSED_AREA 22         /* 0x00: area too short, or its used words hold no transfer table */
+
+/* A refusal in plain words; 0 is "accepted". Any number has a text. */
+static inline const char *saratoga_refusal_text(uint64_t number)
+{
+    static const char *const texts[] = {
+        "accepted",
+        "packet cut short",
+        "packet longer than 65,535 octets",
+        "not this version of the protocol",
+        "packet type not taken here",
+        "descriptor width not supported",
+        "not a plain file",
+        "checksum type and length do not go together",
+        "path empty, too long, or followed by octets",
+        "size too large for the descriptor width",
+        "DATA without a payload",
+        "hole list not allowed",
+        "Id not open",
+        "descriptor width is not the transfer's",
+        "octets past the end of the file",
+        "end of data is not the end of the file",
+        "more than 64 runs of octets received",
+        "16 transfers are open already",
+        "Id open with another width or length",
+        "no hole has that index",
+        "buffer or area too small",
+        "field too large to be written",
+        "area holds no transfer table",
+    };
+    return number < sizeof texts / sizeof texts[0] ? texts[number] : "unknown refusal";
+}
+
+/* A status code in plain words; 0 is "no error". Any number has a text. */
+static inline const char *saratoga_code_text(uint64_t code)
+{
+    static const char *const texts[] = {
+        "no error",
+        "unspecified error",
+        "sender lacks resources",
+        "receiver lacks resources",
+        "file not found",
+        "access denied",
+        "unknown Id",
+        "file not deleted",
+        "file too long for the receiver",
+        "descriptors do not match the transfer",
+        "unsupported packet type",
+        "unsupported request type",
+        "request timed out",
+        "flags of DATA have changed",
+        "receiver no longer wants the file",
+        "file in use",
+        "METADATA required first",
+        "unexpected error STATUS",
+    };
+    return code < sizeof texts / sizeof texts[0] ? texts[code] : "unknown status code";
+}
 
 /* A written packet: `size` octets from the start of `out`. */
 struct saratoga_written {
@@ -183,8 +306,9 @@ struct saratoga_written saratoga_write_failure(uint64_t id, uint64_t status, uin
  * octets past SARATOGA_AREA_OCTETS are never read or written. One call at a time may use an area, and packet, buffer
  * and area must not overlap.
  *
- * Every function but saratoga_fresh judges the whole area first, and refuses with 22 before all else where it is
- * shorter than SARATOGA_AREA_OCTETS or its octets are no image of a table. A refusal leaves area and buffers untouched.
+ * Every function but saratoga_fresh judges the area first, and refuses with 22 before all else where it is shorter than
+ * SARATOGA_AREA_OCTETS or its used words hold no table. Unused words may hold anything: they are never looked at, and
+ * stay as they are, so equal tables need not be equal areas (docs/AREA.md). A refusal leaves area and buffers untouched.
  *
  * No payload is kept. The program must write a packet's payload to disk BEFORE it records the packet if it relies on
  * `complete`: `complete` says that every octet was recorded, not that it was stored.
@@ -252,6 +376,15 @@ struct saratoga_opened saratoga_open(uint8_t *area, size_t area_len, const uint8
 struct saratoga_recorded saratoga_record(uint8_t *area, size_t area_len, const uint8_t *packet, size_t packet_len);
 
 /*
+ * Answers what saratoga_record would, and records nothing: the area is only read. A program learns so whether a packet is
+ * taken before it writes the payload to disk.
+ *
+ * Order of refusals: as for saratoga_record.
+ */
+struct saratoga_recorded saratoga_try_record(const uint8_t *area, size_t area_len, const uint8_t *packet,
+                                             size_t packet_len);
+
+/*
  * Closes a transfer: its Id is no longer open, and what was received is forgotten. Its place can be used again.
  *
  * Order of refusals: 22, 12 (also for any id over 32 bits).
@@ -263,7 +396,10 @@ struct saratoga_done saratoga_close(uint8_t *area, size_t area_len, uint64_t id)
  * lowest offset not received, In-Response-To the edge. The first `skip` holes are left out, then as many are written as
  * `out` has room for, lowest first. Bit 14 is set where a hole was skipped or did not fit, bit 15 where `unasked` is
  * not 0 or the transfer is complete. With descriptors of d octets (2, 4 or 8) and h holes written, the size is
- * 8 + 2 d + 2 d h, so 1,048 octets are always enough.
+ * 8 + 2 d + 2 d h, so SARATOGA_STATUS_OCTETS are always enough.
+ *
+ * Set `unasked` to 0 where the STATUS answers DATA that asked for it (SARATOGA_FLAG_STATUS_WANTED), and to 1 where it goes
+ * out of itself: after METADATA, by a timer, or on completion.
  *
  * Order of refusals: 22, 12 (also for any id over 32 bits), 19 (`skip` is neither 0 nor below the number of holes),
  * 20 (no room for the fields before the holes or, where there are holes, for one of them).
@@ -273,11 +409,26 @@ struct saratoga_written saratoga_write_status(const uint8_t *area, size_t area_l
 
 /*
  * Lists the open transfers, for a program that takes up an area again: gives number `index`, counted from 0, in rising
- * order of Id. The area is only read.
+ * order of Id. The area is only read. 12 ends the listing: a program counts up from 0 until it comes.
  *
  * Order of refusals: 22, 12 (`index` is not below the number open).
  */
 struct saratoga_listed saratoga_transfer(const uint8_t *area, size_t area_len, uint64_t index);
+
+/*
+ * Finds one open transfer by its Id, and gives what saratoga_transfer lists of it. The area is only read.
+ *
+ * Order of refusals: 22, 12 (also for any id over 32 bits).
+ */
+struct saratoga_listed saratoga_find(const uint8_t *area, size_t area_len, uint64_t id);
+
+/*
+ * Gives hole `index`, counted from 0 with the lowest, of an open transfer. Holes end at the edge: what lies between the edge
+ * and the length is none of them. The area is only read. 19 ends the holes: a program counts up from 0 until it comes.
+ *
+ * Order of refusals: 22, 12 (also for any id over 32 bits), 19 (`index` is not below the number of holes).
+ */
+struct saratoga_hole saratoga_transfer_hole(const uint8_t *area, size_t area_len, uint64_t id, uint64_t index);
 
 #ifdef __cplusplus
 }

@@ -39,6 +39,7 @@ struct call {
 struct bench_case {
     char name[64];
     enum operation operation;
+    int few_runs; /* one open transfer with at most 8 runs */
     struct tables start;
     struct call calls[CALLS];
     size_t count;
@@ -76,12 +77,27 @@ static void *allocated(size_t size)
     return memory;
 }
 
+static void same(const char *what, const char *whom, const void *ours, const void *theirs, size_t size)
+{
+    if (memcmp(ours, theirs, size) != 0) {
+        fprintf(stderr, "bench: %s: ours and (%s) differ\n", what, whom);
+        exit(1);
+    }
+}
+
 /* Tables. */
 
+/* With nothing open: made fresh from any octets, and then any octets again behind the first word, which alone is used. */
 static void make_tables(struct tables *t)
 {
+    size_t i;
+    for (i = 0; i < AREA; i++)
+        t->ours[i] = t->plain[i] = (uint8_t)random_number();
     saratoga_fresh(t->ours, AREA);
     area_fresh(t->plain, AREA);
+    same("fresh", "B: area", t->ours, t->plain, AREA);
+    for (i = 8; i < AREA; i++)
+        t->ours[i] = t->plain[i] = (uint8_t)random_number();
     t->memory = memory_new();
     t->map = map_new();
 }
@@ -146,14 +162,6 @@ static size_t metadata_packet(uint8_t *p, uint64_t flags, uint64_t id, uint64_t 
 
 /* Comparing. */
 
-static void same(const char *what, const char *whom, const void *ours, const void *theirs, size_t size)
-{
-    if (memcmp(ours, theirs, size) != 0) {
-        fprintf(stderr, "bench: %s: ours and (%s) differ\n", what, whom);
-        exit(1);
-    }
-}
-
 /* Answers have fields of 64 bits alone, so they are the same where their octets are. */
 #define COMPARED(what, answer, call_ours, call_a, call_b, call_c)         \
     do {                                                                  \
@@ -208,27 +216,50 @@ static uint64_t compare_status(struct tables *t, uint64_t id, uint64_t skip, uin
     return out[OURS][0] == 0x44 ? 1 : 0;
 }
 
-/* A damaged area, or one cut short: ours and (B) alone. */
+/* A word of an area: the lowest octet first. */
+static void put_word(uint8_t *area, size_t word, uint64_t number)
+{
+    size_t i;
+    for (i = 0; i < 8; i++)
+        area[8 * word + i] = (uint8_t)(number >> 8 * i);
+}
+
+/* Changes a word: any, or one of the first that may be used. The number open is in the lowest octet of word 0. */
+static void damage(uint8_t *area)
+{
+    size_t open = area[0], place = below(open + 1) % 16, run = 64 * place + 1 + below(20), word = below(2113);
+    switch (below(6)) {
+    case 0: /* a run starts where the one before it stops */
+        memcpy(area + 8 * (65 + run), area + 8 * (1089 + run - 1), 8);
+        break;
+    case 1: /* a transfer has the Id of the one before it, or all of its head */
+        memcpy(area + 8 * (5 + 4 * (place % 15)), area + 8 * (1 + 4 * (place % 15)), below(2) ? 8 : 32);
+        break;
+    case 2: /* a head */
+        put_word(area, below(5 + 4 * place), below(70));
+        break;
+    case 3: /* a run */
+        put_word(area, (below(2) ? 65 : 1089) + run - 1, below(2) ? below(30000) : random_number());
+        break;
+    case 4:
+        put_word(area, word, below(70));
+        break;
+    default:
+        area[8 * word + below(8)] ^= (uint8_t)(1 << below(8));
+    }
+}
+
+/* A damaged area, or one cut short: ours and (B) alone. Where only unused words changed, both must take it. */
 static void compare_damaged(const struct tables *t, const uint8_t *packet, size_t size)
 {
     static uint8_t ours[AREA], plain[AREA];
-    size_t open = t->ours[7], k = below(2) ? below(2113) : below(65 + 64 * (open + 1)), len = below(20) ? AREA : AREA - 1;
+    size_t len = below(20) ? AREA : AREA - 1;
+    uint64_t id = below(18);
     struct saratoga_recorded a, b;
     struct saratoga_opened c, d;
+    struct saratoga_done e, f;
     memcpy(ours, t->ours, AREA);
-    if (below(3) == 0) {
-        /* A run starts where the one before it stops. */
-        size_t run = 64 * below(open + 1) % 1024 + 1 + below(20);
-        memcpy(ours + 8 * (65 + run), ours + 8 * (1089 + run - 1), 8);
-    } else if (below(8) == 0) {
-        /* An Id is that before it. */
-        size_t place = 1 + below(15);
-        memcpy(ours + 8 * (1 + place), ours + 8 * place, 8);
-    } else if (below(2)) {
-        ours[8 * k + below(8)] ^= (uint8_t)(1 << below(8));
-    } else {
-        put(ours + 8 * k, below(70), 8);
-    }
+    damage(ours);
     memcpy(plain, ours, AREA);
     a = saratoga_record(ours, len, packet, size);
     b = area_record(plain, len, packet, size);
@@ -239,7 +270,11 @@ static void compare_damaged(const struct tables *t, const uint8_t *packet, size_
     d = area_open(plain, len, packet, size);
     same("open, damaged", "B", &c, &d, sizeof c);
     same("open, damaged", "B: area", ours, plain, AREA);
-    compared += 2;
+    e = saratoga_close(ours, len, id);
+    f = area_close(plain, len, id);
+    same("close, damaged", "B", &e, &f, sizeof e);
+    same("close, damaged", "B: area", ours, plain, AREA);
+    compared += 3;
 }
 
 /* A packet for one of 18 Ids, of which each has a width and a length of its own; some are wrong. */
@@ -377,6 +412,7 @@ static void record_case(size_t transfers, size_t runs)
     size_t i, j;
     snprintf(name, sizeof name, "record, %d run%s, %d open", (int)runs, runs == 1 ? "" : "s", (int)transfers);
     c = new_case(name, RECORD);
+    c->few_runs = transfers == 1 && runs <= 8;
     open_with_runs(c, transfers, runs, 0);
     for (i = 0; i < 16; i++)
         for (j = 0; j < 64; j++)
@@ -598,7 +634,7 @@ static void print_time(double time)
 
 static void measure(size_t repeats)
 {
-    double clock, worst_record = 0, worst_read = 0;
+    double clock, worst_record = 0, worst_read = 0, worst_few = 0;
     struct tables *t = allocated(sizeof *t);
     size_t i, k, r;
     make_tables(t);
@@ -628,11 +664,15 @@ static void measure(size_t repeats)
         printf("\n");
         if (cases[i]->operation == RECORD && ratio[PLAIN_AREA] > worst_record)
             worst_record = ratio[PLAIN_AREA];
+        if (cases[i]->few_runs && ratio[MAP] > worst_few)
+            worst_few = ratio[MAP];
         if (cases[i]->operation == READ && ratio[MEMORY] > worst_read)
             worst_read = ratio[MEMORY];
     }
     printf("aim: reading DATA at most 1.2 times plain C: %.2f, %s\n", worst_read, worst_read <= 1.2 ? "met" : "not met");
     printf("aim: recording at most 1.5 times (B): %.2f, %s\n", worst_record, worst_record <= 1.5 ? "met" : "not met");
+    printf("aim: recording with 1 and 8 runs in one open transfer at most 1.5 times (C): %.2f, %s\n", worst_few,
+           worst_few <= 1.5 ? "met" : "not met");
 }
 
 /* For callgrind. */

@@ -1,9 +1,10 @@
-/* (B) A receiver in plain C over the lent area of docs/AREA.md, which it judges whole at each call. */
+/* (B) A receiver in plain C over the lent area of docs/AREA.md, whose used words it judges at each call. */
 #include "plain_packet.h"
 #include "receivers.h"
 
-/* The first word of each part of the area. */
-enum { TRANSFERS = 16, RUNS = 64, IDS = 1, WIDTHS = 17, LENGTHS = 33, COUNTS = 49, STARTS = 65, STOPS = 1089 };
+/* Where the words of the area stand: heads of four words, and two rows of run places for each transfer. */
+enum { TRANSFERS = 16, RUNS = 64, HEAD = 4, HEADS = 1, STARTS = 65, STOPS = 1089 };
+enum field { ID, WIDTH, LENGTH, COUNT };
 
 static struct saratoga_opened not_opened(unsigned number)
 {
@@ -20,14 +21,35 @@ static struct saratoga_written not_written(unsigned number)
     return (struct saratoga_written){.number = number, .code = code_of(number)};
 }
 
+/* The lowest octet first. */
 static inline uint64_t word(const uint8_t *area, size_t k)
 {
-    return number64(area + 8 * k);
+    const uint8_t *at = area + 8 * k;
+    return (uint64_t)at[7] << 56 | (uint64_t)at[6] << 48 | (uint64_t)at[5] << 40 | (uint64_t)at[4] << 32 |
+           (uint64_t)at[3] << 24 | (uint64_t)at[2] << 16 | (uint64_t)at[1] << 8 | at[0];
 }
 
 static inline void put_word(uint8_t *area, size_t k, uint64_t number)
 {
-    put_number64(area + 8 * k, number);
+    uint8_t *at = area + 8 * k;
+    at[0] = (uint8_t)number;
+    at[1] = (uint8_t)(number >> 8);
+    at[2] = (uint8_t)(number >> 16);
+    at[3] = (uint8_t)(number >> 24);
+    at[4] = (uint8_t)(number >> 32);
+    at[5] = (uint8_t)(number >> 40);
+    at[6] = (uint8_t)(number >> 48);
+    at[7] = (uint8_t)(number >> 56);
+}
+
+static inline uint64_t head(const uint8_t *area, size_t place, enum field field)
+{
+    return word(area, HEADS + HEAD * place + field);
+}
+
+static inline void put_head(uint8_t *area, size_t place, enum field field, uint64_t number)
+{
+    put_word(area, HEADS + HEAD * place + field, number);
 }
 
 /* Whether the width is 2, 4 or 8, and the length fits it. */
@@ -36,7 +58,7 @@ static int length_allowed(uint64_t width, uint64_t length)
     return (width == 2 || width == 4 || width == 8) && fits(length, (size_t)width);
 }
 
-/* Whether the places of transfer i, of which `count` hold a run, are those of runs in order and then zero. */
+/* Whether the runs of transfer i stand in order, below its length. */
 static int runs_allowed(const uint8_t *area, size_t i, uint64_t count, uint64_t length)
 {
     size_t starts = STARTS + RUNS * i, stops = STOPS + RUNS * i, j;
@@ -47,13 +69,10 @@ static int runs_allowed(const uint8_t *area, size_t i, uint64_t count, uint64_t 
             return 0;
         last = stop;
     }
-    for (; j < RUNS; j++)
-        if (word(area, starts + j) != 0 || word(area, stops + j) != 0)
-            return 0;
     return 1;
 }
 
-/* Whether the area begins with the image of a table: the rules of docs/AREA.md. */
+/* Whether the area holds a table: the rules of docs/AREA.md. */
 static int area_allowed(const uint8_t *area, size_t area_len)
 {
     uint64_t open, last = 0;
@@ -63,20 +82,15 @@ static int area_allowed(const uint8_t *area, size_t area_len)
     open = word(area, 0);
     if (open > TRANSFERS)
         return 0;
-    for (i = 0; i < TRANSFERS; i++) {
-        uint64_t id = word(area, IDS + i), width = word(area, WIDTHS + i);
-        uint64_t length = word(area, LENGTHS + i), count = word(area, COUNTS + i);
-        if (i < open) {
-            if (id > UINT32_MAX || (i > 0 && id <= last))
-                return 0;
-            if (!length_allowed(width, length) || count > RUNS)
-                return 0;
-            last = id;
-        } else if (id != 0 || width != 0 || length != 0 || count != 0) {
+    for (i = 0; i < open; i++) {
+        uint64_t id = head(area, i, ID), length = head(area, i, LENGTH), count = head(area, i, COUNT);
+        if (id > UINT32_MAX || (i > 0 && id <= last))
             return 0;
-        }
+        if (!length_allowed(head(area, i, WIDTH), length) || count > RUNS)
+            return 0;
         if (!runs_allowed(area, i, count, length))
             return 0;
+        last = id;
     }
     return 1;
 }
@@ -86,20 +100,20 @@ static size_t place_of(const uint8_t *area, uint64_t id)
 {
     size_t open = word(area, 0), i;
     for (i = 0; i < open; i++)
-        if (word(area, IDS + i) == id)
+        if (head(area, i, ID) == id)
             break;
     return i;
 }
 
 static uint64_t edge_at(const uint8_t *area, size_t place)
 {
-    size_t count = word(area, COUNTS + place);
+    size_t count = head(area, place, COUNT);
     return count == 0 ? 0 : word(area, STOPS + RUNS * place + count - 1);
 }
 
 static uint64_t progress_at(const uint8_t *area, size_t place)
 {
-    if (word(area, COUNTS + place) == 0 || word(area, STARTS + RUNS * place) != 0)
+    if (head(area, place, COUNT) == 0 || word(area, STARTS + RUNS * place) != 0)
         return 0;
     return word(area, STOPS + RUNS * place);
 }
@@ -107,7 +121,7 @@ static uint64_t progress_at(const uint8_t *area, size_t place)
 /* Adds the offsets from `from` up to, not including, `to`. Whether there is room. */
 static int add_run(uint8_t *area, size_t place, uint64_t from, uint64_t to)
 {
-    size_t count = word(area, COUNTS + place), low = 0, high = count, after, gone;
+    size_t count = head(area, place, COUNT), low = 0, high = count, after, gone;
     uint8_t *starts = area + 8 * (STARTS + RUNS * place), *stops = area + 8 * (STOPS + RUNS * place);
     while (low < high) {
         size_t middle = (low + high) / 2;
@@ -126,7 +140,7 @@ static int add_run(uint8_t *area, size_t place, uint64_t from, uint64_t to)
         memmove(stops + 8 * (low + 1), stops + 8 * low, 8 * (count - low));
         put_word(starts, low, from);
         put_word(stops, low, to);
-        put_word(area, COUNTS + place, count + 1);
+        put_head(area, place, COUNT, count + 1);
         return 1;
     }
     if (word(starts, low) > from)
@@ -138,27 +152,37 @@ static int add_run(uint8_t *area, size_t place, uint64_t from, uint64_t to)
     if (gone > 0) {
         memmove(starts + 8 * (low + 1), starts + 8 * after, 8 * (count - after));
         memmove(stops + 8 * (low + 1), stops + 8 * after, 8 * (count - after));
-        memset(starts + 8 * (count - gone), 0, 8 * gone);
-        memset(stops + 8 * (count - gone), 0, 8 * gone);
-        put_word(area, COUNTS + place, count - gone);
+        put_head(area, place, COUNT, count - gone);
     }
     return 1;
 }
 
-/* Makes room for a transfer at a place of one part, which has `each` words for a transfer: zero where it was. */
-static void part_opened(uint8_t *area, size_t part, size_t each, size_t place, size_t open)
+/* Copies the runs of the transfer at one place to another: as many as its head says. */
+static void copy_runs(uint8_t *area, size_t to, size_t from)
 {
-    uint8_t *at = area + 8 * (part + each * place);
-    memmove(at + 8 * each, at, 8 * each * (open - place));
-    memset(at, 0, 8 * each);
+    size_t count = head(area, from, COUNT);
+    memcpy(area + 8 * (STARTS + RUNS * to), area + 8 * (STARTS + RUNS * from), 8 * count);
+    memcpy(area + 8 * (STOPS + RUNS * to), area + 8 * (STOPS + RUNS * from), 8 * count);
 }
 
-/* Takes out the transfer at a place of one part. */
-static void part_closed(uint8_t *area, size_t part, size_t each, size_t place, size_t open)
+/* Moves the transfers from a place on to one place after it. */
+static void move_up(uint8_t *area, size_t place, size_t open)
 {
-    uint8_t *at = area + 8 * (part + each * place);
-    memmove(at, at + 8 * each, 8 * each * (open - place - 1));
-    memset(area + 8 * (part + each * (open - 1)), 0, 8 * each);
+    uint8_t *at = area + 8 * (HEADS + HEAD * place);
+    size_t i;
+    for (i = open; i > place; i--)
+        copy_runs(area, i, i - 1);
+    memmove(at + 8 * HEAD, at, 8 * HEAD * (open - place));
+}
+
+/* Moves the transfers behind a place to one place before it. */
+static void move_down(uint8_t *area, size_t place, size_t open)
+{
+    uint8_t *at = area + 8 * (HEADS + HEAD * place);
+    size_t i;
+    for (i = place; i + 1 < open; i++)
+        copy_runs(area, i, i + 1);
+    memmove(at, at + 8 * HEAD, 8 * HEAD * (open - place - 1));
 }
 
 struct saratoga_done area_fresh(uint8_t *area, size_t area_len)
@@ -182,24 +206,20 @@ struct saratoga_opened area_open(uint8_t *area, size_t area_len, const uint8_t *
     open = word(area, 0);
     place = place_of(area, m.id);
     if (place < open) {
-        if (word(area, WIDTHS + place) != m.width || word(area, LENGTHS + place) != m.size)
+        if (head(area, place, WIDTH) != m.width || head(area, place, LENGTH) != m.size)
             return not_opened(18);
         return (struct saratoga_opened){
             .edge = edge_at(area, place), .complete = m.size <= progress_at(area, place), .already_open = 1};
     }
     if (open == TRANSFERS)
         return not_opened(17);
-    for (place = 0; place < open && word(area, IDS + place) < m.id; place++)
+    for (place = 0; place < open && head(area, place, ID) < m.id; place++)
         ;
-    part_opened(area, IDS, 1, place, open);
-    part_opened(area, WIDTHS, 1, place, open);
-    part_opened(area, LENGTHS, 1, place, open);
-    part_opened(area, COUNTS, 1, place, open);
-    part_opened(area, STARTS, RUNS, place, open);
-    part_opened(area, STOPS, RUNS, place, open);
-    put_word(area, IDS + place, m.id);
-    put_word(area, WIDTHS + place, m.width);
-    put_word(area, LENGTHS + place, m.size);
+    move_up(area, place, open);
+    put_head(area, place, ID, m.id);
+    put_head(area, place, WIDTH, m.width);
+    put_head(area, place, LENGTH, m.size);
+    put_head(area, place, COUNT, 0);
     put_word(area, 0, open + 1);
     return (struct saratoga_opened){.complete = m.size == 0};
 }
@@ -218,8 +238,8 @@ struct saratoga_recorded area_record(uint8_t *area, size_t area_len, const uint8
     place = place_of(area, d.id);
     if (place == word(area, 0))
         return not_recorded(12);
-    length = word(area, LENGTHS + place);
-    refused = data_misfit(&d, word(area, WIDTHS + place), length);
+    length = head(area, place, LENGTH);
+    refused = data_misfit(&d, head(area, place, WIDTH), length);
     if (refused)
         return not_recorded(refused);
     if (!add_run(area, place, d.offset, d.offset + d.payload))
@@ -236,12 +256,7 @@ struct saratoga_done area_close(uint8_t *area, size_t area_len, uint64_t id)
     place = place_of(area, id);
     if (place == open)
         return (struct saratoga_done){12, code_of(12)};
-    part_closed(area, IDS, 1, place, open);
-    part_closed(area, WIDTHS, 1, place, open);
-    part_closed(area, LENGTHS, 1, place, open);
-    part_closed(area, COUNTS, 1, place, open);
-    part_closed(area, STARTS, RUNS, place, open);
-    part_closed(area, STOPS, RUNS, place, open);
+    move_down(area, place, open);
     put_word(area, 0, open - 1);
     return (struct saratoga_done){0, 0};
 }
@@ -257,8 +272,8 @@ struct saratoga_written area_write_status(const uint8_t *area, size_t area_len, 
     place = place_of(area, id);
     if (place == word(area, 0))
         return not_written(12);
-    d = word(area, WIDTHS + place);
-    count = word(area, COUNTS + place);
+    d = head(area, place, WIDTH);
+    count = head(area, place, COUNT);
     starts = area + 8 * (STARTS + RUNS * place);
     stops = area + 8 * (STOPS + RUNS * place);
     holes = count == 0 ? 0 : count - (word(starts, 0) == 0);
@@ -271,7 +286,7 @@ struct saratoga_written area_write_status(const uint8_t *area, size_t area_len, 
     if (room < some)
         some = room;
     put_status_start(
-        out, status_flags(d, some < holes, unasked != 0 || word(area, LENGTHS + place) <= progress_at(area, place)),
+        out, status_flags(d, some < holes, unasked != 0 || head(area, place, LENGTH) <= progress_at(area, place)),
         id);
     put_number(out + 8, d, progress_at(area, place));
     put_number(out + 8 + d, d, edge_at(area, place));

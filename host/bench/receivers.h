@@ -3,7 +3,7 @@
  *
  * plain_read  reads a packet in plain C.
  * memory_...  (A) keeps its table in its own memory and trusts it.
- * area_...    (B) keeps it in the lent area of docs/AREA.md and judges the whole area at each call, as ours does.
+ * area_...    (B) keeps it in the lent area of docs/AREA.md and judges its used words at each call, as ours does.
  * map_...     (C) keeps the runs in ordered maps in memory (std::map) and trusts them.
  */
 #ifndef RECEIVERS_H

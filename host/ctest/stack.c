@@ -1,6 +1,7 @@
 /*
- * Prints how many octets of stack each function needs: it runs on a painted stack of its own, and what lost its paint
- * was used. The figures stand in docs/AREA.md.
+ * Prints how many octets of stack each function needs, its answer among them, and ends with status 1 where one but
+ * saratoga_fresh needs more than docs/AREA.md allows. A thread with a stack of its own paints all of it below its frame
+ * and calls: what lost its paint was used. Each function is called in several ways, and the most is printed.
  */
 #define _POSIX_C_SOURCE 200809L
 #include <pthread.h>
@@ -9,51 +10,207 @@
 
 #include "saratoga.h"
 
-#define STACK (1 << 20)
-#define PAINT 0xA5
+enum { STACK = 1 << 18, PAINT = 0xA5, UNPAINTED = 64, LIMIT = 2000 };
+enum { AREA = SARATOGA_AREA_OCTETS, IDS = 16, RUNS = 63, GAP = 100, PATH = 1023, PAYLOAD = 20 };
 
 static uint8_t stack[STACK] __attribute__((aligned(4096)));
-static uint8_t area[SARATOGA_AREA_OCTETS];
-static uint8_t out[2048];
-static const uint8_t metadata[] = {0x42, 0, 0, 0, 0, 0, 0, 7, 0, 0, 0x0B, 0xB8, 0, 0, 0, 0, 0, 0, 0, 0, 'p', 0};
-static const uint8_t data[] = {0x43, 0, 0, 0, 0, 0, 0, 7, 0x03, 0xE8, 1, 2, 3, 4};
+static uint8_t *top;
 
-static void *nothing(void *unused) { return unused; }
-static void *read_packet(void *unused) { saratoga_read(data, sizeof data); return unused; }
-static void *fresh(void *unused) { saratoga_fresh(area, sizeof area); return unused; }
-static void *open_transfer(void *unused) { saratoga_open(area, sizeof area, metadata, sizeof metadata); return unused; }
-static void *record(void *unused) { saratoga_record(area, sizeof area, data, sizeof data); return unused; }
-static void *status(void *unused) { saratoga_write_status(area, sizeof area, 7, 0, 0, out, sizeof out); return unused; }
-static void *list(void *unused) { saratoga_transfer(area, sizeof area, 0); return unused; }
-static void *close_transfer(void *unused) { saratoga_close(area, sizeof area, 7); return unused; }
+/* 16 transfers of 63 runs, Ids 10 to 160; and the area that is called on. */
+static uint8_t full[AREA], area[AREA];
+static uint8_t packet[2048], out[2048], path[PATH];
+static const uint8_t checksum[16], timestamp[16], payload[2000];
+static size_t size;
+static int refused; /* whether a call was that fills the table */
 
-static long used_by(void *(*call)(void *)) {
-    pthread_attr_t attributes;
-    pthread_t thread;
-    long unused = 0;
-    memset(stack, PAINT, sizeof stack);
-    if (pthread_attr_init(&attributes) != 0 || pthread_attr_setstack(&attributes, stack, sizeof stack) != 0 ||
-        pthread_create(&thread, &attributes, call, NULL) != 0 || pthread_join(thread, NULL) != 0) {
-        return -1;
-    }
-    while (unused < STACK && stack[unused] == PAINT) {
-        unused++;
-    }
-    return STACK - unused;
+static void accepted(uint64_t number)
+{
+    refused |= number != 0;
 }
 
-int main(void) {
-    static const struct { const char *name; void *(*call)(void *); } calls[] = {
-        {"saratoga_read", read_packet}, {"saratoga_fresh", fresh}, {"saratoga_open", open_transfer},
-        {"saratoga_record", record}, {"saratoga_write_status", status}, {"saratoga_transfer", list},
-        {"saratoga_close", close_transfer}};
-    long thread = used_by(nothing);
-    if (thread < 0) {
-        fprintf(stderr, "stack: a thread can't be run on a stack of its own\n");
+static void make_metadata(uint64_t id)
+{
+    struct saratoga_written written = saratoga_write_metadata(0x800042, id, checksum, 16, 0x0080, (uint64_t)1 << 40, 0, 0,
+                                                              path, PATH, packet, sizeof packet);
+    size = written.size;
+}
+
+static void make_data(uint64_t id, uint64_t offset, size_t length)
+{
+    struct saratoga_written written =
+        saratoga_write_data(0x800000, id, timestamp, 0, offset, payload, length, packet, sizeof packet);
+    size = written.size;
+}
+
+static void make_full(void)
+{
+    uint64_t id, run;
+    memset(path, 'p', PATH);
+    accepted(saratoga_fresh(full, AREA).number);
+    for (id = 10; id <= 10 * IDS; id += 10) {
+        make_metadata(id);
+        accepted(saratoga_open(full, AREA, packet, size).number);
+        for (run = 0; run < RUNS; run++) {
+            make_data(id, GAP * run + 10, PAYLOAD);
+            accepted(saratoga_record(full, AREA, packet, size).number);
+        }
+    }
+}
+
+/* What is prepared for a call: the area, and a packet. */
+static void use_full(void) { memcpy(area, full, AREA); }
+static void for_metadata(void) { make_metadata(15); }
+static void for_data(void) { make_data(10, 0, PAYLOAD); }
+static void for_status(void) { size = saratoga_write_status(full, AREA, 10, 0, 1, packet, sizeof packet).size; }
+static void for_failure(void) { size = saratoga_write_failure(10, 6, packet, sizeof packet).size; }
+static void for_nothing(void) { size = 0; }
+static void with_15_open(void) { use_full(); saratoga_close(area, AREA, 160); make_metadata(5); }
+static void open_already(void) { use_full(); make_metadata(80); }
+static void open_17th(void) { use_full(); make_metadata(5); }
+static void in_front(void) { use_full(); make_data(10, 0, 5); }
+static void behind(void) { use_full(); make_data(160, GAP * RUNS + 10, 5); }
+static void repeated(void) { use_full(); make_data(80, GAP * 30 + 10, PAYLOAD); }
+static void joins_some(void) { use_full(); make_data(80, 0, 1900); }
+static void past_the_end(void) { use_full(); make_data(80, (uint64_t)1 << 40, 1); }
+static void a_65th_run(void)
+{
+    use_full();
+    make_data(80, 0, 5);
+    saratoga_record(area, AREA, packet, size);
+    make_data(80, GAP * RUNS + 10, 5);
+}
+static void no_table(void) { use_full(); area[0] = 17; make_data(80, 0, 5); }
+
+/* The calls. */
+static void read_packet(void) { saratoga_read(packet, size); }
+static void read_hole(void) { saratoga_read_hole(packet, size, RUNS - 1); }
+static void write_metadata(void)
+{
+    saratoga_write_metadata(0x800042, 7, checksum, 16, 0x0080, 1, 0, 0, path, PATH, out, sizeof out);
+}
+static void write_data(void) { saratoga_write_data(0x880000, 7, timestamp, 16, 1, payload, 1000, out, sizeof out); }
+static void write_failure(void) { saratoga_write_failure(7, 1, out, sizeof out); }
+static void fresh(void) { saratoga_fresh(area, AREA); }
+static void open_transfer(void) { saratoga_open(area, AREA, packet, size); }
+static void record(void) { saratoga_record(area, AREA, packet, size); }
+static void status(void) { saratoga_write_status(area, AREA, 80, 0, 1, out, sizeof out); }
+static void status_of_last(void) { saratoga_write_status(area, AREA, 160, RUNS - 1, 0, out, 40); }
+static void list(void) { saratoga_transfer(area, AREA, IDS - 1); }
+static void try_record(void) { saratoga_try_record(area, AREA, packet, size); }
+static void find_last(void) { saratoga_find(area, AREA, 160); }
+static void find_none(void) { saratoga_find(area, AREA, 11); }
+static void last_hole(void) { saratoga_transfer_hole(area, AREA, 160, RUNS - 1); }
+static void no_hole(void) { saratoga_transfer_hole(area, AREA, 160, RUNS); }
+static void close_first(void) { saratoga_close(area, AREA, 10); }
+static void close_last(void) { saratoga_close(area, AREA, 160); }
+static void close_none(void) { saratoga_close(area, AREA, 11); }
+
+static const struct way {
+    const char *function;
+    void (*prepare)(void), (*call)(void);
+} ways[] = {
+    {"saratoga_read", for_metadata, read_packet},
+    {"saratoga_read", for_data, read_packet},
+    {"saratoga_read", for_status, read_packet},
+    {"saratoga_read", for_failure, read_packet},
+    {"saratoga_read", for_nothing, read_packet},
+    {"saratoga_read_hole", for_status, read_hole},
+    {"saratoga_read_hole", for_data, read_hole},
+    {"saratoga_write_metadata", for_nothing, write_metadata},
+    {"saratoga_write_data", for_nothing, write_data},
+    {"saratoga_write_failure", for_nothing, write_failure},
+    {"saratoga_fresh", use_full, fresh},
+    {"saratoga_open", with_15_open, open_transfer},
+    {"saratoga_open", open_already, open_transfer},
+    {"saratoga_open", open_17th, open_transfer},
+    {"saratoga_open", no_table, open_transfer},
+    {"saratoga_record", in_front, record},
+    {"saratoga_record", behind, record},
+    {"saratoga_record", repeated, record},
+    {"saratoga_record", joins_some, record},
+    {"saratoga_record", past_the_end, record},
+    {"saratoga_record", a_65th_run, record},
+    {"saratoga_record", no_table, record},
+    {"saratoga_try_record", in_front, try_record},
+    {"saratoga_try_record", behind, try_record},
+    {"saratoga_try_record", joins_some, try_record},
+    {"saratoga_try_record", a_65th_run, try_record},
+    {"saratoga_try_record", no_table, try_record},
+    {"saratoga_write_status", use_full, status},
+    {"saratoga_write_status", use_full, status_of_last},
+    {"saratoga_write_status", no_table, status},
+    {"saratoga_transfer", use_full, list},
+    {"saratoga_transfer", no_table, list},
+    {"saratoga_find", use_full, find_last},
+    {"saratoga_find", use_full, find_none},
+    {"saratoga_find", no_table, find_last},
+    {"saratoga_transfer_hole", use_full, last_hole},
+    {"saratoga_transfer_hole", use_full, no_hole},
+    {"saratoga_transfer_hole", no_table, last_hole},
+    {"saratoga_close", use_full, close_first},
+    {"saratoga_close", use_full, close_last},
+    {"saratoga_close", use_full, close_none},
+    {"saratoga_close", no_table, close_first},
+};
+enum { WAYS = sizeof ways / sizeof ways[0] };
+static long used[WAYS];
+
+/* Paints the stack below the caller's frame, but for this function's own few octets. */
+static __attribute__((noinline)) void paint(void)
+{
+    volatile uint8_t *at;
+    top = (uint8_t *)__builtin_frame_address(0) + 16;
+    for (at = stack; at < top - UNPAINTED; at++)
+        *at = PAINT;
+}
+
+static __attribute__((noinline)) long painted(void)
+{
+    long at = 0;
+    while (at < STACK && stack[at] == PAINT)
+        at++;
+    return at;
+}
+
+/* Each call is made once before, so that nothing has to be bound when it counts. */
+static void *measure(void *unused)
+{
+    size_t i;
+    for (i = 0; i < WAYS; i++) {
+        ways[i].prepare();
+        ways[i].call();
+        ways[i].prepare();
+        paint();
+        ways[i].call();
+        used[i] = top - (stack + painted());
+    }
+    return unused;
+}
+
+int main(void)
+{
+    pthread_attr_t attributes;
+    pthread_t thread;
+    int over = 0;
+    size_t i, first;
+    make_full();
+    if (refused || pthread_attr_init(&attributes) != 0 || pthread_attr_setstack(&attributes, stack, sizeof stack) != 0 ||
+        pthread_create(&thread, &attributes, measure, NULL) != 0 || pthread_join(thread, NULL) != 0) {
+        fprintf(stderr, "stack: FAILED: it can't be measured\n");
         return 1;
     }
-    for (size_t i = 0; i < sizeof calls / sizeof calls[0]; i++) {
-        printf("%-22s %6ld octets\n", calls[i].name, used_by(calls[i].call) - thread);
+    for (first = 0; first < WAYS; first = i) {
+        const char *function = ways[first].function;
+        long most = 0;
+        for (i = first; i < WAYS && strcmp(ways[i].function, function) == 0; i++)
+            most = used[i] > most ? used[i] : most;
+        printf("%-24s %6ld octets\n", function, most);
+        if (most >= LIMIT && strcmp(function, "saratoga_fresh") != 0) {
+            printf("stack: FAILED: %s needs %d octets or more\n", function, LIMIT);
+            over = 1;
+        }
     }
-    return 0;
+    if (!over)
+        printf("stack: every function but saratoga_fresh needs less than %d octets\n", LIMIT);
+    return over;
 }

@@ -1,6 +1,7 @@
 #!/usr/bin/env python3
 """Tests the link program end to end: on passes, cut off at every place between two writes, and over a lossy loopback
-while it is killed again and again. Needs a C compiler, python3 and the archive; under a minute.
+while it is killed again and again; plant.py has the tests of what a plant does. Needs a C compiler, python3 and the
+archive; one or two minutes.
 
     host/link/test.py [SECONDS]     SECONDS bounds the part that kills the program (else 6)
 
@@ -17,69 +18,21 @@ import tempfile
 import threading
 import time
 
-PLACE = os.path.dirname(os.path.abspath(__file__))
-ROOT = os.path.dirname(os.path.dirname(PLACE))
 sys.dont_write_bytecode = True
-sys.path.insert(0, os.path.join(ROOT, "host", "tools", "tests"))
+from harness import (POWERCUT, SOURCES, WRAPPED, build, check, content, holds, page, run, stem,  # noqa: E402
+                     stored)
 from packets import END_OF_DATA, WANTED, data, failure, metadata, record, success  # noqa: E402
-
-ARCHIVE = os.path.join(ROOT, "target", "staticlib", "libsaratoga.a")
-SOURCE = os.path.join(PLACE, "link.c")
-POWERCUT = os.path.join(PLACE, "powercut.c")
-WRAPPED = ["-Wl," + ",".join(f"--wrap={name}" for name in (
-    "openat", "openat64", "pwrite", "pwrite64", "renameat", "fsync"))]
-AREA_OCTETS = 16904
-
-
-def check(holds, what):
-    if not holds:
-        raise AssertionError(what)
-
-
-def build(sources, out, *options):
-    subprocess.run([os.environ.get("CC", "cc"), "-std=c99", "-Wall", "-Wextra", "-Werror", "-pedantic", "-O1", "-g",
-                    *options, "-I" + os.path.join(ROOT, "include"), *sources, ARCHIVE, "-o", out], check=True)
-    return out
-
-
-def run(program, place, *options, octets=b"", **environment):
-    """Lines, messages and exit status of the program."""
-    done = subprocess.run([program, "-d", place, *options], input=octets, capture_output=True, check=False, timeout=20,
-                          env=dict(os.environ, **environment))
-    return done.stdout.decode().splitlines(), done.stderr.decode(), done.returncode
-
-
-def content(*parts):
-    with open(os.path.join(*parts), "rb") as file:
-        return file.read()
-
-
-def holds(place, name, octets):
-    """Whether a file is there and has these octets."""
-    return os.path.exists(os.path.join(place, name)) and content(place, name) == octets
-
-
-def stored(place):
-    """The area on disk as docs/AREA.md lays it out: for each Id its length and runs. None where there is none."""
-    try:
-        octets = content(place, "area")
-    except FileNotFoundError:
-        return None
-    check(len(octets) == AREA_OCTETS, f"an area of {len(octets)} octets")
-    words = struct.unpack(">2113Q", octets)
-    table = {}
-    for i in range(words[0]):
-        runs = [(words[65 + 64 * i + j], words[1089 + 64 * i + j]) for j in range(words[49 + i])]
-        table[words[1 + i]] = words[33 + i], runs
-    return table
+import plant  # noqa: E402
 
 
 def nothing_promised_is_missing(place, originals, lines=()):
     """Each octet that the area on disk holds as received is on disk, and so is each page that was reported."""
     for ident, (length, runs) in (stored(place) or {}).items():
-        original = originals[ident]
+        check(stem(place, ident), f"transfer {ident} is in the area and has no .meta")
+        original = original_of(originals, ident, content(place, stem(place, ident) + ".meta").decode())
         check(length == len(original), f"transfer {ident} of {length} octets")
-        names = [name for name in (f"{ident:08x}.part", f"{ident:08x}.page") if name in os.listdir(place)]
+        check(f"\nlength={length}\n".encode() in content(place, stem(place, ident) + ".meta"), f"the .meta of {ident}")
+        names = [name for name in (stem(place, ident) + end for end in (".part", ".page")) if name in os.listdir(place)]
         check(names, f"transfer {ident} is in the area and has no file")
         kept = content(place, names[0])
         for start, stop in runs:
@@ -88,7 +41,7 @@ def nothing_promised_is_missing(place, originals, lines=()):
         words = line.split()
         if words[1] == "complete":
             ident, name = int(words[2][3:]), words[4][5:]
-            check(holds(place, name, originals[ident]), f"{line}: the page isn't on disk")
+            check(holds(place, name, original_of(originals, ident, line)), f"{line}: the page isn't on disk")
     for ident, told in statuses(lines).items():
         if ident in (stored(place) or {}):
             for start, stop in told:
@@ -96,11 +49,19 @@ def nothing_promised_is_missing(place, originals, lines=()):
                       f"a STATUS says that {start} to {stop} of transfer {ident} came, and the area on disk doesn't")
 
 
+def original_of(originals, ident, known):
+    """The file of an Id; where an Id has several, the one whose path ends this text."""
+    original = originals[ident]
+    return original if isinstance(original, bytes) else original.get(known.split("path=")[-1].strip(), b"")
+
+
 def statuses(lines):
     """For each Id the stretches that its last STATUS among the lines said to be received, at width 16."""
     told = {}
     for line in lines:
         words = line.split()
+        if words[1] == "close":
+            told.pop(int(words[2][3:]), None)
         if words[1] == "send" and words[2][6:8] == "00":
             packet = bytes.fromhex(words[2])
             ends = [value for value, in struct.iter_unpack(">H", packet[8:])]
@@ -110,11 +71,9 @@ def statuses(lines):
     return told
 
 
-def page(length, seed):
-    return random.Random(seed).randbytes(length)
-
-
 # Passes.
+
+META = "mtime=2000-01-01T00:00:00Z ctime=2000-01-01T00:00:00Z checksum=none path=page611.pla"
 
 
 def passes(program, place):
@@ -128,6 +87,7 @@ def passes(program, place):
     passed += b"".join(record(b"P", packet) for packet in packets[4:]) + record(b"P", bytes(70000))
     expected = """\
 1 open id=7 width=16 length=3000 edge=0 complete=0 new
+1 send 440100000000000700000000
 2 record id=7 offset=0 length=1000 edge=1000 complete=0
 3 record id=7 offset=2000 length=1000 edge=3000 complete=0
 3 send 440000000000000703e80bb803e807d0
@@ -139,24 +99,27 @@ def passes(program, place):
 9 success id=7 flags=000000 width=16 timestamp= progress=0 in-response-to=9 holes=0-4,5-6
 10 failure id=7 status=9 flags=000009
 11 record id=7 offset=1000 length=1000 edge=3000 complete=1
-11 complete id=7 length=3000 file=00000007.page
+11 complete id=7 length=3000 file=00000007.page META
 11 send 44010000000000070bb80bb8
 12 record id=7 offset=500 length=5 edge=3000 complete=1
 12 send 44010000000000070bb80bb8
 13 open id=7 width=16 length=3000 edge=3000 complete=1 already-open
+13 send 44010000000000070bb80bb8
 14 open id=9 width=16 length=0 edge=0 complete=1 new
-14 complete id=9 length=0 file=00000009.page
-15 refused 2 code=0""".splitlines()
+14 complete id=9 length=0 file=00000009.page META
+14 send 440100000000000900000000
+15 refused 2 code=0""".replace("META", META).splitlines()
     got = run(program, place, "-", octets=passed)
     check(got == (expected, "", 0), got)
     check(content(place, "00000007.page") == text, "the page isn't the original")
-    check(sorted(os.listdir(place)) == ["00000007.page", "00000009.page", "area", "lock"], os.listdir(place))
+    check(sorted(os.listdir(place)) == ["00000007.meta", "00000007.page", "00000009.meta", "00000009.page",
+                                         "area", "lock"], os.listdir(place))
 
     # Taken up: what was complete is reported again, unless it was taken away.
     os.remove(os.path.join(place, "00000009.page"))
     got = run(program, place, "-")
     check(got == (["0 taken-up id=7 width=16 length=3000 edge=3000 complete=1",
-                   "0 complete id=7 length=3000 file=00000007.page",
+                   "0 complete id=7 length=3000 file=00000007.page " + META,
                    "0 taken-up id=9 width=16 length=0 edge=0 complete=1"], "", 0), got)
 
     # A pass cut short: what stood before is recorded.
@@ -168,12 +131,12 @@ def passes(program, place):
     # A file that was removed: its transfer begins anew.
     os.remove(os.path.join(place, "00000001.part"))
     got = run(program, place, "-q", "-")
-    check("00000001.part: has fewer octets than were recorded; transfer 1 is closed" in got[1], got)
+    check("transfer 1: its .part has fewer octets than were recorded; it is closed" in got[1], got)
     check(1 not in stored(place), "transfer 1 is still open")
 
     # Closing by hand; a second program; areas that are none.
     got = run(program, place, "--close", "7")
-    check(got[0][-1:] == ["0 close id=7"] and got[2] == 0 and list(stored(place)) == [9], got)
+    check(got[0][-1:] == ["0 close id=7 asked"] and got[2] == 0 and list(stored(place)) == [9], got)
     got = run(program, place, "--close", "7")
     check(got[1:] == ("saratoga-link: transfer 7 isn't open\n", 1), got)
     holder = subprocess.Popen([program, "-d", place, "-"], stdin=subprocess.PIPE, stdout=subprocess.PIPE)
@@ -186,7 +149,7 @@ def passes(program, place):
         with open(os.path.join(place, "area"), "wb") as file:
             file.write(bad)
         got = run(program, place, "-")
-        check("area: is no image of a transfer table" in got[1] and got[2] == 1, got)
+        check("area: holds no transfer table" in got[1] and got[2] == 1, got)
         check(content(place, "area") == bad, "the area was touched")
 
     for options in ("", "a b", "--udp 65536", "--udp", "--what", "--idle x -", "- --udp 1", "--close -1"):
@@ -203,12 +166,14 @@ def more_than_sixteen(program, place):
                                                                   metadata(16, 16, 20), data(16, 16, 0, text)]
     lines, told, status = run(program, place, "-", octets=b"".join(record(b"P", packet) for packet in packets))
     check((told, status) == ("", 0), told)
-    check(lines[16:] == ["17 refused 17 code=3", "17 send 4400000300000010",
+    check(lines[32:] == ["17 refused 17 code=3", "17 send 4400000300000010",
                          "18 record id=3 offset=0 length=20 edge=20 complete=1",
-                         "18 complete id=3 length=20 file=00000003.page", "19 close id=3",
-                         "19 open id=16 width=16 length=20 edge=0 complete=0 new",
+                         "18 complete id=3 length=20 file=00000003.page " + META,
+                         "18 send 440100000000000300140014", "19 close id=3 to-make-room",
+                         "19 open id=16 width=16 length=20 edge=0 complete=0 new", "19 send 440100000000001000000000",
                          "20 record id=16 offset=0 length=20 edge=20 complete=1",
-                         "20 complete id=16 length=20 file=00000010.page"], lines[16:])
+                         "20 complete id=16 length=20 file=00000010.page " + META, "20 send 440100000000001000140014"],
+          lines[32:])
 
 
 def any_octets(program, place):
@@ -230,12 +195,14 @@ def any_octets(program, place):
             packets.append(bytes(packet[:chance.choice((len(packet), len(packet), chance.randrange(len(packet) + 1)))]))
         here = os.path.join(place, str(number % 2))  # every second run takes up what the one before left
         os.makedirs(here, exist_ok=True)
-        lines, told, status = run(program, here, "--no-fsync", "-", octets=b"".join(record(b"P", p) for p in packets))
+        lines, told, status = run(program, here, "--no-fsync", "--largest", str(2**64 - 1), "-",
+                                  octets=b"".join(record(b"P", p) for p in packets))
         check(status == 0, f"status {status}: {told}")
         answered = {int(line.split()[0]) for line in lines}
         answered |= {int(line.split()[2][:-1]) for line in told.splitlines() if ": packet " in line}
         check(answered | {0} == set(range(301)), f"no line for packets {set(range(1, 301)) - answered}")
-        check("File too large" in told or not told, told)
+        check(all("File too large" in line or "there is room again" in line or "is kept as" in line
+                  for line in told.splitlines()), told)
 
 
 # Cut off between two writes.
@@ -262,10 +229,16 @@ def two_transfers():
     return originals, b"".join(record(b"P", packet) for packet in packets)
 
 
-def cut_everywhere(program, place):
+def last_of(originals, ident):
+    """The file that is to be complete in the end."""
+    original = originals[ident]
+    return original if isinstance(original, bytes) else original["b"]
+
+
+def cut_everywhere(program, place, make=two_transfers):
     """The program is ended at each place between two writes, and inside each write; then the pass comes again. Gives
     the number of places."""
-    originals, octets = two_transfers()
+    originals, octets = make()
     count = 0
     while True:
         count += 1
@@ -284,10 +257,12 @@ def cut_everywhere(program, place):
                 break
             cuts += 1
             cut = count if cuts < 4 else 0
-        for ident, original in originals.items():
-            check(holds(here, f"{ident:08x}.page", original), f"page {ident} after a cut at place {count}")
+        for ident in originals:
+            check(holds(here, stem(here, ident) + ".page", last_of(originals, ident)),
+                  f"page {ident} after a cut at place {count}")
             check(any(f"complete id={ident} " in line for line in reported), f"page {ident} was never reported")
-        check(not os.path.exists(os.path.join(here, "00000007.part")), "a part is left")
+        plant.no_mixture(here, originals)
+        check(not any(name.endswith(".part") for name in os.listdir(here)), "a part is left")
         if cuts == 0:
             return count - 1
 
@@ -315,7 +290,8 @@ def cut_while_an_id_is_used_again(program, place):
         if status == 0:
             return count - 1
         run_cut(program, here, octets[1])
-        check(content(here, "00000007.page") == new and content(here, "00000010.page") == old, f"a cut at {count}")
+        check(content(here, "00000007.page") == old and content(here, "00000010.page") == old, f"a cut at {count}")
+        check(content(here, "00000007.2.page") == new, f"a cut at {count}")
 
 
 # Power cuts: what was not forced to disk may be lost, or not.
@@ -348,10 +324,10 @@ def after_the_cut(disk, place, target, how, chance):
             file.write(octets)
 
 
-def power_cuts(program, plain, place):
+def power_cuts(program, plain, place, make=two_transfers):
     """The power goes at each call that writes, renames or forces to disk. Whatever then is on disk, nothing that was
     said is missing, and the pass, sent again to the plain program, completes both pages. Gives the number of calls."""
-    originals, octets = two_transfers()
+    originals, octets = make()
     chance = random.Random(613)
     count = 0
     while True:
@@ -367,10 +343,13 @@ def power_cuts(program, plain, place):
             nothing_promised_is_missing(left, originals, lines)
             if plain and number < 4:
                 again, told, ended = run(plain, left, "--no-fsync", "-", octets=octets)
-                check((told, ended) == ("", 0), f"call {count}, {how}: {told}")
+                check(ended == 0 and all(" is kept as " in line for line in told.splitlines()),
+                      f"call {count}, {how}: {told}")
                 nothing_promised_is_missing(left, originals, again)
-                for ident, original in originals.items():
-                    check(holds(left, f"{ident:08x}.page", original), f"page {ident} after call {count}, {how}")
+                plant.no_mixture(left, originals)
+                for ident in originals:
+                    check(holds(left, stem(left, ident) + ".page", last_of(originals, ident)),
+                          f"page {ident} after call {count}, {how}")
         if status == 0:
             return count - 1
 
@@ -382,7 +361,8 @@ class Receiver:
     """The link program on a socket, with a thread that looks at each page at the moment it is reported."""
 
     def __init__(self, program, place, address, port, originals, options):
-        self.arguments = [program, "-d", place, "--udp", str(port), "--address", address, *options]
+        self.arguments = [program, "-d", place, "--udp", str(port), "--address", address, "--peer", address,
+                          *options]
         self.place, self.originals = place, originals
         self.reported, self.wrong, self.kills = set(), [], 0
         self.start()
@@ -533,47 +513,67 @@ def loopback(program, place, address, seconds, options):
 # Programs that write in another order, which the tests must find.
 
 
-ENDED, CUT = "ended", "power cut"  # which test finds it
+ENDED, CUT, REPLACED = "ended", "power cut", "ended while a file is replaced"  # which test finds it
 
 WRONG = {
     "records and saves before the payload is written": (
-        ENDED, "file->written = 1;", "", "        struct file *file = file_of(read->id);",
-        "        saratoga_record(area, sizeof area, packet, packet_len); unsaved++; save();\n"
-        "        struct file *file = file_of(read->id);"),
+        ENDED, "    t->written = 1;\n", "", "        if (!store_payload(number, packet, read))",
+        "        saratoga_record(area, sizeof area, packet, packet_len); table_changed(); save();\n"
+        "        if (!store_payload(number, packet, read))"),
     "reports before the last payload is written": (
         ENDED, "    if (adds) {\n",
-        "    if (adds && recorded.complete) deliver(number, read->id, recorded.edge);\n    if (adds) {\n"),
+        "    if (adds && recorded.complete) { static char d[MOST_META]; meta_for_report(d, transfer_of(read->id));\n"
+        "        report(\"%d complete id=%d length=%d file=%08x.page %s\", 1, (int)read->id, 1, (int)read->id, d); }\n"
+        "    if (adds) {\n"),
     "writes the area in place": (
-        ENDED, 'openat(directory, "area.new", O_WRONLY', 'openat(directory, "area", O_WRONLY',
-        'if (renameat(directory, "area.new", directory, "area") != 0)', "if (0)"),
-    "answers before the area is saved": (ENDED, "if (wanted || recorded.complete ||", "if (recorded.complete ||"),
-    "forces no payload to disk": (CUT, "            force_to_disk(files[i].fd, name);\n", ""),
-    "renames an area that isn't on disk": (CUT, '    force_to_disk(fd, "area.new");\n', ""),
-    "saves an area before the names of new files": (CUT, "    force_directory(); /* the names", "    /* the names"),
+        ENDED, 'snprintf(new_name, sizeof new_name, "%s.new", name);', 'snprintf(new_name, sizeof new_name, "%s", name);',
+        "if (!failed && renameat(directory, new_name, directory, name) != 0) {", "if (0) {"),
+    "answers before the area is saved": (
+        ENDED, "    if (wanted || recorded.complete ? !save() : !save_if_due())", "    if (recorded.complete && !save())",
+        "    if (!save())\n        return;\n    struct transfer *t = transfer_of(id);",
+        "    struct transfer *t = transfer_of(id);"),
+    "forces no payload to disk": (CUT, "            if (force_to_disk(t->fd, name) != 0)\n", "            if (0)\n"),
+    "renames an area that isn't on disk": (CUT, " || force_to_disk(fd, new_name) != 0;", ";"),
+    "saves an area before the names of new files": (
+        CUT, "            t->written = 0;\n        }\n    }\n    return force_directory();",
+        "            t->written = 0;\n        }\n    }\n    return 0;"),
     "reports a page whose new name isn't on disk": (
-        CUT, "        directory_changed = 1;\n        force_directory();\n    } else",
-        "        directory_changed = 1;\n    } else"),
+        CUT, "    forget_files(t);\n    return force_directory();", "    forget_files(t);\n    return 0;"),
+    "opens a transfer whose .meta isn't on disk": (CUT, " || force_to_disk(fd, meta) != 0;", ";"),
+    "opens a transfer before its files are made": (
+        ENDED, "    if (make_files(t) != 0) {",
+        "    *opened = saratoga_open(area, sizeof area, packet, packet_len); table_changed(); save();\n"
+        "    if (make_files(t) != 0) {"),
+    "mixes two files of one Id": (REPLACED, "memcmp(t->meta, text, text_len) != 0", "0"),
+    "sets a file aside before its transfer is closed on disk": (
+        REPLACED, "    close_in_area(t->id);\n    if (!save())", "    set_aside(t);\n    close_in_area(t->id);\n    if (!save())"),
+    "writes a file over what another had": (REPLACED, "length_of(part) == 0 && !is_there(page) && !is_there(aside)", "1"),
 }
 
 
 def wrong_programs(place):
-    with open(SOURCE, encoding="utf-8") as file:
-        source = file.read()
+    sources = {path: content(path).decode() for path in SOURCES}
     for number, (what, (test, *edits)) in enumerate(WRONG.items()):
-        edited = source
-        for old, new in zip(edits[::2], edits[1::2]):
-            check(edited.count(old) == 1, f"{what}: {old!r} stands {edited.count(old)} times in link.c")
-            edited = edited.replace(old, new)
         here = os.path.join(place, str(number))
         os.mkdir(here)
-        path = here + ".c"
-        with open(path, "w", encoding="utf-8") as file:
-            file.write(edited)
+        edited = dict(sources)
+        for old, new in zip(edits[::2], edits[1::2]):
+            places = [path for path in SOURCES for _ in range(sources[path].count(old))]
+            check(len(places) == 1, f"{what}: {old!r} stands {len(places)} times")
+            edited[places[0]] = edited[places[0]].replace(old, new)
+        paths = []
+        for path, text in edited.items():
+            paths.append(os.path.join(place, f"{number}-{os.path.basename(path)}"))
+            with open(paths[-1], "w", encoding="utf-8") as file:
+                file.write(text)
         try:
             if test == ENDED:
-                cut_everywhere(build([path], here + ".out", "-DLINK_CUT_POINTS", "-Wno-error"), here)
+                cut_everywhere(build(paths, here + ".out", "-DLINK_CUT_POINTS", "-Wno-error"), here)
+            elif test == REPLACED:
+                cut_everywhere(build(paths, here + ".out", "-DLINK_CUT_POINTS", "-Wno-error"), here,
+                               plant.two_files_of_one_id)
             else:
-                power_cuts(build([path, POWERCUT], here + ".out", "-Wno-error", *WRAPPED), None, here)
+                power_cuts(build([*paths, POWERCUT], here + ".out", "-Wno-error", *WRAPPED), None, here)
         except AssertionError as reason:
             if os.environ.get("SHOW_WRONG"):
                 print(f"link: a program that {what}: {reason}")
@@ -590,22 +590,26 @@ def main():
             os.makedirs(path)
             return path
 
-        program = build([SOURCE], os.path.join(place, "saratoga-link"))
-        cutting = build([SOURCE], os.path.join(place, "saratoga-link-cut"), "-DLINK_CUT_POINTS")
-        power = build([SOURCE, POWERCUT], os.path.join(place, "saratoga-link-power"), *WRAPPED)
+        program = build(SOURCES, os.path.join(place, "saratoga-link"))
+        cutting = build(SOURCES, os.path.join(place, "saratoga-link-cut"), "-DLINK_CUT_POINTS")
+        power = build([*SOURCES, POWERCUT], os.path.join(place, "saratoga-link-power"), *WRAPPED)
         passes(program, fresh("passes"))
         more_than_sixteen(program, fresh("sixteen"))
         try:
-            checked = build([SOURCE], os.path.join(place, "saratoga-link-sanitized"), "-fsanitize=address,undefined",
+            checked = build(SOURCES, os.path.join(place, "saratoga-link-sanitized"), "-fsanitize=address,undefined",
                             "-fno-sanitize-recover=all")
         except subprocess.CalledProcessError:
             print("link: skipped with sanitizers: the compiler doesn't support them")
             checked = program
         any_octets(checked, fresh("any"))
         print("link: passes, damaged packets, restarts and wrong input are as expected")
-        places = cut_everywhere(cutting, fresh("cuts")), cut_while_an_id_is_used_again(cutting, fresh("again"))
+        plant.all_of_it(checked, fresh)
+        print("link: Ids used again, lost files, a full table, the operator, a full disk and traps are as expected")
+        places = cut_everywhere(cutting, fresh("cuts")), cut_while_an_id_is_used_again(cutting, fresh("again")), (
+            cut_everywhere(cutting, fresh("replaced"), plant.two_files_of_one_id))
         print(f"link: ended at each of {sum(places)} places between and inside writes, nothing promised is missing")
-        calls = power_cuts(power, program, fresh("power"))
+        calls = power_cuts(power, program, fresh("power")) + (
+            power_cuts(power, program, fresh("power-replaced"), plant.two_files_of_one_id))
         print(f"link: power cut at each of {calls} calls, whatever of the rest is on disk nothing promised is missing")
         wrong_programs(fresh("wrong"))
         print(f"link: {len(WRONG)} programs with another order of writes are found")

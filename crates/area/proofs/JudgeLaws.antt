@@ -1,164 +1,116 @@
--- The test of an area as the code makes it: one turn of each loop over the places, transfer by transfer, and the whole.
+-- What the tests mean: a table passes exactly where it is valid, and an area exactly where the table read from it is.
 -- Assumes nothing.
-use Prim.Native.Nat.{ℕ, zero, suc, _+_, _-_, _*_, _/_, _%_, _<_, _≤_}
-use mathlib.Core.Path.{_≡_, refl, sym, _∙_}
-use mathlib.Core.List.{List}
+use Prim.Native.Nat.{ℕ, suc, _^_, _≤_, _<_}
+use mathlib.Core.Path.{_≡_, refl, ap}
+use mathlib.Core.List.{List, [], _∷_}
 use mathlib.Core.Bool.{Bool, true, false, cond}
+use mathlib.Core.Option.{none, some}
 use native.Mathlib.Omega.{arith}
-use native.Mathlib.Nat.{add-zero}
-use native.Mathlib.Numerals.{add-one}
-use lib.ListN.{length, getD}
+use lib.ListN.{length}
 use lib.Dec.{ltb, leb, eqb}
-use borrow.Author.Tests.{leb-true, eqb-true, eqb-false, lt-ltb, le-ltb, le-leb, lt-leb, eq-eqb, ne-eqb}
-use Rattle.area.specs.Words.{wordAt}
-use Rattle.area.specs.Image.{areaOctets, numbersAt}
-use Rattle.area.specs.Judge.{allFrom, before, slotTest, runTest, slotFine, runFine, imageTest, judged}
-use Rattle.area.specs.declared.Table.{Table}
-use Rattle.area.proofs.WordLaws.{part-at}
-use Rattle.area.proofs.TestLaws.{both-true, all-at, slot-used, slot-unused}
+use borrow.Author.Tests.{ltb-true, leb-true, eqb-true, lt-ltb, le-leb}
+use Rattle.octets.specs.Numbers.{Width}
+use Rattle.octets.specs.Numbers.Width.{two, four, eight}
+use Rattle.words.specs.Words.{wordAt}
+use Rattle.run_rows.proofs.JudgeLaws.{both-true, runs-passed, runs-passes}
+use Rattle.transfer.specs.Transfers.{Transfer, TransferFine}
+use Rattle.table.specs.Tables.{FineFrom, Valid}
+use Rattle.area.specs.Layout.{areaOctets}
+use Rattle.area.specs.Places.{readTable, Holds}
+use Rattle.area.specs.Judge.{lengthTest, transferTest, fineTest, judged, tableOf}
+use Rattle.area.proofs.PlaceLaws.{length-transfers, holds-read}
 
--- ---- a loop over n places, at place i
-module _ (f : ℕ → Bool) (i n : ℕ) (b : Bool) (inv : allFrom f i (n - i) ≡ b) where
-  pub all-more : i < n → f i ≡ true → allFrom f (i + 1) (n - (i + 1)) ≡ b
-  unfolding allFrom
-  all-more h t =
-      let e : n - i ≡ suc (n - (i + 1)) = omega arith in
-      rw add-one (rw (e, t, add-one) at inv)
+-- ---- the width and the length
 
-  pub all-not : i < n → f i ≡ false → false ≡ b
-  unfolding allFrom
-  all-not h t =
-      let e : n - i ≡ suc (n - (i + 1)) = omega arith in
-      rw (e, t) at inv
-
-  pub all-end : n ≤ i → true ≡ b
-  unfolding allFrom
-  all-end h =
-      let e : n - i ≡ 0 = omega arith in
-      rw e at inv
-
--- the last place decides alone
-pub all-last : (f : ℕ → Bool) (i n : ℕ) (b : Bool) → allFrom f i (n - i) ≡ b → (t : Bool) → i < n → n ≤ i + 1 → f i ≡ t → t ≡ b
-all-last f i n b inv true h l e = all-end f (i + 1) n b (all-more f i n b inv h e) l
-all-last f i n b inv false h l e = all-not f i n b inv h e
-
--- ---- the first m of n places, and the rest
-all-split : (f : ℕ → Bool) (i m n : ℕ) → m ≤ n → allFrom f i n ≡ cond (allFrom f i m) (allFrom f (i + m) (n - m)) false
-unfolding allFrom
-all-split f i zero n h = let z : n - 0 ≡ n = omega arith in rw (z, add-zero)
-all-split f i (suc m) zero h = absurd (omega arith)
-all-split f i (suc m) (suc n) h =
-    let g : i + suc m ≡ suc i + m = omega arith in
-    let d : suc n - suc m ≡ n - m = omega arith in
-    rw (g, d) (go (f i) (all-split f (suc i) m n (omega arith)))
+length-passed : (width length : ℕ) → lengthTest width length ≡ true → Width width × (length < 256 ^ width)
+unfolding lengthTest
+length-passed w n e = go (eqb w 2) (eqb w 4) (eqb w 8) refl refl refl e
   where
-    go : (b : Bool) → allFrom f (suc i) n ≡ cond (allFrom f (suc i) m) (allFrom f (suc i + m) (n - m)) false
-        → cond b (allFrom f (suc i) n) false ≡ cond (cond b (allFrom f (suc i) m) false) (allFrom f (suc i + m) (n - m)) false
-    go true e = e
-    go false e = refl
+    go : (a b c : Bool) → eqb w 2 ≡ a → eqb w 4 ≡ b → eqb w 8 ≡ c
+        → cond a (ltb n (256 ^ 2)) (cond b (ltb n (256 ^ 4)) (cond c (ltb n (256 ^ 8)) false)) ≡ true → Width w × (n < 256 ^ w)
+    go true b c p q r t = rw (eqb-true w 2 p) (two, ltb-true n (256 ^ 2) t)
+    go false true c p q r t = rw (eqb-true w 4 q) (four, ltb-true n (256 ^ 4) t)
+    go false false true p q r t = rw (eqb-true w 8 r) (eight, ltb-true n (256 ^ 8) t)
+    go false false false p q r t = absurd (let z : _≡_ {A = ℕ} 0 1 = cc in omega arith)
 
-module _ (f : ℕ → Bool) (i m n : ℕ) (few : m ≤ n) (b : Bool) (is : b ≡ allFrom f i m) where
-  pub rest-decides : b ≡ true → allFrom f (i + m) (n - m) ≡ allFrom f i n
-  rest-decides e = rw (all-split f i m n few, ← is, e)
+length-passes : (width length : ℕ) → Width width → length < 256 ^ width → lengthTest width length ≡ true
+unfolding lengthTest
+length-passes w n two h = lt-ltb n (256 ^ 2) h
+length-passes w n four h = lt-ltb n (256 ^ 4) h
+length-passes w n eight h = lt-ltb n (256 ^ 8) h
 
-  pub part-refuses : b ≡ false → false ≡ allFrom f i n
-  part-refuses e = rw (all-split f i m n few, ← is, e)
+-- ---- transfers
 
-pub before-next : (xs : List ℕ) (i x : ℕ) → x ≡ getD xs i 0 → x ≡ before xs (i + 1)
-before-next xs i x e = rw add-one e
+transfer-passed : (x : Transfer) → transferTest x ≡ true → TransferFine x
+unfolding transferTest
+transfer-passed x e =
+    let p = both-true (ltb (x .key .id) (2 ^ 32)) _ e in
+    let q = both-true (lengthTest (x .key .width) (x .key .length)) _ (p .1) in
+    let r = both-true (leb (length (x .runs)) 64) _ (q .1) in
+    let w = length-passed (x .key .width) (x .key .length) (q .0) in
+    let s = runs-passed (x .key .length) (x .runs) (r .1) in
+    record {
+      id-fits = ltb-true (x .key .id) (2 ^ 32) (p .0);
+      width-is = w .0;
+      length-fits = w .1;
+      few = leb-true (length (x .runs)) 64 (r .0);
+      canonical = s .0;
+      within = s .1;
+    }
 
--- ---- what the words of an area say of a place
-pub id-at : (a : List ℕ) (i id : ℕ) → i < 16 → id ≡ wordAt a (1 + i) → id ≡ getD (numbersAt a .ids) i 0
-unfolding numbersAt
-id-at a i id h e = e ∙ sym (part-at a 1 16 i h)
+transfer-passes : (x : Transfer) → TransferFine x → transferTest x ≡ true
+unfolding transferTest
+transfer-passes x f =
+    rw (
+      lt-ltb (x .key .id) (2 ^ 32) (f .id-fits),
+      length-passes (x .key .width) (x .key .length) (f .width-is) (f .length-fits),
+      le-leb (length (x .runs)) 64 (f .few),
+    )
+    (runs-passes (x .key .length) (x .runs) (f .canonical) (f .within))
 
-pub stop-word-at : (a : List ℕ) (k stop : ℕ) → k < 1024 → stop ≡ wordAt a (1089 + k) → stop ≡ getD (numbersAt a .stops) k 0
-unfolding numbersAt
-stop-word-at a k stop h d = d ∙ sym (part-at a 1089 1024 k h)
+pub fine-passed : (k : ℕ) (t : List Transfer) → fineTest k t ≡ true → FineFrom k t
+unfolding fineTest
+fine-passed k [] e = tt
+fine-passed k (x ∷ t) e =
+    let p = both-true (leb k (x .key .id)) _ e in
+    let q = both-true (transferTest x) _ (p .1) in
+    (leb-true k (x .key .id) (p .0), transfer-passed x (q .0), fine-passed (suc (x .key .id)) t (q .1))
 
-pub slot-is : (a : List ℕ) (b : Bool) (i count last id width length runs : ℕ) → i < 16 → count ≡ wordAt a 0 → last ≡ before (numbersAt a .ids) i
-    → id ≡ wordAt a (1 + i) → width ≡ wordAt a (17 + i) → length ≡ wordAt a (33 + i) → runs ≡ wordAt a (49 + i)
-    → b ≡ slotTest (ltb i count) (eqb i 0) last id width length runs → slotFine (numbersAt a) i ≡ b
-unfolding numbersAt
-slot-is a b i count last id w n m h c p d e f g t =
-    rw (part-at a 1 16 i h, part-at a 17 16 i h, part-at a 33 16 i h, part-at a 49 16 i h) (sym (t ∙ rw (c, p, d, e, f, g)))
+pub fine-passes : (k : ℕ) (t : List Transfer) → FineFrom k t → fineTest k t ≡ true
+unfolding fineTest
+fine-passes k [] f = refl
+fine-passes k (x ∷ t) f = rw (le-leb k (x .key .id) (f .0), transfer-passes x (f .1)) (fine-passes (suc (x .key .id)) t (f .2))
 
--- a place of a run of transfer i, by the words of the area
-run-fine-at : (a : List ℕ) (i k : ℕ) → i < 16 → i * 64 ≤ k → k < i * 64 + 64
-    → runFine (numbersAt a) k ≡ runTest (ltb (k % 64) (wordAt a (49 + i))) (eqb (k % 64) 0) (before (numbersAt a .stops) k) (wordAt a (65 + k)) (wordAt a (1089 + k)) (wordAt a (33 + i))
-unfolding numbersAt
-run-fine-at a i k h l m =
-    let q : k / 64 ≡ i = omega arith in
-    rw (q, part-at a 49 16 i h, part-at a 33 16 i h, part-at a 65 1024 k (omega arith), part-at a 1089 1024 k (omega arith))
+-- ---- areas
 
--- the first place of a transfer, asked by the place
-first-place : (i k : ℕ) → i * 64 ≤ k → k < i * 64 + 64 → eqb (k % 64) 0 ≡ eqb k (i * 64)
-first-place i k l m = go (eqb k (i * 64)) refl
-  where
-    go : (b : Bool) → eqb k (i * 64) ≡ b → eqb (k % 64) 0 ≡ b
-    go true e = let f = eqb-true k (i * 64) e in eq-eqb (k % 64) 0 (omega arith)
-    go false e = let f = eqb-false k (i * 64) e in ne-eqb (k % 64) 0 (λ z. f (omega arith))
-
--- the stop before the first run of a transfer is not asked for
-run-first : (first : Bool) (last before start stop size : ℕ) → (first ≡ false → last ≡ before)
-    → runTest true first last start stop size ≡ runTest true first before start stop size
-unfolding runTest
-run-first true last before start stop size e = refl
-run-first false last before start stop size e = rw (e refl)
-
-module _ (a : List ℕ) (b : Bool) (i k runs : ℕ) (h : i < 16) (r : runs ≡ wordAt a (49 + i)) where
-  pub run-used-is : (last size start stop : ℕ) → runs ≤ 64 → i * 64 ≤ k → k < i * 64 + runs → (i * 64 < k → last ≡ before (numbersAt a .stops) k)
-      → size ≡ wordAt a (33 + i) → start ≡ wordAt a (65 + k) → stop ≡ wordAt a (1089 + k) → b ≡ runTest true (eqb k (i * 64)) last start stop size
-      → runFine (numbersAt a) k ≡ b
-  run-used-is last size start stop few l m p n s e t =
-      run-fine-at a i k h l (omega arith)
-      ∙ rw (← r, ← s, ← e, ← n, lt-ltb (k % 64) runs (omega arith), first-place i k l (omega arith))
-      (sym (t ∙ run-first (eqb k (i * 64)) last _ start stop size (λ f. p (let g = eqb-false k (i * 64) f in omega arith))))
-
-  pub run-unused-is : i * 64 + runs ≤ k → k < i * 64 + 64 → b ≡ runTest false false 0 (wordAt a (65 + k)) (wordAt a (1089 + k)) 0
-      → runFine (numbersAt a) k ≡ b
-  unfolding runTest
-  run-unused-is l m t = run-fine-at a i k h (omega arith) m ∙ rw (← r, le-ltb (k % 64) runs (omega arith)) (sym t)
-
--- where the places of transfers are fine, none has more than 64 runs
-pub few-at : (a : List ℕ) (i : ℕ) → i < 16 → allFrom (slotFine (numbersAt a)) 0 16 ≡ true → wordAt a (49 + i) ≤ 64
-unfolding numbersAt
-few-at a i h e =
-    let z : 0 + i ≡ i = omega arith in
-    rw (← part-at a 49 16 i h) (go (ltb i (wordAt a 0)) (rw z at (all-at (slotFine (numbersAt a)) 0 16 i e h)))
-  where
-    n : Table
-    n = numbersAt a
-
-    go : (b : Bool) → slotTest b (eqb i 0) (before (n .ids) i) (getD (n .ids) i 0) (getD (n .widths) i 0) (getD (n .lengths) i 0) (getD (n .counts) i 0) ≡ true → getD (n .counts) i 0 ≤ 64
-    go true t = slot-used _ _ _ _ _ _ t .few
-    go false t = let u = slot-unused _ _ _ _ _ _ t in rw (u .3) (omega arith)
-
--- ---- the whole
-pub judged-passed : (a : List ℕ) → judged a ≡ true → (areaOctets ≤ length a) × (imageTest (numbersAt a) ≡ true)
+pub judged-passed : (a : List ℕ) → judged a ≡ true → (areaOctets ≤ length a) × Valid (readTable a)
 unfolding judged
 judged-passed a e =
-    let b = both-true (leb areaOctets (length a)) (imageTest (numbersAt a)) e in
-    (leb-true areaOctets (length a) (b .0), b .1)
+    let p = both-true (leb areaOctets (length a)) _ e in
+    let q = both-true (leb (wordAt a 0) 16) _ (p .1) in
+    let n : wordAt a 0 ≤ 16 = leb-true (wordAt a 0) 16 (q .0) in (
+      leb-true areaOctets (length a) (p .0),
+      record { few = omega (arith, length-transfers a 0 (wordAt a 0)); fine = fine-passed 0 (readTable a) (q .1) },
+    )
 
-pub judged-short : (a : List ℕ) → length a < 16904 → false ≡ judged a
+pub judged-passes : (a : List ℕ) (t : List Transfer) → areaOctets ≤ length a → Valid t → Holds a t → judged a ≡ true
 unfolding judged
-judged-short a h = simp (lt-leb _ _ h)
+judged-passes a t l v h =
+    let n : length t ≤ 16 = v .few in
+    rw (le-leb areaOctets (length a) l, le-leb (wordAt a 0) 16 (omega (arith, h .count)), holds-read a t h) (fine-passes 0 t (v .fine))
 
-module _ (a : List ℕ) (n : ℕ) (long : 16904 ≤ length a) (is : n ≡ wordAt a 0) where
-  pub judged-many : 16 < n → false ≡ judged a
-  unfolding judged imageTest numbersAt
-  judged-many h = simp (le-leb _ _ long, lt-leb (wordAt a 0) 16 (rw is at h))
+-- an area holds t exactly where it is long enough, t is valid, and its used places hold t's numbers
+pub held-passes : (a : List ℕ) (t : List Transfer) → areaOctets ≤ length a → Valid t → Holds a t → tableOf a ≡ some t
+unfolding tableOf
+held-passes a t l v h = rw (judged-passes a t l v h) (ap some (holds-read a t h))
 
-  pub judged-slots : n ≤ 16 → (b : Bool) → b ≡ allFrom (slotFine (numbersAt a)) 0 16 → b ≡ false → false ≡ judged a
-  unfolding judged imageTest
-  judged-slots h b e f =
-      let c : numbersAt a .count ≡ n = unfold numbersAt in sym is in
-      rw (le-leb _ _ long, le-leb (numbersAt a .count) 16 (rw c h), ← e, f)
+pub held-passed : (a : List ℕ) (t : List Transfer) → tableOf a ≡ some t → (judged a ≡ true) × (readTable a ≡ t)
+unfolding tableOf
+held-passed a t e = go (judged a) refl e
+  where
+    go : (b : Bool) → judged a ≡ b → cond b (some (readTable a)) none ≡ some t → (judged a ≡ true) × (readTable a ≡ t)
+    go true p q = (p, cc)
+    go false p q = absurd (let z : _≡_ {A = ℕ} 0 1 = cc in omega arith)
 
-  pub judged-runs : n ≤ 16 → (b r : Bool) → b ≡ allFrom (slotFine (numbersAt a)) 0 16 → b ≡ true → r ≡ allFrom (runFine (numbersAt a)) 0 1024
-      → r ≡ judged a
-  unfolding judged imageTest
-  judged-runs h b r e f g =
-      let c : numbersAt a .count ≡ n = unfold numbersAt in sym is in
-      rw (le-leb _ _ long, le-leb (numbersAt a .count) 16 (rw c h), ← e, f, ← g)
+pub held-valid : (a : List ℕ) (t : List Transfer) → tableOf a ≡ some t → Valid t
+held-valid a t e = let p = held-passed a t e in rw (p .1) at (judged-passed a (p .0) .1)

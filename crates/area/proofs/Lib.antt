@@ -1,9 +1,10 @@
-pub mod WordLaws
-pub mod WordLoops
 pub mod PlaceLaws
-pub mod LayoutLaws
-pub mod TestLaws
 pub mod JudgeLaws
-pub mod NumberLaws
+pub mod StoredLaws
+pub mod FindLaws
+pub mod SearchLaws
 pub mod AreaLaws
 pub mod OperationLaws
+pub mod LoopLaws
+pub mod ToldLaws
+pub mod KeptLaws

@@ -1,139 +1,207 @@
--- Lists by their places: arrays made by a rule, and runs and transfers read from arrays; what holds of each place of a valid table.
+-- The places of the layout: the number of a word is one of three forms, what is stored there, and the table that is read from them.
 -- Assumes nothing.
-use Prim.Native.Nat.{ℕ, zero, suc, _+_, _^_, _<_, _≤_}
-use mathlib.Core.Path.{_≡_, refl, sym, ap, subst, _∙_}
-use mathlib.Core.List.{List, [], _∷_, _++_}
+use Prim.Native.Nat.{ℕ, zero, suc, _+_, _-_, _/_, _%_, _≤_, _<_}
+use mathlib.Core.Path.{_≡_, refl, sym, ap, ap₂, subst, _∙_}
+use mathlib.Core.List.{List}
 use mathlib.Core.Logic.{⊎-elim}
+use mathlib.Core.Bool.{Bool, cond}
 use native.Mathlib.Omega.{arith}
-use native.Mathlib.Nat.{zero-add, add-zero}
-use lib.ListN.{length, getD, List·getD-eq-default}
+use native.Mathlib.Nat.{add-zero, zero-add}
+use lib.ListN.{length, List·getD-eq-default}
 use lib.Seq.{ext-getD}
-use Rattle.runs.specs.Runs.{Run, run, CanonicalFrom, StopsTo}
-use Rattle.runs.proofs.NumberLaws.{le-or-lt}
-use Rattle.table.specs.Transfers.{Transfer, TransferFine, FineFrom}
-use Rattle.area.specs.Words.{Below}
-use Rattle.run_set.specs.RunSets.{runsAt}
-use Rattle.area.specs.Numbers.{tabulate, unused, nth, transferAt, transfersAt, transfersOf}
-use Rattle.area.specs.declared.Table.{Table}
+use borrow.Author.Tests.{lt-ltb, le-ltb, ne-eqb}
+use Rattle.runs.specs.Runs.{Run, run, nthRun}
+use Rattle.runs.proofs.CompareLaws.{le-or-lt}
+use Rattle.words.specs.Words.{wordAt}
+use Rattle.run_rows.specs.Rows.{runsIn, RowsFit}
+use Rattle.run_rows.specs.declared.Rows.{Rows}
+use Rattle.run_rows.proofs.RowsLaws.{length-runs, run-at}
+use Rattle.transfer.specs.Transfers.{Transfer}
+use Rattle.area.specs.Layout.{transferPlaces, runPlaces, headWords, headsAt, startsAt, areaWords, areaOctets, headAt, runAt, countField}
+use Rattle.area.specs.Places.{rowsAt, transferAt, transfersFrom, readTable, unused, nth, field, sideOf, runNumber, Holds}
+use Rattle.area.specs.Stored.{headOr, runOr, wordOr}
 
--- ---- an array made by a rule
-pub length-tabulate : (f : ℕ → ℕ) (i n : ℕ) → length (tabulate f i n) ≡ n
-unfolding tabulate
-length-tabulate f i zero = refl
-length-tabulate f i (suc n) = ap suc (length-tabulate f (suc i) n)
+-- ---- the three forms
 
-tabulate-from : (f : ℕ → ℕ) (i n k : ℕ) → k < n → getD (tabulate f i n) k 0 ≡ f (i + k)
-unfolding tabulate
-tabulate-from f i zero k h = absurd (omega arith)
-tabulate-from f i (suc n) zero h = rw add-zero
-tabulate-from f i (suc n) (suc k) h =
-    let e : i + suc k ≡ suc i + k = omega arith in
-    rw e (tabulate-from f (suc i) n k (omega arith))
-
-pub tabulate-at : (f : ℕ → ℕ) (n k : ℕ) → k < n → getD (tabulate f 0 n) k 0 ≡ f k
-tabulate-at f n k h = tabulate-from f 0 n k h ∙ ap f (zero-add k)
-
-pub tabulate-is : (f : ℕ → ℕ) (n : ℕ) (xs : List ℕ) → length xs ≡ n → ((k : ℕ) → k < n → f k ≡ getD xs k 0) → tabulate f 0 n ≡ xs
-tabulate-is f n xs l h =
-    ext-getD 0 (tabulate f 0 n) xs (length-tabulate f 0 n ∙ sym l)
-    (λ k g. let b : k < n = omega (arith, length-tabulate f 0 n) in tabulate-at f n k b ∙ h k b)
-
-pub tabulate-below : (f : ℕ → ℕ) (i n : ℕ) → ((k : ℕ) → f k < 2 ^ 64) → Below (tabulate f i n)
-unfolding tabulate
-tabulate-below f i zero h k = omega arith
-tabulate-below f i (suc n) h zero = h i
-tabulate-below f i (suc n) h (suc k) = tabulate-below f (suc i) n h k
-
-pub below-append : (xs ys : List ℕ) → Below xs → Below ys → Below (xs ++ ys)
-below-append [] ys b d i = d i
-below-append (x ∷ xs) ys b d zero = b 0
-below-append (x ∷ xs) ys b d (suc i) = below-append xs ys (λ j. b (suc j)) d i
-
--- ---- runs read from arrays
-pub canonical-runs : (S E : List ℕ) (n q k : ℕ)
-    → ((x : ℕ) → q ≤ x → x < q + n → getD S x 0 < getD E x 0)
-    → ((x : ℕ) → q ≤ x → suc x < q + n → getD E x 0 < getD S (suc x) 0)
-    → (0 < n → k ≤ getD S q 0)
-    → CanonicalFrom k (runsAt S E q n)
-unfolding runsAt
-canonical-runs S E zero q k f g h = tt
-canonical-runs S E (suc n) q k f g h = (
-  h (omega arith),
-  f q (omega arith) (omega arith),
-  canonical-runs S E n (suc q) (suc (getD E q 0)) (λ x a b. f x (omega arith) (omega arith)) (λ x a b. g x (omega arith) (omega arith))
-      (λ a. g q (omega arith) (omega arith)),
-)
-
-pub stops-runs : (S E : List ℕ) (n q m : ℕ) → ((x : ℕ) → q ≤ x → x < q + n → getD E x 0 ≤ m) → StopsTo m (runsAt S E q n)
-unfolding runsAt
-stops-runs S E zero q m f = tt
-stops-runs S E (suc n) q m f = (f q (omega arith) (omega arith), stops-runs S E n (suc q) m (λ x a b. f x (omega arith) (omega arith)))
-
--- ---- what canonical runs say of a place
-pub full-at : (k : ℕ) (rs : List Run) (j : ℕ) → CanonicalFrom k rs → j < length rs → getD rs j (run 0 0) .start < getD rs j (run 0 0) .stop
-full-at k [] j c h = absurd (omega arith)
-full-at k (r ∷ rs) zero c h = c .1
-full-at k (r ∷ rs) (suc j) c h = full-at (suc (r .stop)) rs j (c .2) (omega arith)
-
-pub apart-at : (k : ℕ) (rs : List Run) (j : ℕ) → CanonicalFrom k rs → suc j < length rs
-    → getD rs j (run 0 0) .stop < getD rs (suc j) (run 0 0) .start
-apart-at k [] j c h = absurd (omega arith)
-apart-at k (r ∷ []) j c h = absurd (omega arith)
-apart-at k (r ∷ s ∷ rs) zero c h = c .2 .0
-apart-at k (r ∷ s ∷ rs) (suc j) c h = apart-at (suc (r .stop)) (s ∷ rs) j (c .2) (omega arith)
-
-pub stop-at : (n : ℕ) (rs : List Run) (j : ℕ) → StopsTo n rs → getD rs j (run 0 0) .stop ≤ n
-stop-at n [] j w = omega arith
-stop-at n (r ∷ rs) zero w = w .0
-stop-at n (r ∷ rs) (suc j) w = stop-at n rs j (w .1)
-
-pub start-at : (k : ℕ) (rs : List Run) (j : ℕ) → CanonicalFrom k rs → getD rs j (run 0 0) .start ≤ getD rs j (run 0 0) .stop
-start-at k [] j c = omega arith
-start-at k (r ∷ rs) zero c = omega (arith, c .1)
-start-at k (r ∷ rs) (suc j) c = start-at (suc (r .stop)) rs j (c .2)
-
--- ---- transfers read from arrays
-pub length-transfers : (s : Table) (i n : ℕ) → length (transfersAt s i n) ≡ n
-unfolding transfersAt
-length-transfers s i zero = refl
-length-transfers s i (suc n) = ap suc (length-transfers s (suc i) n)
-
-transfer-from : (s : Table) (i n k : ℕ) → k < n → nth (transfersAt s i n) k ≡ transferAt s (i + k)
-unfolding transfersAt
-transfer-from s i zero k h = absurd (omega arith)
-transfer-from s i (suc n) zero h = rw add-zero
-transfer-from s i (suc n) (suc k) h =
-    let e : i + suc k ≡ suc i + k = omega arith in
-    rw e (transfer-from s (suc i) n k (omega arith))
-
-pub transfer-at : (s : Table) (k : ℕ) → k < s .count → nth (transfersOf s) k ≡ transferAt s k
-transfer-at s k h = transfer-from s 0 (s .count) k h ∙ ap (transferAt s) (zero-add k)
-
-pub transfer-cases : (P : Transfer → Type 0) (s : Table) (k : ℕ) → (k < s .count → P (transferAt s k)) → (s .count ≤ k → P unused)
-    → P (nth (transfersOf s) k)
-transfer-cases P s k f g =
+pub place-cases : (P : ℕ → Type 0) → P 0
+    → ((i f : ℕ) → i < transferPlaces → f < headWords → P (headAt i f))
+    → ((s i j : ℕ) → s < 2 → i < transferPlaces → j < runPlaces → P (runAt s i j))
+    → (k : ℕ) → k < areaWords → P k
+place-cases P z h r zero l = z
+place-cases P z h r (suc k) l =
     ⊎-elim
-    (λ (h : s .count ≤ k).
-    subst P (sym (List·getD-eq-default (transfersOf s) unused {n = k} (omega (arith, length-transfers s 0 (s .count))))) (g h))
-    (λ (h : k < s .count). subst P (sym (transfer-at s k h)) (f h))
-    (le-or-lt (s .count) k)
+    (λ (p : startsAt ≤ suc k).
+    let n = suc k - startsAt in
+    let x : runAt (n / 1024) (n % 1024 / runPlaces) (n % 1024 % runPlaces) ≡ suc k = omega arith in
+    subst P x (r (n / 1024) (n % 1024 / runPlaces) (n % 1024 % runPlaces) (omega arith) (omega arith) (omega arith)))
+    (λ (p : suc k < startsAt).
+    let x : headAt (k / headWords) (k % headWords) ≡ suc k = omega arith in
+    subst P x (h (k / headWords) (k % headWords) (omega arith) (omega arith)))
+    (le-or-lt startsAt (suc k))
 
--- ---- what a valid table says of a place
-pub fine-at : (k : ℕ) (t : List Transfer) (i : ℕ) → FineFrom k t → i < length t → TransferFine (nth t i)
-fine-at k [] i f h = absurd (omega arith)
-fine-at k (x ∷ t) zero f h = f .1
-fine-at k (x ∷ t) (suc i) f h = fine-at (suc (x .key .id)) t i (f .2) (omega arith)
+pub or-count : (t : List Transfer) (old : ℕ) → wordOr t 0 old ≡ length t
+unfolding wordOr
+or-count t old = refl
 
-pub rising-at : (k : ℕ) (t : List Transfer) (i : ℕ) → FineFrom k t → suc i < length t → nth t i .key .id < nth t (suc i) .key .id
-rising-at k [] i f h = absurd (omega arith)
-rising-at k (x ∷ []) i f h = absurd (omega arith)
-rising-at k (x ∷ y ∷ t) zero f h = f .2 .0
-rising-at k (x ∷ y ∷ t) (suc i) f h = rising-at (suc (x .key .id)) (y ∷ t) i (f .2) (omega arith)
+pub or-head : (t : List Transfer) (i f old : ℕ) → i < transferPlaces → f < headWords → wordOr t (headAt i f) old ≡ headOr t i f old
+unfolding wordOr
+or-head t i f old h g =
+    let a : (headAt i f - headsAt) / headWords ≡ i = omega arith in
+    let b : (headAt i f - headsAt) % headWords ≡ f = omega arith in
+    rw (ne-eqb (headAt i f) 0 (λ z. omega arith), lt-ltb (headAt i f) startsAt (omega arith), a, b)
 
-pub nth-cases : (P : Transfer → Type 0) (k : ℕ) (t : List Transfer) (i : ℕ) → FineFrom k t
-    → (i < length t → TransferFine (nth t i) → P (nth t i)) → (length t ≤ i → P unused) → P (nth t i)
-nth-cases P k t i f g h =
+pub or-run : (t : List Transfer) (s i j old : ℕ) → s < 2 → i < transferPlaces → j < runPlaces → wordOr t (runAt s i j) old ≡ runOr t s i j old
+unfolding wordOr
+or-run t s i j old l h g =
+    let a : (runAt s i j - startsAt) / 1024 ≡ s = omega arith in
+    let b : (runAt s i j - startsAt) % 1024 / runPlaces ≡ i = omega arith in
+    let c : (runAt s i j - startsAt) % 1024 % runPlaces ≡ j = omega arith in
+    rw (ne-eqb (runAt s i j) 0 (λ z. omega arith), le-ltb (runAt s i j) startsAt (omega arith), a, b, c)
+
+-- what stands at a place that is used, and at one that is not
+pub head-used : (t : List Transfer) (i f old : ℕ) → i < length t → headOr t i f old ≡ field (nth t i) f
+unfolding headOr
+head-used t i f old p = rw (lt-ltb i (length t) p)
+
+pub head-free : (t : List Transfer) (i f old : ℕ) → length t ≤ i → headOr t i f old ≡ old
+unfolding headOr
+head-free t i f old p = ap (λ (b : Bool). cond b (field (nth t i) f) old) (le-ltb i (length t) p)
+
+pub run-used : (t : List Transfer) (s i j old : ℕ) → j < length (nth t i .runs) → runOr t s i j old ≡ runNumber t s i j
+unfolding runOr
+run-used t s i j old p = rw (lt-ltb j (length (nth t i .runs)) p)
+
+pub run-free : (t : List Transfer) (s i j old : ℕ) → length (nth t i .runs) ≤ j → runOr t s i j old ≡ old
+unfolding runOr
+run-free t s i j old p = ap (λ (b : Bool). cond b (runNumber t s i j) old) (le-ltb j (length (nth t i .runs)) p)
+
+-- a place of a run is used only where its transfer is there
+pub run-there : (t : List Transfer) (i j : ℕ) → j < length (nth t i .runs) → i < length t
+run-there t i j h =
     ⊎-elim
-    (λ (o : length t ≤ i). subst P (sym (List·getD-eq-default t unused {n = i} o)) (h o))
-    (λ (o : i < length t). g o (fine-at k t i f o))
+    (λ (p : length t ≤ i). absurd (omega (arith, ap (λ (x : Transfer). length (x .runs)) (List·getD-eq-default t unused {n = i} p))))
+    (λ (p : i < length t). p)
     (le-or-lt (length t) i)
+
+-- ---- stored and held are the same thing
+
+-- few enough transfers and runs for the layout
+pub record Few (t : List Transfer) : Type 0 where
+  pub transfers : length t ≤ transferPlaces
+  pub runs : (i : ℕ) → length (nth t i .runs) ≤ runPlaces
+
+-- where an area holds t, storing t changes no word
+pub holds-stored : (a : List ℕ) (t : List Transfer) → Holds a t → (k : ℕ) → k < areaWords → wordOr t k (wordAt a k) ≡ wordAt a k
+holds-stored a t h =
+    place-cases (λ k. wordOr t k (wordAt a k) ≡ wordAt a k)
+    (or-count t (wordAt a 0) ∙ sym (h .count))
+    (λ i f p q.
+    or-head t i f (wordAt a (headAt i f)) p q
+    ∙ ⊎-elim
+    (λ (o : length t ≤ i). head-free t i f (wordAt a (headAt i f)) o)
+    (λ (o : i < length t). head-used t i f (wordAt a (headAt i f)) o ∙ sym (h .heads i f o q))
+    (le-or-lt (length t) i))
+    (λ s i j l p q.
+    or-run t s i j (wordAt a (runAt s i j)) l p q
+    ∙ ⊎-elim
+    (λ (o : length (nth t i .runs) ≤ j). run-free t s i j (wordAt a (runAt s i j)) o)
+    (λ (o : j < length (nth t i .runs)). run-used t s i j (wordAt a (runAt s i j)) o ∙ sym (h .sides s i j l (run-there t i j o) o))
+    (le-or-lt (length (nth t i .runs)) j))
+
+-- an area whose words are those of t stored in another holds t
+pub stored-holds : (a b : List ℕ) (t : List Transfer) → Few t → ((k : ℕ) → k < areaWords → wordAt b k ≡ wordOr t k (wordAt a k)) → Holds b t
+stored-holds a b t few w =
+    let n : length t ≤ transferPlaces = few .transfers in
+    record {
+      count = w 0 (omega arith) ∙ or-count t (wordAt a 0);
+      heads = λ i f p q.
+          w (headAt i f) (omega arith) ∙ or-head t i f (wordAt a (headAt i f)) (omega arith) q ∙ head-used t i f (wordAt a (headAt i f)) p;
+      sides = λ s i j l p q.
+          let m : length (nth t i .runs) ≤ runPlaces = few .runs i in
+          w (runAt s i j) (omega arith)
+          ∙ or-run t s i j (wordAt a (runAt s i j)) l (omega arith) (omega arith) ∙ run-used t s i j (wordAt a (runAt s i j)) q;
+    }
+
+-- ---- the table that is read
+
+pub length-transfers : (a : List ℕ) (i n : ℕ) → length (transfersFrom a i n) ≡ n
+unfolding transfersFrom
+length-transfers a i zero = refl
+length-transfers a i (suc n) = ap suc (length-transfers a (suc i) n)
+
+transfer-from : (a : List ℕ) (i n k : ℕ) → k < n → nth (transfersFrom a i n) k ≡ transferAt a (i + k)
+unfolding transfersFrom
+transfer-from a i zero k h = absurd (omega arith)
+transfer-from a i (suc n) zero h = ap (transferAt a) (sym (add-zero i))
+transfer-from a i (suc n) (suc k) h =
+    let e : suc i + k ≡ i + suc k = omega arith in
+    transfer-from a (suc i) n k (omega arith) ∙ ap (transferAt a) e
+
+pub transfer-at : (a : List ℕ) (k : ℕ) → k < wordAt a 0 → nth (readTable a) k ≡ transferAt a k
+transfer-at a k h = transfer-from a 0 (wordAt a 0) k h ∙ ap (transferAt a) (zero-add k)
+
+-- the word of a run, by its number
+pub side-at : (a : List ℕ) (s i j : ℕ) → s < 2 → j < wordAt a (headAt i countField)
+    → wordAt a (runAt s i j) ≡ sideOf (nthRun (transferAt a i .runs) j) s
+side-at a zero i j l q =
+    let e : runAt 0 i j ≡ runAt 0 i 0 + j = omega arith in
+    ap (wordAt a) e ∙ ap (λ (r : Run). r .start) (sym (run-at a (runAt 0 i 0) (runAt 1 i 0) (wordAt a (headAt i countField)) j q))
+side-at a (suc zero) i j l q =
+    let e : runAt 1 i j ≡ runAt 1 i 0 + j = omega arith in
+    ap (wordAt a) e ∙ ap (λ (r : Run). r .stop) (sym (run-at a (runAt 0 i 0) (runAt 1 i 0) (wordAt a (headAt i countField)) j q))
+side-at a (suc (suc s)) i j l q = absurd (omega arith)
+
+-- the rows at a place lie in the area
+pub rows-fit : (a : List ℕ) (i : ℕ) (r : Rows) → r ≡ rowsAt a i → areaOctets ≤ length a → i < transferPlaces → r .count ≤ runPlaces → RowsFit a r
+rows-fit a i r e long p few =
+    let s : r .starts ≡ runAt 0 i 0 = ap (λ (x : Rows). x .starts) e in
+    let t : r .stops ≡ runAt 1 i 0 = ap (λ (x : Rows). x .stops) e in
+    record { starts-fit = omega arith; stops-fit = omega arith }
+
+-- an area holds what is read from it
+pub read-holds : (a : List ℕ) → Holds a (readTable a)
+read-holds a =
+    let l : length (readTable a) ≡ wordAt a 0 = length-transfers a 0 (wordAt a 0) in
+    record {
+      count = sym l;
+      heads = λ i f p q. head i f q ∙ ap (λ (x : Transfer). field x f) (sym (transfer-at a i (omega arith)));
+      sides = λ s i j o p q.
+          let n : length (nth (readTable a) i .runs) ≡ wordAt a (headAt i countField) =
+          ap (λ (x : Transfer). length (x .runs)) (transfer-at a i (omega arith)) ∙ length-runs a (runAt 0 i 0) (runAt 1 i 0) (wordAt a (headAt i countField)) in
+          side-at a s i j o (omega arith) ∙ ap (λ (x : Transfer). sideOf (nthRun (x .runs) j) s) (sym (transfer-at a i (omega arith)));
+    }
+  where
+    head : (i f : ℕ) → f < headWords → wordAt a (headAt i f) ≡ field (transferAt a i) f
+    head i zero q = refl
+    head i (suc zero) q = refl
+    head i (suc (suc zero)) q = refl
+    head i (suc (suc (suc zero))) q = sym (length-runs a (runAt 0 i 0) (runAt 1 i 0) (wordAt a (headAt i countField)))
+    head i (suc (suc (suc (suc f)))) q = absurd (omega arith)
+
+-- and what an area holds is read from it
+module _ (a : List ℕ) (t : List Transfer) (h : Holds a t) where
+  runs-read : (i : ℕ) → i < length t → runsIn a (rowsAt a i) ≡ nth t i .runs
+  runs-read i p =
+      let c : ℕ = wordAt a (headAt i countField) in
+      let n : c ≡ length (nth t i .runs) = h .heads i countField p (omega arith) in
+      let l : length (runsIn a (rowsAt a i)) ≡ c = length-runs a (runAt 0 i 0) (runAt 1 i 0) c in
+      ext-getD (run 0 0) (runsIn a (rowsAt a i)) (nth t i .runs) (l ∙ n)
+      (λ j q.
+      let e : runAt 0 i 0 + j ≡ runAt 0 i j = omega arith in
+      let g : runAt 1 i 0 + j ≡ runAt 1 i j = omega arith in
+      run-at a (runAt 0 i 0) (runAt 1 i 0) c j (omega arith)
+      ∙ ap₂ run (ap (wordAt a) e ∙ h .sides 0 i j (omega arith) p (omega arith)) (ap (wordAt a) g ∙ h .sides 1 i j (omega arith) p (omega arith)))
+
+  transfer-read : (i : ℕ) → i < length t → transferAt a i ≡ nth t i
+  transfer-read i p =
+      let x = h .heads i 0 p (omega arith) in
+      let y = h .heads i 1 p (omega arith) in
+      let z = h .heads i 2 p (omega arith) in
+      let r = runs-read i p in
+      λ w. record { key = record { id = x w; width = y w; length = z w }; runs = r w }
+
+  pub holds-read : readTable a ≡ t
+  holds-read =
+      let l : length (readTable a) ≡ wordAt a 0 = length-transfers a 0 (wordAt a 0) in
+      let n : wordAt a 0 ≡ length t = h .count in
+      ext-getD unused (readTable a) t (l ∙ n) (λ i p. transfer-at a i (omega arith) ∙ transfer-read i (omega arith))

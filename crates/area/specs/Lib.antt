@@ -1,5 +1,5 @@
-pub mod Words
-pub mod Numbers
-pub mod Image
+pub mod Layout
+pub mod Places
 pub mod Judge
+pub mod Stored
 pub mod Operations

@@ -1,81 +1,77 @@
 -- Fresh, opening, recording, closing and STATUS on areas: 22 before all, then what the table's own rule gives.
 -- Assumes nothing.
 use Prim.Native.Nat.{ℕ}
-use mathlib.Core.List.{List, []}
+use mathlib.Core.List.{List}
 use mathlib.Core.Bool.{Bool, cond}
 use mathlib.Core.Option.{Option, none, some}
 use lib.ListN.{length}
 use lib.Dec.{ltb}
-use Rattle.header.specs.Refusals.{refusalOf}
-use Rattle.header.specs.declared.Written.{Written}
-use Rattle.header.specs.declared.Written.the-variants as written
-use Rattle.table.specs.Transfers.{Transfer}
+use Rattle.refusals.specs.Refusals.{refusalOf}
+use Rattle.refusals.specs.declared.Written.{Written}
+use Rattle.refusals.specs.declared.Written.the-variants as written
+use Rattle.transfer.specs.Transfers.{Transfer}
+use Rattle.table.specs.Outcome.{Outcome}
 use Rattle.table.specs.Open.{openPacket}
 use Rattle.table.specs.Record.{recordPacket}
 use Rattle.table.specs.Close.{closeId}
-use Rattle.table.specs.Status.{statusWritten, statusBuffer}
+use Rattle.table.specs.WriteStatus.{statusWritten, statusBuffer}
 use Rattle.table.specs.declared.Opened.{Opened}
 use Rattle.table.specs.declared.Opened.the-variants as opened
 use Rattle.table.specs.declared.Recorded.{Recorded}
 use Rattle.table.specs.declared.Recorded.the-variants as recorded
 use Rattle.table.specs.declared.Finished.{Finished}
 use Rattle.table.specs.declared.Finished.the-variants as finished
-use Rattle.area.specs.Image.{areaOctets, storedIn}
+use Rattle.area.specs.Layout.{areaOctets}
 use Rattle.area.specs.Judge.{tableOf}
+use Rattle.area.specs.Stored.{storedIn, freshIn}
 
--- an answer, and the area at exit. "Octets past it" stay, and so does the whole area on refusal: what is stored then is the
--- table that was there
-pub record AreaOpened : Type 0 where
-  pub answer : Opened
+-- an answer, and the area at exit
+pub record OnArea (A : Type 0) : Type 0 where
+  pub answer : A
   pub area : List ℕ
 
-pub record AreaRecorded : Type 0 where
-  pub answer : Recorded
-  pub area : List ℕ
+-- ---- operations that change the table
 
-pub record AreaFinished : Type 0 where
-  pub answer : Finished
-  pub area : List ℕ
+-- what an operation on the table t leaves of the area a, which holds t. A refusal leaves the table that was there, and so the area
+abbrev pub leaves : {A : Type 0} → List ℕ → Outcome A → OnArea A
+leaves a o = record { answer = o .answer; area = storedIn a (o .table) }
 
--- "Making a fresh desk is refused only with 20, where the area is shorter"
-unfoldable pub freshArea : List ℕ → AreaFinished
+unfoldable pub onFound : {A : Type 0} → A → (List Transfer → Outcome A) → List ℕ → Option (List Transfer) → OnArea A
+onFound refused operation a none = record { answer = refused; area = a }
+onFound refused operation a (some t) = leaves a (operation t)
+
+-- "Where a desk area is lent, 22 comes before all"
+unfoldable pub onTable : {A : Type 0} → A → (List Transfer → Outcome A) → List ℕ → OnArea A
+onTable refused operation a = onFound refused operation a (tableOf a)
+
+unfoldable pub openArea : List ℕ → List ℕ → OnArea Opened
+openArea a packet = onTable (opened.Refused (refusalOf 22)) (λ t. openPacket t packet) a
+
+unfoldable pub recordArea : List ℕ → List ℕ → OnArea Recorded
+recordArea a packet = onTable (recorded.Refused (refusalOf 22)) (λ t. recordPacket t packet) a
+
+unfoldable pub closeArea : List ℕ → ℕ → OnArea Finished
+closeArea a id = onTable (finished.Refused (refusalOf 22)) (λ t. closeId t id) a
+
+-- "Making a fresh desk is refused only with 20, where the area is shorter"; "all empty"
+unfoldable pub freshArea : List ℕ → OnArea Finished
 freshArea a =
     cond (ltb (length a) areaOctets)
     (record { answer = finished.Refused (refusalOf 20); area = a })
-    (record { answer = finished.Done; area = storedIn a [] })
+    (record { answer = finished.Done; area = freshIn a })
 
-unfoldable pub openFound : Option (List Transfer) → List ℕ → List ℕ → AreaOpened
-openFound none a packet = record { answer = opened.Refused (refusalOf 22); area = a }
-openFound (some t) a packet = let o = openPacket t packet in record { answer = o .answer; area = storedIn a (o .table) }
+-- ---- operations that read the table alone
 
-unfoldable pub openArea : List ℕ → List ℕ → AreaOpened
-openArea a packet = openFound (tableOf a) a packet
+unfoldable pub fromFound : {A : Type 0} → A → (List Transfer → A) → Option (List Transfer) → A
+fromFound refused answer none = refused
+fromFound refused answer (some t) = answer t
 
-unfoldable pub recordFound : Option (List Transfer) → List ℕ → List ℕ → AreaRecorded
-recordFound none a packet = record { answer = recorded.Refused (refusalOf 22); area = a }
-recordFound (some t) a packet = let o = recordPacket t packet in record { answer = o .answer; area = storedIn a (o .table) }
+unfoldable pub fromTable : {A : Type 0} → A → (List Transfer → A) → List ℕ → A
+fromTable refused answer a = fromFound refused answer (tableOf a)
 
-unfoldable pub recordArea : List ℕ → List ℕ → AreaRecorded
-recordArea a packet = recordFound (tableOf a) a packet
-
-unfoldable pub closeFoundIn : Option (List Transfer) → List ℕ → ℕ → AreaFinished
-closeFoundIn none a id = record { answer = finished.Refused (refusalOf 22); area = a }
-closeFoundIn (some t) a id = let o = closeId t id in record { answer = o .answer; area = storedIn a (o .table) }
-
-unfoldable pub closeArea : List ℕ → ℕ → AreaFinished
-closeArea a id = closeFoundIn (tableOf a) a id
-
--- STATUS reads the area alone; the buffer is lent beside it
-unfoldable pub statusAnswer : Option (List Transfer) → ℕ → ℕ → Bool → List ℕ → Written
-statusAnswer none id k unasked old = written.Refused (refusalOf 22)
-statusAnswer (some t) id k unasked old = statusWritten t id k unasked old
-
-unfoldable pub statusLeaves : Option (List Transfer) → ℕ → ℕ → Bool → List ℕ → List ℕ
-statusLeaves none id k unasked old = old
-statusLeaves (some t) id k unasked old = statusBuffer t id k unasked old
-
+-- STATUS: the writer's answer, and the buffer that is lent beside the area
 unfoldable pub areaStatusWritten : List ℕ → ℕ → ℕ → Bool → List ℕ → Written
-areaStatusWritten a id k unasked old = statusAnswer (tableOf a) id k unasked old
+areaStatusWritten a id k unasked old = fromTable (written.Refused (refusalOf 22)) (λ t. statusWritten t id k unasked old) a
 
 unfoldable pub areaStatusBuffer : List ℕ → ℕ → ℕ → Bool → List ℕ → List ℕ
-areaStatusBuffer a id k unasked old = statusLeaves (tableOf a) id k unasked old
+areaStatusBuffer a id k unasked old = fromTable old (λ t. statusBuffer t id k unasked old) a

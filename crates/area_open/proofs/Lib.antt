@@ -1,3 +1,7 @@
-pub mod MoveLaws
-pub mod HeldLaws
+pub mod ChangeLaws
+pub mod CopyLaws
+pub mod TransferMoves
+pub mod TakeOutLaws
+pub mod PutInLaws
+pub mod FreshLaws
 pub mod OpenLaws

@@ -1,1 +1,3 @@
-pub mod Opening
+pub mod Changes
+pub mod Moves
+pub mod Fresh

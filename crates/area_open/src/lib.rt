@@ -1,102 +1,108 @@
-// Making a table fresh in a lent area, opening by METADATA, and closing.
+// Making a table fresh in a lent area, opening by METADATA, and closing: 22 before all, and every change in place.
 ghost use mathlib.Core.Path.{_≡_};
 ghost use mathlib.Core.Bool.{true};
-ghost use Prim.Native.Nat.{_<_};
-ghost use Rattle.area.specs.Words.{wordAt};
-ghost use Rattle.table.specs.Tables.{add, reached};
+ghost use Prim.Native.Nat.{_+_, _*_, _≤_};
+ghost use lib.ListN.{length};
 ghost use Rattle.table.specs.Open.{openKey};
-ghost use Rattle.area.specs.Numbers.{nth};
-ghost use Rattle.area.specs.Image.{storedIn};
+ghost use Rattle.area.specs.Places.{readTable, KeptAt};
 ghost use Rattle.area.specs.Judge.{judged};
+ghost use Rattle.area.specs.Stored.{storedIn};
 ghost use Rattle.area.specs.Operations.{freshArea, openArea, closeArea};
-ghost use Rattle.area_places.specs.Places.{placeFor};
-ghost use Rattle.area_slots.specs.Slots.{key};
-ghost use Rattle.area_open.specs.Opening.{heldIn, metAnswer};
+ghost use Rattle.area_open.specs.Fresh.{noNumbers, WordsPut};
 use table::Finished;
 use table::Opened;
-use table::Reached;
+use transfer::Key;
+use transfer::Reached;
 
-// A table with no transfer, in an area that is long enough.
+mod moves;
+
+// ---- fresh
+
+// The numbers of all heads.
+const HEADS: usize = area::TRANSFERS * area::HEAD_WORDS;
+
+// The numbers of a table, in the order of the layout.
+struct Numbers {
+    count: u64,
+    heads: [u64; HEADS],
+    starts: [u64; 1024],
+    stops: [u64; 1024],
+}
+
+// Those of a table with no transfer.
+fn no_numbers() -> Numbers
+    ensures { λ r. ⌜ r ≡ noNumbers ⌝ }
+{
+    Numbers {
+        count: 0,
+        heads: [0; HEADS],
+        starts: [0; 1024],
+        stops: [0; 1024],
+    }
+}
+
+// The words ws from word k on.
+fn put_words(area: &mut [u8], k: usize, ws: &[u64])
+    requires { ⌜ (k + length (now ws)) * 8 ≤ length (now area) ⌝ }
+    ensures { λ _. ⌜ WordsPut (now (area .entry)) (now (area .exit)) k (now (ws .entry)) (length (now (ws .entry))) ⌝ }
+{
+    let mut i = 0;
+    while i < ws.len() {
+        words::put_word(area, k + i, ws[i]);
+        i += 1;
+    }
+}
+
+// A table with no transfer, stored whole in an area that is long enough.
 pub fn fresh(area: &mut [u8]) -> Finished
     ensures { λ r. ⌜ (r ≡ freshArea (now (area .entry)) .answer) × (now (area .exit) ≡ freshArea (now (area .entry)) .area) ⌝ }
 {
-    if area.len() < 16904 {
-        return Finished::Refused(header::refuse(20));
+    if area.len() < area::AREA_OCTETS {
+        return Finished::Refused(refusals::refuse(20));
     }
-    area::store(area::fresh(), area);
+    let n = no_numbers();
+    words::put_word(area, 0, n.count);
+    put_words(area, area::head_at(0, area::ID), &n.heads);
+    put_words(area, area::starts_at(0), &n.starts);
+    put_words(area, area::stops_at(0), &n.stops);
     Finished::Done
 }
 
-// The place that a new Id gets.
-fn place_for(area: &[u8], id: u64) -> usize
-    requires { ⌜ judged (now area) ≡ true ⌝ }
-    ensures { λ r. ⌜ r ≡ placeFor id (heldIn (now (area .entry))) ⌝ }
-{
-    let n = area::word(area, 0) as usize;
-    let mut i = 0;
-    while i < n {
-        if id < area::word(area, 1 + i) {
-            return i;
-        }
-        i += 1;
-    }
-    i
-}
+// ---- opening
 
-// How far the transfer at a place has come.
-fn reached_at(area: &[u8], place: usize) -> Reached
-    requires { ⌜ (judged (now area) ≡ true) × (place < 16) ⌝ }
-    ensures { λ r. ⌜ r ≡ reached (nth (heldIn (now (area .entry))) place .key) (nth (heldIn (now (area .entry))) place .runs) ⌝ }
+// What the open transfer at place i answers to METADATA of its Id: already open, or refusal 18.
+fn met(area: &[u8], i: usize, key: Key) -> Opened
+    requires { ⌜ (judged (now area) ≡ true) × KeptAt (key .id) (readTable (now area)) i ⌝ }
+    ensures { λ r. ⌜ r ≡ openKey (readTable (now (area .entry))) key .answer ⌝ }
 {
-    let size = area::word(area, 33 + place);
-    let runs = area_places::used_runs(area, place);
-    let edge = run_set::edge_of(runs);
-    let complete = run_set::is_complete(runs, size);
-    Reached { edge, complete }
-}
-
-// What the transfer at a place answers to METADATA of its Id: already open, or refusal 18.
-fn met(area: &[u8], place: usize, width: u64, size: u64) -> Opened
-    requires { ⌜ (judged (now area) ≡ true) × (place < 16) ⌝ }
-    ensures { λ r. ⌜ r ≡ metAnswer (nth (heldIn (now (area .entry))) place) width size ⌝ }
-{
-    if area::word(area, 17 + place) != width {
-        return Opened::Refused(header::refuse(18));
+    let held = area::key_at(area, i);
+    if held.width != key.width {
+        return Opened::Refused(refusals::refuse(18));
     }
-    if area::word(area, 33 + place) != size {
-        return Opened::Refused(header::refuse(18));
+    if held.length != key.length {
+        return Opened::Refused(refusals::refuse(18));
     }
-    Opened::AlreadyOpen(reached_at(area, place))
-}
-
-// Adds a new transfer, in the order of the Ids.
-fn add_key(area: &mut [u8], id: u64, width: u64, size: u64)
-    requires { ⌜ (judged (now area) ≡ true) × (wordAt (now area) 0 < 16) ⌝ }
-    ensures { λ _. ⌜ now (area .exit) ≡ storedIn (now (area .entry)) (add (key id width size) (heldIn (now (area .entry)))) ⌝ }
-{
-    let place = place_for(area, id);
-    let t = area_slots::numbers_with(area, place, id, width, size);
-    area::store(t, area);
+    let rows = area::rows_at(area, i);
+    Opened::AlreadyOpen(area::reached_in(area, rows, key))
 }
 
 // Opens an Id, or says what its open transfer answers.
-fn open_key(area: &mut [u8], id: u64, width: u64, size: u64) -> Opened
+fn open_key(area: &mut [u8], key: Key) -> Opened
     requires { ⌜ judged (now area) ≡ true ⌝ }
-    ensures { λ r. ⌜ (r ≡ openKey (heldIn (now (area .entry))) (key id width size) .answer)
-        × (now (area .exit) ≡ storedIn (now (area .entry)) (openKey (heldIn (now (area .entry))) (key id width size) .table)) ⌝ }
+    ensures { λ r. ⌜ (r ≡ openKey (readTable (now (area .entry))) key .answer)
+        × (now (area .exit) ≡ storedIn (now (area .entry)) (openKey (readTable (now (area .entry))) key .table)) ⌝ }
 {
-    let n = area::word(area, 0);
-    let place = area_places::find_place(area, id);
-    if (place as u64) < n {
-        return met(area, place, width, size);
+    let place = area::find_place(area, key.id);
+    if place.open {
+        return met(area, place.at, key);
     }
-    if 16 <= n {
-        return Opened::Refused(header::refuse(17));
+    if (area::TRANSFERS as u64) <= area::open_count(area) {
+        return Opened::Refused(refusals::refuse(17));
     }
-    add_key(area, id, width, size);
+    moves::insert_at(area, place.at, key);
     Opened::New(Reached {
         edge: 0,
-        complete: size == 0,
+        complete: key.length == 0,
     })
 }
 
@@ -108,30 +114,27 @@ pub fn open(area: &mut [u8], packet: &[u8]) -> Opened
     if area::judge(area) {
         let n = packet_metadata::metadata_refusal(packet);
         if n != 0 {
-            return Opened::Refused(header::refuse(n));
+            return Opened::Refused(refusals::refuse(n));
         }
-        let m = packet_metadata::metadata_fields(packet);
-        let id = m.id;
-        let width = m.width as u64;
-        let size = m.entry.size;
-        return open_key(area, id, width, size);
+        let key = transfer::key_of(packet_metadata::metadata_fields(packet));
+        return open_key(area, key);
     }
-    Opened::Refused(header::refuse(22))
+    Opened::Refused(refusals::refuse(22))
 }
+
+// ---- closing
 
 // Closes an Id; its place is used again.
 pub fn close(area: &mut [u8], id: u64) -> Finished
     ensures { λ r. ⌜ (r ≡ closeArea (now (area .entry)) id .answer) × (now (area .exit) ≡ closeArea (now (area .entry)) id .area) ⌝ }
 {
     if area::judge(area) {
-        let n = area::word(area, 0);
-        let place = area_places::find_place(area, id);
-        if n <= (place as u64) {
-            return Finished::Refused(header::refuse(12));
+        let kept = area::find_place(area, id);
+        if kept.open {
+            moves::remove_at(area, kept.at);
+            return Finished::Done;
         }
-        let t = area_slots::numbers_without(area, place);
-        area::store(t, area);
-        return Finished::Done;
+        return Finished::Refused(refusals::refuse(12));
     }
-    Finished::Refused(header::refuse(22))
+    Finished::Refused(refusals::refuse(22))
 }

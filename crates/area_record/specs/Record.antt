@@ -1,34 +1,35 @@
--- Recording in an area, step by step: what a packet's fields leave of an area that holds a table, and what is left of that once
--- 12 to 15 are none.
+-- Recording at a place of an area, step by step: the octets after a splice of the place's two rows, and the area once 12 to 15 are none.
 -- Assumes nothing.
-use Prim.Native.Nat.{ℕ}
+use Prim.Native.Nat.{ℕ, _+_, _-_}
 use mathlib.Core.Bool.{cond}
 use mathlib.Core.List.{List}
 use lib.ListN.{length}
 use lib.Dec.{ltb}
-use Rattle.header.specs.Refusals.{refusalOf}
-use Rattle.packet_data.specs.declared.Data.{Data}
-use Rattle.runs.specs.Runs.{insert}
-use Rattle.runs.specs.Holes.{edge, complete}
-use Rattle.table.specs.Transfers.{Key, Transfer}
-use Rattle.table.specs.Record.{recordData}
+use Rattle.refusals.specs.Refusals.{refusalOf}
+use Rattle.runs.specs.Runs.{Run}
+use Rattle.words.specs.Words.{putWord, splicedRow}
+use Rattle.transfer.specs.declared.Key.{Key}
+use Rattle.transfer.specs.Transfers.{Transfer, reached}
+use Rattle.table.specs.declared.Recorded.{Recorded}
 use Rattle.table.specs.declared.Recorded.the-variants.{Accepted, Refused}
-use Rattle.area.specs.Numbers.{nth}
-use Rattle.area.specs.Image.{storedIn}
-use Rattle.area.specs.Operations.{AreaRecorded}
-use Rattle.area_places.specs.Places.{withRuns}
+use Rattle.area.specs.Layout.{runPlaces, countField, headAt, runAt}
+use Rattle.area.specs.Places.{withRuns}
+use Rattle.area.specs.Stored.{storedIn}
+use Rattle.area.specs.Operations.{OnArea}
 
-abbrev pub keyFrom : ℕ → ℕ → ℕ → Key
-keyFrom id width length = record { id = id; width = width; length = length }
+-- how many runs are left where those from i up to j, of n, give way to one
+abbrev pub runsAfter : ℕ → ℕ → ℕ → ℕ
+runsAfter n i j = i + 1 + (n - j)
 
--- the packet's fields recorded in the table t, which the area a holds
-unfoldable pub recordedIn : List ℕ → List Transfer → Data → AreaRecorded
-recordedIn a t d = let o = recordData t d in record { answer = o .answer; area = storedIn a (o .table) }
+-- of the n runs at place p, those from i up to j gave way to one from lo to hi: both rows are spliced, and the number of runs is put
+unfoldable pub splicedArea : List ℕ → ℕ → ℕ → ℕ → ℕ → ℕ → ℕ → List ℕ
+splicedArea a p n i j lo hi =
+    putWord (headAt p countField) (runsAfter n i j) (splicedRow (splicedRow a (runAt 0 p 0) n i j lo) (runAt 1 p 0) n i j hi)
 
--- the offsets from `from` on, with `to` the first after them, added at place p, whose length is L: 16, or the runs stored
-unfoldable pub extended : List ℕ → List Transfer → ℕ → ℕ → ℕ → ℕ → AreaRecorded
-extended a t p L from to =
-    let rs = insert from to (nth t p .runs) in
-    cond (ltb 64 (length rs))
+-- the area a holds the table t, and the transfer at place p, whose key is k, is to have the runs rs. 16: "the received set would
+-- have more than 64 runs", and the area stays; else they are stored
+unfoldable pub runsGiven : List ℕ → List Transfer → ℕ → Key → List Run → OnArea Recorded
+runsGiven a t p k rs =
+    cond (ltb runPlaces (length rs))
     (record { answer = Refused (refusalOf 16); area = a })
-    (record { answer = Accepted (record { edge = edge rs; complete = complete L rs }); area = storedIn a (withRuns t p rs) })
+    (record { answer = Accepted (reached k rs); area = storedIn a (withRuns t p rs) })

@@ -1,93 +1,83 @@
-// DATA recorded in a lent area: judged, and the runs of its transfer changed in place.
+// DATA recorded in a lent area, in place: the two rows of one transfer's runs are spliced where they stand, and nothing is copied out.
 ghost use mathlib.Core.Path.{_≡_};
 ghost use mathlib.Core.Bool.{true};
-ghost use mathlib.Core.Option.{some};
-ghost use Prim.Native.Nat.{_<_, max};
+ghost use Prim.Native.Nat.{_≤_, _<_};
 ghost use lib.ListN.{length};
-ghost use Rattle.table.specs.Record.{dataJudged};
-ghost use Rattle.area.specs.Numbers.{transfersOf};
-ghost use Rattle.area.specs.Image.{numbersAt};
+ghost use Rattle.runs.specs.Runs.{insert};
+ghost use Rattle.table.specs.Record.{recordData};
+ghost use Rattle.area.specs.Layout.{transferPlaces, runPlaces, areaOctets};
+ghost use Rattle.area.specs.Places.{nth, readTable};
 ghost use Rattle.area.specs.Judge.{judged};
-ghost use Rattle.area.specs.Operations.{recordArea};
-ghost use Rattle.area_record.specs.Record.{keyFrom, recordedIn, extended};
+ghost use Rattle.area.specs.Operations.{leaves, recordArea};
+ghost use Rattle.area_record.specs.Record.{runsAfter, splicedArea, runsGiven};
+
+pub mod ahead;
+
 use packet_data::Data;
-use table::Reached;
+use run_rows::Rows;
 use table::Recorded;
+use transfer::Key;
 
-// 13, 14 and 15 for a packet of an open Id, by the width and the length of its transfer; 0 for none.
-fn judged_at(width: u64, length: u64, d: Data) -> u64
-    ensures { λ r. ⌜ r ≡ dataJudged (some (keyFrom (d .id) width length)) d ⌝ }
+// Of the n runs at a place, those from i up to j give way to one from `lo` to `hi`.
+fn put_runs(area: &mut [u8], place: usize, n: usize, i: usize, j: usize, lo: u64, hi: u64)
+    requires { ⌜ (areaOctets ≤ length (now area)) × (place < transferPlaces) × (i ≤ j) × (j ≤ n) × (n ≤ runPlaces) × (runsAfter n i j ≤ runPlaces) ⌝ }
+    ensures { λ _. ⌜ now (area .exit) ≡ splicedArea (now (area .entry)) place n i j lo hi ⌝ }
 {
-    if d.width as u64 != width {
-        return 13;
-    }
-    let octets = d.length as u64;
-    if length < octets {
-        return 14;
-    }
-    if length - octets < d.offset {
-        return 14;
-    }
-    if d.eod != 1 {
-        return 0;
-    }
-    if d.offset + octets != length {
-        return 15;
-    }
-    0
+    words::splice(area, area::starts_at(place), n, i, j, lo);
+    words::splice(area, area::stops_at(place), n, i, j, hi);
+    let after = i + 1 + (n - j);
+    words::put_word(area, area::head_at(place, area::RUN_COUNT), after as u64);
 }
 
-fn greater(x: usize, y: usize) -> usize
-    ensures { λ r. ⌜ r ≡ max x y ⌝ }
+// The offsets from `from` on, with `to` the first after them, added at a place, whose key is given; or refused with 16 before
+// anything is written. Of its runs, those from i up to j are absorbed.
+fn extend(area: &mut [u8], place: usize, key: Key, from: u64, to: u64) -> Recorded
+    requires { ⌜ (judged (now area) ≡ true) × (place < length (readTable (now area))) × (from ≤ to) ⌝ }
+    ensures { λ r. ⌜ (r ≡ runsGiven (now (area .entry)) (readTable (now (area .entry))) place key
+        (insert from to (nth (readTable (now (area .entry))) place .runs)) .answer)
+        × (now (area .exit) ≡ runsGiven (now (area .entry)) (readTable (now (area .entry))) place key
+        (insert from to (nth (readTable (now (area .entry))) place .runs)) .area) ⌝ }
 {
-    if x < y { y } else { x }
-}
-
-// The offsets from `from` on, with `to` the first after them, added at a place, whose transfer has the length `size`; or refused with 16.
-fn extend(area: &mut [u8], place: usize, size: u64, from: u64, to: u64) -> Recorded
-    requires { ⌜ (judged (now area) ≡ true) × (place < length (transfersOf (numbersAt (now area)))) ⌝ }
-    ensures { λ r. ⌜ (r ≡ extended (now (area .entry)) (transfersOf (numbersAt (now (area .entry)))) place size from to .answer)
-        × (now (area .exit) ≡ extended (now (area .entry)) (transfersOf (numbersAt (now (area .entry)))) place size from to .area) ⌝ }
-{
-    let old = area_places::used_runs(area, place);
-    let before = old.count;
-    let i = run_set::inserted(old, from, to);
-    let ok = i.ok;
-    if ok {
-        let new = i.runs;
-        let after = new.count;
-        area_places::put_used_runs(area, place, new, greater(before, after));
-        let edge = run_set::edge_of(new);
-        let complete = run_set::is_complete(new, size);
-        return Recorded::Accepted(Reached { edge, complete });
+    let rows = area::rows_at(area, place);
+    let n = rows.count;
+    let j = run_rows::cut_to(area, rows.starts, n, to);
+    let i = run_rows::cut_below(area, rows.stops, j, from);
+    let after = i + 1 + (n - j);
+    if area::RUNS < after {
+        return Recorded::Refused(refusals::refuse(16));
     }
-    Recorded::Refused(header::refuse(16))
+    let lo = run_rows::joined_start(area, rows, i, j, from);
+    let hi = run_rows::joined_stop(area, rows, i, j, to);
+    put_runs(area, place, n, i, j, lo, hi);
+    let grown = Rows {
+        starts: rows.starts,
+        stops: rows.stops,
+        count: after,
+    };
+    Recorded::Accepted(area::reached_in(area, grown, key))
 }
 
-// The fields of a packet recorded in an area that holds a table.
+// The fields of a packet recorded in an area that holds a table: 12, then what the key of its Id says, then its runs.
 fn record_fields(area: &mut [u8], d: Data) -> Recorded
     requires { ⌜ judged (now area) ≡ true ⌝ }
-    ensures { λ r. ⌜ (r ≡ recordedIn (now (area .entry)) (transfersOf (numbersAt (now (area .entry)))) d .answer)
-        × (now (area .exit) ≡ recordedIn (now (area .entry)) (transfersOf (numbersAt (now (area .entry)))) d .area) ⌝ }
+    ensures { λ r. ⌜ (r ≡ leaves (now (area .entry)) (recordData (readTable (now (area .entry))) d) .answer)
+        × (now (area .exit) ≡ leaves (now (area .entry)) (recordData (readTable (now (area .entry))) d) .area) ⌝ }
 {
-    let id = d.id;
-    let place = area_places::find_place(area, id);
-    let count = area::word(area, 0);
-    if count <= (place as u64) {
-        return Recorded::Refused(header::refuse(12));
+    let place = area::find_place(area, d.id);
+    if !place.open {
+        return Recorded::Refused(refusals::refuse(12));
     }
-    let width = area::word(area, 17 + place);
-    let length = area::word(area, 33 + place);
-    let n = judged_at(width, length, d);
+    let at = place.at;
+    let key = area::key_at(area, at);
+    let n = transfer::key_refusal(key, d);
     if n != 0 {
-        return Recorded::Refused(header::refuse(n));
+        return Recorded::Refused(refusals::refuse(n));
     }
     let from = d.offset;
-    let octets = d.length as u64;
-    extend(area, place, length, from, from + octets)
+    extend(area, at, key, from, from + d.length as u64)
 }
 
-// A packet that has to be DATA, recorded in a lent area. That the area is no image counts before what the packet is.
+// A packet that has to be DATA, recorded in a lent area. That the area holds no table counts before what the packet is.
 pub fn record(area: &mut [u8], packet: &[u8]) -> Recorded
     ensures { λ r. ⌜ (r ≡ recordArea (now (area .entry)) (now (packet .entry)) .answer)
         × (now (area .exit) ≡ recordArea (now (area .entry)) (now (packet .entry)) .area) ⌝ }
@@ -95,10 +85,10 @@ pub fn record(area: &mut [u8], packet: &[u8]) -> Recorded
     let held = area::judge(area);
     let unread = packet_data::data_refusal(packet);
     if !held {
-        return Recorded::Refused(header::refuse(22));
+        return Recorded::Refused(refusals::refuse(22));
     }
     if unread != 0 {
-        return Recorded::Refused(header::refuse(unread));
+        return Recorded::Refused(refusals::refuse(unread));
     }
     let d = packet_data::data_fields(packet);
     record_fields(area, d)

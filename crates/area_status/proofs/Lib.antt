@@ -1,2 +1,4 @@
-pub mod StatusLaws
+pub mod UsedLaws
+pub mod WriteStatusLaws
 pub mod ListingLaws
+pub mod ByIdLaws

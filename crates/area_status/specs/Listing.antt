@@ -4,14 +4,13 @@
 use Prim.Native.Nat.{ℕ}
 use mathlib.Core.Bool.{cond}
 use mathlib.Core.List.{List}
-use mathlib.Core.Option.{Option, none, some}
 use lib.ListN.{length}
 use lib.Dec.{ltb}
-use Rattle.header.specs.Refusals.{refusalOf}
+use Rattle.refusals.specs.Refusals.{refusalOf}
 use Rattle.runs.specs.Holes.{edge, complete}
-use Rattle.table.specs.Transfers.{Transfer}
-use Rattle.area.specs.Numbers.{nth}
-use Rattle.area.specs.Judge.{tableOf}
+use Rattle.transfer.specs.Transfers.{Transfer}
+use Rattle.area.specs.Places.{nth}
+use Rattle.area.specs.Operations.{fromTable}
 use Rattle.area_status.specs.declared.Listing.{Listing}
 use Rattle.area_status.specs.declared.Listed.{Listed}
 use Rattle.area_status.specs.declared.Listed.the-variants.{Open, Refused}
@@ -32,9 +31,5 @@ unfoldable pub listedIn : List Transfer → ℕ → Listed
 listedIn t i = cond (ltb i (length t)) (Open (listingOf (nth t i))) (Refused (refusalOf 12))
 
 -- 22 before all
-unfoldable pub listedFound : Option (List Transfer) → ℕ → Listed
-listedFound none i = Refused (refusalOf 22)
-listedFound (some t) i = listedIn t i
-
 unfoldable pub listedArea : List ℕ → ℕ → Listed
-listedArea a i = listedFound (tableOf a) i
+listedArea a i = fromTable (Refused (refusalOf 22)) (λ t. listedIn t i) a

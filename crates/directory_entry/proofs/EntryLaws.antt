@@ -11,9 +11,10 @@ use borrow.Author.Tests.{ltb-true, not-false}
 use Rattle.octets.specs.Put.{put}
 use Rattle.octets.proofs.NumberLaws.{length-digits}
 use Rattle.octets.proofs.PutLaws.{put-next}
-use Rattle.header.specs.Refusals.{when}
-use Rattle.header.proofs.RefusalLaws.{first-none, rest-none, failed}
-use Rattle.directory_entry.specs.Properties.{pathAt, propertyRefusal}
+use Rattle.refusals.specs.Refusals.{when}
+use Rattle.refusals.proofs.RefusalLaws.{first-none, rest-none, failed}
+use Rattle.header.specs.Descriptor.{descriptorRefusal}
+use Rattle.directory_entry.specs.Properties.{sizeOctets, pathAt, propertyRefusal}
 use Rattle.directory_entry.specs.Path.{zeroAt, pathRefusal}
 use Rattle.directory_entry.specs.Entry.{propertiesOf, sizeOf, afterTimes, entryRefusal}
 use Rattle.directory_entry.specs.WriteEntry.{entryOctets, entrySize}
@@ -38,16 +39,17 @@ entry-fine d e q =
     let x = propertiesOf e in
     let r1 = rest-none (when (ltb (length e) 2) 1) _ q in
     let r2 = rest-none (propertyRefusal x) _ r1 in
-    let r3 = rest-none (when (ltb (length e) (pathAt x)) 1) _ r2 in
-    let r4 = rest-none (pathRefusal (afterTimes e)) _ r3 in
-    let p : PathFine (afterTimes e) = path-fine (afterTimes e) (first-none _ _ r3) in
+    let r3 = rest-none (descriptorRefusal (sizeOctets x) 2 e) _ r2 in
+    let r4 = rest-none (when (ltb (length e) (pathAt x)) 1) _ r3 in
+    let r5 = rest-none (pathRefusal (afterTimes e)) _ r4 in
+    let p : PathFine (afterTimes e) = path-fine (afterTimes e) (first-none _ _ r4) in
     record {
       property = first-none _ _ r1;
       properties = properties-fine x (first-none _ _ r1);
-      path-none = first-none _ _ r3;
+      path-none = first-none _ _ r4;
       path = p;
       long = omega (arith, p .some, p .closed, length-drop (pathAt x) e);
-      size-fits = ltb-true _ _ (not-false _ (failed _ 8 r4));
+      size-fits = ltb-true _ _ (not-false _ (failed _ 8 r5));
     }
 
 -- six parts, put one after the other

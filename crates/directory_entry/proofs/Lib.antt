@@ -2,3 +2,4 @@ pub mod PropertyLaws
 pub mod PathLaws
 pub mod EntryLaws
 pub mod RoundTrip
+pub mod LimitLaws

@@ -10,8 +10,8 @@ use lib.ListN.{length, getD, take, drop, length-append, drop-of-length-le}
 use lib.Seq.{drop-cons, length-take-le}
 use lib.Dec.{ltb, eqb}
 use borrow.Author.Tests.{ltb-false, eqb-true, eqb-false, not-false, le-ltb, eq-eqb, ne-eqb}
-use Rattle.header.specs.Refusals.{when}
-use Rattle.header.proofs.RefusalLaws.{first-none, rest-none, failed}
+use Rattle.refusals.specs.Refusals.{when}
+use Rattle.refusals.proofs.RefusalLaws.{first-none, rest-none, failed}
 use Rattle.directory_entry.specs.Path.{zeroAt, pathRefusal, pathWriteRefusal}
 
 zero-on : (x : ℕ) (xs : List ℕ) → (x ≡ 0 → ⊥) → zeroAt (x ∷ xs) ≡ suc (zeroAt xs)

@@ -9,8 +9,8 @@ use lib.Dec.{eqb}
 use borrow.Author.Tests.{eqb-false}
 use Rattle.octets.specs.Numbers.{Width}
 use Rattle.octets.proofs.NumberLaws.{width-of}
-use Rattle.header.specs.Refusals.{when}
-use Rattle.header.proofs.RefusalLaws.{rest-none, failed}
+use Rattle.refusals.specs.Refusals.{when}
+use Rattle.refusals.proofs.RefusalLaws.{rest-none, failed}
 use Rattle.directory_entry.specs.Properties.{specialOf, bundleOf, sizeWidth, sizeOctets, propertyRefusal}
 
 pub size-le : (x : ℕ) → sizeOctets x ≤ 16

@@ -12,8 +12,10 @@ use borrow.Author.Tests.{ltb-true, not-false, lt-ltb, le-ltb}
 use Rattle.octets.specs.Numbers.{beValue, beDigits, Octets}
 use Rattle.octets.proofs.PutLaws.{refold}
 use Rattle.octets.proofs.NumberLaws.{value-digits, length-digits, part-digits, part-lt}
-use Rattle.header.specs.Refusals.{when}
-use Rattle.header.proofs.RefusalLaws.{first-none, rest-none, failed}
+use Rattle.refusals.specs.Refusals.{when}
+use Rattle.refusals.proofs.RefusalLaws.{first-none, rest-none, failed}
+use Rattle.header.specs.Descriptor.{descriptorAt}
+use Rattle.header.proofs.DescriptorLaws.{descriptor-none}
 use Rattle.directory_entry.specs.Properties.{sizeOctets, pathAt, propertyRefusal}
 use Rattle.directory_entry.specs.Path.{zeroAt, pathWriteRefusal}
 use Rattle.directory_entry.specs.Entry.{propertiesOf, sizeOf, afterTimes, entryRefusal, entryOf}
@@ -88,7 +90,7 @@ module _ (d properties size mtime ctime : ℕ) (path : List ℕ) (ok : entryExce
       let n : 10 + k ≡ 6 + k + 4 = omega arith in
       rw (n, ← drop-drop 4 (6 + k) e, after-mtime)
 
-  size-is : beValue (take k (drop 2 e)) ≡ size
+  size-is : descriptorAt k 2 e ≡ size
   size-is = rw (after-properties, take-at (beDigits k size) (beDigits 4 mtime ++ (beDigits 4 ctime ++ (path ++ (0 ∷ [])))) k (length-digits k size)) (value-digits k size (fit .size-fits))
 
   mtime-is : beValue (take 4 (drop (2 + k) e)) ≡ mtime
@@ -104,6 +106,7 @@ module _ (d properties size mtime ctime : ℕ) (path : List ℕ) (ok : entryExce
       let n = entrySize properties (length path) in
       rw (
         properties-is,
+        descriptor-none k 2 e (omega (arith, length-entry properties size mtime ctime path)),
         length-entry,
         after-ctime,
         size-is,

@@ -6,7 +6,8 @@ use mathlib.Core.List.{List}
 use lib.ListN.{length, take, drop}
 use lib.Dec.{ltb}
 use Rattle.octets.specs.Numbers.{beValue}
-use Rattle.header.specs.Refusals.{_▹_, when}
+use Rattle.refusals.specs.Refusals.{_▹_, when}
+use Rattle.header.specs.Descriptor.{descriptorAt, descriptorRefusal}
 use Rattle.directory_entry.specs.Properties.{sizeOctets, pathAt, propertyRefusal}
 use Rattle.directory_entry.specs.Path.{pathRefusal}
 use Rattle.directory_entry.specs.declared.Entry.{Entry}
@@ -15,19 +16,20 @@ abbrev pub propertiesOf : List ℕ → ℕ
 propertiesOf e = beValue (take 2 e)
 
 abbrev pub sizeOf : List ℕ → ℕ
-sizeOf e = beValue (take (sizeOctets (propertiesOf e)) (drop 2 e))
+sizeOf e = descriptorAt (sizeOctets (propertiesOf e)) 2 e
 
 -- what follows Ctime
 abbrev pub afterTimes : List ℕ → List ℕ
 afterTimes e = drop (pathAt (propertiesOf e)) e
 
--- 1 for the properties, 6, 5 for the entry, 1 for size and times, the path (1 or 8), 9.
+-- 1 for the properties, 6, 5 for the entry, 1 for the size and then for the times, the path (1 or 8), 9.
 -- e is the entry, to the packet's end, and d the octets of the packet's own descriptors:
 -- the size "must not exceed 2^w - 1, where w is the packet's own descriptor width"
 unfoldable pub entryRefusal : ℕ → List ℕ → ℕ
 entryRefusal d e =
     when (ltb (length e) 2) 1
     ▹ propertyRefusal (propertiesOf e)
+    ▹ descriptorRefusal (sizeOctets (propertiesOf e)) 2 e
     ▹ when (ltb (length e) (pathAt (propertiesOf e))) 1
     ▹ pathRefusal (afterTimes e)
     ▹ when (not (ltb (sizeOf e) (256 ^ d))) 9

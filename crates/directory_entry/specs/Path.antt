@@ -5,7 +5,7 @@ use mathlib.Core.Bool.{not, _&&_}
 use mathlib.Core.List.{List, [], _∷_}
 use lib.ListN.{length}
 use lib.Dec.{ltb, eqb}
-use Rattle.header.specs.Refusals.{_▹_, when}
+use Rattle.refusals.specs.Refusals.{_▹_, when}
 
 -- how many octets stand before the first zero octet; all of them where there is none
 abbrev pub zeroAt : List ℕ → ℕ

@@ -4,8 +4,8 @@ use Prim.Native.Nat.{ℕ, _+_, _*_, _^_}
 use mathlib.Core.Path.{_≡_}
 use mathlib.Core.Bool.{not}
 use lib.Dec.{eqb}
-use Rattle.header.specs.Refusals.{_▹_, when}
-use Rattle.header.specs.Word.{bits}
+use Rattle.refusals.specs.Refusals.{_▹_, when}
+use Rattle.header.specs.FirstWord.{bits}
 use Rattle.directory_entry.specs.declared.Properties.{Properties}
 
 -- "Property bits 6, 7 and 10 (special, directory, bundle) must be 0; bits 8 and 9 give the width"

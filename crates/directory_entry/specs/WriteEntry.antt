@@ -5,7 +5,7 @@ use mathlib.Core.Bool.{not}
 use mathlib.Core.List.{List, [], _∷_, _++_}
 use lib.Dec.{ltb}
 use Rattle.octets.specs.Numbers.{beDigits}
-use Rattle.header.specs.Refusals.{_▹_, when}
+use Rattle.refusals.specs.Refusals.{_▹_, when}
 use Rattle.directory_entry.specs.Properties.{sizeOctets, pathAt, propertyRefusal}
 use Rattle.directory_entry.specs.Path.{pathWriteRefusal}
 

@@ -111,6 +111,10 @@ pub fn entry_refusal(e: &[u8], d: usize) -> u64
         return f;
     }
     let k = size_octets(x);
+    let h = header::descriptor_refusal(e, 2, k);
+    if h != 0 {
+        return h;
+    }
     let at = 10 + k;
     if e.len() < at {
         return 1;
@@ -119,7 +123,7 @@ pub fn entry_refusal(e: &[u8], d: usize) -> u64
     if g != 0 {
         return g;
     }
-    if !octets::fits(octets::read_number(e, 2, k), d) {
+    if !octets::fits(header::descriptor(e, 2, k), d) {
         return 9;
     }
     0
@@ -135,7 +139,7 @@ pub fn entry_fields(e: &[u8], d: usize, at: usize) -> Entry
     let path = 10 + k;
     Entry {
         properties,
-        size: octets::read_number(e, 2, k),
+        size: header::descriptor(e, 2, k),
         mtime: octets::read_number(e, 2 + k, 4),
         ctime: octets::read_number(e, 6 + k, 4),
         path: at + path,

@@ -1,4 +1,4 @@
-pub mod RefusalLaws
+pub mod DescriptorLaws
 pub mod StartLaws
-pub mod WordLaws
-pub mod WritingLaws
+pub mod FirstWordLaws
+pub mod LimitLaws

@@ -10,10 +10,10 @@ use lib.Dec.{ltb, eqb}
 use borrow.Author.Tests.{le-ltb, eq-eqb, ltb-false, eqb-true, eqb-false, not-false}
 use Rattle.octets.specs.Numbers.{Width}
 use Rattle.octets.proofs.NumberLaws.{width-of}
-use Rattle.header.specs.Refusals.{when}
-use Rattle.header.specs.Word.{markOf, typeOf, widthOf, kindOf, descriptorOctets}
+use Rattle.refusals.specs.Refusals.{when}
+use Rattle.header.specs.FirstWord.{markOf, typeOf, widthOf, kindOf, descriptorOctets}
 use Rattle.header.specs.Start.{wordOf, startRefusal, typeRefusal, fileRefusal}
-use Rattle.header.proofs.RefusalLaws.{first-none, rest-none, failed}
+use Rattle.refusals.proofs.RefusalLaws.{first-none, rest-none, failed}
 
 pub record StartFine (s : List ℕ) : Type 0 where
   pub short : length s ≤ 65535

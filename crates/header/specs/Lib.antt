@@ -1,4 +1,3 @@
-pub mod Refusals
-pub mod Word
+pub mod FirstWord
 pub mod Start
-pub mod Writing
+pub mod Descriptor

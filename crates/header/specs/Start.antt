@@ -6,8 +6,8 @@ use mathlib.Core.List.{List}
 use lib.ListN.{length, take, drop}
 use lib.Dec.{ltb, eqb}
 use Rattle.octets.specs.Numbers.{beValue}
-use Rattle.header.specs.Refusals.{_▹_, when}
-use Rattle.header.specs.Word.{markOf, typeOf, widthOf, kindOf}
+use Rattle.refusals.specs.Refusals.{_▹_, when}
+use Rattle.header.specs.FirstWord.{markOf, typeOf, widthOf, kindOf}
 
 -- "Every packet begins with a 32-bit word and a 32-bit Id"
 abbrev pub wordOf : List ℕ → ℕ

@@ -1,29 +1,11 @@
-// The first word of a packet by shifts and masks, the refusals with their codes, and what all readers and writers share.
+// The first word of a packet by shifts and masks, what all packets begin with, and a descriptor at a place.
 ghost use mathlib.Core.Path.{_≡_};
-ghost use Prim.Native.Nat.{_*_, _<_, _≤_, _^_};
+ghost use Prim.Native.Nat.{_+_, _*_, _<_, _≤_, _^_};
 ghost use lib.ListN.{length};
-ghost use Rattle.header.specs.Refusals.{refusalOf};
-ghost use Rattle.header.specs.Word.{Splits, descriptorOctets, timestampOctets, wordFor};
+ghost use Rattle.octets.specs.Numbers.{Width};
+ghost use Rattle.header.specs.FirstWord.{Splits, descriptorOctets, timestampOctets, wordFor};
 ghost use Rattle.header.specs.Start.{wordOf, idOf, startRefusal, typeRefusal, fileRefusal};
-ghost use Rattle.header.specs.Writing.{roomRefusal};
-
-// A refusal: its number, and the status code to send (0: nothing to send).
-pub struct Refusal {
-    pub number: u64,
-    pub code: u64,
-}
-
-// What a writer answers: the size of the packet that it wrote, or why it wrote nothing.
-pub enum Written {
-    Size(usize),
-    Refused(Refusal),
-}
-
-// A hole of the received octets: its first offset, and the first offset after it.
-pub struct Hole {
-    pub start: u64,
-    pub end: u64,
-}
+ghost use Rattle.header.specs.Descriptor.{descriptorAt, descriptorRefusal};
 
 // The fields of a packet's first word. What some of them mean depends on the packet's type.
 pub struct Head {
@@ -39,45 +21,6 @@ pub struct Head {
     pub words: u64,
     pub sum: u64,
     pub status: u64,
-}
-
-const CODES: [u64; 23] = [
-    0,
-    0,
-    0,
-    0,
-    10,
-    9,
-    1,
-    1,
-    1,
-    9,
-    1,
-    0,
-    6,
-    9,
-    9,
-    1,
-    3,
-    3,
-    9,
-    0,
-    0,
-    0,
-    0,
-];
-
-// The refusal with its status code.
-pub fn refuse(number: u64) -> Refusal
-    ensures { λ r. ⌜ r ≡ refusalOf number ⌝ }
-{
-    if number < 23 {
-        return Refusal {
-            number,
-            code: CODES[number as usize],
-        };
-    }
-    Refusal { number, code: 0 }
 }
 
 // Bit b of the word, counted from the highest, is bit 31 - b counted from the lowest.
@@ -148,6 +91,25 @@ pub fn timestamp_octets(w: u64) -> usize
     16 * (h.stamped as usize)
 }
 
+// The refusal of the descriptor of d octets from `at` on; 0 for none.
+pub fn descriptor_refusal(s: &[u8], at: usize, d: usize) -> u64
+    requires { ⌜ at + d < 2 ^ 64 ⌝ }
+    ensures { λ r. ⌜ r ≡ descriptorRefusal d at (now (s .entry)) ⌝ }
+{
+    if s.len() < at + d {
+        return 1;
+    }
+    0
+}
+
+// The value of the descriptor of d octets from `at` on.
+pub fn descriptor(s: &[u8], at: usize, d: usize) -> u64
+    requires { ⌜ Width d × (at + d ≤ length (now s)) ⌝ }
+    ensures { λ r. ⌜ r ≡ descriptorAt d at (now (s .entry)) ⌝ }
+{
+    octets::read_number(s, at, d)
+}
+
 // Refusals 2, 1, 3 of any packet; 0 for none.
 pub fn start_refusal(p: &[u8]) -> u64
     ensures { λ r. ⌜ r ≡ startRefusal (now (p .entry)) ⌝ }
@@ -190,19 +152,6 @@ pub fn file_refusal(w: u64) -> u64
     }
     if h.kind != 0 {
         return 6;
-    }
-    0
-}
-
-// Refusals 2 and 20 of a packet of `size` octets to be written into `room`; 0 for none.
-pub fn room_refusal(size: usize, room: usize) -> u64
-    ensures { λ r. ⌜ r ≡ roomRefusal size room ⌝ }
-{
-    if 65535 < size {
-        return 2;
-    }
-    if room < size {
-        return 20;
     }
     0
 }

@@ -1,3 +1,7 @@
 pub mod NumberLaws
 pub mod PutLaws
+pub mod PutParts
 pub mod PartLaws
+pub mod OctetLaws
+pub mod LowFirstLaws
+pub mod MoveLaws

@@ -94,10 +94,10 @@ octets-drop n xs o i = rw getD-drop (o (n + i))
 
 -- the number at a place, and its octets again
 module _ (s : List ℕ) (at d : ℕ) (o : Octets s) (h : at + d ≤ length s) where
-  part-octets : Octets (take d (drop at s))
+  pub part-octets : Octets (take d (drop at s))
   part-octets = octets-take d (drop at s) (octets-drop at s o)
 
-  part-length : length (take d (drop at s)) ≡ d
+  pub part-length : length (take d (drop at s)) ≡ d
   part-length = length-take-le d (drop at s) (simp length-drop (omega arith))
 
   pub part-lt : beValue (take d (drop at s)) < 256 ^ d

@@ -11,7 +11,7 @@ use lib.Seq.{drop-cons, drop-drop, take-add, length-take-le}
 use Rattle.octets.specs.Numbers.{beFrom, beValue}
 
 -- the first octet of those from a place on
-first-octet : (s : List ℕ) (at n : ℕ) → at < length s → take (suc n) (drop at s) ≡ getD s at 0 ∷ take n (drop (at + 1) s)
+pub first-octet : (s : List ℕ) (at n : ℕ) → at < length s → take (suc n) (drop at s) ≡ getD s at 0 ∷ take n (drop (at + 1) s)
 first-octet s at n h = rw (add-one, drop-cons s at 0)
 
 -- two numbers, one after the other
@@ -29,12 +29,15 @@ from-shift v (x ∷ xs) =
     let m : (v * 256 + x) * 256 ^ length xs ≡ v * (256 * 256 ^ length xs) + x * 256 ^ length xs = add-mul (v * 256) x (256 ^ length xs) ∙ rw mul-assoc in
     rw (p, from-shift (v * 256 + x) xs, from-shift (0 * 256 + x) xs, zero-add, m) (add-assoc _ _ _)
 
+pub append-value : (xs ys : List ℕ) → beValue (xs ++ ys) ≡ beValue xs * 256 ^ length ys + beValue ys
+append-value xs ys = from-append 0 xs ys ∙ from-shift (beValue xs) ys
+
 -- a number of n + m octets from one of n and one of m
 pub parts-value : (s : List ℕ) (at n m : ℕ) → at + (n + m) ≤ length s
     → beValue (take (n + m) (drop at s)) ≡ beValue (take n (drop at s)) * 256 ^ m + beValue (take m (drop (at + n) s))
 parts-value s at n m h =
     let e : length (take m (drop (at + n) s)) ≡ m = length-take-le m (drop (at + n) s) (simp length-drop (omega arith)) in
-    rw (take-add, drop-drop, from-append) (rw e at (from-shift (beValue (take n (drop at s))) (take m (drop (at + n) s))))
+    rw (take-add, drop-drop) (rw e at (append-value (take n (drop at s)) (take m (drop (at + n) s))))
 
 pub four-octets : (s : List ℕ) (at : ℕ) → at + 4 ≤ length s
     → beValue (take 4 (drop at s)) ≡ getD s at 0 * 16777216 + getD s (at + 1) 0 * 65536 + getD s (at + 2) 0 * 256 + getD s (at + 3) 0

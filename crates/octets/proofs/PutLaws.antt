@@ -1,12 +1,12 @@
 -- What stands in a buffer after one part, or several one after the other, were put into it.
 -- Assumes nothing.
-use Prim.Native.Nat.{ℕ, _+_, _≤_}
+use Prim.Native.Nat.{ℕ, suc, _+_, _≤_, _<_}
 use mathlib.Core.Path.{_≡_, _∙_}
-use mathlib.Core.List.{List, _++_, append-assoc}
-use native.Mathlib.Nat.{le-refl}
+use mathlib.Core.List.{List, [], _∷_, _++_, append-assoc}
+use native.Mathlib.Nat.{le-refl, add-zero}
 use native.Mathlib.Omega.{arith}
-use lib.ListN.{length, take, drop, length-append, take-append-drop}
-use lib.Seq.{paste, take-length, length-paste, take-at, length-take-le, drop-append-add, drop-drop}
+use lib.ListN.{length, take, drop, set, length-append, take-append-drop}
+use lib.Seq.{paste, take-length, length-paste, take-at, length-take-le, drop-append-add, drop-drop, take-suc-set, drop-set-lt, append-snoc}
 use Rattle.octets.specs.Put.{put}
 
 -- what a copy of the whole list leaves
@@ -16,6 +16,10 @@ paste-put l at bs = simp (take-length, append-assoc)
 
 pub length-put : (at : ℕ) (bs l : List ℕ) → at + length bs ≤ length l → length (put at bs l) ≡ length l
 length-put at bs l h = rw (← paste-put) (length-paste l at bs (length bs) h (le-refl (length bs)))
+
+-- what stands past the first of two lists
+pub drop-past : (a b : List ℕ) (n k : ℕ) → length a ≡ n → drop (n + k) (a ++ b) ≡ drop k b
+drop-past a b n k e = rw (← e) (drop-append-add a b k)
 
 -- the next part, at n, after what was put at the place `at`: `done` is what stands there already
 pub put-next : (at n : ℕ) (done bs old : List ℕ) → at + length done ≡ n → n + length bs ≤ length old
@@ -35,9 +39,17 @@ put-next at n done bs old e h =
       d,
     )
     (simp append-assoc)
-  where
-    drop-past : (a b : List ℕ) (n k : ℕ) → length a ≡ n → drop (n + k) (a ++ b) ≡ drop k b
-    drop-past a b n k e = rw (← e) (drop-append-add a b k)
+
+-- one octet set, and the others put after it; no octet put
+pub put-cons : (at x : ℕ) (xs l : List ℕ) → at < length l → put (suc at) xs (set l at x) ≡ put at (x ∷ xs) l
+unfolding put
+put-cons at x xs l h =
+    let e : at + suc (length xs) ≡ suc at + length xs = omega arith in
+    rw (e, take-suc-set l at x, drop-set-lt (suc at + length xs) l at x (omega arith)) (append-snoc (take at l) x _)
+
+pub put-nil : (at : ℕ) (l : List ℕ) → put at [] l ≡ l
+unfolding put
+put-nil at l = rw add-zero (take-append-drop at l)
 
 -- two parts that follow each other are one, to the end
 pub refold : (s : List ℕ) (m d n : ℕ) → m + d ≡ n → take d (drop m s) ++ drop n s ≡ drop m s

@@ -1,7 +1,7 @@
--- "All numbers are big-endian": the octets of a number, highest first, and the number that octets stand for.
+-- "All numbers are big-endian": the octets of a number, highest first, and the number that octets stand for. The same lowest first.
 -- Assumes nothing.
 use Prim.Native.Nat.{ℕ, zero, suc, _+_, _*_, _/_, _%_, _<_}
-use mathlib.Core.List.{List, [], _∷_}
+use mathlib.Core.List.{List, [], _∷_, reverse}
 use lib.ListN.{getD}
 
 -- the number so far, with the octets that are left to read
@@ -21,6 +21,13 @@ beOnto (suc d) v r = beOnto d (v / 256) (v % 256 ∷ r)
 -- v as d octets
 abbrev pub beDigits : ℕ → ℕ → List ℕ
 beDigits d v = beOnto d v []
+
+-- both with the lowest octet first: the octets turned round
+unfoldable pub leValue : List ℕ → ℕ
+leValue xs = beValue (reverse xs)
+
+unfoldable pub leDigits : ℕ → ℕ → List ℕ
+leDigits d v = reverse (beDigits d v)
 
 -- each element is an octet
 abbrev pub Octets : List ℕ → Type 0

@@ -1,9 +1,9 @@
-// Plain octets: numbers of d octets in slices, and copies into a buffer. Nothing here knows of Saratoga.
+// Plain octets: numbers of d octets in slices, copies into a buffer, and moves inside one. Nothing here knows of Saratoga.
 ghost use mathlib.Core.Path.{_≡_};
-ghost use Prim.Native.Nat.{_+_, _^_, _≤_, _<_};
+ghost use Prim.Native.Nat.{_+_, _*_, _^_, _≤_, _<_};
 ghost use lib.Dec.{ltb};
 ghost use lib.ListN.{length, take, drop};
-ghost use Rattle.octets.specs.Numbers.{beValue, beDigits, Width};
+ghost use Rattle.octets.specs.Numbers.{beValue, beDigits, leValue, leDigits, Width};
 ghost use Rattle.octets.specs.Put.{put};
 
 // The number that the d octets from `at` on stand for. Eight go without the loop, which is slow for so many.
@@ -23,18 +23,18 @@ pub fn read_number(s: &[u8], at: usize, d: usize) -> u64
     v
 }
 
-// One octet as a number.
-fn wide(x: u8) -> u64
-    ensures { λ r. ⌜ (r ≡ x) × (r < 256) ⌝ }
+// The number of four octets, the highest first.
+fn join_four(a: u8, b: u8, c: u8, d: u8) -> u64
+    ensures { λ r. ⌜ r ≡ a * 16777216 + b * 65536 + c * 256 + d ⌝ }
 {
-    x as u64
+    (a as u64) * 16777216 + (b as u64) * 65536 + (c as u64) * 256 + d as u64
 }
 
 fn read_four(s: &[u8], at: usize) -> u64
     requires { ⌜ at + 4 ≤ length (now s) ⌝ }
     ensures { λ r. ⌜ r ≡ beValue (take 4 (drop at (now (s .entry)))) ⌝ }
 {
-    wide(s[at]) * 16777216 + wide(s[at + 1]) * 65536 + wide(s[at + 2]) * 256 + wide(s[at + 3])
+    join_four(s[at], s[at + 1], s[at + 2], s[at + 3])
 }
 
 // The number that the eight octets from `at` on stand for, with no loop: the compiler makes few loads of it.
@@ -59,6 +59,35 @@ pub fn write_number(out: &mut [u8], at: usize, d: usize, v: u64)
     }
 }
 
+fn read_low_four(s: &[u8], at: usize) -> u64
+    requires { ⌜ at + 4 ≤ length (now s) ⌝ }
+    ensures { λ r. ⌜ r ≡ leValue (take 4 (drop at (now (s .entry)))) ⌝ }
+{
+    join_four(s[at + 3], s[at + 2], s[at + 1], s[at])
+}
+
+// The number that the eight octets from `at` on stand for, the lowest first: one load.
+pub fn read_low_eight(s: &[u8], at: usize) -> u64
+    requires { ⌜ at + 8 ≤ length (now s) ⌝ }
+    ensures { λ r. ⌜ r ≡ leValue (take 8 (drop at (now (s .entry)))) ⌝ }
+{
+    read_low_four(s, at) + read_low_four(s, at + 4) * 4294967296
+}
+
+// The eight octets from `at` on become those of v, the lowest first; the others stay. The compiler makes one store of the loop.
+pub fn write_low_eight(out: &mut [u8], at: usize, v: u64)
+    requires { ⌜ at + 8 ≤ length (now out) ⌝ }
+    ensures { λ _. ⌜ now (out .exit) ≡ put at (leDigits 8 v) (now (out .entry)) ⌝ }
+{
+    let mut i = 0;
+    let mut rest = v;
+    while i < 8 {
+        out[at + i] = (rest % 256) as u8;
+        rest = rest / 256;
+        i += 1;
+    }
+}
+
 // The octets of src come into out from `at` on; the others stay.
 pub fn copy_into(out: &mut [u8], at: usize, src: &[u8])
     requires { ⌜ at + length (now src) ≤ length (now out) ⌝ }
@@ -68,6 +97,32 @@ pub fn copy_into(out: &mut [u8], at: usize, src: &[u8])
     while j < src.len() {
         out[at + j] = src[j];
         j += 1;
+    }
+}
+
+// The n octets from `from` on come to stand from `to` on as well, which is not after it; the others stay. The first octet goes first:
+// what is read was not written yet.
+pub fn move_down(buf: &mut [u8], from: usize, to: usize, n: usize)
+    requires { ⌜ (to ≤ from) × (from + n ≤ length (now buf)) ⌝ }
+    ensures { λ _. ⌜ now (buf .exit) ≡ put to (take n (drop from (now (buf .entry)))) (now (buf .entry)) ⌝ }
+{
+    let mut i = 0;
+    while i < n {
+        buf[to + i] = buf[from + i];
+        i += 1;
+    }
+}
+
+// The same to a place that is not before it, the last octet first. Where `to` is written as `from` and a literal, the compiler
+// calls memmove.
+pub fn move_up(buf: &mut [u8], from: usize, to: usize, n: usize)
+    requires { ⌜ (from ≤ to) × (to + n ≤ length (now buf)) ⌝ }
+    ensures { λ _. ⌜ now (buf .exit) ≡ put to (take n (drop from (now (buf .entry)))) (now (buf .entry)) ⌝ }
+{
+    let mut i = n;
+    while 0 < i {
+        i -= 1;
+        buf[to + i] = buf[from + i];
     }
 }
 

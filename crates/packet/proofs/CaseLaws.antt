@@ -6,11 +6,11 @@ use mathlib.Core.Bool.{Bool, true, false, cond}
 use mathlib.Core.List.{List}
 use native.Mathlib.Omega.{arith}
 use lib.Dec.{eqb}
-use Rattle.header.specs.Refusals.{refusalOf}
-use Rattle.header.specs.declared.Refusal.{Refusal}
-use Rattle.header.specs.Word.{typeOf}
+use Rattle.refusals.specs.Refusals.{refusalOf, answered}
+use Rattle.refusals.specs.declared.Refusal.{Refusal}
+use Rattle.header.specs.FirstWord.{typeOf}
 use Rattle.header.specs.Start.{wordOf, startRefusal, typeRefusal}
-use Rattle.header.proofs.RefusalLaws.{first-none}
+use Rattle.refusals.proofs.RefusalLaws.{first-none}
 use Rattle.header.proofs.StartLaws.{type-fine}
 use Rattle.packet_metadata.specs.Metadata.{readMetadata}
 use Rattle.packet_metadata.specs.declared.Metadata.{Metadata}
@@ -24,7 +24,7 @@ use Rattle.packet_data.proofs.DataLaws.{data-accepted}
 use Rattle.packet_status.specs.declared.StatusRead.{StatusRead}
 use Rattle.packet_status.specs.declared.StatusRead.the-variants as status-read
 use Rattle.packet_status.specs.Status.{readStatus}
-use Rattle.packet.specs.Read.{ofMetadata, ofData, ofStatus, readType, readAfter, readPacket}
+use Rattle.packet.specs.Read.{ofMetadata, ofData, ofStatus, readType, readPacket}
 use Rattle.packet.specs.declared.Read.{Read}
 use Rattle.packet.specs.declared.Read.the-variants as read
 use Rattle.packet.proofs.ReadLaws.{read-by-type}
@@ -48,7 +48,7 @@ data ReadFrom (s : List ℕ) : Type 0 where
   from-none : (r : Refusal) → readPacket s ≡ read.Refused r → ReadFrom s
 
 read-from : (s : List ℕ) → ReadFrom s
-unfolding readPacket readAfter readType
+unfolding readPacket readType
 read-from s = go (startRefusal s) refl
   where
     pick : (x y z : Bool)
@@ -59,7 +59,7 @@ read-from s = go (startRefusal s) refl
     pick false false true e = from-status e
     pick false false false e = from-none (refusalOf 4) e
 
-    go : (n : ℕ) → readPacket s ≡ readAfter n s → ReadFrom s
+    go : (n : ℕ) → readPacket s ≡ answered read.Refused n (readType (typeOf (wordOf s)) s) → ReadFrom s
     go zero e = let t = typeOf (wordOf s) in pick (eqb t 2) (eqb t 3) (eqb t 4) e
     go (suc n) e = from-none (refusalOf (suc n)) e
 

@@ -9,10 +9,10 @@ use lib.ListN.{length, take, drop}
 use Rattle.octets.specs.Numbers.{Octets}
 use Rattle.octets.specs.Put.{put}
 use Rattle.octets.proofs.PutLaws.{take-put}
-use Rattle.header.specs.Word.{descriptorOctets, timestampOctets, wantedOf, eodOf}
-use Rattle.header.specs.Writing.{writtenOf}
-use Rattle.header.specs.declared.Written.the-variants.{Size}
-use Rattle.header.proofs.RefusalLaws.{first-none}
+use Rattle.header.specs.FirstWord.{descriptorOctets, timestampOctets, wantedOf, eodOf}
+use Rattle.refusals.specs.Writing.{writtenOf}
+use Rattle.refusals.specs.declared.Written.the-variants.{Size}
+use Rattle.refusals.proofs.RefusalLaws.{first-none}
 use Rattle.directory_entry.specs.Properties.{pathAt}
 use Rattle.packet_metadata.specs.Metadata.{entryAt, metadataRefusal, metadataOf}
 use Rattle.packet_metadata.specs.WriteMetadata.{metadataSize, metadataWriteRefusal, metadataOctets, metadataWritten, metadataBuffer}

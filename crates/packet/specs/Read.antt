@@ -1,11 +1,11 @@
 -- A packet of any type, read: "It reads METADATA, DATA and STATUS".
 -- Assumes nothing.
-use Prim.Native.Nat.{ℕ, zero, suc}
+use Prim.Native.Nat.{ℕ}
 use mathlib.Core.Bool.{cond}
 use mathlib.Core.List.{List}
 use lib.Dec.{eqb}
-use Rattle.header.specs.Refusals.{refusalOf}
-use Rattle.header.specs.Word.{typeOf}
+use Rattle.refusals.specs.Refusals.{refusalOf, answered}
+use Rattle.header.specs.FirstWord.{typeOf}
 use Rattle.header.specs.Start.{wordOf, startRefusal}
 use Rattle.packet_metadata.specs.Metadata.{readMetadata}
 use Rattle.packet_metadata.specs.declared.MetadataRead.{MetadataRead}
@@ -41,9 +41,5 @@ readType t s =
     (cond (eqb t 4) (ofStatus (readStatus s)) (Refused (refusalOf 4))))
 
 -- "Order in reading: 2, 1 (first 8 octets), 3, 4"
-unfoldable pub readAfter : ℕ → List ℕ → Read
-readAfter zero s = readType (typeOf (wordOf s)) s
-readAfter (suc n) s = Refused (refusalOf (suc n))
-
 unfoldable pub readPacket : List ℕ → Read
-readPacket s = readAfter (startRefusal s) s
+readPacket s = answered Refused (startRefusal s) (readType (typeOf (wordOf s)) s)

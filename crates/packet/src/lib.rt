@@ -1,7 +1,6 @@
 // Reading a packet of any type.
 ghost use mathlib.Core.Path.{_≡_};
 ghost use Rattle.packet.specs.Read.{ofMetadata, ofData, ofStatus, readPacket};
-use header::Refusal;
 use packet_data::Data;
 use packet_data::DataRead;
 use packet_metadata::Metadata;
@@ -9,6 +8,7 @@ use packet_metadata::MetadataRead;
 use packet_status::FailureStatus;
 use packet_status::StatusRead;
 use packet_status::SuccessStatus;
+use refusals::Refusal;
 
 // What a packet holds, by its type, or why it is refused.
 pub enum Read {
@@ -53,7 +53,7 @@ pub fn read_packet(p: &[u8]) -> Read
 {
     let n = header::start_refusal(p);
     if n != 0 {
-        return Read::Refused(header::refuse(n));
+        return Read::Refused(refusals::refuse(n));
     }
     let h = header::split(header::word(p));
     if h.ptype == 2 {
@@ -65,5 +65,5 @@ pub fn read_packet(p: &[u8]) -> Read
     if h.ptype == 4 {
         return of_status(packet_status::read_status(p));
     }
-    Read::Refused(header::refuse(4))
+    Read::Refused(refusals::refuse(4))
 }

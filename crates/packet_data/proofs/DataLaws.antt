@@ -5,14 +5,17 @@ use mathlib.Core.Path.{_≡_, refl}
 use mathlib.Core.List.{List, []}
 use native.Mathlib.Omega.{arith}
 use lib.ListN.{length}
-use lib.Dec.{ltb, eqb}
-use borrow.Author.Tests.{ltb-false, eqb-false}
-use Rattle.header.specs.Refusals.{when, refusalOf}
+use lib.Dec.{eqb}
+use borrow.Author.Tests.{eqb-false}
+use Rattle.refusals.specs.Refusals.{answered}
+use Rattle.header.specs.FirstWord.{descriptorOctets}
 use Rattle.header.specs.Start.{wordOf, typeRefusal, fileRefusal}
-use Rattle.header.proofs.RefusalLaws.{first-none, rest-none, failed}
+use Rattle.header.specs.Descriptor.{descriptorRefusal}
+use Rattle.refusals.proofs.RefusalLaws.{first-none, rest-none, failed}
 use Rattle.header.proofs.StartLaws.{TypeFine, type-fine, FileFine, file-fine}
-use Rattle.header.proofs.WordLaws.{octets-le}
-use Rattle.packet_data.specs.Data.{payloadAt, dataRefusal, dataOf, readData, dataAnswer, payloadPart}
+use Rattle.header.proofs.DescriptorLaws.{descriptor-there}
+use Rattle.header.proofs.FirstWordLaws.{octets-le}
+use Rattle.packet_data.specs.Data.{offsetAt, payloadAt, dataRefusal, dataOf, readData, payloadPart}
 use Rattle.packet_data.specs.declared.Data.{Data}
 use Rattle.packet_data.specs.declared.DataRead.the-variants.{Accepted, Refused}
 
@@ -31,8 +34,9 @@ data-fine s e =
     let w = wordOf s in
     let r1 = rest-none (typeRefusal 3 s) _ e in
     let r2 = rest-none (fileRefusal w) _ r1 in
-    let r3 = rest-none (when (ltb (length s) (payloadAt w)) 1) _ r2 in
-    let le : payloadAt w ≤ length s = ltb-false _ _ (failed (ltb (length s) (payloadAt w)) 0 (first-none _ _ r2)) in
+    let g = descriptorRefusal (descriptorOctets w) (offsetAt w) s in
+    let r3 = rest-none g _ r2 in
+    let le : payloadAt w ≤ length s = descriptor-there (descriptorOctets w) (offsetAt w) s (first-none g _ r2) in
     let ne : length s ≡ payloadAt w → ⊥ = eqb-false _ _ (failed (eqb (length s) (payloadAt w)) 9 r3) in
     record {
       head = type-fine 3 s (first-none _ _ e);
@@ -42,10 +46,6 @@ data-fine s e =
     }
 
 -- the answers of a refused read
-pub answer-refused : (n : ℕ) (d : Data) → (n ≡ 0 → ⊥) → Refused (refusalOf n) ≡ dataAnswer n d
-answer-refused zero d h = absurd (h refl)
-answer-refused (suc n) d h = refl
-
 pub part-refused : (n : ℕ) (s : List ℕ) → (n ≡ 0 → ⊥) → [] ≡ payloadPart n s
 part-refused zero s h = absurd (h refl)
 part-refused (suc n) s h = refl
@@ -60,6 +60,6 @@ pub data-given : (s : List ℕ) (d : Data) → readData s ≡ Accepted d → (da
 unfolding readData
 data-given s d e = go (dataRefusal s) e
   where
-    go : (n : ℕ) → dataAnswer n (dataOf s) ≡ Accepted d → (n ≡ 0) × (dataOf s ≡ d)
+    go : (n : ℕ) → answered Refused n (Accepted (dataOf s)) ≡ Accepted d → (n ≡ 0) × (dataOf s ≡ d)
     go zero q = (refl, cc)
     go (suc n) q = absurd (let z : _≡_ {A = ℕ} 0 1 = cc in omega arith)

@@ -1,3 +1,4 @@
 pub mod DataLaws
 pub mod WriteDataLaws
 pub mod RoundTrip
+pub mod LimitLaws

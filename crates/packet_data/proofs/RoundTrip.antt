@@ -7,16 +7,18 @@ use native.Mathlib.Omega.{arith}
 use lib.ListN.{length, take, drop, length-append, length-drop, take-append-drop}
 use lib.Seq.{take-at, drop-at, drop-drop, length-take-le}
 use borrow.Author.Tests.{le-ltb, lt-ltb, eq-eqb, ne-eqb}
-use Rattle.octets.specs.Numbers.{beValue, beDigits, Octets}
+use Rattle.octets.specs.Numbers.{beDigits, Octets}
 use Rattle.octets.specs.Put.{put}
 use Rattle.octets.proofs.PutLaws.{refold}
 use Rattle.octets.proofs.NumberLaws.{value-digits, length-digits, part-digits, part-lt}
-use Rattle.header.specs.Word.{flagsOf, descriptorOctets, timestampOctets, wantedOf, eodOf, markOf, typeOf, wordFor}
+use Rattle.header.specs.FirstWord.{flagsOf, descriptorOctets, timestampOctets, wantedOf, eodOf, markOf, typeOf, wordFor}
 use Rattle.header.specs.Start.{wordOf, idOf, startRefusal, typeRefusal}
-use Rattle.header.specs.Writing.{roomRefusal}
-use Rattle.header.specs.declared.Written.the-variants.{Size}
-use Rattle.header.proofs.WordLaws.{mark-for, type-for, flags-for, octets-for, timestamp-for, file-for, octets-flags, timestamp-flags, file-flags, flags-lt, word-again}
-use Rattle.packet_data.specs.Data.{offsetAt, payloadAt, dataRefusal, dataOf, readData, payloadOf}
+use Rattle.refusals.specs.Writing.{roomRefusal}
+use Rattle.refusals.specs.declared.Written.the-variants.{Size}
+use Rattle.header.specs.Descriptor.{descriptorAt}
+use Rattle.header.proofs.DescriptorLaws.{descriptor-none}
+use Rattle.header.proofs.FirstWordLaws.{mark-for, type-for, flags-for, octets-for, timestamp-for, file-for, octets-flags, timestamp-flags, file-flags, flags-lt, word-again}
+use Rattle.packet_data.specs.Data.{offsetAt, offsetOf, payloadAt, dataRefusal, dataOf, readData, payloadOf}
 use Rattle.packet_data.specs.WriteData.{dataExcess, dataWriteRefusal, dataOctets, dataWritten, dataBuffer}
 use Rattle.packet_data.specs.declared.DataRead.the-variants.{Accepted}
 use Rattle.packet_data.proofs.DataLaws.{DataFine, data-fine}
@@ -52,7 +54,7 @@ module _ (f i : ℕ) (t : List ℕ) (o : ℕ) (p : List ℕ) (room : ℕ) (ok : 
       sym (drop-drop (timestampOctets f) 8 (dataOctets f i t o p))
       ∙ drop-at t (beDigits (descriptorOctets f) o ++ p) (timestampOctets f) (fine .fine .timestamp-is)
 
-  offset : beValue (take (descriptorOctets f) (drop (offsetAt f) (dataOctets f i t o p))) ≡ o
+  offset : descriptorAt (descriptorOctets f) (offsetAt f) (dataOctets f i t o p) ≡ o
   offset =
       rw (after-timestamp, take-at (beDigits (descriptorOctets f) o) p (descriptorOctets f) (length-digits (descriptorOctets f) o))
       (value-digits (descriptorOctets f) o (fine .offset-fits))
@@ -74,6 +76,7 @@ module _ (f i : ℕ) (t : List ℕ) (o : ℕ) (p : List ℕ) (room : ℕ) (ok : 
       let n = payloadAt f + length p in
       rw (
         word,
+        descriptor-none (descriptorOctets (wordFor 3 f)) (offsetAt (wordFor 3 f)) (dataOctets f i t o p) (omega (arith, payload-at, data-octets-length)),
         data-octets-length,
         file-for 3 f (omega arith) flags-fit,
         payload-at,
@@ -82,7 +85,6 @@ module _ (f i : ℕ) (t : List ℕ) (o : ℕ) (p : List ℕ) (room : ℕ) (ok : 
         le-ltb n 8 (omega arith),
         eq-eqb (markOf (wordFor 3 f)) 1 (mark-for 3 f (omega arith) flags-fit),
         eq-eqb (typeOf (wordFor 3 f)) 3 (type-for 3 f (omega arith) flags-fit),
-        le-ltb n (payloadAt f) (omega arith),
         ne-eqb n (payloadAt f) (omega (arith, fine .some)),
       )
 
@@ -125,7 +127,7 @@ module _ (s : List ℕ) (os : Octets s) (ok : dataRefusal s ≡ 0) where
   w = wordOf s
 
   abbrev offsetRead : ℕ
-  offsetRead = beValue (take (descriptorOctets w) (drop (offsetAt w) s))
+  offsetRead = offsetOf s
 
   abbrev timestampRead : List ℕ
   timestampRead = take (timestampOctets w) (drop 8 s)

@@ -10,11 +10,11 @@ use lib.Dec.{ltb, eqb}
 use borrow.Author.Tests.{ltb-true, ltb-false, eqb-false, not-false}
 use Rattle.octets.specs.Put.{put}
 use Rattle.octets.proofs.PutLaws.{put-next}
-use Rattle.header.specs.Refusals.{when}
-use Rattle.header.specs.Word.{descriptorOctets, timestampOctets}
+use Rattle.refusals.specs.Refusals.{when}
+use Rattle.header.specs.FirstWord.{descriptorOctets, timestampOctets}
 use Rattle.header.specs.Start.{fileRefusal}
-use Rattle.header.proofs.RefusalLaws.{first-none, rest-none, failed}
-use Rattle.header.proofs.WritingLaws.{RoomFine, room-fine}
+use Rattle.refusals.proofs.RefusalLaws.{first-none, rest-none, failed}
+use Rattle.refusals.proofs.WritingLaws.{RoomFine, room-fine}
 use Rattle.packet_data.specs.Data.{payloadAt}
 use Rattle.packet_data.specs.WriteData.{dataExcess, dataWriteRefusal, DataFits}
 

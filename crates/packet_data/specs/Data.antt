@@ -2,12 +2,12 @@
 -- Assumes nothing.
 use Prim.Native.Nat.{ℕ, zero, suc, _+_, _-_}
 use mathlib.Core.List.{List, []}
-use lib.ListN.{length, take, drop}
-use lib.Dec.{ltb, eqb}
-use Rattle.octets.specs.Numbers.{beValue}
-use Rattle.header.specs.Refusals.{_▹_, when, refusalOf}
-use Rattle.header.specs.Word.{flagsOf, descriptorOctets, timestampOctets, wantedOf, eodOf}
+use lib.ListN.{length, drop}
+use lib.Dec.{eqb}
+use Rattle.refusals.specs.Refusals.{_▹_, when, answered}
+use Rattle.header.specs.FirstWord.{flagsOf, descriptorOctets, timestampOctets, wantedOf, eodOf}
 use Rattle.header.specs.Start.{wordOf, idOf, typeRefusal, fileRefusal}
+use Rattle.header.specs.Descriptor.{descriptorAt, descriptorRefusal}
 use Rattle.packet_data.specs.declared.Data.{Data}
 use Rattle.packet_data.specs.declared.DataRead.{DataRead}
 use Rattle.packet_data.specs.declared.DataRead.the-variants.{Accepted, Refused}
@@ -19,12 +19,16 @@ offsetAt w = 8 + timestampOctets w
 abbrev pub payloadAt : ℕ → ℕ
 payloadAt w = offsetAt w + descriptorOctets w
 
--- the order in reading: 2, 1, 3, 4, 5, 6, 1 for timestamp and offset, 10
+abbrev pub offsetOf : List ℕ → ℕ
+offsetOf s = descriptorAt (descriptorOctets (wordOf s)) (offsetAt (wordOf s)) s
+
+-- the order in reading: 2, 1, 3, 4, 5, 6, 1 for timestamp and offset, 10.
+-- A packet that ends inside the timestamp ends before the offset's last octet too, so one test serves for both.
 unfoldable pub dataRefusal : List ℕ → ℕ
 dataRefusal s =
     typeRefusal 3 s
     ▹ fileRefusal (wordOf s)
-    ▹ when (ltb (length s) (payloadAt (wordOf s))) 1
+    ▹ descriptorRefusal (descriptorOctets (wordOf s)) (offsetAt (wordOf s)) s
     ▹ when (eqb (length s) (payloadAt (wordOf s))) 10
 
 unfoldable pub dataOf : List ℕ → Data
@@ -37,18 +41,14 @@ dataOf s =
       timestamp = timestampOctets w;
       wanted = wantedOf w;
       eod = eodOf w;
-      offset = beValue (take (descriptorOctets w) (drop (offsetAt w) s));
+      offset = offsetOf s;
       start = payloadAt w;
       length = length s - payloadAt w;
     }
 
 -- the fields, or the refusal
-abbrev pub dataAnswer : ℕ → Data → DataRead
-dataAnswer zero d = Accepted d
-dataAnswer (suc n) d = Refused (refusalOf (suc n))
-
 unfoldable pub readData : List ℕ → DataRead
-readData s = dataAnswer (dataRefusal s) (dataOf s)
+readData s = answered Refused (dataRefusal s) (Accepted (dataOf s))
 
 -- "Read DATA hands back its payload as the very part of the packet that holds it; a refused read hands back an empty part"
 abbrev pub payloadPart : ℕ → List ℕ → List ℕ

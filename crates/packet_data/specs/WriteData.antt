@@ -7,11 +7,11 @@ use mathlib.Core.List.{List, _++_}
 use lib.ListN.{length}
 use lib.Dec.{ltb, eqb}
 use Rattle.octets.specs.Numbers.{beDigits}
-use Rattle.header.specs.Refusals.{_▹_, when}
-use Rattle.header.specs.Word.{descriptorOctets, timestampOctets, wordFor}
+use Rattle.refusals.specs.Refusals.{_▹_, when}
+use Rattle.header.specs.FirstWord.{descriptorOctets, timestampOctets, wordFor}
 use Rattle.header.specs.Start.{fileRefusal}
-use Rattle.header.specs.Writing.{roomRefusal, writtenOf, bufferAfter}
-use Rattle.header.specs.declared.Written.{Written}
+use Rattle.refusals.specs.Writing.{roomRefusal, writtenOf, bufferAfter}
+use Rattle.refusals.specs.declared.Written.{Written}
 use Rattle.packet_data.specs.Data.{payloadAt}
 
 -- 21: "a field to be written exceeds its bits"; of the timestamp, "more than the flags say is 21"

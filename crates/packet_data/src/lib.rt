@@ -5,8 +5,8 @@ ghost use lib.ListN.{length};
 ghost use Rattle.octets.specs.Put.{put};
 ghost use Rattle.packet_data.specs.Data.{offsetAt, payloadAt, dataRefusal, dataOf, readData, payloadOf};
 ghost use Rattle.packet_data.specs.WriteData.{dataExcess, dataWriteRefusal, dataOctets, DataFits, dataWritten, dataBuffer};
-use header::Refusal;
-use header::Written;
+use refusals::Refusal;
+use refusals::Written;
 
 // The fields of a DATA packet. `width` and `timestamp` count octets; the payload is `length` octets from `start` on.
 pub struct Data {
@@ -53,10 +53,11 @@ pub fn data_refusal(p: &[u8]) -> u64
     if f != 0 {
         return f;
     }
-    let start = payload_at(w);
-    if p.len() < start {
-        return 1;
+    let g = header::descriptor_refusal(p, offset_at(w), header::descriptor_octets(w));
+    if g != 0 {
+        return g;
     }
+    let start = payload_at(w);
     if p.len() == start {
         return 10;
     }
@@ -79,7 +80,7 @@ pub fn data_fields(p: &[u8]) -> Data
         timestamp: header::timestamp_octets(w),
         wanted: h.wanted,
         eod: h.eod,
-        offset: octets::read_number(p, offset_at(w), width),
+        offset: header::descriptor(p, offset_at(w), width),
         start,
         length: p.len() - start,
     }
@@ -91,7 +92,7 @@ pub fn read_data(p: &[u8]) -> DataRead
 {
     let n = data_refusal(p);
     if n != 0 {
-        return DataRead::Refused(header::refuse(n));
+        return DataRead::Refused(refusals::refuse(n));
     }
     DataRead::Accepted(data_fields(p))
 }
@@ -152,7 +153,7 @@ fn data_write_refusal(
     if payload == 0 {
         return 10;
     }
-    header::room_refusal(payload_at(flags) + payload, room)
+    refusals::room_refusal(payload_at(flags) + payload, room)
 }
 
 // The octets of fields that are not refused, and their number.
@@ -196,7 +197,7 @@ pub fn write_data(
 {
     let n = data_write_refusal(flags, id, timestamp.len(), offset, payload.len(), out.len());
     if n != 0 {
-        return Written::Refused(header::refuse(n));
+        return Written::Refused(refusals::refuse(n));
     }
     Written::Size(put_data(out, flags, id, timestamp, offset, payload))
 }

@@ -5,7 +5,7 @@ use mathlib.Core.Path.{_≡_, refl}
 use mathlib.Core.Bool.{not}
 use native.Mathlib.Omega.{arith}
 use lib.Dec.{eqb}
-use Rattle.header.specs.Word.{sumType, sumWords, flagsOf, wordFor}
+use Rattle.header.specs.FirstWord.{sumType, sumWords, flagsOf, wordFor}
 use Rattle.packet_metadata.specs.Checksum.{pairAllowed, pairRefusal, checksumOctets}
 
 pub pair-other : (t n : ℕ) → 4 ≤ t → pairAllowed t n ≡ not (eqb n 0)

@@ -7,14 +7,14 @@ use native.Mathlib.Omega.{arith}
 use lib.ListN.{length, drop}
 use lib.Dec.{ltb}
 use borrow.Author.Tests.{ltb-false}
-use Rattle.header.specs.Refusals.{when, refusalOf}
-use Rattle.header.specs.Word.{descriptorOctets}
+use Rattle.refusals.specs.Refusals.{when, answered}
+use Rattle.header.specs.FirstWord.{descriptorOctets}
 use Rattle.header.specs.Start.{wordOf, typeRefusal, fileRefusal}
-use Rattle.header.proofs.RefusalLaws.{first-none, rest-none, failed}
+use Rattle.refusals.proofs.RefusalLaws.{first-none, rest-none, failed}
 use Rattle.header.proofs.StartLaws.{TypeFine, type-fine}
 use Rattle.directory_entry.specs.Entry.{entryRefusal}
 use Rattle.packet_metadata.specs.Checksum.{pairRefusal}
-use Rattle.packet_metadata.specs.Metadata.{entryAt, metadataRefusal, metadataOf, readMetadata, metadataAnswer}
+use Rattle.packet_metadata.specs.Metadata.{entryAt, metadataRefusal, metadataOf, readMetadata}
 use Rattle.packet_metadata.specs.declared.Metadata.{Metadata}
 use Rattle.packet_metadata.specs.declared.MetadataRead.the-variants.{Accepted, Refused}
 
@@ -40,15 +40,11 @@ metadata-fine s e =
       entry = rest-none (when (ltb (length s) (entryAt w)) 1) _ r3;
     }
 
-pub answer-refused : (n : ℕ) (m : Metadata) → (n ≡ 0 → ⊥) → Refused (refusalOf n) ≡ metadataAnswer n m
-answer-refused zero m h = absurd (h refl)
-answer-refused (suc n) m h = refl
-
 -- an accepted read was not refused, and its fields are those of the definition
 pub metadata-given : (s : List ℕ) (m : Metadata) → readMetadata s ≡ Accepted m → (metadataRefusal s ≡ 0) × (metadataOf s ≡ m)
 unfolding readMetadata
 metadata-given s m e = go (metadataRefusal s) e
   where
-    go : (n : ℕ) → metadataAnswer n (metadataOf s) ≡ Accepted m → (n ≡ 0) × (metadataOf s ≡ m)
+    go : (n : ℕ) → answered Refused n (Accepted (metadataOf s)) ≡ Accepted m → (n ≡ 0) × (metadataOf s ≡ m)
     go zero q = (refl, cc)
     go (suc n) q = absurd (let z : _≡_ {A = ℕ} 0 1 = cc in omega arith)

@@ -11,11 +11,11 @@ use Rattle.octets.specs.Numbers.{beDigits, Octets}
 use Rattle.octets.specs.Put.{put}
 use Rattle.octets.proofs.PutLaws.{refold}
 use Rattle.octets.proofs.NumberLaws.{value-digits, part-digits, part-lt, octets-drop}
-use Rattle.header.specs.Word.{markOf, typeOf, flagsOf, descriptorOctets, wordFor}
+use Rattle.header.specs.FirstWord.{markOf, typeOf, flagsOf, descriptorOctets, wordFor}
 use Rattle.header.specs.Start.{wordOf, idOf, startRefusal, typeRefusal, fileRefusal}
-use Rattle.header.specs.Writing.{roomRefusal}
-use Rattle.header.specs.declared.Written.the-variants.{Size}
-use Rattle.header.proofs.WordLaws.{mark-for, type-for, flags-for, octets-for, file-for, octets-flags, file-flags, flags-lt, word-again}
+use Rattle.refusals.specs.Writing.{roomRefusal}
+use Rattle.refusals.specs.declared.Written.the-variants.{Size}
+use Rattle.header.proofs.FirstWordLaws.{mark-for, type-for, flags-for, octets-for, file-for, octets-flags, file-flags, flags-lt, word-again}
 use Rattle.directory_entry.specs.Properties.{pathAt}
 use Rattle.directory_entry.specs.Entry.{propertiesOf, entryOf}
 use Rattle.directory_entry.specs.WriteEntry.{entryOctets}

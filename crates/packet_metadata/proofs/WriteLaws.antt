@@ -10,11 +10,11 @@ use lib.Dec.{ltb}
 use borrow.Author.Tests.{ltb-true, ltb-false, not-false}
 use Rattle.octets.specs.Put.{put}
 use Rattle.octets.proofs.PutLaws.{put-next}
-use Rattle.header.specs.Refusals.{when}
-use Rattle.header.specs.Word.{descriptorOctets}
+use Rattle.refusals.specs.Refusals.{when}
+use Rattle.header.specs.FirstWord.{descriptorOctets}
 use Rattle.header.specs.Start.{fileRefusal}
-use Rattle.header.proofs.RefusalLaws.{first-none, rest-none, failed}
-use Rattle.header.proofs.WritingLaws.{room-fine}
+use Rattle.refusals.proofs.RefusalLaws.{first-none, rest-none, failed}
+use Rattle.refusals.proofs.WritingLaws.{room-fine}
 use Rattle.directory_entry.specs.WriteEntry.{entryExcess, entryWriteRefusal, entrySize}
 use Rattle.directory_entry.proofs.EntryLaws.{length-entry}
 use Rattle.packet_metadata.specs.Checksum.{pairRefusal, checksumOctets}

@@ -3,8 +3,8 @@
 use Prim.Native.Nat.{ℕ, zero, suc, _*_}
 use mathlib.Core.Bool.{Bool, not}
 use lib.Dec.{eqb}
-use Rattle.header.specs.Refusals.{when}
-use Rattle.header.specs.Word.{sumType, sumWords}
+use Rattle.refusals.specs.Refusals.{when}
+use Rattle.header.specs.FirstWord.{sumType, sumWords}
 
 -- "Allowed pairs (type, words): (0,0), (1,1), (2,4), (3,5), and types 4 to 15 with 1 to 15 words"
 unfoldable pub pairAllowed : ℕ → ℕ → Bool

@@ -1,11 +1,11 @@
 -- METADATA, read: which packets are refused, and the fields of the others.
 -- Assumes nothing.
-use Prim.Native.Nat.{ℕ, zero, suc, _+_}
+use Prim.Native.Nat.{ℕ, _+_}
 use mathlib.Core.List.{List}
 use lib.ListN.{length, drop}
 use lib.Dec.{ltb}
-use Rattle.header.specs.Refusals.{_▹_, when, refusalOf}
-use Rattle.header.specs.Word.{flagsOf, descriptorOctets}
+use Rattle.refusals.specs.Refusals.{_▹_, when, answered}
+use Rattle.header.specs.FirstWord.{flagsOf, descriptorOctets}
 use Rattle.header.specs.Start.{wordOf, idOf, typeRefusal, fileRefusal}
 use Rattle.directory_entry.specs.Entry.{entryRefusal, entryOf}
 use Rattle.packet_metadata.specs.Checksum.{pairRefusal, checksumOctets}
@@ -38,9 +38,5 @@ metadataOf s =
     }
 
 -- the fields, or the refusal
-abbrev pub metadataAnswer : ℕ → Metadata → MetadataRead
-metadataAnswer zero m = Accepted m
-metadataAnswer (suc n) m = Refused (refusalOf (suc n))
-
 unfoldable pub readMetadata : List ℕ → MetadataRead
-readMetadata s = metadataAnswer (metadataRefusal s) (metadataOf s)
+readMetadata s = answered Refused (metadataRefusal s) (Accepted (metadataOf s))

@@ -7,11 +7,11 @@ use mathlib.Core.List.{List, _++_}
 use lib.ListN.{length}
 use lib.Dec.{ltb}
 use Rattle.octets.specs.Numbers.{beDigits}
-use Rattle.header.specs.Refusals.{_▹_, when}
-use Rattle.header.specs.Word.{descriptorOctets, wordFor}
+use Rattle.refusals.specs.Refusals.{_▹_, when}
+use Rattle.header.specs.FirstWord.{descriptorOctets, wordFor}
 use Rattle.header.specs.Start.{fileRefusal}
-use Rattle.header.specs.Writing.{roomRefusal, writtenOf, bufferAfter}
-use Rattle.header.specs.declared.Written.{Written}
+use Rattle.refusals.specs.Writing.{roomRefusal, writtenOf, bufferAfter}
+use Rattle.refusals.specs.declared.Written.{Written}
 use Rattle.directory_entry.specs.WriteEntry.{entryExcess, entryWriteRefusal, entryOctets, entrySize}
 use Rattle.packet_metadata.specs.Checksum.{pairRefusal, checksumOctets}
 use Rattle.packet_metadata.specs.Metadata.{entryAt}

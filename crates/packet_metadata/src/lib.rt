@@ -7,8 +7,8 @@ ghost use Rattle.packet_metadata.specs.Checksum.{pairAllowed, pairRefusa
 ghost use Rattle.packet_metadata.specs.Metadata.{metadataRefusal, metadataOf, readMetadata};
 ghost use Rattle.packet_metadata.specs.WriteMetadata.{metadataExcess, checksumRefusal, metadataSize, metadataWriteRefusal, metadataOctets, metadataWritten, metadataBuffer, MetadataFits};
 use directory_entry::Entry;
-use header::Refusal;
-use header::Written;
+use refusals::Refusal;
+use refusals::Written;
 
 // The fields of a METADATA packet. `width` and `checksum` count octets; the checksum stands from place 8 on.
 pub struct Metadata {
@@ -68,13 +68,13 @@ pub fn metadata_refusal(p: &[u8]) -> u64
         return n;
     }
     let w = header::word(p);
-    let f = header::file_refusal(w);
-    if f != 0 {
-        return f;
+    let file = header::file_refusal(w);
+    let pair = pair_refusal(w);
+    if file != 0 {
+        return file;
     }
-    let g = pair_refusal(w);
-    if g != 0 {
-        return g;
+    if pair != 0 {
+        return pair;
     }
     let at = 8 + checksum_octets(w);
     if p.len() < at {
@@ -109,7 +109,7 @@ pub fn read_metadata(p: &[u8]) -> MetadataRead
 {
     let n = metadata_refusal(p);
     if n != 0 {
-        return MetadataRead::Refused(header::refuse(n));
+        return MetadataRead::Refused(refusals::refuse(n));
     }
     MetadataRead::Accepted(metadata_fields(p))
 }
@@ -191,7 +191,7 @@ fn metadata_write_refusal(
     if g != 0 {
         return g;
     }
-    header::room_refusal(metadata_size(flags, properties, path.len()), room)
+    refusals::room_refusal(metadata_size(flags, properties, path.len()), room)
 }
 
 // The octets of fields that are not refused.
@@ -250,7 +250,7 @@ pub fn write_metadata(
         out.len(),
     );
     if refusal != 0 {
-        return Written::Refused(header::refuse(refusal));
+        return Written::Refused(refusals::refuse(refusal));
     }
     put_metadata(
         out,

@@ -8,8 +8,8 @@ use native.Mathlib.Omega.{arith}
 use lib.ListN.{length, getD}
 use lib.Dec.{ltb, leb}
 use borrow.Author.Tests.{ltb-true, leb-true, eqb-true, lt-ltb, le-leb, eq-eqb}
-use Rattle.packet_status.specs.Holes.{holesAfter, startsWell, holesWell}
-use Rattle.header.specs.declared.Hole.{Hole}
+use Rattle.packet_status.specs.HoleList.{holesAfter, startsWell, holesWell}
+use Rattle.runs.specs.declared.Hole.{Hole}
 
 -- the hole with this index; past the list's end, one from 0 to 0
 abbrev pub nth : List Hole → ℕ → Hole

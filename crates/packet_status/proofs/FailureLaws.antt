@@ -10,9 +10,9 @@ use borrow.Author.Tests.{ltb-true, ltb-false, eqb-false, not-false}
 use Rattle.octets.specs.Numbers.{beDigits}
 use Rattle.octets.specs.Put.{put}
 use Rattle.octets.proofs.PutLaws.{put-next}
-use Rattle.header.specs.Refusals.{when}
-use Rattle.header.specs.Word.{wordFor}
-use Rattle.header.proofs.RefusalLaws.{first-none, rest-none, failed}
+use Rattle.refusals.specs.Refusals.{when}
+use Rattle.header.specs.FirstWord.{wordFor}
+use Rattle.refusals.proofs.RefusalLaws.{first-none, rest-none, failed}
 use Rattle.packet_status.specs.WriteFailure.{failureWriteRefusal, failureOctets}
 
 pub record FailureFine (id status room : ℕ) : Type 0 where

@@ -1,6 +1,7 @@
-pub mod HoleLaws
+pub mod HoleListLaws
 pub mod AcceptedLaws
 pub mod StatusLaws
 pub mod FailureLaws
 pub mod RoundTrip
 pub mod Vectors
+pub mod LimitLaws

@@ -10,9 +10,9 @@ use borrow.Author.Tests.{ne-eqb}
 use Rattle.octets.specs.Numbers.{beValue}
 use Rattle.octets.specs.Put.{put}
 use Rattle.octets.proofs.NumberLaws.{value-digits}
-use Rattle.header.specs.Word.{statusOf, wordFor}
+use Rattle.header.specs.FirstWord.{statusOf, wordFor}
 use Rattle.header.specs.Start.{wordOf, idOf, typeRefusal}
-use Rattle.header.proofs.WordLaws.{mark-for, type-for, flags-for}
+use Rattle.header.proofs.FirstWordLaws.{mark-for, type-for, flags-for}
 use Rattle.header.proofs.StartLaws.{TypeFine, type-fine, type-none}
 use Rattle.packet_status.specs.Status.{statusRefusal, failureOf, readStatus}
 use Rattle.packet_status.specs.WriteFailure.{failureWriteRefusal, failureOctets, failureBuffer}

@@ -7,19 +7,21 @@ use mathlib.Core.List.{List}
 use native.Mathlib.Nat.{div-mul-le-self, suc-mul, mul-le-mul-right}
 use native.Mathlib.Omega.{arith}
 use lib.ListN.{length, getD}
-use lib.Dec.{ltb, eqb}
-use borrow.Author.Tests.{ltb-true, ltb-false, eqb-true, eqb-false, lt-ltb, le-ltb, eq-eqb, ne-eqb, not-false}
+use lib.Dec.{eqb}
+use borrow.Author.Tests.{ltb-true, eqb-true, eqb-false, lt-ltb, le-ltb, eq-eqb, ne-eqb, not-false}
 use Rattle.octets.specs.Numbers.{Width}
-use Rattle.header.specs.Refusals.{when, refusalOf}
-use Rattle.header.specs.Word.{widthOf, descriptorOctets, partialOf, statusOf}
+use Rattle.refusals.specs.Refusals.{when, refusalOf}
+use Rattle.header.specs.FirstWord.{widthOf, descriptorOctets, partialOf, statusOf}
 use Rattle.header.specs.Start.{wordOf, typeRefusal}
-use Rattle.header.proofs.RefusalLaws.{first-none, rest-none, failed}
+use Rattle.refusals.proofs.RefusalLaws.{first-none, rest-none, failed}
+use Rattle.header.specs.Descriptor.{descriptorRefusal}
+use Rattle.header.proofs.DescriptorLaws.{descriptor-there, descriptor-none}
 use Rattle.header.proofs.StartLaws.{StartFine, TypeFine, type-fine, narrow-octets}
-use Rattle.packet_status.specs.Status.{holesAt, progressOf, responseOf, listOctets, holeCount, holeList, listRefusal, successRefusal, statusRefusal, holeRefusal, indexedHole, readHole, failureOf, acceptedStatus, statusAnswer, holeAnswer}
-use Rattle.header.specs.declared.Hole.{Hole}
+use Rattle.packet_status.specs.Status.{progressAt, responseAt, holesAt, progressOf, responseOf, listOctets, holeCount, holeList, listRefusal, successRefusal, statusRefusal, holeRefusal, indexedHole, readHole, failureOf, acceptedStatus}
+use Rattle.runs.specs.declared.Hole.{Hole}
 use Rattle.packet_status.specs.declared.HoleRead.the-variants as hole-read
 use Rattle.packet_status.specs.declared.StatusRead.the-variants.{Failure, Refused}
-use Rattle.packet_status.proofs.HoleLaws.{length-holes, hole-of-list}
+use Rattle.packet_status.proofs.HoleListLaws.{length-holes, hole-of-list}
 use Rattle.packet_status.proofs.AcceptedLaws.{HoleListAccepted, holes-well-means, means-holes-well}
 
 -- a success STATUS with refusal 0
@@ -33,13 +35,15 @@ pub success-fine : (s : List ℕ) → successRefusal s ≡ 0 → SuccessFine s
 unfolding successRefusal listRefusal
 success-fine s e =
     let r1 = rest-none (when (eqb (widthOf (wordOf s)) 3) 5) _ e in
-    let r2 = rest-none (when (ltb (length s) (holesAt (wordOf s))) 1) _ r1 in
-    let r3 = rest-none (when (not (eqb (listOctets s % (2 * descriptorOctets (wordOf s))) 0)) 11) _ r2 in
+    let d = descriptorOctets (wordOf s) in
+    let r2 = rest-none (descriptorRefusal d (progressAt (wordOf s)) s) _ r1 in
+    let r3 = rest-none (descriptorRefusal d (responseAt (wordOf s)) s) _ r2 in
+    let r4 = rest-none (when (not (eqb (listOctets s % (2 * d)) 0)) 11) _ r3 in
     record {
       narrow = eqb-false _ _ (failed _ 4 (first-none _ _ e));
-      long = ltb-false _ _ (failed _ 0 (first-none _ _ r1));
-      whole = eqb-true _ _ (not-false _ (failed _ 10 (first-none _ _ r2)));
-      list = holes-well-means _ _ _ _ (not-false _ (failed _ 10 r3));
+      long = omega (arith, descriptor-there d (responseAt (wordOf s)) s (first-none _ _ r2));
+      whole = eqb-true _ _ (not-false _ (failed _ 10 (first-none _ _ r3)));
+      list = holes-well-means _ _ _ _ (not-false _ (failed _ 10 r4));
     }
 
 -- and every STATUS of which that holds has refusal 0
@@ -47,9 +51,11 @@ pub success-none : (s : List ℕ) → SuccessFine s → successRefusal s ≡ 0
 unfolding successRefusal listRefusal
 success-none s f =
     let well = means-holes-well (eqb (partialOf (wordOf s)) 1) (progressOf s) (responseOf s) (holeList s) (f .list) in
+    let d = descriptorOctets (wordOf s) in
     rw (
       ne-eqb (widthOf (wordOf s)) 3 (f .narrow),
-      le-ltb (length s) (holesAt (wordOf s)) (f .long),
+      descriptor-none d (progressAt (wordOf s)) s (omega (arith, f .long)),
+      descriptor-none d (responseAt (wordOf s)) s (omega (arith, f .long)),
       eq-eqb (listOctets s % (2 * descriptorOctets (wordOf s))) 0 (f .whole),
       well,
     )
@@ -124,14 +130,6 @@ module _ (s : List ℕ) (e : statusRefusal s ≡ 0) (z : statusOf (wordOf s) ≡
       rw (e, eq-eqb (statusOf (wordOf s)) 0 z, le-ltb index (holeCount s) l)
 
 -- the answers
-pub status-refused : (n : ℕ) (s : List ℕ) → (n ≡ 0 → ⊥) → Refused (refusalOf n) ≡ statusAnswer n s
-status-refused zero s h = absurd (h refl)
-status-refused (suc n) s h = refl
-
 pub failure-accepted : (code : ℕ) (s : List ℕ) → (code ≡ 0 → ⊥) → Failure (failureOf s) ≡ acceptedStatus code s
 failure-accepted zero s h = absurd (h refl)
 failure-accepted (suc code) s h = refl
-
-pub hole-refused : (n : ℕ) (h : Hole) → (n ≡ 0 → ⊥) → hole-read.Refused (refusalOf n) ≡ holeAnswer n h
-hole-refused zero h ne = absurd (ne refl)
-hole-refused (suc n) h ne = refl

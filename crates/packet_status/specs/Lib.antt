@@ -1,3 +1,3 @@
-pub mod Holes
+pub mod HoleList
 pub mod Status
 pub mod WriteFailure

@@ -3,14 +3,14 @@
 use Prim.Native.Nat.{ℕ, zero, suc, _+_, _*_, _-_, _/_, _%_}
 use mathlib.Core.Bool.{not}
 use mathlib.Core.List.{List}
-use lib.ListN.{length, take, drop}
+use lib.ListN.{length}
 use lib.Dec.{ltb, eqb}
-use Rattle.octets.specs.Numbers.{beValue}
-use Rattle.header.specs.Refusals.{_▹_, when, refusalOf}
-use Rattle.header.specs.Word.{flagsOf, widthOf, descriptorOctets, timestampOctets, partialOf, statusOf}
+use Rattle.refusals.specs.Refusals.{_▹_, when, answered}
+use Rattle.header.specs.FirstWord.{flagsOf, widthOf, descriptorOctets, timestampOctets, partialOf, statusOf}
 use Rattle.header.specs.Start.{wordOf, idOf, typeRefusal}
-use Rattle.packet_status.specs.Holes.{holeAt, holesOf, holesWell}
-use Rattle.header.specs.declared.Hole.{Hole}
+use Rattle.header.specs.Descriptor.{descriptorAt, descriptorRefusal}
+use Rattle.packet_status.specs.HoleList.{holeAt, holesOf, holesWell}
+use Rattle.runs.specs.declared.Hole.{Hole}
 use Rattle.packet_status.specs.declared.HoleRead.{HoleRead}
 use Rattle.packet_status.specs.declared.HoleRead.the-variants as hole-read
 use Rattle.packet_status.specs.declared.SuccessStatus.{SuccessStatus}
@@ -29,10 +29,10 @@ abbrev pub holesAt : ℕ → ℕ
 holesAt w = progressAt w + 2 * descriptorOctets w
 
 abbrev pub progressOf : List ℕ → ℕ
-progressOf s = beValue (take (descriptorOctets (wordOf s)) (drop (progressAt (wordOf s)) s))
+progressOf s = descriptorAt (descriptorOctets (wordOf s)) (progressAt (wordOf s)) s
 
 abbrev pub responseOf : List ℕ → ℕ
-responseOf s = beValue (take (descriptorOctets (wordOf s)) (drop (responseAt (wordOf s)) s))
+responseOf s = descriptorAt (descriptorOctets (wordOf s)) (responseAt (wordOf s)) s
 
 -- the octets that follow In-Response-To
 abbrev pub listOctets : List ℕ → ℕ
@@ -51,11 +51,13 @@ listRefusal s =
     when (not (eqb (listOctets s % (2 * descriptorOctets (wordOf s))) 0)) 11
     ▹ when (not (holesWell (eqb (partialOf (wordOf s)) 1) (progressOf s) (responseOf s) (holeList s))) 11
 
--- a success STATUS after the Id: 5, 1 for timestamp, Progress and In-Response-To, 11
+-- a success STATUS after the Id: 5, 1 for timestamp and Progress (a packet that ends inside the first has not all of the
+-- second), 1 for In-Response-To, 11
 unfoldable pub successRefusal : List ℕ → ℕ
 successRefusal s =
     when (eqb (widthOf (wordOf s)) 3) 5
-    ▹ when (ltb (length s) (holesAt (wordOf s))) 1
+    ▹ descriptorRefusal (descriptorOctets (wordOf s)) (progressAt (wordOf s)) s
+    ▹ descriptorRefusal (descriptorOctets (wordOf s)) (responseAt (wordOf s)) s
     ▹ listRefusal s
 
 -- the order in reading: 2, 1, 3, 4; "a failure STATUS is then accepted": "If the code isn't 0, reading stops after the Id
@@ -85,12 +87,8 @@ abbrev pub acceptedStatus : ℕ → List ℕ → StatusRead
 acceptedStatus zero s = Success (successOf s)
 acceptedStatus (suc code) s = Failure (failureOf s)
 
-abbrev pub statusAnswer : ℕ → List ℕ → StatusRead
-statusAnswer zero s = acceptedStatus (statusOf (wordOf s)) s
-statusAnswer (suc n) s = Refused (refusalOf (suc n))
-
 unfoldable pub readStatus : List ℕ → StatusRead
-readStatus s = statusAnswer (statusRefusal s) s
+readStatus s = answered Refused (statusRefusal s) (acceptedStatus (statusOf (wordOf s)) s)
 
 -- one pair of the hole list: the reader's refusals, 11 for a failure STATUS, 19 for an index that the list doesn't have
 unfoldable pub holeRefusal : ℕ → List ℕ → ℕ
@@ -105,9 +103,5 @@ indexedHole index s =
     let d = descriptorOctets (wordOf s) in
     holeAt d (holesAt (wordOf s) + index * (2 * d)) s
 
-abbrev pub holeAnswer : ℕ → Hole → HoleRead
-holeAnswer zero h = hole-read.Accepted h
-holeAnswer (suc n) h = hole-read.Refused (refusalOf (suc n))
-
 unfoldable pub readHole : ℕ → List ℕ → HoleRead
-readHole index s = holeAnswer (holeRefusal index s) (indexedHole index s)
+readHole index s = answered hole-read.Refused (holeRefusal index s) (hole-read.Accepted (indexedHole index s))

@@ -6,10 +6,10 @@ use mathlib.Core.List.{List, _++_}
 use lib.ListN.{length}
 use lib.Dec.{ltb, eqb}
 use Rattle.octets.specs.Numbers.{beDigits}
-use Rattle.header.specs.Refusals.{_▹_, when}
-use Rattle.header.specs.Word.{wordFor}
-use Rattle.header.specs.Writing.{writtenOf, bufferAfter}
-use Rattle.header.specs.declared.Written.{Written}
+use Rattle.refusals.specs.Refusals.{_▹_, when}
+use Rattle.header.specs.FirstWord.{wordFor}
+use Rattle.refusals.specs.Writing.{writtenOf, bufferAfter}
+use Rattle.refusals.specs.declared.Written.{Written}
 
 -- "The failure writer: 21, then 20", where 21 is a field over its bits "or failure code 0"
 unfoldable pub failureWriteRefusal : ℕ → ℕ → ℕ → ℕ

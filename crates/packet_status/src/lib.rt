@@ -3,12 +3,14 @@ ghost use mathlib.Core.Path.{_≡_};
 ghost use Prim.Native.Nat.{_+_, _*_, _<_, _≤_};
 ghost use lib.ListN.{length};
 ghost use Rattle.octets.specs.Numbers.{Width};
-ghost use Rattle.packet_status.specs.Holes.{holeAt, holesOf, holesAfter, startsWell, holesWell};
-ghost use Rattle.packet_status.specs.Status.{successRefusal, statusRefusal, successOf, readStatus, holeRefusal, readHole};
+ghost use Rattle.header.specs.FirstWord.{descriptorOctets};
+ghost use Rattle.header.specs.Start.{wordOf};
+ghost use Rattle.packet_status.specs.HoleList.{holeAt, holesOf, holesAfter, startsWell, holesWell};
+ghost use Rattle.packet_status.specs.Status.{holesAt, listRefusal, successRefusal, statusRefusal, successOf, readStatus, holeRefusal, readHole};
 ghost use Rattle.packet_status.specs.WriteFailure.{failureWriteRefusal, failureWritten, failureBuffer};
-use header::Hole;
-use header::Refusal;
-use header::Written;
+use refusals::Refusal;
+use refusals::Written;
+use runs::Hole;
 
 // The fields of a success STATUS. `width` and `timestamp` count octets; `count` holes stand from the place `holes` on.
 pub struct SuccessStatus {
@@ -46,8 +48,8 @@ fn hole_at(s: &[u8], at: usize, d: usize) -> Hole
     ensures { λ r. ⌜ r ≡ holeAt d at (now (s .entry)) ⌝ }
 {
     Hole {
-        start: octets::read_number(s, at, d),
-        end: octets::read_number(s, at + d, d),
+        start: header::descriptor(s, at, d),
+        end: header::descriptor(s, at + d, d),
     }
 }
 
@@ -117,6 +119,28 @@ fn holes_well(
     holes_after(s, at + 2 * d, d, n - 1, h.end, top)
 }
 
+// Refusal 11 of the hole list of a success STATUS whose Progress and In-Response-To are there; 0 for none.
+fn list_refusal(p: &[u8]) -> u64
+    requires { ⌜ Width (descriptorOctets (wordOf (now p))) × (holesAt (wordOf (now p)) ≤ length (now p)) ⌝ }
+    ensures { λ r. ⌜ r ≡ listRefusal (now (p .entry)) ⌝ }
+{
+    let w = header::word(p);
+    let h = header::split(w);
+    let d = header::descriptor_octets(w);
+    let at = 8 + header::timestamp_octets(w);
+    let holes = at + 2 * d;
+    let rest = p.len() - holes;
+    if rest % (2 * d) != 0 {
+        return 11;
+    }
+    let progress = header::descriptor(p, at, d);
+    let top = header::descriptor(p, at + d, d);
+    if holes_well(p, holes, d, rest / (2 * d), h.partial == 1, progress, top) {
+        return 0;
+    }
+    11
+}
+
 // Refusals 5, 1 and 11 of a success STATUS; 0 for none.
 fn success_refusal(p: &[u8]) -> u64
     requires { ⌜ 8 ≤ length (now p) ⌝ }
@@ -129,20 +153,15 @@ fn success_refusal(p: &[u8]) -> u64
     }
     let d = header::descriptor_octets(w);
     let at = 8 + header::timestamp_octets(w);
-    let holes = at + 2 * d;
-    if p.len() < holes {
-        return 1;
+    let f = header::descriptor_refusal(p, at, d);
+    if f != 0 {
+        return f;
     }
-    let rest = p.len() - holes;
-    if rest % (2 * d) != 0 {
-        return 11;
+    let g = header::descriptor_refusal(p, at + d, d);
+    if g != 0 {
+        return g;
     }
-    let progress = octets::read_number(p, at, d);
-    let top = octets::read_number(p, at + d, d);
-    if holes_well(p, holes, d, rest / (2 * d), h.partial == 1, progress, top) {
-        return 0;
-    }
-    11
+    list_refusal(p)
 }
 
 // The refusal of a packet that has to be STATUS; 0 for none.
@@ -176,8 +195,8 @@ fn success_fields(p: &[u8]) -> SuccessStatus
         id: header::id(p),
         width,
         timestamp,
-        progress: octets::read_number(p, at, width),
-        response: octets::read_number(p, at + width, width),
+        progress: header::descriptor(p, at, width),
+        response: header::descriptor(p, at + width, width),
         holes,
         count: (p.len() - holes) / (2 * width),
     }
@@ -189,7 +208,7 @@ pub fn read_status(p: &[u8]) -> StatusRead
 {
     let n = status_refusal(p);
     if n != 0 {
-        return StatusRead::Refused(header::refuse(n));
+        return StatusRead::Refused(refusals::refuse(n));
     }
     let h = header::split(header::word(p));
     let code = h.status;
@@ -228,7 +247,7 @@ pub fn read_hole(p: &[u8], index: u64) -> HoleRead
 {
     let n = hole_refusal(p, index);
     if n != 0 {
-        return HoleRead::Refused(header::refuse(n));
+        return HoleRead::Refused(refusals::refuse(n));
     }
     let w = header::word(p);
     let d = header::descriptor_octets(w);
@@ -262,7 +281,7 @@ pub fn write_failure(out: &mut [u8], id: u64, status: u64) -> Written
 {
     let n = failure_write_refusal(id, status, out.len());
     if n != 0 {
-        return Written::Refused(header::refuse(n));
+        return Written::Refused(refusals::refuse(n));
     }
     octets::write_number(out, 0, 4, header::join(4, status));
     octets::write_number(out, 4, 4, id);

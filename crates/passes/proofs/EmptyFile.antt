@@ -1,7 +1,7 @@
 -- A transfer of length 0: no DATA is taken, and DATA with its Id and width is refused with 14.
 -- Assumes nothing.
-use Prim.Native.Nat.{ℕ, zero, suc, _<_}
-use mathlib.Core.Path.{_≡_, refl, sym, ap}
+use Prim.Native.Nat.{ℕ, suc, _<_}
+use mathlib.Core.Path.{_≡_, refl, sym}
 use mathlib.Core.Bool.{Bool, true, false}
 use mathlib.Core.List.{List, [], _∷_}
 use mathlib.Core.Option.{none, some}
@@ -9,38 +9,28 @@ use native.Mathlib.Omega.{arith}
 use lib.ListN.{length}
 use lib.Dec.{eqb}
 use borrow.Author.Tests.{eqb-true, eqb-false, eq-eqb}
-use Rattle.header.specs.Refusals.{refusalOf}
+use Rattle.refusals.specs.Refusals.{refusalOf}
 use Rattle.header.specs.Start.{startRefusal, typeRefusal, fileRefusal}
+use Rattle.header.specs.Descriptor.{descriptorRefusal}
 use Rattle.directory_entry.specs.Properties.{propertyRefusal}
 use Rattle.directory_entry.specs.Path.{pathRefusal}
 use Rattle.directory_entry.specs.Entry.{entryRefusal, entryOf}
 use Rattle.packet_metadata.specs.Checksum.{pairAllowed, pairRefusal}
 use Rattle.packet_metadata.specs.Metadata.{metadataRefusal, metadataOf, readMetadata}
-use Rattle.packet_data.specs.Data.{dataRefusal, dataOf, dataAnswer, readData}
+use Rattle.packet_data.specs.Data.{readData}
 use Rattle.packet_data.specs.declared.Data.{Data}
 use Rattle.packet_data.specs.declared.DataRead.{DataRead}
 use Rattle.packet_data.specs.declared.DataRead.the-variants as data-read
-use Rattle.packet_data.proofs.DataLaws.{data-fine}
-use Rattle.table.specs.Transfers.{Key, Transfer}
+use Rattle.transfer.specs.declared.Key.{Key}
+use Rattle.transfer.specs.Transfers.{Transfer}
 use Rattle.table.specs.Tables.{keys, find, add}
 use Rattle.table.specs.Open.{judgeFound, judgeOpen, openAs, openKey, openRead, openPacket}
 use Rattle.table.specs.Record.{dataJudged, recordRefusal, recordAs, recordData, recordRead, recordPacket, recordAccepted}
 use Rattle.table.specs.declared.Recorded.the-variants as recorded
-use Rattle.table.proofs.LimitLaws.{twelve-iff, thirteen-iff, fourteen-iff}
+use Rattle.transfer.proofs.FieldLaws.{data-some}
+use Rattle.transfer.proofs.LimitLaws.{thirteen-iff, fourteen-iff}
+use Rattle.table.proofs.LimitLaws.{twelve-iff}
 use Rattle.passes.specs.Passes.{emptyFile}
-
--- an accepted packet has payload
-answered : (n : ℕ) (packet : List ℕ) (d : Data) → dataRefusal packet ≡ n → dataAnswer n (dataOf packet) ≡ data-read.Accepted d → 0 < d .length
-unfolding dataOf
-answered zero packet d z e =
-    let f = data-fine packet z in
-    let q : dataOf packet ≡ d = cc in
-    omega (arith, f .more, ap (λ (x : Data). x .length) q)
-answered (suc n) packet d z e = absurd (let o : _≡_ {A = ℕ} 0 1 = cc in omega arith)
-
-payload-some : (packet : List ℕ) (d : Data) → readData packet ≡ data-read.Accepted d → 0 < d .length
-unfolding readData
-payload-some packet d e = answered (dataRefusal packet) packet d refl e
 
 abbrev key : Key
 key = record { id = 7; width = 2; length = 0 }
@@ -49,7 +39,7 @@ abbrev table : List Transfer
 table = record { key = key; runs = [] } ∷ []
 
 empty-is : emptyFile ≡ table
-unfolding emptyFile startRefusal typeRefusal fileRefusal propertyRefusal pathRefusal entryRefusal entryOf pairAllowed pairRefusal metadataRefusal metadataOf readMetadata keys find add judgeFound judgeOpen openAs openKey openRead openPacket
+unfolding emptyFile startRefusal typeRefusal fileRefusal descriptorRefusal propertyRefusal pathRefusal entryRefusal entryOf pairAllowed pairRefusal metadataRefusal metadataOf readMetadata keys find add judgeFound judgeOpen openAs openKey openRead openPacket
 empty-is = refl
 
 -- ---- the number of the refusal: 14, and 12 or 13 where Id or width are others
@@ -68,9 +58,11 @@ unfolding keys find
 is-open d e = rw e
 
 judged-fourteen : (d : Data) → 0 < d .length → eqb 7 (d .id) ≡ true → d .width ≡ 2 → dataJudged (find (d .id) (keys table)) d ≡ 14
+unfolding dataJudged
 judged-fourteen d p i w = rw (is-open d i) (fourteen-iff key d .1 (w, omega arith))
 
 never : (d : Data) → 0 < d .length → recordAccepted (recordData table d .answer) ≡ false
+unfolding dataJudged
 never d p = go (eqb 7 (d .id)) refl (eqb (d .width) 2) refl
   where
     refused : (n : ℕ) → dataJudged (find (d .id) (keys table)) d ≡ suc n → recordAccepted (recordData table d .answer) ≡ false
@@ -90,10 +82,10 @@ read-never (data-read.Refused r) f = refl
 
 pub empty-never : (packet : List ℕ) → recordAccepted (recordPacket emptyFile packet .answer) ≡ false
 unfolding recordPacket
-empty-never packet = rw empty-is (read-never (readData packet) (payload-some packet))
+empty-never packet = rw empty-is (read-never (readData packet) (data-some packet))
 
 pub empty-fourteen : (packet : List ℕ) (d : Data) → readData packet ≡ data-read.Accepted d → d .id ≡ 7 → d .width ≡ 2
     → recordPacket emptyFile packet .answer ≡ recorded.Refused (refusalOf 14)
 unfolding recordPacket recordRead
 empty-fourteen packet d e i w =
-    rw (empty-is, e) (record-refused table d 13 (judged-fourteen d (payload-some packet d e) (eq-eqb 7 (d .id) (sym i)) w))
+    rw (empty-is, e) (record-refused table d 13 (judged-fourteen d (data-some packet d e) (eq-eqb 7 (d .id) (sym i)) w))

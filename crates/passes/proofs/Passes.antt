@@ -5,6 +5,7 @@ use mathlib.Core.Path.{refl}
 use Rattle.passes.proofs.EmptyFile.{empty-never, empty-fourteen}
 use Rattle.passes.specs.Passes.{Passes, twoParts, emptyFile, oneAfterOther, late, scattered, longest, numbered}
 use Rattle.octets.specs.Put.{put}
+use Rattle.header.specs.Descriptor.{descriptorRefusal}
 use Rattle.header.specs.Start.{startRefusal, typeRefusal, fileRefusal}
 use Rattle.directory_entry.specs.Properties.{propertyRefusal}
 use Rattle.directory_entry.specs.Path.{pathRefusal}
@@ -14,14 +15,17 @@ use Rattle.packet_metadata.specs.Metadata.{metadataRefusal, metadataOf, readMet
 use Rattle.packet_data.specs.Data.{dataRefusal, dataOf, readData}
 use Rattle.runs.specs.Runs.{insert}
 use Rattle.runs.specs.Holes.{edgeFrom, holesFrom, progress, complete}
-use Rattle.table.specs.Tables.{keys, find, runsOf, add, setRuns, remove, reached}
+use Rattle.table.specs.Tables.{keys, find, runsOf, add, setRuns, remove}
+use Rattle.transfer.specs.Transfers.{reached}
 use Rattle.table.specs.Open.{judgeFound, judgeOpen, openAs, openKey, openRead, openPacket}
 use Rattle.table.specs.Record.{dataJudged, recordRefusal, grown, recordAs, recordData, recordRead, recordPacket}
 use Rattle.table.specs.Close.{closeFound, closeId}
-use Rattle.table.specs.Status.{statusWriteRefusal, holeRoom, holesSent, partialSent, widthBits, statusFlags, pairs, statusOctets, statusPacket, statusFor, statusSent, statusWritten, statusBuffer}
+use Rattle.table.specs.WriteStatus.{writtenFor, bufferFor, statusWritten, statusBuffer}
+use Rattle.transfer.specs.Record.{keyRefusal, extended, runsRefusal}
+use Rattle.transfer.specs.WriteStatus.{skipsTooMany, leastRoom, sizeRefusal, holeRoom, holesSent, partialSent, widthBits, statusFlags, statusFields, pairs, statusOctets, statusPacket, transferWritten, transferBuffer}
 
 pub passes : Passes
-unfolding twoParts emptyFile oneAfterOther late scattered longest numbered put startRefusal typeRefusal fileRefusal propertyRefusal pathRefusal entryRefusal entryOf pairAllowed pairRefusal metadataRefusal metadataOf readMetadata dataRefusal dataOf readData insert edgeFrom holesFrom progress complete keys find runsOf add setRuns remove reached judgeFound judgeOpen openAs openKey openRead openPacket dataJudged recordRefusal grown recordAs recordData recordRead recordPacket closeFound closeId statusWriteRefusal holeRoom holesSent partialSent widthBits statusFlags pairs statusOctets statusPacket statusFor statusSent statusWritten statusBuffer
+unfolding twoParts emptyFile oneAfterOther late scattered longest numbered put startRefusal typeRefusal fileRefusal descriptorRefusal propertyRefusal pathRefusal entryRefusal entryOf pairAllowed pairRefusal metadataRefusal metadataOf readMetadata dataRefusal dataOf readData insert edgeFrom holesFrom progress complete keys find runsOf add setRuns remove reached judgeFound judgeOpen openAs openKey openRead openPacket dataJudged recordRefusal grown recordAs recordData recordRead recordPacket closeFound closeId keyRefusal extended runsRefusal skipsTooMany leastRoom sizeRefusal holeRoom holesSent partialSent widthBits statusFlags statusFields pairs statusOctets statusPacket transferWritten transferBuffer writtenFor bufferFor statusWritten statusBuffer
 passes =
     record {
       hole-reported = (refl, refl, refl);

@@ -7,20 +7,20 @@ use mathlib.Core.Bool.{Bool, true, false}
 use mathlib.Core.List.{List, [], _∷_, _++_}
 use lib.ListN.{length, replicate}
 use Rattle.octets.specs.Numbers.{beDigits}
-use Rattle.header.specs.Refusals.{refusalOf}
-use Rattle.header.specs.declared.Written.the-variants as written
+use Rattle.refusals.specs.Refusals.{refusalOf}
+use Rattle.refusals.specs.declared.Written.the-variants as written
 use Rattle.packet_data.specs.Data.{readData}
 use Rattle.packet_data.specs.declared.Data.{Data}
 use Rattle.packet_data.specs.declared.DataRead.the-variants as data-read
 use Rattle.runs.specs.Runs.{run}
 use Rattle.runs.specs.Holes.{edge, hole, holes, progress}
-use Rattle.table.specs.Transfers.{Transfer}
+use Rattle.transfer.specs.Transfers.{Transfer}
 use Rattle.table.specs.Tables.{runsOf}
 use Rattle.table.specs.Open.{openPacket}
 use Rattle.table.specs.Record.{recordPacket, recordAccepted}
 use Rattle.table.specs.Close.{closeId}
-use Rattle.table.specs.Status.{statusWritten, statusBuffer}
-use Rattle.table.specs.declared.Reached.{Reached}
+use Rattle.table.specs.WriteStatus.{statusWritten, statusBuffer}
+use Rattle.transfer.specs.declared.Reached.{Reached}
 use Rattle.table.specs.declared.Opened.the-variants as opened
 use Rattle.table.specs.declared.Recorded.the-variants as recorded
 use Rattle.table.specs.declared.Finished.the-variants as finished

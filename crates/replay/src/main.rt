@@ -1,6 +1,5 @@
 // Reads the records of a pass from standard input, or from the file that the first argument names, and writes the answer to each.
-ghost use mathlib.Core.Path.{_≡_};
-ghost use Prim.Native.Nat.{_≤_, min};
+ghost use Rattle.replay_steps.specs.Room.{Room};
 use libc::STDIN_FILENO;
 use libc::STDOUT_FILENO;
 
@@ -37,16 +36,6 @@ fn cut_short(number: u64, out: &mut [u8]) -> bool {
     false
 }
 
-// How many octets of a body are kept: all, but no more than there is room for.
-fn kept(n: u64, room: usize) -> usize
-    ensures { λ r. ⌜ (r ≤ room) × (r ≤ n) × (r ≡ min n room) ⌝ }
-{
-    if n < room as u64 {
-        return n as usize;
-    }
-    room
-}
-
 // Answers one record, and says whether to go on.
 fn step(
     fd: i32,
@@ -55,7 +44,9 @@ fn step(
     body: &mut [u8],
     lent: &mut [u8],
     out: &mut [u8],
-) -> bool {
+) -> bool
+    requires { ⌜ Room (now body) (now lent) (now out) ⌝ }
+{
     let mut head = [0u8; 5];
     let got = io::read_full(fd, &mut head);
     if got == 0 {
@@ -65,7 +56,7 @@ fn step(
         return cut_short(number, out);
     }
     let n = replay_steps::body_length(&head);
-    let keep = kept(n, body.len());
+    let keep = replay_steps::within(n, body.len());
     let had = io::read_full(fd, &mut body[..keep]);
     if had < keep {
         return cut_short(number, out);
@@ -78,7 +69,9 @@ fn step(
 }
 
 // A proved loop has to end, and nothing says that the input does. So the records are counted, up to a number that no input reaches.
-fn replay(fd: i32, area: &mut [u8], body: &mut [u8], lent: &mut [u8], out: &mut [u8]) {
+fn replay(fd: i32, area: &mut [u8], body: &mut [u8], lent: &mut [u8], out: &mut [u8])
+    requires { ⌜ Room (now body) (now lent) (now out) ⌝ }
+{
     area_open::fresh(area);
     let mut number = 1;
     while number < u64::MAX && step(fd, number, area, body, lent, out) {
@@ -88,7 +81,7 @@ fn replay(fd: i32, area: &mut [u8], body: &mut [u8], lent: &mut [u8], out: &mut 
 
 // One octet more than a packet may have is kept of a body, so that the reader itself refuses what is too long.
 fn run(fd: i32) {
-    let mut area = [0u8; 16904];
+    let mut area = [0u8; area::AREA_OCTETS];
     let mut body = io::large_buffer();
     let mut lent = [0u8; 65535];
     let mut out = [0u8; 262144];

@@ -2,13 +2,13 @@
 ghost use Prim.Native.Nat.{_≤_};
 ghost use lib.ListN.{length};
 ghost use Rattle.text.specs.Added.{Added};
-ghost use Rattle.replay_answers.specs.Answers.{freshText, closeText, openingText, openText, recordingText, recordText, readText, statusText, sentText};
-use header::Written;
+ghost use Rattle.replay_answers.specs.AnswerLines.{freshText, closeText, openingText, openText, recordingText, recordText, readText, statusText, sentText};
 use packet::Read;
 use packet_data::Data;
 use packet_data::DataRead;
 use packet_metadata::Metadata;
 use packet_metadata::MetadataRead;
+use refusals::Written;
 use replay_fields::part;
 use table::Finished;
 use table::Opened;

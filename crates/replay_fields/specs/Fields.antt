@@ -5,10 +5,10 @@ use mathlib.Core.Bool.{Bool, cond}
 use mathlib.Core.List.{List, _++_}
 use lib.Dec.{eqb}
 use Rattle.octets.specs.Numbers.{beDigits}
-use Rattle.table.specs.declared.Reached.{Reached}
+use Rattle.transfer.specs.declared.Reached.{Reached}
 use Rattle.text.specs.Decimal.{decimalOf}
 use Rattle.text.specs.Hex.{hexOf}
-use Rattle.replay_fields.specs.Words.{w-edge, w-complete}
+use Rattle.replay_fields.specs.LineWords.{w-edge, w-complete}
 
 -- a name and a number in decimal
 abbrev pub field : List ℕ → ℕ → List ℕ

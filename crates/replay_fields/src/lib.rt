@@ -4,7 +4,7 @@ ghost use Prim.Native.Nat.{_≤_};
 ghost use lib.ListN.{length, take, drop};
 ghost use Rattle.text.specs.Added.{Added};
 ghost use Rattle.replay_fields.specs.Fields.{field, octetsField, numberField, bitsOf, flagOf, reachedText};
-use table::Reached;
+use transfer::Reached;
 
 // A name and a number.
 pub fn put_field(out: &mut [u8], at: usize, name: &[u8], v: u64) -> usize

@@ -5,8 +5,8 @@ use mathlib.Core.Bool.{cond}
 use mathlib.Core.List.{List, [], _++_}
 use lib.Dec.{eqb}
 use lib.ListN.{length, take, drop}
-use Rattle.header.specs.declared.Hole.{Hole}
-use Rattle.header.specs.declared.Refusal.{Refusal}
+use Rattle.runs.specs.declared.Hole.{Hole}
+use Rattle.refusals.specs.declared.Refusal.{Refusal}
 use Rattle.directory_entry.specs.declared.Entry.{Entry}
 use Rattle.packet_metadata.specs.declared.Metadata.{Metadata}
 use Rattle.packet_data.specs.Data.{payloadOf}
@@ -16,9 +16,9 @@ use Rattle.packet_status.specs.declared.SuccessStatus.{SuccessStatus}
 use Rattle.packet_status.specs.declared.FailureStatus.{FailureStatus}
 use Rattle.packet_status.specs.declared.HoleRead.{HoleRead}
 use Rattle.packet_status.specs.declared.HoleRead.the-variants as hole-read
-use Rattle.table.specs.declared.Reached.{Reached}
+use Rattle.transfer.specs.declared.Reached.{Reached}
 use Rattle.text.specs.Decimal.{decimalOf}
-use Rattle.replay_fields.specs.Words.{comma, dash, newline, w-checksum, w-close, w-code, w-ctime, w-data, w-failure, w-flags, w-holes, w-length, w-metadata, w-mtime, w-offset, w-open, w-path, w-progress, w-properties, w-record, w-refused, w-response, w-size, w-status, w-success, w-timestamp, w-unknown, w-width}
+use Rattle.replay_fields.specs.LineWords.{comma, dash, newline, w-checksum, w-close, w-code, w-ctime, w-data, w-failure, w-flags, w-holes, w-length, w-metadata, w-mtime, w-offset, w-open, w-path, w-progress, w-properties, w-record, w-refused, w-response, w-size, w-status, w-success, w-timestamp, w-unknown, w-width}
 use Rattle.replay_fields.specs.Fields.{field, octetsField, numberField, bitsOf, reachedText}
 
 -- words alone, which end the line

@@ -5,20 +5,20 @@ ghost use Rattle.packet_status.specs.Status.{readHole};
 ghost use Rattle.text.specs.Added.{Added};
 ghost use Rattle.replay_lines.specs.Lines.{plainLine, refusedLine, closeLine, octetsLine, unknownLine, openedLine, recordLine, headText, entryText, metadataLine, dataLine, holeText, nextHole, holeAfter, holesText, successLine, failureLine};
 use directory_entry::Entry;
-use header::Hole;
-use header::Refusal;
 use packet_data::Data;
 use packet_metadata::Metadata;
 use packet_status::FailureStatus;
 use packet_status::HoleRead;
 use packet_status::SuccessStatus;
+use refusals::Refusal;
 use replay_fields::bits_of;
 use replay_fields::part;
 use replay_fields::put_field;
 use replay_fields::put_number;
 use replay_fields::put_octets;
 use replay_fields::put_reached;
-use table::Reached;
+use runs::Hole;
+use transfer::Reached;
 
 // Words alone; they end the line themselves.
 pub fn put_plain(out: &mut [u8], at: usize, number: u64, words: &[u8]) -> usize

@@ -6,7 +6,9 @@ use mathlib.Core.List.{List, [], _∷_}
 use mathlib.Core.Option.{some}
 use lib.ListN.{replicate}
 use Rattle.octets.specs.Put.{put}
+use Rattle.refusals.specs.Refusals.{codeOf}
 use Rattle.header.specs.Start.{startRefusal, typeRefusal, fileRefusal}
+use Rattle.header.specs.Descriptor.{descriptorRefusal}
 use Rattle.directory_entry.specs.Path.{pathRefusal}
 use Rattle.directory_entry.specs.Properties.{propertyRefusal}
 use Rattle.directory_entry.specs.Entry.{entryRefusal, entryOf}
@@ -14,20 +16,21 @@ use Rattle.packet_metadata.specs.Checksum.{pairAllowed, pairRefusal}
 use Rattle.packet_metadata.specs.Metadata.{metadataRefusal, metadataOf, readMetadata}
 use Rattle.packet_data.specs.Data.{dataRefusal, dataOf, readData}
 use Rattle.packet_status.specs.WriteFailure.{failureWriteRefusal, failureOctets, failureWritten, failureBuffer}
-use Rattle.packet.specs.Read.{readType, readAfter, readPacket}
-use Rattle.runs.specs.Runs.{run, insert}
+use Rattle.packet.specs.Read.{readType, readPacket}
+use Rattle.runs.specs.Runs.{run}
 use Rattle.runs.specs.Holes.{edgeFrom, holesFrom, progress, complete}
 use Rattle.table.specs.Record.{dataJudged, recordRefusal, grown, recordAs, recordData, recordRead, recordPacket}
 use Rattle.table.specs.Open.{judgeFound, judgeOpen, openAs, openKey, openRead, openPacket}
-use Rattle.table.specs.Tables.{keys, find, runsOf, add, reached}
-use Rattle.table.specs.Transfers.{Transfer}
-use Rattle.table.specs.Status.{statusWriteRefusal, holeRoom, holesSent, partialSent, widthBits, statusFlags, pairs, statusOctets, statusPacket, statusFor, statusSent, statusWritten, statusBuffer}
+use Rattle.table.specs.Tables.{keys, find, runsOf, add}
+use Rattle.transfer.specs.Transfers.{reached, Transfer}
+use Rattle.table.specs.WriteStatus.{writtenFor, bufferFor, statusWritten, statusBuffer}
+use Rattle.transfer.specs.WriteStatus.{skipsTooMany, leastRoom, sizeRefusal, transferWritten, transferBuffer, statusFields, holeRoom, holesSent, partialSent, widthBits, statusFlags, pairs, statusOctets, statusPacket}
 use Rattle.area.specs.Judge.{tableOf}
-use Rattle.area.specs.Operations.{openFound, openArea, recordFound, recordArea, statusAnswer, statusLeaves, areaStatusWritten, areaStatusBuffer}
+use Rattle.area.specs.Operations.{onFound, onTable, openArea, recordArea, fromFound, fromTable, areaStatusWritten, areaStatusBuffer}
 use Rattle.text.specs.Decimal.{decimalOnto, decimalOf}
 use Rattle.text.specs.Hex.{hexOf}
 use Rattle.replay_lines.specs.Lines.{plainLine, refusedLine, octetsLine, unknownLine, openedLine}
-use Rattle.replay_answers.specs.Answers.{openingText, openText, recordingText, statusText, sentText}
+use Rattle.replay_answers.specs.AnswerLines.{openingText, openText, recordingText, statusText, sentText}
 use Rattle.replay_steps.specs.Deliver.{failureSent, refusalLines, recordedSent, recordedLines, deliverLines}
 use Rattle.replay_steps.specs.Records.{bodyLength, closeLines, writtenLine, statusLines, recordLines}
 
@@ -58,19 +61,19 @@ bad-length = refl
 -- "1 refused 4 code=10", "1 send 4400000a00000007"
 pub refused-sent : recordLines 1 0x50 request [] (replicate 8 0)
     ≡ 49 ∷ 32 ∷ 114 ∷ 101 ∷ 102 ∷ 117 ∷ 115 ∷ 101 ∷ 100 ∷ 32 ∷ 52 ∷ 32 ∷ 99 ∷ 111 ∷ 100 ∷ 101 ∷ 61 ∷ 49 ∷ 48 ∷ 10 ∷ 49 ∷ 32 ∷ 115 ∷ 101 ∷ 110 ∷ 100 ∷ 32 ∷ 52 ∷ 52 ∷ 48 ∷ 48 ∷ 48 ∷ 48 ∷ 48 ∷ 97 ∷ 48 ∷ 48 ∷ 48 ∷ 48 ∷ 48 ∷ 48 ∷ 48 ∷ 55 ∷ 10 ∷ []
-unfolding recordLines decimalOf decimalOnto hexOf readPacket readAfter startRefusal readType put deliverLines refusalLines refusedLine failureSent sentText octetsLine failureWritten failureBuffer failureWriteRefusal failureOctets
+unfolding recordLines decimalOf decimalOnto hexOf readPacket startRefusal readType put deliverLines codeOf refusalLines refusedLine failureSent sentText octetsLine failureWritten failureBuffer failureWriteRefusal failureOctets
 refused-sent = refl
 
 -- "12 refused 12 code=6", "12 send 4400000600000007"
 pub refused-data : (area : List ℕ) → tableOf area ≡ some [] → recordLines 12 0x50 dataPacket area (replicate 8 0)
     ≡ 49 ∷ 50 ∷ 32 ∷ 114 ∷ 101 ∷ 102 ∷ 117 ∷ 115 ∷ 101 ∷ 100 ∷ 32 ∷ 49 ∷ 50 ∷ 32 ∷ 99 ∷ 111 ∷ 100 ∷ 101 ∷ 61 ∷ 54 ∷ 10 ∷ 49 ∷ 50 ∷ 32 ∷ 115 ∷ 101 ∷ 110 ∷ 100 ∷ 32 ∷ 52 ∷ 52 ∷ 48 ∷ 48 ∷ 48 ∷ 48 ∷ 48 ∷ 54 ∷ 48 ∷ 48 ∷ 48 ∷ 48 ∷ 48 ∷ 48 ∷ 48 ∷ 55 ∷ 10 ∷ []
-unfolding recordLines decimalOf decimalOnto hexOf readPacket readAfter readType put deliverLines refusalLines refusedLine failureSent sentText octetsLine failureWritten failureBuffer failureWriteRefusal failureOctets recordedLines recordingText recordedSent startRefusal typeRefusal fileRefusal dataRefusal dataOf readData recordArea recordFound keys find insert runsOf dataJudged recordRefusal grown recordAs recordData recordRead recordPacket
+unfolding recordLines decimalOf decimalOnto hexOf readPacket readType put deliverLines codeOf refusalLines refusedLine failureSent sentText octetsLine failureWritten failureBuffer failureWriteRefusal failureOctets recordedLines recordingText recordedSent startRefusal typeRefusal fileRefusal descriptorRefusal dataRefusal dataOf readData recordArea onTable onFound keys find dataJudged recordRefusal grown recordAs recordData recordRead recordPacket
 refused-data area e = rw e
 
 -- "2 open id=7 width=16 length=3000 edge=0 complete=0 new"
 pub opened-new : (area : List ℕ) → tableOf area ≡ some [] → recordLines 2 0x4f metadata area []
     ≡ 50 ∷ 32 ∷ 111 ∷ 112 ∷ 101 ∷ 110 ∷ 32 ∷ 105 ∷ 100 ∷ 61 ∷ 55 ∷ 32 ∷ 119 ∷ 105 ∷ 100 ∷ 116 ∷ 104 ∷ 61 ∷ 49 ∷ 54 ∷ 32 ∷ 108 ∷ 101 ∷ 110 ∷ 103 ∷ 116 ∷ 104 ∷ 61 ∷ 51 ∷ 48 ∷ 48 ∷ 48 ∷ 32 ∷ 101 ∷ 100 ∷ 103 ∷ 101 ∷ 61 ∷ 48 ∷ 32 ∷ 99 ∷ 111 ∷ 109 ∷ 112 ∷ 108 ∷ 101 ∷ 116 ∷ 101 ∷ 61 ∷ 48 ∷ 32 ∷ 110 ∷ 101 ∷ 119 ∷ 10 ∷ []
-unfolding recordLines decimalOf decimalOnto startRefusal typeRefusal fileRefusal openText openingText openedLine propertyRefusal pathRefusal entryRefusal entryOf pairAllowed pairRefusal metadataRefusal metadataOf readMetadata openArea openFound keys find runsOf add reached edgeFrom progress complete judgeFound judgeOpen openAs openKey openRead openPacket
+unfolding recordLines decimalOf decimalOnto startRefusal typeRefusal fileRefusal descriptorRefusal openText openingText openedLine propertyRefusal pathRefusal entryRefusal entryOf pairAllowed pairRefusal metadataRefusal metadataOf readMetadata openArea onTable onFound keys find runsOf add reached edgeFrom progress complete judgeFound judgeOpen openAs openKey openRead openPacket
 opened-new area e = rw e
 
 -- Id 7, with octets 0 to 999 and 2,000 to 2,999 of 3,000 received
@@ -84,7 +87,7 @@ statusBody = 0 ∷ 0 ∷ 0 ∷ 7 ∷ 0 ∷ 0 ∷ 0 ∷ 0 ∷ 0 ∷ 0 ∷ 0 ∷ 0
 -- "5 status 440000000000000703e80bb803e807d0"
 pub status-written : (area : List ℕ) → tableOf area ≡ some (seven ∷ []) → recordLines 5 0x53 statusBody area (replicate 20 0)
     ≡ 53 ∷ 32 ∷ 115 ∷ 116 ∷ 97 ∷ 116 ∷ 117 ∷ 115 ∷ 32 ∷ 52 ∷ 52 ∷ 48 ∷ 48 ∷ 48 ∷ 48 ∷ 48 ∷ 48 ∷ 48 ∷ 48 ∷ 48 ∷ 48 ∷ 48 ∷ 48 ∷ 48 ∷ 55 ∷ 48 ∷ 51 ∷ 101 ∷ 56 ∷ 48 ∷ 98 ∷ 98 ∷ 56 ∷ 48 ∷ 51 ∷ 101 ∷ 56 ∷ 48 ∷ 55 ∷ 100 ∷ 48 ∷ 10 ∷ []
-unfolding recordLines statusLines writtenLine statusText octetsLine decimalOf decimalOnto hexOf areaStatusWritten areaStatusBuffer statusAnswer statusLeaves holesFrom edgeFrom progress complete keys find runsOf statusWriteRefusal holeRoom holesSent partialSent widthBits statusFlags pairs statusOctets statusPacket statusFor statusSent statusWritten statusBuffer put
+unfolding recordLines statusLines writtenLine statusText octetsLine decimalOf decimalOnto hexOf areaStatusWritten areaStatusBuffer fromTable fromFound holesFrom edgeFrom progress complete keys find runsOf skipsTooMany leastRoom sizeRefusal transferWritten transferBuffer statusFields holeRoom holesSent partialSent widthBits statusFlags pairs statusOctets statusPacket writtenFor bufferFor statusWritten statusBuffer put
 status-written area e = rw e
 
 -- a body of 258 octets

@@ -1,2 +1,4 @@
 pub mod CaseLaws
+pub mod LengthLaws
+pub mod RoomLaws
 pub mod Examples

@@ -6,7 +6,7 @@ use mathlib.Core.List.{List, [], _++_}
 use lib.Dec.{eqb, ltb}
 use lib.ListN.{length}
 use Rattle.header.specs.Start.{idOf}
-use Rattle.header.specs.declared.Refusal.{Refusal}
+use Rattle.refusals.specs.declared.Refusal.{Refusal}
 use Rattle.packet.specs.declared.Read.{Read}
 use Rattle.packet.specs.declared.Read.the-variants as read
 use Rattle.packet_data.specs.declared.Data.{Data}
@@ -18,10 +18,10 @@ use Rattle.table.specs.declared.Recorded.{Recorded}
 use Rattle.table.specs.declared.Recorded.the-variants as recorded
 use Rattle.area.specs.Operations.{openArea, recordArea, areaStatusWritten, areaStatusBuffer}
 use Rattle.replay_lines.specs.Lines.{refusedLine, successLine, failureLine}
-use Rattle.replay_answers.specs.Answers.{openingText, recordingText, sentText}
+use Rattle.replay_answers.specs.AnswerLines.{openingText, recordingText, sentText}
 
 -- "A packet that is refused with a code other than 0 and has an Id (8 octets at least) gets a failure STATUS with that Id
--- and code"
+-- and code". The writer would refuse code 0 too (21); that there is nothing to send for it is said here, where the rule is
 unfoldable pub failureSent : ℕ → List ℕ → ℕ → List ℕ → List ℕ
 failureSent n p code room =
     cond (eqb code 0) []

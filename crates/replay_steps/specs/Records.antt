@@ -11,8 +11,8 @@ use Rattle.packet_data.specs.Data.{readData}
 use Rattle.packet_metadata.specs.Metadata.{readMetadata}
 use Rattle.area.specs.Operations.{freshArea, openArea, recordArea, closeArea, areaStatusWritten, areaStatusBuffer}
 use Rattle.replay_lines.specs.Lines.{plainLine, unknownLine}
-use Rattle.replay_fields.specs.Words.{w-bad, w-cut}
-use Rattle.replay_answers.specs.Answers.{freshText, closeText, openText, recordText, readText, statusText}
+use Rattle.replay_fields.specs.LineWords.{w-bad, w-cut}
+use Rattle.replay_answers.specs.AnswerLines.{freshText, closeText, openText, recordText, readText, statusText}
 use Rattle.replay_steps.specs.Deliver.{deliverLines, deliverArea}
 
 -- the number that n octets from a place on stand for

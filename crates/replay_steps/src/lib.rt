@@ -5,3 +5,4 @@ mod records;
 pub use records::answer;
 pub use records::body_length;
 pub use records::cut_short;
+pub use records::within;

@@ -1,13 +1,15 @@
 // Records: the kind, the length of the body, and what is answered to each.
 ghost use mathlib.Core.Path.{_≡_};
-ghost use Prim.Native.Nat.{min};
+ghost use Prim.Native.Nat.{_≤_, min};
+ghost use lib.ListN.{length, take};
 ghost use Rattle.area.specs.Operations.{openArea, recordArea};
 ghost use Rattle.packet.specs.Read.{readPacket};
 ghost use Rattle.packet_data.specs.Data.{readData};
 ghost use Rattle.packet_metadata.specs.Metadata.{readMetadata};
 ghost use Rattle.text.specs.Added.{Added};
-ghost use Rattle.replay_answers.specs.Answers.{openText, recordText, readText};
+ghost use Rattle.replay_answers.specs.AnswerLines.{openText, recordText, readText};
 ghost use Rattle.replay_steps.specs.Records.{bodyLength, cutLine, badLine, freshLines, freshAfter, closeLines, closeAfter, writtenLine, statusLines, recordLines, areaAfter};
+ghost use Rattle.replay_steps.specs.Room.{Room};
 use crate::deliver::deliver;
 use replay_answers::put_close;
 use replay_answers::put_fresh;
@@ -95,14 +97,14 @@ fn write(
     put_written(out, 0, number, w, lent)
 }
 
-// The room of a STATUS: what the record says, and at most what is lent.
-fn room_of(asked: u64, most: usize) -> usize
-    ensures { λ r. ⌜ r ≡ min asked most ⌝ }
+// As many octets as are asked for, and at most as many as there is room for.
+pub fn within(asked: u64, room: usize) -> usize
+    ensures { λ r. ⌜ r ≡ min asked room ⌝ }
 {
-    if asked < most as u64 {
+    if asked < room as u64 {
         return asked as usize;
     }
-    most
+    room
 }
 
 // `S`: writes STATUS. The body is Id, k, unasked and room, of 4, 8, 1 and 4 octets.
@@ -115,7 +117,7 @@ fn status(area: &[u8], number: u64, body: &[u8], lent: &mut [u8], out: &mut [u8]
     let id = octets::read_number(body, 0, 4);
     let skip = octets::read_number(body, 4, 8);
     let unasked = body[12] != 0;
-    let room = room_of(octets::read_number(body, 13, 4), lent.len());
+    let room = within(octets::read_number(body, 13, 4), lent.len());
     write(area, number, id, skip, unasked, &mut lent[..room], out)
 }
 
@@ -132,8 +134,8 @@ fn close(area: &mut [u8], number: u64, body: &[u8], out: &mut [u8]) -> usize
     put_close(out, 0, number, id, a)
 }
 
-// The lines of one record, at the start of `out`, and their length. `lent` is the buffer that STATUS is written into.
-pub fn answer(
+// The lines of one record, as far as `out` has room. `lent` is the buffer that STATUS is written into.
+fn lines(
     area: &mut [u8],
     number: u64,
     kind: u8,
@@ -166,4 +168,21 @@ pub fn answer(
         return deliver(area, number, body, lent, out);
     }
     replay_lines::put_unknown(out, 0, number, kind as u64)
+}
+
+// The lines of one record, whole, at the start of `out`, and their length.
+pub fn answer(
+    area: &mut [u8],
+    number: u64,
+    kind: u8,
+    body: &[u8],
+    lent: &mut [u8],
+    out: &mut [u8],
+) -> usize
+    requires { ⌜ Room (now body) (now lent) (now out) ⌝ }
+    ensures { λ r. ⌜ (r ≤ length (now (out .exit)))
+        × (take r (now (out .exit)) ≡ recordLines number kind (now (body .entry)) (now (area .entry)) (now (lent .entry)))
+        × (now (area .exit) ≡ areaAfter kind (now (body .entry)) (now (area .entry))) ⌝ }
+{
+    lines(area, number, kind, body, lent, out)
 }

@@ -9,7 +9,7 @@ use native.Mathlib.Omega.{arith}
 use lib.Dec.{leb, ltb}
 use borrow.Author.Tests.{le-leb, lt-leb, lt-ltb, le-ltb}
 use Rattle.runs.specs.Runs.{Run, run, Within, Member, contains, CanonicalFrom, Canonical, StopsTo}
-use Rattle.runs.proofs.NumberLaws.{le-or-lt}
+use Rattle.runs.proofs.CompareLaws.{le-or-lt}
 
 -- "touching stretches are one run": at least one offset lies between neighbours
 pub canonical-apart : (k : ℕ) (r s : Run) (rs : List Run) → CanonicalFrom k (r ∷ s ∷ rs) → r .stop < s .start

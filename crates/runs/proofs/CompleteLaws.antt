@@ -9,7 +9,7 @@ use native.Mathlib.Omega.{arith}
 use borrow.Author.Tests.{le-leb, leb-true}
 use Rattle.runs.specs.Runs.{Run, Member, Canonical, StopsTo}
 use Rattle.runs.specs.Holes.{edge, holes, progress, complete}
-use Rattle.runs.proofs.NumberLaws.{le-or-lt}
+use Rattle.runs.proofs.CompareLaws.{le-or-lt}
 use Rattle.runs.proofs.EdgeLaws.{edge-stops}
 use Rattle.runs.proofs.ProgressLaws.{progress-below, progress-missing, progress-edge, progress-stops, progress-no-holes}
 

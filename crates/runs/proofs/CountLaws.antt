@@ -1,28 +1,45 @@
 -- How many runs an insertion takes up, and how many there are after it.
 -- Assumes nothing.
 use Prim.Native.Nat.{ℕ, suc, _+_, _≤_, _<_, min, max}
-use mathlib.Core.Path.{_≡_, refl, ap}
+use mathlib.Core.Path.{_≡_, refl, ap, ap₂}
+use mathlib.Core.Bool.{Bool, cond, _&&_}
 use mathlib.Core.List.{List, [], _∷_}
 use mathlib.Core.Logic.{_⊎_, inl, inr, ⊎-elim}
 use native.Mathlib.Omega.{arith}
 use lib.ListN.{length}
+use lib.Dec.{leb}
 use borrow.Author.Tests.{le-leb, lt-leb}
 use Rattle.runs.specs.Runs.{Run, run, CanonicalFrom, Canonical, insert, absorbed}
-use Rattle.runs.proofs.NumberLaws.{le-or-lt}
+use Rattle.runs.proofs.CompareLaws.{le-or-lt}
 use Rattle.runs.proofs.InsertLaws.{insert-cases}
+
+-- whether the first run is taken up: it is where it overlaps or touches
+abbrev counted : ℕ → Bool → Bool → ℕ
+counted rest above below = cond (above && below) (suc rest) rest
+
+absorbed-touched : (a b : ℕ) (r : Run) (rs : List Run) → a ≤ r .stop → r .start ≤ b → absorbed a b (r ∷ rs) ≡ suc (absorbed a b rs)
+unfolding absorbed
+absorbed-touched a b r rs p q = ap₂ (λ (x y : Bool). counted (absorbed a b rs) x y) (le-leb a (r .stop) p) (le-leb (r .start) b q)
+
+absorbed-below : (a b : ℕ) (r : Run) (rs : List Run) → r .stop < a → absorbed a b (r ∷ rs) ≡ absorbed a b rs
+unfolding absorbed
+absorbed-below a b r rs p = ap (λ (x : Bool). counted (absorbed a b rs) x (leb (r .start) b)) (lt-leb a (r .stop) p)
+
+absorbed-above : (a b : ℕ) (r : Run) (rs : List Run) → a ≤ r .stop → b < r .start → absorbed a b (r ∷ rs) ≡ absorbed a b rs
+unfolding absorbed
+absorbed-above a b r rs p q = ap₂ (λ (x y : Bool). counted (absorbed a b rs) x y) (le-leb a (r .stop) p) (lt-leb (r .start) b q)
 
 -- a property of `absorbed a b (r ∷ rs)`, by whether r overlaps or touches
 pub absorbed-cases : (P : ℕ → Type 0) (a b : ℕ) (r : Run) (rs : List Run)
     → (a ≤ r .stop → r .start ≤ b → P (suc (absorbed a b rs)))
     → ((r .stop < a) ⊎ (b < r .start) → P (absorbed a b rs))
     → P (absorbed a b (r ∷ rs))
-unfolding absorbed
 absorbed-cases P a b r rs f g =
     ⊎-elim
     (λ (p : a ≤ r .stop).
-    ⊎-elim (λ (q : r .start ≤ b). simp (le-leb _ _ p, le-leb _ _ q) (f p q)) (λ (q : b < r .start). simp (le-leb _ _ p, lt-leb _ _ q) (g (inr q)))
+    ⊎-elim (λ (q : r .start ≤ b). rw (absorbed-touched a b r rs p q) (f p q)) (λ (q : b < r .start). rw (absorbed-above a b r rs p q) (g (inr q)))
     (le-or-lt (r .start) b))
-    (λ (p : r .stop < a). simp (lt-leb _ _ p) (g (inl p)))
+    (λ (p : r .stop < a). rw (absorbed-below a b r rs p) (g (inl p)))
     (le-or-lt a (r .stop))
 
 -- runs that start above b are not touched

@@ -7,6 +7,7 @@ use mathlib.Core.List.{List, [], _∷_}
 use native.Mathlib.Omega.{arith}
 use lib.ListN.{length}
 use Rattle.runs.specs.Runs.{Run, run, contains, Canonical, insert, absorbed}
+use Rattle.runs.specs.Splice.{stopsBelow, startsUpTo, splicedRuns}
 use Rattle.runs.specs.Holes.{edgeFrom, edge, hole, holesFrom, holes, progress, complete}
 
 -- ---- nothing received
@@ -140,6 +141,32 @@ two-absorbed = refl
 two-complete : complete 3000 (insert 1000 2000 two) ≡ true
 unfolding insert progress complete
 two-complete = refl
+
+-- as a splice: both runs are joined with the packet
+two-below : stopsBelow 1000 two ≡ 0
+unfolding insert stopsBelow
+two-below = refl
+
+two-up-to : startsUpTo 2000 two ≡ 2
+unfolding insert startsUpTo
+two-up-to = refl
+
+two-spliced : splicedRuns 1000 2000 two 0 2 ≡ run 0 3000 ∷ []
+unfolding insert
+two-spliced = refl
+
+-- one offset more on either side, and it touches neither
+two-below-apart : stopsBelow 1001 two ≡ 1
+unfolding insert stopsBelow
+two-below-apart = refl
+
+two-up-to-apart : startsUpTo 1999 two ≡ 1
+unfolding insert startsUpTo
+two-up-to-apart = refl
+
+two-spliced-apart : splicedRuns 1001 1999 two 1 1 ≡ run 0 1000 ∷ run 1001 1999 ∷ run 2000 3000 ∷ []
+unfolding insert
+two-spliced-apart = refl
 
 -- a repeat changes nothing
 two-repeated : insert 2500 2600 two ≡ two

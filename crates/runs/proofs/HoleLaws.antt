@@ -9,8 +9,8 @@ use lib.ListN.{take, drop}
 use borrow.Author.Tests.{lt-ltb, le-ltb}
 use Rattle.runs.specs.Runs.{Run, Member, CanonicalFrom, Canonical}
 use Rattle.runs.specs.Holes.{edgeFrom, edge, hole, holesFrom, holes, InHole, HolesApart}
-use Rattle.header.specs.declared.Hole.{Hole}
-use Rattle.runs.proofs.NumberLaws.{le-or-lt}
+use Rattle.runs.specs.declared.Hole.{Hole}
+use Rattle.runs.proofs.CompareLaws.{le-or-lt}
 use Rattle.runs.proofs.CanonicalLaws.{canonical-weaken, member-from}
 use Rattle.runs.proofs.EdgeLaws.{edge-grows}
 

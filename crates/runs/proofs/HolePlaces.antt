@@ -10,10 +10,10 @@ use native.Mathlib.Omega.{arith}
 use lib.ListN.{length, getD}
 use lib.Dec.{eqb}
 use borrow.Author.Tests.{eq-eqb, ne-eqb}
-use Rattle.runs.specs.Runs.{Run, CanonicalFrom, Canonical}
+use Rattle.runs.specs.Runs.{Run, run, nthRun, CanonicalFrom, Canonical}
 use Rattle.runs.specs.Holes.{hole, holesFrom, holes}
-use Rattle.header.specs.declared.Hole.{Hole}
-use Rattle.runs.proofs.NumberLaws.{le-or-lt}
+use Rattle.runs.specs.declared.Hole.{Hole}
+use Rattle.runs.proofs.CompareLaws.{le-or-lt}
 use Rattle.runs.proofs.HoleLaws.{holes-before, holes-after}
 
 -- ---- their number
@@ -75,3 +75,27 @@ hole-high-first r rs d z = gap-first 0 r rs d z
 pub hole-high-next : (r : Run) (rs : List Run) (j : ℕ) (d : Hole) (e : Run) → Canonical (r ∷ rs) → 0 < r .start → j < length rs
     → getD (holes (r ∷ rs)) (suc j) d ≡ hole (getD (r ∷ rs) j e .stop) (getD (r ∷ rs) (suc j) e .start)
 hole-high-next r rs j d e h z p = gap-next 0 (r ∷ rs) j d e (z, h .1, h .2) (omega arith)
+
+-- ---- the same by places alone, as a list of rows is read
+
+pub holes-number-low : (rs : List Run) → Canonical rs → 0 < length rs → nthRun rs 0 .start ≡ 0 → suc (length (holes rs)) ≡ length rs
+holes-number-low [] h n z = absurd (omega arith)
+holes-number-low (r ∷ rs) h n z = ap suc (holes-count-low r rs h z)
+
+pub holes-number-high : (rs : List Run) → Canonical rs → 0 < nthRun rs 0 .start → length (holes rs) ≡ length rs
+holes-number-high [] h z = absurd (omega arith)
+holes-number-high (r ∷ rs) h z = holes-count-high r rs h z
+
+pub hole-place-low : (rs : List Run) (j : ℕ) (d : Hole) → Canonical rs → nthRun rs 0 .start ≡ 0 → suc j < length rs
+    → getD (holes rs) j d ≡ hole (nthRun rs j .stop) (nthRun rs (suc j) .start)
+hole-place-low [] j d h z p = absurd (omega arith)
+hole-place-low (r ∷ rs) j d h z p = hole-low r rs j d (run 0 0) h z (omega arith)
+
+pub hole-place-first : (rs : List Run) (d : Hole) → 0 < nthRun rs 0 .start → getD (holes rs) 0 d ≡ hole 0 (nthRun rs 0 .start)
+hole-place-first [] d z = absurd (omega arith)
+hole-place-first (r ∷ rs) d z = hole-high-first r rs d z
+
+pub hole-place-next : (rs : List Run) (j : ℕ) (d : Hole) → Canonical rs → 0 < nthRun rs 0 .start → suc j < length rs
+    → getD (holes rs) (suc j) d ≡ hole (nthRun rs j .stop) (nthRun rs (suc j) .start)
+hole-place-next [] j d h z p = absurd (omega arith)
+hole-place-next (r ∷ rs) j d h z p = hole-high-next r rs j d (run 0 0) h z (omega arith)

@@ -1,28 +1,33 @@
 -- `insert` adds exactly its offsets to the set, keeps the canonical form, and keeps the stops at most L.
 -- Assumes nothing.
 use Prim.Native.Nat.{ℕ, suc, _≤_, _<_, min, max}
-use mathlib.Core.Path.{_≡_}
+use mathlib.Core.Path.{_≡_, ap, ap₂}
+use mathlib.Core.Bool.{Bool, cond}
 use mathlib.Core.List.{List, [], _∷_}
 use mathlib.Core.Logic.{_⊎_, inl, inr, ⊎-elim, _↔_}
 use native.Mathlib.Omega.{arith}
+use lib.Dec.{ltb}
 use borrow.Author.Tests.{lt-ltb, le-ltb}
 use Rattle.runs.specs.Runs.{Run, run, Within, Member, CanonicalFrom, Canonical, StopsTo, insert}
-use Rattle.runs.proofs.NumberLaws.{le-or-lt}
+use Rattle.runs.proofs.CompareLaws.{le-or-lt}
 use Rattle.runs.proofs.CanonicalLaws.{canonical-weaken}
 
--- what `insert` does at the head of a list, by the order of the numbers
+-- what `insert` does at the head of a list, by its two tests: whether r lies below, and whether it lies above
+abbrev inserted : ℕ → ℕ → Run → List Run → Bool → Bool → List Run
+inserted a b r rs below above = cond below (r ∷ insert a b rs) (cond above (run a b ∷ r ∷ rs) (insert (min a (r .start)) (max b (r .stop)) rs))
+
 pub insert-join : (a b : ℕ) (r : Run) (rs : List Run) → a ≤ r .stop → r .start ≤ b
     → insert a b (r ∷ rs) ≡ insert (min a (r .start)) (max b (r .stop)) rs
 unfolding insert
-insert-join a b r rs h k = simp (le-ltb _ _ h, le-ltb _ _ k)
+insert-join a b r rs h k = ap₂ (λ (x y : Bool). inserted a b r rs x y) (le-ltb (r .stop) a h) (le-ltb b (r .start) k)
 
 pub insert-before : (a b : ℕ) (r : Run) (rs : List Run) → a ≤ r .stop → b < r .start → insert a b (r ∷ rs) ≡ run a b ∷ r ∷ rs
 unfolding insert
-insert-before a b r rs h k = simp (le-ltb _ _ h, lt-ltb _ _ k)
+insert-before a b r rs h k = ap₂ (λ (x y : Bool). inserted a b r rs x y) (le-ltb (r .stop) a h) (lt-ltb b (r .start) k)
 
 pub insert-after : (a b : ℕ) (r : Run) (rs : List Run) → r .stop < a → insert a b (r ∷ rs) ≡ r ∷ insert a b rs
 unfolding insert
-insert-after a b r rs h = simp (lt-ltb _ _ h)
+insert-after a b r rs h = ap (λ (x : Bool). inserted a b r rs x (ltb b (r .start))) (lt-ltb (r .stop) a h)
 
 -- a property of `insert a b (r ∷ rs)` by these three cases
 pub insert-cases : (P : List Run → Type 0) (a b : ℕ) (r : Run) (rs : List Run)

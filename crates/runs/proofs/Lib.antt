@@ -1,9 +1,13 @@
-pub mod NumberLaws
+pub mod CompareLaws
 pub mod CanonicalLaws
+pub mod RunLaws
 pub mod InsertLaws
-pub mod RepeatLaws
 pub mod CountLaws
+pub mod RepeatLaws
 pub mod RisingLaws
+pub mod SpliceLaws
+pub mod RunPlaces
+pub mod BetweenLaws
 pub mod EdgeLaws
 pub mod HoleLaws
 pub mod ProgressLaws

@@ -8,8 +8,8 @@ use native.Mathlib.Omega.{arith}
 use borrow.Author.Tests.{eq-eqb, ne-eqb}
 use Rattle.runs.specs.Runs.{Run, Member, CanonicalFrom, Canonical, StopsTo}
 use Rattle.runs.specs.Holes.{edgeFrom, edge, hole, holesFrom, holes, progress, HolesApart}
-use Rattle.header.specs.declared.Hole.{Hole}
-use Rattle.runs.proofs.NumberLaws.{le-or-lt}
+use Rattle.runs.specs.declared.Hole.{Hole}
+use Rattle.runs.proofs.CompareLaws.{le-or-lt}
 use Rattle.runs.proofs.CanonicalLaws.{canonical-weaken, member-from}
 use Rattle.runs.proofs.EdgeLaws.{edge-grows, edge-stops}
 use Rattle.runs.proofs.HoleLaws.{holes-before, holes-after, holes-apart-from}

@@ -1,12 +1,15 @@
 -- The order of insertions and their repeats leave no trace in a canonical list.
 -- Assumes nothing.
 use Prim.Native.Nat.{ℕ, _≤_, _<_}
-use mathlib.Core.Path.{_≡_}
+use mathlib.Core.Path.{_≡_, ap}
 use mathlib.Core.List.{List}
 use mathlib.Core.Logic.{inl, inr, ⊎-elim}
-use Rattle.runs.specs.Runs.{Run, Member, Canonical, insert}
+use native.Mathlib.Omega.{arith}
+use lib.ListN.{length}
+use Rattle.runs.specs.Runs.{Run, Member, Canonical, insert, absorbed}
 use Rattle.runs.proofs.CanonicalLaws.{canonical-unique}
 use Rattle.runs.proofs.InsertLaws.{insert-canonical, insert-only, insert-holds}
+use Rattle.runs.proofs.CountLaws.{insert-count}
 
 insert-swap : (a b c d : ℕ) (rs : List Run) (x : ℕ) → Member (insert a b (insert c d rs)) x → Member (insert c d (insert a b rs)) x
 insert-swap a b c d rs x m =
@@ -26,6 +29,10 @@ pub insert-known : (a b : ℕ) (rs : List Run) → a < b → Canonical rs → ((
 insert-known a b rs p h f =
     canonical-unique (insert a b rs) rs (insert-canonical a b rs p h) h
     (λ x m. ⊎-elim (λ w. f x (w .0) (w .1)) (λ n. n) (insert-only a b rs x m)) (λ x m. insert-holds a b rs x (inr m))
+
+-- and lie in one run: that is all they take up
+pub absorbed-known : (a b : ℕ) (rs : List Run) → a < b → Canonical rs → ((x : ℕ) → a ≤ x → x < b → Member rs x) → absorbed a b rs ≡ 1
+absorbed-known a b rs p h f = omega (arith, insert-count a b rs p h, ap length (insert-known a b rs p h f))
 
 -- a second time changes nothing
 pub insert-idempotent : (a b : ℕ) (rs : List Run) → a < b → Canonical rs → insert a b (insert a b rs) ≡ insert a b rs

@@ -6,7 +6,7 @@ use mathlib.Core.List.{List, [], _∷_}
 use mathlib.Core.Logic.{_⊎_}
 use lib.Dec.{ltb, leb, eqb}
 use Rattle.runs.specs.Runs.{Run}
-use Rattle.header.specs.declared.Hole.{Hole}
+use Rattle.runs.specs.declared.Hole.{Hole}
 
 -- "The edge is one more than the highest received offset, 0 if there is none": where the last run stops
 unfoldable pub edgeFrom : ℕ → List Run → ℕ

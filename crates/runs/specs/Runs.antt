@@ -1,10 +1,12 @@
 -- The set of received offsets of one transfer, kept as its one canonical list of runs, lowest first.
 -- Assumes nothing.
 use Prim.Native.Nat.{ℕ, suc, _≤_, _<_, min, max}
+use mathlib.Core.Path.{_≡_}
 use mathlib.Core.Bool.{Bool, false, cond, _&&_, _||_}
 use mathlib.Core.List.{List, [], _∷_}
 use mathlib.Core.Logic.{_⊎_}
 use lib.Dec.{ltb, leb}
+use lib.ListN.{getD}
 
 -- "A run is a longest unbroken stretch of received offsets": those from start on, and stop is the first offset after them
 pub record Run : Type 0 where
@@ -14,6 +16,10 @@ pub record Run : Type 0 where
 abbrev pub run : ℕ → ℕ → Run
 run start stop = record { start = start; stop = stop }
 
+-- run i of a list, the first being run 0; past the last, an empty one stands for none
+abbrev pub nthRun : List Run → ℕ → Run
+nthRun rs i = getD rs i (run 0 0)
+
 -- offset x lies in the run
 abbrev pub Within : Run → ℕ → Type 0
 Within r x = (r .start ≤ x) × (x < r .stop)
@@ -22,6 +28,14 @@ Within r x = (r .start ≤ x) × (x < r .stop)
 abbrev pub Member : List Run → ℕ → Type 0
 Member [] x = ⊥
 Member (r ∷ rs) x = Within r x ⊎ Member rs x
+
+-- "a longest unbroken stretch of received offsets": it isn't empty, all its offsets are received, the one before it, if there
+-- is one, is not, and nor is the one after it
+pub record LongestStretch (rs : List Run) (r : Run) : Type 0 where
+  pub some : r .start < r .stop
+  pub received : (x : ℕ) → Within r x → Member rs x
+  pub none-before : (x : ℕ) → suc x ≡ r .start → Member rs x → ⊥
+  pub none-after : Member rs (r .stop) → ⊥
 
 -- `Member` as a test
 unfoldable pub contains : List Run → ℕ → Bool

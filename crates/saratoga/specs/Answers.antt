@@ -1,7 +1,7 @@
 -- What C gets of a hole that was read, and of a packet that was written.
 -- Assumes nothing.
-use Rattle.header.specs.declared.Written.{Written}
-use Rattle.header.specs.declared.Written.the-variants as written
+use Rattle.refusals.specs.declared.Written.{Written}
+use Rattle.refusals.specs.declared.Written.the-variants as written
 use Rattle.packet_status.specs.declared.HoleRead.{HoleRead}
 use Rattle.packet_status.specs.declared.HoleRead.the-variants as hole-read
 use Rattle.saratoga.specs.declared.packets.HoleAnswer.{HoleAnswer}

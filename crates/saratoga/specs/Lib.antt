@@ -1,3 +1,4 @@
 pub mod PacketAnswers
 pub mod Answers
 pub mod TableAnswers
+pub mod Reported

@@ -1,14 +1,31 @@
 -- What C gets of a packet that was read: "a definition gives this paper's number and values for each case".
 -- A field that the packet's type lacks is 0. Places count octets from the packet's start.
 -- Assumes nothing.
-use Rattle.header.specs.declared.Refusal.{Refusal}
+use Rattle.refusals.specs.declared.Refusal.{Refusal}
 use Rattle.packet_metadata.specs.declared.Metadata.{Metadata}
 use Rattle.packet_data.specs.declared.Data.{Data}
 use Rattle.packet_status.specs.declared.SuccessStatus.{SuccessStatus}
 use Rattle.packet_status.specs.declared.FailureStatus.{FailureStatus}
 use Rattle.packet.specs.declared.Read.{Read}
 use Rattle.packet.specs.declared.Read.the-variants as read
+use Rattle.saratoga.specs.declared.packets.Part.{Part}
+use Rattle.saratoga.specs.declared.packets.MetadataPart.{MetadataPart}
+use Rattle.saratoga.specs.declared.packets.DataPart.{DataPart}
+use Rattle.saratoga.specs.declared.packets.StatusPart.{StatusPart}
 use Rattle.saratoga.specs.declared.packets.PacketAnswer.{PacketAnswer}
+
+-- the parts that a packet of another type lacks
+abbrev pub noPart : Part
+noPart = record { at = 0; len = 0 }
+
+abbrev pub noMetadata : MetadataPart
+noMetadata = record { checksum = noPart; properties = 0; size = 0; mtime = 0; ctime = 0; path = noPart }
+
+abbrev pub noData : DataPart
+noData = record { offset = 0; payload = noPart }
+
+abbrev pub noStatus : StatusPart
+noStatus = record { status = 0; progress = 0; «in_response_to» = 0; «holes_at» = 0; «hole_count» = 0 }
 
 -- what C gets for METADATA
 abbrev pub metadataPacket : Metadata → PacketAnswer
@@ -20,24 +37,17 @@ metadataPacket m =
       flags = m .flags;
       id = m .id;
       width = m .width;
-      «timestamp_at» = 0;
-      «timestamp_len» = 0;
-      «checksum_at» = 8;
-      «checksum_len» = m .checksum;
-      properties = m .entry .properties;
-      size = m .entry .size;
-      mtime = m .entry .mtime;
-      ctime = m .entry .ctime;
-      «path_at» = m .entry .path;
-      «path_len» = m .entry .length;
-      offset = 0;
-      «payload_at» = 0;
-      «payload_len» = 0;
-      status = 0;
-      progress = 0;
-      «in_response_to» = 0;
-      «holes_at» = 0;
-      «hole_count» = 0;
+      timestamp = noPart;
+      metadata = record {
+        checksum = record { at = 8; len = m .checksum };
+        properties = m .entry .properties;
+        size = m .entry .size;
+        mtime = m .entry .mtime;
+        ctime = m .entry .ctime;
+        path = record { at = m .entry .path; len = m .entry .length };
+      };
+      «data» = noData;
+      status = noStatus;
     }
 
 -- what C gets for DATA
@@ -50,24 +60,10 @@ dataPacket d =
       flags = d .flags;
       id = d .id;
       width = d .width;
-      «timestamp_at» = 8;
-      «timestamp_len» = d .timestamp;
-      «checksum_at» = 0;
-      «checksum_len» = 0;
-      properties = 0;
-      size = 0;
-      mtime = 0;
-      ctime = 0;
-      «path_at» = 0;
-      «path_len» = 0;
-      offset = d .offset;
-      «payload_at» = d .start;
-      «payload_len» = d .length;
-      status = 0;
-      progress = 0;
-      «in_response_to» = 0;
-      «holes_at» = 0;
-      «hole_count» = 0;
+      timestamp = record { at = 8; len = d .timestamp };
+      metadata = noMetadata;
+      «data» = record { offset = d .offset; payload = record { at = d .start; len = d .length } };
+      status = noStatus;
     }
 
 -- what C gets for a success STATUS
@@ -80,24 +76,16 @@ successPacket s =
       flags = s .flags;
       id = s .id;
       width = s .width;
-      «timestamp_at» = 8;
-      «timestamp_len» = s .timestamp;
-      «checksum_at» = 0;
-      «checksum_len» = 0;
-      properties = 0;
-      size = 0;
-      mtime = 0;
-      ctime = 0;
-      «path_at» = 0;
-      «path_len» = 0;
-      offset = 0;
-      «payload_at» = 0;
-      «payload_len» = 0;
-      status = 0;
-      progress = s .progress;
-      «in_response_to» = s .response;
-      «holes_at» = s .holes;
-      «hole_count» = s .count;
+      timestamp = record { at = 8; len = s .timestamp };
+      metadata = noMetadata;
+      «data» = noData;
+      status = record {
+        status = 0;
+        progress = s .progress;
+        «in_response_to» = s .response;
+        «holes_at» = s .holes;
+        «hole_count» = s .count;
+      };
     }
 
 -- what C gets for a failure STATUS
@@ -110,24 +98,10 @@ failurePacket f =
       flags = f .flags;
       id = f .id;
       width = 0;
-      «timestamp_at» = 0;
-      «timestamp_len» = 0;
-      «checksum_at» = 0;
-      «checksum_len» = 0;
-      properties = 0;
-      size = 0;
-      mtime = 0;
-      ctime = 0;
-      «path_at» = 0;
-      «path_len» = 0;
-      offset = 0;
-      «payload_at» = 0;
-      «payload_len» = 0;
-      status = f .status;
-      progress = 0;
-      «in_response_to» = 0;
-      «holes_at» = 0;
-      «hole_count» = 0;
+      timestamp = noPart;
+      metadata = noMetadata;
+      «data» = noData;
+      status = record { status = f .status; progress = 0; «in_response_to» = 0; «holes_at» = 0; «hole_count» = 0 };
     }
 
 -- what C gets for a refusal: "its other results are 0 or empty"
@@ -140,24 +114,10 @@ refusedPacket r =
       flags = 0;
       id = 0;
       width = 0;
-      «timestamp_at» = 0;
-      «timestamp_len» = 0;
-      «checksum_at» = 0;
-      «checksum_len» = 0;
-      properties = 0;
-      size = 0;
-      mtime = 0;
-      ctime = 0;
-      «path_at» = 0;
-      «path_len» = 0;
-      offset = 0;
-      «payload_at» = 0;
-      «payload_len» = 0;
-      status = 0;
-      progress = 0;
-      «in_response_to» = 0;
-      «holes_at» = 0;
-      «hole_count» = 0;
+      timestamp = noPart;
+      metadata = noMetadata;
+      «data» = noData;
+      status = noStatus;
     }
 
 -- by the case of the answer

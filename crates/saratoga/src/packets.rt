@@ -5,18 +5,53 @@ ghost use Rattle.packet_data.specs.WriteData.{dataWritten, dataBuffer};
 ghost use Rattle.packet_metadata.specs.WriteMetadata.{metadataWritten, metadataBuffer};
 ghost use Rattle.packet_status.specs.Status.{readHole};
 ghost use Rattle.packet_status.specs.WriteFailure.{failureWritten, failureBuffer};
-ghost use Rattle.saratoga.specs.PacketAnswers.{metadataPacket, dataPacket, successPacket, failurePacket, refusedPacket, packetAnswer};
+ghost use Rattle.saratoga.specs.PacketAnswers.{noPart, noMetadata, noData, noStatus, metadataPacket, dataPacket, successPacket, failurePacket, refusedPacket, packetAnswer};
 ghost use Rattle.saratoga.specs.Answers.{holeAnswer, writtenAnswer};
-use header::Refusal;
-use header::Written;
 use packet::Read;
 use packet_data::Data;
 use packet_metadata::Metadata;
 use packet_status::FailureStatus;
 use packet_status::HoleRead;
 use packet_status::SuccessStatus;
+use refusals::Refusal;
+use refusals::Written;
 
-// struct saratoga_packet; `ptype` is its field `type`.
+// A part of the packet: its place and its length, in octets.
+#[repr(C)]
+pub struct Part {
+    pub at: usize,
+    pub len: usize,
+}
+
+// What METADATA alone has.
+#[repr(C)]
+pub struct MetadataPart {
+    pub checksum: Part,
+    pub properties: u64,
+    pub size: u64,
+    pub mtime: u64,
+    pub ctime: u64,
+    pub path: Part,
+}
+
+// What DATA alone has.
+#[repr(C)]
+pub struct DataPart {
+    pub offset: u64,
+    pub payload: Part,
+}
+
+// What STATUS alone has.
+#[repr(C)]
+pub struct StatusPart {
+    pub status: u64,
+    pub progress: u64,
+    pub in_response_to: u64,
+    pub holes_at: usize,
+    pub hole_count: usize,
+}
+
+// struct saratoga_packet, part by part; `ptype` is its field `type`. Parts of 64-bit fields lie in memory as the fields do.
 #[repr(C)]
 pub struct PacketAnswer {
     pub number: u64,
@@ -25,24 +60,10 @@ pub struct PacketAnswer {
     pub flags: u64,
     pub id: u64,
     pub width: usize,
-    pub timestamp_at: usize,
-    pub timestamp_len: usize,
-    pub checksum_at: usize,
-    pub checksum_len: usize,
-    pub properties: u64,
-    pub size: u64,
-    pub mtime: u64,
-    pub ctime: u64,
-    pub path_at: usize,
-    pub path_len: usize,
-    pub offset: u64,
-    pub payload_at: usize,
-    pub payload_len: usize,
-    pub status: u64,
-    pub progress: u64,
-    pub in_response_to: u64,
-    pub holes_at: usize,
-    pub hole_count: usize,
+    pub timestamp: Part,
+    pub metadata: MetadataPart,
+    pub data: DataPart,
+    pub status: StatusPart,
 }
 
 // struct saratoga_hole.
@@ -62,6 +83,46 @@ pub struct WrittenAnswer {
     pub size: usize,
 }
 
+fn no_part() -> Part
+    ensures { λ r. ⌜ r ≡ noPart ⌝ }
+{
+    Part { at: 0, len: 0 }
+}
+
+fn no_metadata() -> MetadataPart
+    ensures { λ r. ⌜ r ≡ noMetadata ⌝ }
+{
+    MetadataPart {
+        checksum: no_part(),
+        properties: 0,
+        size: 0,
+        mtime: 0,
+        ctime: 0,
+        path: no_part(),
+    }
+}
+
+fn no_data() -> DataPart
+    ensures { λ r. ⌜ r ≡ noData ⌝ }
+{
+    DataPart {
+        offset: 0,
+        payload: no_part(),
+    }
+}
+
+fn no_status() -> StatusPart
+    ensures { λ r. ⌜ r ≡ noStatus ⌝ }
+{
+    StatusPart {
+        status: 0,
+        progress: 0,
+        in_response_to: 0,
+        holes_at: 0,
+        hole_count: 0,
+    }
+}
+
 fn metadata_packet(m: Metadata) -> PacketAnswer
     ensures { λ r. ⌜ r ≡ metadataPacket m ⌝ }
 {
@@ -72,24 +133,23 @@ fn metadata_packet(m: Metadata) -> PacketAnswer
         flags: m.flags,
         id: m.id,
         width: m.width,
-        timestamp_at: 0,
-        timestamp_len: 0,
-        checksum_at: 8,
-        checksum_len: m.checksum,
-        properties: m.entry.properties,
-        size: m.entry.size,
-        mtime: m.entry.mtime,
-        ctime: m.entry.ctime,
-        path_at: m.entry.path,
-        path_len: m.entry.length,
-        offset: 0,
-        payload_at: 0,
-        payload_len: 0,
-        status: 0,
-        progress: 0,
-        in_response_to: 0,
-        holes_at: 0,
-        hole_count: 0,
+        timestamp: no_part(),
+        metadata: MetadataPart {
+            checksum: Part {
+                at: 8,
+                len: m.checksum,
+            },
+            properties: m.entry.properties,
+            size: m.entry.size,
+            mtime: m.entry.mtime,
+            ctime: m.entry.ctime,
+            path: Part {
+                at: m.entry.path,
+                len: m.entry.length,
+            },
+        },
+        data: no_data(),
+        status: no_status(),
     }
 }
 
@@ -103,24 +163,19 @@ fn data_packet(d: Data) -> PacketAnswer
         flags: d.flags,
         id: d.id,
         width: d.width,
-        timestamp_at: 8,
-        timestamp_len: d.timestamp,
-        checksum_at: 0,
-        checksum_len: 0,
-        properties: 0,
-        size: 0,
-        mtime: 0,
-        ctime: 0,
-        path_at: 0,
-        path_len: 0,
-        offset: d.offset,
-        payload_at: d.start,
-        payload_len: d.length,
-        status: 0,
-        progress: 0,
-        in_response_to: 0,
-        holes_at: 0,
-        hole_count: 0,
+        timestamp: Part {
+            at: 8,
+            len: d.timestamp,
+        },
+        metadata: no_metadata(),
+        data: DataPart {
+            offset: d.offset,
+            payload: Part {
+                at: d.start,
+                len: d.length,
+            },
+        },
+        status: no_status(),
     }
 }
 
@@ -134,24 +189,19 @@ fn success_packet(s: SuccessStatus) -> PacketAnswer
         flags: s.flags,
         id: s.id,
         width: s.width,
-        timestamp_at: 8,
-        timestamp_len: s.timestamp,
-        checksum_at: 0,
-        checksum_len: 0,
-        properties: 0,
-        size: 0,
-        mtime: 0,
-        ctime: 0,
-        path_at: 0,
-        path_len: 0,
-        offset: 0,
-        payload_at: 0,
-        payload_len: 0,
-        status: 0,
-        progress: s.progress,
-        in_response_to: s.response,
-        holes_at: s.holes,
-        hole_count: s.count,
+        timestamp: Part {
+            at: 8,
+            len: s.timestamp,
+        },
+        metadata: no_metadata(),
+        data: no_data(),
+        status: StatusPart {
+            status: 0,
+            progress: s.progress,
+            in_response_to: s.response,
+            holes_at: s.holes,
+            hole_count: s.count,
+        },
     }
 }
 
@@ -165,24 +215,16 @@ fn failure_packet(f: FailureStatus) -> PacketAnswer
         flags: f.flags,
         id: f.id,
         width: 0,
-        timestamp_at: 0,
-        timestamp_len: 0,
-        checksum_at: 0,
-        checksum_len: 0,
-        properties: 0,
-        size: 0,
-        mtime: 0,
-        ctime: 0,
-        path_at: 0,
-        path_len: 0,
-        offset: 0,
-        payload_at: 0,
-        payload_len: 0,
-        status: f.status,
-        progress: 0,
-        in_response_to: 0,
-        holes_at: 0,
-        hole_count: 0,
+        timestamp: no_part(),
+        metadata: no_metadata(),
+        data: no_data(),
+        status: StatusPart {
+            status: f.status,
+            progress: 0,
+            in_response_to: 0,
+            holes_at: 0,
+            hole_count: 0,
+        },
     }
 }
 
@@ -196,24 +238,10 @@ fn refused_packet(refusal: Refusal) -> PacketAnswer
         flags: 0,
         id: 0,
         width: 0,
-        timestamp_at: 0,
-        timestamp_len: 0,
-        checksum_at: 0,
-        checksum_len: 0,
-        properties: 0,
-        size: 0,
-        mtime: 0,
-        ctime: 0,
-        path_at: 0,
-        path_len: 0,
-        offset: 0,
-        payload_at: 0,
-        payload_len: 0,
-        status: 0,
-        progress: 0,
-        in_response_to: 0,
-        holes_at: 0,
-        hole_count: 0,
+        timestamp: no_part(),
+        metadata: no_metadata(),
+        data: no_data(),
+        status: no_status(),
     }
 }
 
@@ -231,6 +259,26 @@ pub fn written_answer(a: Written) -> WrittenAnswer
             number: refusal.number,
             code: refusal.code,
             size: 0,
+        },
+    }
+}
+
+// What C gets of a hole.
+pub fn hole_answer(a: HoleRead) -> HoleAnswer
+    ensures { λ r. ⌜ r ≡ holeAnswer a ⌝ }
+{
+    match a {
+        HoleRead::Accepted(h) => HoleAnswer {
+            number: 0,
+            code: 0,
+            start: h.start,
+            end: h.end,
+        },
+        HoleRead::Refused(refusal) => HoleAnswer {
+            number: refusal.number,
+            code: refusal.code,
+            start: 0,
+            end: 0,
         },
     }
 }
@@ -258,21 +306,7 @@ pub extern "C" fn saratoga_read(packet: &[u8]) -> PacketAnswer
 pub extern "C" fn saratoga_read_hole(packet: &[u8], index: u64) -> HoleAnswer
     ensures { λ r. ⌜ r ≡ holeAnswer (readHole index (now (packet .entry))) ⌝ }
 {
-    let a = packet_status::read_hole(packet, index);
-    match a {
-        HoleRead::Accepted(h) => HoleAnswer {
-            number: 0,
-            code: 0,
-            start: h.start,
-            end: h.end,
-        },
-        HoleRead::Refused(refusal) => HoleAnswer {
-            number: refusal.number,
-            code: refusal.code,
-            start: 0,
-            end: 0,
-        },
-    }
+    hole_answer(packet_status::read_hole(packet, index))
 }
 
 #[no_mangle]

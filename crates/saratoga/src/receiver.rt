@@ -1,10 +1,12 @@
-// The transfer table in a lent area: made fresh, opened, recorded, closed, its STATUS written, and listed.
+// The transfer table in a lent area: made fresh, opened, recorded, closed, its STATUS written, listed, and looked up by Id.
 ghost use mathlib.Core.Path.{_≡_};
 ghost use Rattle.area.specs.Operations.{freshArea, openArea, recordArea, closeArea, areaStatusWritten, areaStatusBuffer};
 ghost use Rattle.area_status.specs.Listing.{listedArea};
-ghost use Rattle.table.specs.Status.{bit};
-ghost use Rattle.saratoga.specs.Answers.{writtenAnswer};
+ghost use Rattle.area_status.specs.ById.{foundArea, holeArea};
+ghost use Rattle.transfer.specs.WriteStatus.{bit};
+ghost use Rattle.saratoga.specs.Answers.{writtenAnswer, holeAnswer};
 ghost use Rattle.saratoga.specs.TableAnswers.{isUnasked, doneAnswer, openedAnswer, recordedAnswer, listedAnswer};
+use crate::packets::HoleAnswer;
 use crate::packets::WrittenAnswer;
 use area_status::Listed;
 use table::Finished;
@@ -167,6 +169,13 @@ pub extern "C" fn saratoga_record(area: &mut [u8], packet: &[u8]) -> RecordedAns
 }
 
 #[no_mangle]
+pub extern "C" fn saratoga_try_record(area: &[u8], packet: &[u8]) -> RecordedAnswer
+    ensures { λ r. ⌜ r ≡ recordedAnswer (recordArea (now (area .entry)) (now (packet .entry)) .answer) ⌝ }
+{
+    recorded_answer(area_record::ahead::try_record(area, packet))
+}
+
+#[no_mangle]
 pub extern "C" fn saratoga_close(area: &mut [u8], id: u64) -> DoneAnswer
     ensures { λ r. ⌜ (r ≡ doneAnswer (closeArea (now (area .entry)) id .answer)) × (now (area .exit) ≡ closeArea (now (area .entry)) id .area) ⌝ }
 {
@@ -192,4 +201,18 @@ pub extern "C" fn saratoga_transfer(area: &[u8], index: u64) -> ListedAnswer
     ensures { λ r. ⌜ r ≡ listedAnswer (listedArea (now (area .entry)) index) ⌝ }
 {
     listed_answer(area_status::transfer(area, index))
+}
+
+#[no_mangle]
+pub extern "C" fn saratoga_find(area: &[u8], id: u64) -> ListedAnswer
+    ensures { λ r. ⌜ r ≡ listedAnswer (foundArea (now (area .entry)) id) ⌝ }
+{
+    listed_answer(area_status::by_id::find(area, id))
+}
+
+#[no_mangle]
+pub extern "C" fn saratoga_transfer_hole(area: &[u8], id: u64, index: u64) -> HoleAnswer
+    ensures { λ r. ⌜ r ≡ holeAnswer (holeArea (now (area .entry)) id index) ⌝ }
+{
+    crate::packets::hole_answer(area_status::by_id::transfer_hole(area, id, index))
 }

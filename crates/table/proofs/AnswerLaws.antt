@@ -6,12 +6,13 @@ use mathlib.Core.List.{List}
 use mathlib.Core.Option.{Option, none, some}
 use mathlib.Core.Logic.{_↔_}
 use native.Mathlib.Omega.{arith}
-use Rattle.header.specs.Refusals.{refusalOf}
-use Rattle.header.specs.declared.Refusal.{Refusal}
-use Rattle.header.proofs.RefusalLaws.{first-none}
+use Rattle.refusals.specs.Refusals.{refusalOf}
+use Rattle.refusals.specs.declared.Refusal.{Refusal}
+use Rattle.refusals.proofs.RefusalLaws.{first-none}
 use Rattle.packet_data.specs.declared.Data.{Data}
 use Rattle.runs.specs.Runs.{Run}
-use Rattle.table.specs.Transfers.{Key, Transfer}
+use Rattle.transfer.specs.declared.Key.{Key}
+use Rattle.transfer.specs.Transfers.{Transfer}
 use Rattle.table.specs.Tables.{keys, find}
 use Rattle.table.specs.Open.{Verdict, judgeOpen, openAs, openKey}
 use Rattle.table.specs.Open.Verdict.{new, already, refuse}

@@ -10,8 +10,9 @@ use native.Mathlib.Decide.{ℕ-discrete}
 use mathlib.Core.Logic.{_↔_}
 use Rattle.runs.specs.Runs.{Run, Member, Canonical}
 use Rattle.runs.proofs.CanonicalLaws.{canonical-unique}
-use Rattle.table.specs.Transfers.{Key, Transfer, TransferFine, FineFrom, Valid}
-use Rattle.table.specs.Tables.{keys, find, runsOf, empty, add, setRuns, remove}
+use Rattle.transfer.specs.declared.Key.{Key}
+use Rattle.transfer.specs.Transfers.{Transfer, TransferFine, empty}
+use Rattle.table.specs.Tables.{FineFrom, Valid, keys, find, runsOf, add, setRuns, remove}
 use Rattle.table.proofs.TableLaws.{find-head, find-tail, find-cases, runs-head, runs-tail, runs-none, add-cases, set-cases, remove-cases}
 
 pub fine-weaken : (j k : ℕ) (t : List Transfer) → j ≤ k → FineFrom k t → FineFrom j t

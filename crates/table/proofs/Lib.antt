@@ -3,14 +3,10 @@ pub mod FineLaws
 pub mod OpenLaws
 pub mod RecordLaws
 pub mod OtherLaws
-pub mod ReadLaws
 pub mod ValidLaws
 pub mod FindLaws
 pub mod LimitLaws
 pub mod AnswerLaws
-pub mod StatusSize
-pub mod StatusPartial
-pub mod StatusFlags
-pub mod StatusReads
-pub mod StatusSays
 pub mod StatusWritten
+pub mod ToldLaws
+pub mod RepeatLaws

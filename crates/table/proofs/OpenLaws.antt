@@ -2,35 +2,34 @@
 -- Assumes nothing.
 use Prim.Native.Nat.{ℕ, _<_}
 use mathlib.Core.Path.{_≡_, refl, sym, ap, _∙_}
-use mathlib.Core.Bool.{Bool, true, false, _&&_}
+use mathlib.Core.Bool.{_&&_}
 use mathlib.Core.List.{List, []}
 use mathlib.Core.Option.{Option, none, some}
-use native.Mathlib.Omega.{arith}
 use lib.ListN.{length}
 use lib.Dec.{ltb, eqb}
 use borrow.Author.Tests.{eqb-true, ltb-true}
-use Rattle.header.specs.Refusals.{refusalOf}
-use Rattle.header.specs.declared.Refusal.{Refusal}
+use Rattle.refusals.specs.Refusals.{refusalOf}
+use Rattle.refusals.specs.declared.Refusal.{Refusal}
+use Rattle.refusals.proofs.TestLaws.{and-iff}
 use Rattle.packet_metadata.specs.Metadata.{readMetadata}
 use Rattle.packet_metadata.specs.declared.Metadata.{Metadata}
 use Rattle.packet_metadata.specs.declared.MetadataRead.{MetadataRead}
 use Rattle.packet_metadata.specs.declared.MetadataRead.the-variants as metadata-read
-use Rattle.table.specs.Transfers.{Key, Transfer}
-use Rattle.table.specs.Tables.{keys, find, runsOf, add, reached}
-use Rattle.table.specs.Open.{OpenOutcome, keyOf, Verdict, new, already, refuse, judgeFound, judgeOpen, openAs, openKey, openRead, openPacket, openAccepted}
+use Rattle.transfer.specs.declared.Key.{Key}
+use Rattle.transfer.specs.Transfers.{Transfer, reached, keyOf}
+use Rattle.table.specs.Tables.{keys, find, runsOf, add}
+use Rattle.table.specs.Open.{Verdict, new, already, refuse, judgeFound, judgeOpen, openAs, openKey, openRead, openPacket, openAccepted}
 use Rattle.table.specs.declared.Opened.the-variants.{New, AlreadyOpen, Refused}
 use Rattle.table.proofs.TableLaws.{by-test, find-id, addKey, keys-add}
-
-both : (a b : Bool) → a && b ≡ true → (a ≡ true) × (b ≡ true)
-both true b e = (refl, e)
-both false b e = absurd (let z : _≡_ {A = ℕ} 0 1 = cc in omega arith)
+use Rattle.table.specs.Outcome.{Outcome}
+use Rattle.table.specs.declared.Opened.{Opened}
 
 key-eq : (j k : Key) → j .id ≡ k .id → j .width ≡ k .width → j .length ≡ k .length → j ≡ k
 key-eq j k p q r = λ i. record { id = p i; width = q i; length = r i }
 
 -- refused, and the table stays; or the Id is open with the packet's width and length, and the table stays; or it is not open,
 -- there is room, and it is added
-pub open-cases : (P : OpenOutcome → Type 0) (t : List Transfer) (packet : List ℕ)
+pub open-cases : (P : Outcome Opened → Type 0) (t : List Transfer) (packet : List ℕ)
     → ((r : Refusal) → P (record { answer = Refused r; table = t }))
     → ((m : Metadata) → readMetadata packet ≡ metadata-read.Accepted m → find (m .id) (keys t) ≡ some (keyOf m)
     → P (record { answer = AlreadyOpen (reached (keyOf m) (runsOf t (m .id))); table = t }))
@@ -47,7 +46,7 @@ open-cases P t packet refused old fresh = go (readMetadata packet) refl
         (λ b. refused (refusalOf 17))
     found m e (some j) q =
         by-test (λ (v : Verdict). P (openAs v t (keyOf m))) (eqb (j .width) (m .width) && eqb (j .length) (m .entry .size)) already (refuse 18)
-        (λ b. let c = both (eqb (j .width) (m .width)) (eqb (j .length) (m .entry .size)) b in
+        (λ b. let c = and-iff (eqb (j .width) (m .width)) (eqb (j .length) (m .entry .size)) .0 b in
         old m e (q ∙ ap some (key-eq j (keyOf m) (find-id (m .id) (keys t) j q) (eqb-true _ _ (c .0)) (eqb-true _ _ (c .1)))))
         (λ b. refused (refusalOf 18))
 

@@ -1,31 +1,34 @@
 -- What recording does, case by case, and when it is accepted.
 -- Assumes nothing.
-use Prim.Native.Nat.{ℕ, zero, suc, _≤_}
+use Prim.Native.Nat.{ℕ, zero, suc, _<_, _≤_}
 use mathlib.Core.Path.{_≡_, refl, ap, _∙_}
-use mathlib.Core.Bool.{Bool, not}
 use mathlib.Core.List.{List}
 use mathlib.Core.Option.{Option, none, some}
 use lib.ListN.{length}
-use lib.Dec.{ltb, eqb}
-use borrow.Author.Tests.{ltb-false, le-ltb}
-use Rattle.header.specs.Refusals.{_▹_, when, refusalOf}
-use Rattle.header.specs.declared.Refusal.{Refusal}
-use Rattle.header.proofs.RefusalLaws.{first-none, rest-none, failed}
+use Rattle.refusals.specs.Refusals.{_▹_, refusalOf}
+use Rattle.refusals.specs.declared.Refusal.{Refusal}
+use Rattle.refusals.proofs.RefusalLaws.{first-none, rest-none}
+use Rattle.transfer.proofs.ExtendLaws.{extended-canonical, key-stop, runs-few, few-runs}
 use Rattle.packet_data.specs.Data.{readData}
 use Rattle.packet_data.specs.declared.Data.{Data}
 use Rattle.packet_data.specs.declared.DataRead.{DataRead}
 use Rattle.packet_data.specs.declared.DataRead.the-variants as data-read
-use Rattle.table.specs.Transfers.{Key, Transfer}
-use Rattle.table.specs.Tables.{keys, find, setRuns, reached}
-use Rattle.table.specs.Record.{RecordOutcome, stopOf, dataJudged, recordRefusal, grown, recordAs, recordData, recordRead, recordPacket}
+use Rattle.transfer.specs.declared.Key.{Key}
+use Rattle.transfer.specs.Transfers.{Transfer, reached}
+use Rattle.runs.specs.Runs.{Canonical}
+use Rattle.table.specs.Tables.{keys, find, runsOf, setRuns}
+use Rattle.table.specs.Record.{dataJudged, recordRefusal, grown, recordAs, recordData, recordRead, recordPacket}
+use Rattle.transfer.specs.Record.{stopOf, runsRefusal}
 use Rattle.table.specs.declared.Recorded.the-variants.{Accepted, Refused}
+use Rattle.table.specs.Outcome.{Outcome}
+use Rattle.table.specs.declared.Recorded.{Recorded}
 
 -- accepted, with the runs grown
-abbrev pub recordedAs : List Transfer → Data → Key → RecordOutcome
+abbrev pub recordedAs : List Transfer → Data → Key → Outcome Recorded
 recordedAs t d k = record { answer = Accepted (reached k (grown t d)); table = setRuns (d .id) (grown t d) t }
 
 -- refused, and the table stays; or the Id is open with k, nothing of 12 to 15 is given, and there is room
-pub record-cases : (P : RecordOutcome → Type 0) (t : List Transfer) (packet : List ℕ)
+pub record-cases : (P : Outcome Recorded → Type 0) (t : List Transfer) (packet : List ℕ)
     → ((r : Refusal) → P (record { answer = Refused r; table = t }))
     → ((d : Data) (k : Key) → readData packet ≡ data-read.Accepted d → find (d .id) (keys t) ≡ some k → dataJudged (some k) d ≡ 0
     → length (grown t d) ≤ 64 → P (recordedAs t d k))
@@ -38,7 +41,7 @@ record-cases P t packet refused taken = go (readData packet) refl
     judged d none zero e q z = refused (refusalOf 12)
     judged d (some k) zero e q z =
         taken d k e q (first-none (dataJudged (some k) d) _ z)
-        (ltb-false _ _ (failed (ltb 64 (length (grown t d))) 15 (rest-none (dataJudged (some k) d) _ z)))
+        (runs-few (grown t d) (rest-none (dataJudged (some k) d) _ z))
     judged d o (suc n) e q z = refused (refusalOf (suc n))
 
     go : (r : DataRead) → readData packet ≡ r → P (recordRead t r)
@@ -52,11 +55,15 @@ unfolding recordPacket recordRead recordData recordAs recordRefusal
 record-taken t packet d k e q j n =
     ap (recordRead t) e
     ∙ ap (λ (o : Option Key). recordAs (recordRefusal o (grown t d) d) o (grown t d) t d) q
-    ∙ ap (λ (x : ℕ). recordAs (x ▹ when (ltb 64 (length (grown t d))) 16) (some k) (grown t d) t d) j
-    ∙ ap (λ (b : Bool). recordAs (when b 16) (some k) (grown t d) t d) (le-ltb 64 (length (grown t d)) n)
+    ∙ ap (λ (x : ℕ). recordAs (x ▹ runsRefusal (grown t d)) (some k) (grown t d) t d) j
+    ∙ ap (λ (x : ℕ). recordAs x (some k) (grown t d) t d) (few-runs (grown t d) n)
 
 -- refusal 14 not given
 pub judged-stop : (k : Key) (d : Data) → dataJudged (some k) d ≡ 0 → stopOf d ≤ k .length
 unfolding dataJudged
-judged-stop k d e =
-    ltb-false (k .length) (stopOf d) (failed _ 13 (first-none _ _ (rest-none (when (not (eqb (d .width) (k .width))) 13) _ e)))
+judged-stop k d e = key-stop k d e
+
+-- the received offsets stay canonical
+pub grown-canonical : (t : List Transfer) (d : Data) → 0 < d .length → Canonical (runsOf t (d .id)) → Canonical (grown t d)
+unfolding grown
+grown-canonical t d p c = extended-canonical (runsOf t (d .id)) d p c

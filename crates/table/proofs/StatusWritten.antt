@@ -4,31 +4,33 @@ use Prim.Native.Nat.{ℕ, _+_, _*_, _<_, _≤_}
 use mathlib.Core.Path.{_≡_, sym, ap, _∙_}
 use mathlib.Core.Bool.{Bool, _||_}
 use mathlib.Core.List.{List, _++_}
-use mathlib.Core.Option.{some}
+use mathlib.Core.Option.{none, some}
 use native.Mathlib.Nat.{zero-add}
 use native.Mathlib.Omega.{arith}
 use lib.ListN.{length, take, drop}
 use lib.Seq.{take-at, drop-at}
 use Rattle.octets.specs.Put.{put}
 use Rattle.octets.proofs.NumberLaws.{width-some}
-use Rattle.header.specs.Refusals.{refusalOf}
-use Rattle.header.specs.declared.Hole.{Hole}
-use Rattle.header.specs.declared.Written.the-variants.{Size, Refused}
-use Rattle.header.proofs.WritingLaws.{written-refused, buffer-refused}
+use Rattle.refusals.specs.Refusals.{refusalOf}
+use Rattle.runs.specs.declared.Hole.{Hole}
+use Rattle.refusals.specs.declared.Written.the-variants.{Size, Refused}
+use Rattle.refusals.proofs.WritingLaws.{written-refused, buffer-refused}
 use Rattle.packet_status.specs.Status.{holeList, readStatus}
 use Rattle.packet_status.specs.declared.StatusRead.{StatusRead}
 use Rattle.packet_status.specs.declared.StatusRead.the-variants.{Success}
 use Rattle.runs.specs.Runs.{Run}
 use Rattle.runs.specs.Holes.{edge, holes, progress, complete}
-use Rattle.table.specs.Transfers.{Key, Transfer, Valid}
-use Rattle.table.specs.Tables.{keys, find, runsOf}
-use Rattle.table.specs.Status.{statusWriteRefusal, holesSent, partialSent, statusFlags, statusPacket, statusFor, statusRefused, statusSent, statusWritten, statusBuffer}
+use Rattle.transfer.specs.declared.Key.{Key}
+use Rattle.transfer.specs.Transfers.{Transfer}
+use Rattle.table.specs.Tables.{Valid, keys, find, runsOf}
+use Rattle.table.specs.WriteStatus.{writtenFor, bufferFor, statusWritten, statusBuffer}
+use Rattle.transfer.specs.WriteStatus.{holesSent, partialSent, statusFlags, statusPacket, transferRefused, transferWritten, transferBuffer}
 use Rattle.table.proofs.FindLaws.{Found, found-fine}
-use Rattle.table.proofs.StatusSize.{status-size, status-size-fits}
-use Rattle.table.proofs.StatusReads.{status-read, status-holes-read}
+use Rattle.transfer.proofs.StatusSize.{status-size, status-size-fits}
+use Rattle.transfer.proofs.StatusReads.{status-read, status-holes-read}
 
 module _ (t : List Transfer) (v : Valid t) (id k : ℕ) (unasked : Bool) (old : List ℕ) (key : Key) (found : find id (keys t) ≡ some key)
-    (ok : statusRefused t id k unasked old ≡ 0) where
+    (ok : transferRefused key (runsOf t id) k unasked old ≡ 0) where
   abbrev rs : List Run
   rs = runsOf t id
 
@@ -45,42 +47,35 @@ module _ (t : List Transfer) (v : Valid t) (id k : ℕ) (unasked : Bool) (old : 
   known : Found id key rs
   known = found-fine t v id key found
 
-  may : statusWriteRefusal (some key) (holes rs) k (length old) ≡ 0
-  may = rw found at ok
+  sent-size : length (statusPacket key rs k unasked (length old)) ≡ size
+  sent-size = status-size key rs k unasked (length old)
 
-  sent-is : statusSent t id k unasked old ≡ statusPacket key rs k unasked (length old)
-  unfolding statusSent statusFor
-  sent-is = rw found
-
-  sent-size : length (statusSent t id k unasked old) ≡ size
-  sent-size = ap length sent-is ∙ status-size key rs k unasked (length old)
-
-  buffer-is : statusBuffer t id k unasked old ≡ statusSent t id k unasked old ++ drop size old
-  unfolding statusBuffer put
-  buffer-is = rw (ok, sent-size, zero-add)
+  buffer-is : statusBuffer t id k unasked old ≡ statusPacket key rs k unasked (length old) ++ drop size old
+  unfolding statusBuffer bufferFor transferBuffer put
+  buffer-is = rw (found, ok, sent-size, zero-add)
 
   -- "With descriptors of d octets and h holes written the size is 8 + 2d + 2dh octets"
   pub status-written-size : statusWritten t id k unasked old ≡ Size size
-  unfolding statusWritten
-  status-written-size = rw (ok, sent-size)
+  unfolding statusWritten writtenFor transferWritten
+  status-written-size = rw (found, ok, sent-size)
 
   -- the packet has room
   pub status-buffer-room : size ≤ length old
   status-buffer-room =
       let p : 0 < d = omega (arith, width-some (known .fine .width-is)) in
-      rw (status-size key rs k unasked (length old)) at (status-size-fits key rs k unasked (length old) p may)
+      rw (status-size key rs k unasked (length old)) at (status-size-fits key rs k unasked (length old) p ok)
 
   -- the packet stands first, and "Octets after those stay unchanged"
   pub status-buffer-packet : take size (statusBuffer t id k unasked old) ≡ statusPacket key rs k unasked (length old)
-  status-buffer-packet = rw buffer-is (take-at (statusSent t id k unasked old) (drop size old) size sent-size) ∙ sent-is
+  status-buffer-packet = rw buffer-is (take-at (statusPacket key rs k unasked (length old)) (drop size old) size sent-size)
 
   pub status-buffer-rest : drop size (statusBuffer t id k unasked old) ≡ drop size old
-  status-buffer-rest = rw buffer-is (drop-at (statusSent t id k unasked old) (drop size old) size sent-size)
+  status-buffer-rest = rw buffer-is (drop-at (statusPacket key rs k unasked (length old)) (drop size old) size sent-size)
 
   -- the fields that are written, with the Id i
   abbrev fieldsWith : ℕ → StatusRead
   fieldsWith i = Success (record {
-    flags = statusFlags d (partialSent d k (length old) (holes rs)) (unasked || complete (key .length) rs);
+    flags = statusFlags d (partialSent d k (length old) (length (holes rs))) (unasked || complete (key .length) rs);
     id = i;
     width = d;
     timestamp = 0;
@@ -99,12 +94,17 @@ module _ (t : List Transfer) (v : Valid t) (id k : ℕ) (unasked : Bool) (old : 
   pub status-buffer-holes : holeList (take size (statusBuffer t id k unasked old)) ≡ sent
   status-buffer-holes = ap holeList status-buffer-packet ∙ status-holes-read (record { key = key; runs = rs }) k unasked (length old) (known .fine)
 
--- where it is refused, the answer is the refusal, and the buffer keeps what it held
-module _ (t : List Transfer) (id k : ℕ) (unasked : Bool) (old : List ℕ) (no : statusRefused t id k unasked old ≡ 0 → ⊥) where
-  pub status-refused-answer : statusWritten t id k unasked old ≡ Refused (refusalOf (statusRefused t id k unasked old))
-  unfolding statusWritten
-  status-refused-answer = sym (written-refused (statusRefused t id k unasked old) (length (statusSent t id k unasked old)) no)
+-- where it is refused, the answer is the refusal, and the buffer keeps what it held: 12 where the Id is not open, 19 and 20 where it is
+module _ (t : List Transfer) (id k : ℕ) (unasked : Bool) (old : List ℕ) where
+  pub status-twelve : find id (keys t) ≡ none → (statusWritten t id k unasked old ≡ Refused (refusalOf 12)) × (statusBuffer t id k unasked old ≡ old)
+  unfolding statusWritten writtenFor statusBuffer bufferFor
+  status-twelve e = (rw e, rw e)
 
-  pub status-refused-buffer : statusBuffer t id k unasked old ≡ old
-  unfolding statusBuffer
-  status-refused-buffer = sym (buffer-refused (statusRefused t id k unasked old) (statusSent t id k unasked old) old no)
+  module _ (key : Key) (found : find id (keys t) ≡ some key) (no : transferRefused key (runsOf t id) k unasked old ≡ 0 → ⊥) where
+    pub status-refused-answer : statusWritten t id k unasked old ≡ Refused (refusalOf (transferRefused key (runsOf t id) k unasked old))
+    unfolding statusWritten writtenFor transferWritten
+    status-refused-answer = rw found (sym (written-refused (transferRefused key (runsOf t id) k unasked old) _ no))
+
+    pub status-refused-buffer : statusBuffer t id k unasked old ≡ old
+    unfolding statusBuffer bufferFor transferBuffer
+    status-refused-buffer = rw found (sym (buffer-refused (transferRefused key (runsOf t id) k unasked old) _ old no))

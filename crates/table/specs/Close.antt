@@ -3,19 +3,17 @@
 use Prim.Native.Nat.{ℕ}
 use mathlib.Core.List.{List}
 use mathlib.Core.Option.{Option, none, some}
-use Rattle.header.specs.Refusals.{refusalOf}
-use Rattle.table.specs.Transfers.{Key, Transfer}
+use Rattle.refusals.specs.Refusals.{refusalOf}
+use Rattle.transfer.specs.declared.Key.{Key}
+use Rattle.transfer.specs.Transfers.{Transfer}
 use Rattle.table.specs.Tables.{keys, find, remove}
 use Rattle.table.specs.declared.Finished.{Finished}
 use Rattle.table.specs.declared.Finished.the-variants.{Done, Refused}
+use Rattle.table.specs.Outcome.{Outcome}
 
-pub record CloseOutcome : Type 0 where
-  pub answer : Finished
-  pub table : List Transfer
-
-unfoldable pub closeFound : Option Key → List Transfer → ℕ → CloseOutcome
+unfoldable pub closeFound : Option Key → List Transfer → ℕ → Outcome Finished
 closeFound none t id = record { answer = Refused (refusalOf 12); table = t }
 closeFound (some k) t id = record { answer = Done; table = remove id t }
 
-unfoldable pub closeId : List Transfer → ℕ → CloseOutcome
+unfoldable pub closeId : List Transfer → ℕ → Outcome Finished
 closeId t id = closeFound (find id (keys t)) t id

@@ -1,6 +1,7 @@
-pub mod Transfers
+pub mod Outcome
 pub mod Tables
 pub mod Open
 pub mod Record
 pub mod Close
-pub mod Status
+pub mod WriteStatus
+pub mod Told

@@ -6,24 +6,16 @@ use mathlib.Core.List.{List, []}
 use mathlib.Core.Option.{Option, none, some}
 use lib.ListN.{length}
 use lib.Dec.{ltb, eqb}
-use Rattle.header.specs.Refusals.{refusalOf}
+use Rattle.refusals.specs.Refusals.{refusalOf}
 use Rattle.packet_metadata.specs.Metadata.{readMetadata}
-use Rattle.packet_metadata.specs.declared.Metadata.{Metadata}
 use Rattle.packet_metadata.specs.declared.MetadataRead.{MetadataRead}
 use Rattle.packet_metadata.specs.declared.MetadataRead.the-variants as metadata-read
-use Rattle.table.specs.Transfers.{Key, Transfer}
-use Rattle.table.specs.Tables.{keys, find, runsOf, add, reached}
+use Rattle.transfer.specs.declared.Key.{Key}
+use Rattle.transfer.specs.Transfers.{Transfer, keyOf, reached}
+use Rattle.table.specs.Tables.{keys, find, runsOf, add}
 use Rattle.table.specs.declared.Opened.{Opened}
 use Rattle.table.specs.declared.Opened.the-variants.{New, AlreadyOpen, Refused}
-
--- the answer, and the table after it
-pub record OpenOutcome : Type 0 where
-  pub answer : Opened
-  pub table : List Transfer
-
--- "The size is the transfer's length L", "at width w"
-abbrev pub keyOf : Metadata → Key
-keyOf m = record { id = m .id; width = m .width; length = m .entry .size }
+use Rattle.table.specs.Outcome.{Outcome}
 
 pub data Verdict : Type 0 where
   new : Verdict
@@ -39,20 +31,20 @@ judgeFound (some j) count k = cond (eqb (j .width) (k .width) && eqb (j .length)
 unfoldable pub judgeOpen : List Key → Key → Verdict
 judgeOpen ks k = judgeFound (find (k .id) ks) (length ks) k
 
-unfoldable pub openAs : Verdict → List Transfer → Key → OpenOutcome
+unfoldable pub openAs : Verdict → List Transfer → Key → Outcome Opened
 openAs new t k = record { answer = New (reached k []); table = add k t }
 openAs already t k = record { answer = AlreadyOpen (reached k (runsOf t (k .id))); table = t }
 openAs (refuse n) t k = record { answer = Refused (refusalOf n); table = t }
 
-unfoldable pub openKey : List Transfer → Key → OpenOutcome
+unfoldable pub openKey : List Transfer → Key → Outcome Opened
 openKey t k = openAs (judgeOpen (keys t) k) t k
 
 -- "Opening: the reader's, then 18, 17"
-unfoldable pub openRead : List Transfer → MetadataRead → OpenOutcome
+unfoldable pub openRead : List Transfer → MetadataRead → Outcome Opened
 openRead t (metadata-read.Accepted m) = openKey t (keyOf m)
 openRead t (metadata-read.Refused r) = record { answer = Refused r; table = t }
 
-unfoldable pub openPacket : List Transfer → List ℕ → OpenOutcome
+unfoldable pub openPacket : List Transfer → List ℕ → Outcome Opened
 openPacket t packet = openRead t (readMetadata packet)
 
 abbrev pub openAccepted : Opened → Bool

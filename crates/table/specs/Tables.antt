@@ -1,14 +1,24 @@
--- Looking an Id up in a table, and a table with one transfer more, changed or less.
+-- The transfer table, looking an Id up in it, and a table with one transfer more, changed or less.
 -- Assumes nothing.
-use Prim.Native.Nat.{ℕ}
+use Prim.Native.Nat.{ℕ, suc, _≤_}
 use mathlib.Core.Bool.{cond}
 use mathlib.Core.List.{List, [], _∷_}
 use mathlib.Core.Option.{Option, none, some}
+use lib.ListN.{length}
 use lib.Dec.{ltb, eqb}
 use Rattle.runs.specs.Runs.{Run}
-use Rattle.runs.specs.Holes.{edge, complete}
-use Rattle.table.specs.Transfers.{Key, Transfer}
-use Rattle.table.specs.declared.Reached.{Reached}
+use Rattle.transfer.specs.declared.Key.{Key}
+use Rattle.transfer.specs.Transfers.{Transfer, TransferFine, empty}
+
+-- the Ids rise, and the first is at least k
+abbrev pub FineFrom : ℕ → List Transfer → Type 0
+FineFrom k [] = Unit
+FineFrom k (x ∷ t) = (k ≤ x .key .id) × TransferFine x × FineFrom (suc (x .key .id)) t
+
+-- document 01's desk: "a map, of at most 16 Ids". Rising by Id makes the list the map itself: one list for each map
+pub record Valid (t : List Transfer) : Type 0 where
+  pub few : length t ≤ 16
+  pub fine : FineFrom 0 t
 
 -- what is open, with widths and lengths
 unfoldable pub keys : List Transfer → List Key
@@ -23,10 +33,6 @@ find i (k ∷ ks) = let rest = find i ks in cond (eqb (k .id) i) (some k) rest
 unfoldable pub runsOf : List Transfer → ℕ → List Run
 runsOf [] i = []
 runsOf (x ∷ t) i = let rest = runsOf t i in cond (eqb (x .key .id) i) (x .runs) rest
-
--- "starts with nothing received"
-abbrev pub empty : Key → Transfer
-empty k = record { key = k; runs = [] }
 
 -- a new transfer, in the order of the Ids
 unfoldable pub add : Key → List Transfer → List Transfer
@@ -44,7 +50,3 @@ setRuns i rs (x ∷ t) =
 unfoldable pub remove : ℕ → List Transfer → List Transfer
 remove i [] = []
 remove i (x ∷ t) = let later = x ∷ remove i t in cond (eqb (x .key .id) i) t later
-
--- "both answer the edge and whether the transfer is complete"
-unfoldable pub reached : Key → List Run → Reached
-reached k rs = record { edge = edge rs; complete = complete (k .length) rs }

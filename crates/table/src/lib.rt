@@ -1,11 +1,6 @@
 // The transfer table: open transfers by Id. What opening, recording, closing and STATUS answer; specs/ says what each means.
-use header::Refusal;
-
-// How far a transfer has come: its edge, and whether every octet of its length was received.
-pub struct Reached {
-    pub edge: u64,
-    pub complete: bool,
-}
+use refusals::Refusal;
+use transfer::Reached;
 
 // What opening answers.
 pub enum Opened {

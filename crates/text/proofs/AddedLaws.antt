@@ -2,7 +2,7 @@
 -- Assumes nothing.
 use Prim.Native.Nat.{ℕ, zero, suc, _+_, _≤_, _<_}
 use mathlib.Core.Path.{_≡_, refl, ap, sym, _∙_}
-use mathlib.Core.List.{List, [], _∷_, _++_, append-assoc}
+use mathlib.Core.List.{List, [], _∷_, _++_, append-assoc, append-nil}
 use native.Mathlib.Nat.{le-refl}
 use native.Mathlib.Numerals.{add-one}
 use native.Mathlib.Omega.{arith}
@@ -15,10 +15,6 @@ cut-again : (n : ℕ) (x t : List ℕ) → take n (take n x ++ t) ≡ take n (x 
 cut-again zero x t = refl
 cut-again (suc n) [] t = refl
 cut-again (suc n) (y ∷ ys) t = ap (λ (l : List ℕ). y ∷ l) (cut-again n ys t)
-
-append-nil : (l : List ℕ) → l ++ [] ≡ l
-append-nil [] = refl
-append-nil (x ∷ xs) = ap (λ (l : List ℕ). x ∷ l) (append-nil xs)
 
 -- one text, then another
 infixr 4 _then_
@@ -56,3 +52,7 @@ added-full a i b h = record {
 -- the same text, said in another way
 pub added-as : {a : List ℕ} {i : ℕ} {s t : List ℕ} {b : List ℕ} {j : ℕ} → s ≡ t → Added a i s b j → Added a i t b j
 added-as {a} {i} {s} {t} {b} {j} e p = rw e at p
+
+-- a line that starts here and has room is the text, whole
+pub added-whole : {a : List ℕ} {t : List ℕ} {b : List ℕ} {j : ℕ} → Added a 0 t b j → length t ≤ length a → take j b ≡ t
+added-whole {a} {t} p h = p .line ∙ take-all (length a) t h

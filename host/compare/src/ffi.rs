@@ -47,6 +47,7 @@ extern "C" {
     fn saratoga_fresh(area: *mut u8, area_len: usize) -> Done;
     fn saratoga_open(area: *mut u8, area_len: usize, packet: *const u8, packet_len: usize) -> Opened;
     fn saratoga_record(area: *mut u8, area_len: usize, packet: *const u8, packet_len: usize) -> Recorded;
+    fn saratoga_try_record(area: *const u8, area_len: usize, packet: *const u8, packet_len: usize) -> Recorded;
     fn saratoga_close(area: *mut u8, area_len: usize, id: u64) -> Done;
     fn saratoga_write_status(
         area: *const u8,
@@ -58,6 +59,8 @@ extern "C" {
         out_len: usize,
     ) -> Written;
     fn saratoga_transfer(area: *const u8, area_len: usize, index: u64) -> Listed;
+    fn saratoga_find(area: *const u8, area_len: usize, id: u64) -> Listed;
+    fn saratoga_transfer_hole(area: *const u8, area_len: usize, id: u64, index: u64) -> Hole;
 }
 
 /// The slice's start. An empty slice gets an address that nothing may be read from.
@@ -141,6 +144,10 @@ impl Receiver for Archive {
         unsafe { saratoga_record(start_mut(area), area.len(), start(packet), packet.len()) }
     }
 
+    fn try_record(&self, area: &[u8], packet: &[u8]) -> Recorded {
+        unsafe { saratoga_try_record(start(area), area.len(), start(packet), packet.len()) }
+    }
+
     fn close(&self, area: &mut [u8], id: u64) -> Done {
         unsafe { saratoga_close(start_mut(area), area.len(), id) }
     }
@@ -152,5 +159,13 @@ impl Receiver for Archive {
 
     fn transfer(&self, area: &[u8], index: u64) -> Listed {
         unsafe { saratoga_transfer(start(area), area.len(), index) }
+    }
+
+    fn find(&self, area: &[u8], id: u64) -> Listed {
+        unsafe { saratoga_find(start(area), area.len(), id) }
+    }
+
+    fn transfer_hole(&self, area: &[u8], id: u64, index: u64) -> Hole {
+        unsafe { saratoga_transfer_hole(start(area), area.len(), id, index) }
     }
 }

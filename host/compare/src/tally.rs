@@ -14,12 +14,15 @@ pub enum Function {
     Fresh,
     Open,
     Record,
+    TryRecord,
     Close,
     WriteStatus,
     Transfer,
+    Find,
+    TransferHole,
 }
 
-const COLUMNS: usize = 11;
+const COLUMNS: usize = 14;
 /// 0, accepted, to 22.
 const ROWS: usize = 23;
 
@@ -33,9 +36,12 @@ const NAMES: [(&str, &str); COLUMNS] = [
     ("saratoga_fresh", "fresh"),
     ("saratoga_open", "open"),
     ("saratoga_record", "record"),
+    ("saratoga_try_record", "try_record"),
     ("saratoga_close", "close"),
     ("saratoga_write_status", "status"),
     ("saratoga_transfer", "transfer"),
+    ("saratoga_find", "find"),
+    ("saratoga_transfer_hole", "hole"),
 ];
 
 impl Function {
@@ -54,9 +60,12 @@ const CAN_OCCUR: [&[usize]; COLUMNS] = [
     &[0, 20],
     &[0, 1, 2, 3, 4, 5, 6, 7, 8, 9, 17, 18, 22],
     &[0, 1, 2, 3, 4, 5, 6, 10, 12, 13, 14, 15, 16, 22],
+    &[0, 1, 2, 3, 4, 5, 6, 10, 12, 13, 14, 15, 16, 22],
     &[0, 12, 22],
     &[0, 12, 19, 20, 22],
     &[0, 12, 22],
+    &[0, 12, 22],
+    &[0, 12, 19, 22],
 ];
 
 /// The functions of each comparison: those on packets, then those on areas.

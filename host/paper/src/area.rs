@@ -1,93 +1,82 @@
-//! The table's image in an area, as docs/AREA.md lays it out, and the table's calls on areas. "what making a fresh desk
-//! or any accepted call leaves is the image of the desk that its rule gives".
+//! The table in a lent area, as docs/AREA.md lays it out, and the table's calls on areas. A place of the layout is used
+//! where the table has a number for it; the others may hold anything, and keep it.
 
+use crate::layout::largest;
+use crate::read::Hole;
 use crate::received::Received;
 use crate::refusal::Refusal;
 use crate::table::{Listed, Opened, State, Table, Transfer, MAX_RUNS, MAX_TRANSFERS};
 
-// Where each array of words begins, one entry for each transfer; of the last two, 64 entries.
+// The words of the layout: the number of open transfers, a head for each, the starts of their runs, and the stops.
 const COUNT: usize = 0;
-const IDS: usize = 1;
-const WIDTHS: usize = IDS + MAX_TRANSFERS;
-const LENGTHS: usize = WIDTHS + MAX_TRANSFERS;
-const RUN_COUNTS: usize = LENGTHS + MAX_TRANSFERS;
-const STARTS: usize = RUN_COUNTS + MAX_TRANSFERS;
+const HEADS: usize = COUNT + 1;
+const HEAD_WORDS: usize = 4;
+const STARTS: usize = HEADS + MAX_TRANSFERS * HEAD_WORDS;
 const STOPS: usize = STARTS + MAX_TRANSFERS * MAX_RUNS;
+const END: usize = STOPS + MAX_TRANSFERS * MAX_RUNS;
 
-/// Words and octets of the layout.
-pub const WORDS: usize = STOPS + MAX_TRANSFERS * MAX_RUNS;
-pub const OCTETS: usize = 8 * WORDS;
+/// Octets of the layout.
+pub const OCTETS: usize = 8 * END;
 
-/// The words of a table's image.
-fn words(table: &Table) -> Vec<u64> {
-    let mut words = vec![0; WORDS];
-    words[COUNT] = table.transfers.len() as u64;
+/// The words that a table uses, each with its number.
+fn used(table: &Table) -> Vec<(usize, u64)> {
+    let mut used = vec![(COUNT, table.transfers.len() as u64)];
     for (i, (&id, transfer)) in table.transfers.iter().enumerate() {
-        words[IDS + i] = id;
-        words[WIDTHS + i] = transfer.width as u64;
-        words[LENGTHS + i] = transfer.length;
-        words[RUN_COUNTS + i] = transfer.received.run_count() as u64;
+        let head = [id, transfer.width as u64, transfer.length, transfer.received.run_count() as u64];
+        used.extend((HEADS + HEAD_WORDS * i..).zip(head));
         for (j, (start, stop)) in transfer.received.runs().enumerate() {
-            words[STARTS + MAX_RUNS * i + j] = start;
-            words[STOPS + MAX_RUNS * i + j] = stop;
+            used.push((STARTS + MAX_RUNS * i + j, start));
+            used.push((STOPS + MAX_RUNS * i + j, stop));
         }
     }
-    words
+    used
 }
 
-/// Lays out the table's image at the start of an area that is long enough. Octets past the layout stay.
-pub fn lay_out(table: &Table, area: &mut [u8]) {
-    for (octets, word) in area[..OCTETS].chunks_exact_mut(8).zip(words(table)) {
-        octets.copy_from_slice(&word.to_be_bytes());
+/// Stores the table in an area that is long enough: its numbers in the places that it uses. Every other octet stays.
+pub fn store(table: &Table, area: &mut [u8]) {
+    for (word, number) in used(table) {
+        area[8 * word..][..8].copy_from_slice(&number.to_le_bytes());
     }
 }
 
-/// The table whose image begins the area. "shorter than the layout is 22, and octets past it stay unread".
-pub fn take_up(area: &[u8]) -> Result<Table, Refusal> {
-    let image = area.get(..OCTETS).ok_or(Refusal::Area)?;
-    let words: Vec<u64> = image.chunks_exact(8).map(|word| u64::from_be_bytes(word.try_into().expect("8"))).collect();
-    table(&words).ok_or(Refusal::Area)
+/// The number in a word, "the lowest octet first".
+fn number(area: &[u8], word: usize) -> u64 {
+    u64::from_le_bytes(area[8 * word..][..8].try_into().expect("eight octets"))
 }
 
-/// The table of these words, if they are an "image of a desk as described".
-fn table(words: &[u64]) -> Option<Table> {
-    let count = small(words[COUNT], MAX_TRANSFERS)?;
+/// The table that the area holds. "shorter than the layout is 22, and octets past it stay unread".
+pub fn take_up(area: &[u8]) -> Result<Table, Refusal> {
+    let layout = area.get(..OCTETS).ok_or(Refusal::Area)?;
+    table(layout).ok_or(Refusal::Area)
+}
+
+/// AREA.md, 2 and 3: "at most 16", and each Id "below 2^32 and above the Id before it".
+fn table(area: &[u8]) -> Option<Table> {
     let mut table = Table::default();
-    for i in 0..count {
-        // AREA.md, 3: "above the Id before it".
-        let id = words[IDS + i];
+    for i in 0..small(number(area, COUNT), MAX_TRANSFERS)? {
+        let id = number(area, HEADS + HEAD_WORDS * i);
         if id >= 1 << 32 || table.transfers.last_key_value().is_some_and(|(&before, _)| before >= id) {
             return None;
         }
-        let runs = small(words[RUN_COUNTS + i], MAX_RUNS)?;
-        let places = MAX_RUNS * i..MAX_RUNS * i + runs;
-        let transfer = transfer(
-            words[WIDTHS + i],
-            words[LENGTHS + i],
-            &words[STARTS..][places.clone()],
-            &words[STOPS..][places.clone()],
-        )?;
-        table.transfers.insert(id, transfer);
+        table.transfers.insert(id, transfer(area, i)?);
     }
-    // AREA.md, 9: "Every unused place is zero", as in this table's image, where all that was taken up stands too.
-    (self::words(&table) == words).then_some(table)
+    Some(table)
 }
 
-/// "width w, length L (at most 2^w - 1) and a set of received offsets below L". AREA.md, 7 and 8: each start is below its
-/// stop, each stop at most the length, and each start above the stop before it.
-fn transfer(width: u64, length: u64, starts: &[u64], stops: &[u64]) -> Option<Transfer> {
-    let largest = match width {
-        2 => 0xFFFF,
-        4 => 0xFFFF_FFFF,
-        8 => u64::MAX,
-        _ => return None,
-    };
-    if length > largest {
+/// "width w, length L (at most 2^w - 1) and a set of received offsets below L". AREA.md, 4 to 8: the width is one of
+/// three, the length fits it, there are at most 64 runs, each start is below its stop, each stop at most the length, and
+/// each start above the stop before it.
+fn transfer(area: &[u8], i: usize) -> Option<Transfer> {
+    let [_, width, length, runs] = [0, 1, 2, 3].map(|field| number(area, HEADS + HEAD_WORDS * i + field));
+    let width = small(width, 8).filter(|width| [2, 4, 8].contains(width))?;
+    if u128::from(length) > largest(width) {
         return None;
     }
     let mut received = Received::default();
     let mut before = None;
-    for (&start, &stop) in starts.iter().zip(stops) {
+    for j in 0..small(runs, MAX_RUNS)? {
+        let start = number(area, STARTS + MAX_RUNS * i + j);
+        let stop = number(area, STOPS + MAX_RUNS * i + j);
         let apart = before.is_none_or(|before| before < start);
         if !apart || start >= stop || stop > length {
             return None;
@@ -95,20 +84,18 @@ fn transfer(width: u64, length: u64, starts: &[u64], stops: &[u64]) -> Option<Tr
         received.add(start, stop);
         before = Some(stop);
     }
-    Some(Transfer { width: width as usize, length, received })
+    Some(Transfer { width, length, received })
 }
 
-/// The word as a count, if it is at most `most`.
-fn small(word: u64, most: usize) -> Option<usize> {
-    usize::try_from(word).ok().filter(|&count| count <= most)
+/// The number as a count, if it is at most `most`.
+fn small(number: u64, most: usize) -> Option<usize> {
+    usize::try_from(number).ok().filter(|&count| count <= most)
 }
 
-/// "Making a fresh desk is refused only with 20, where the area is shorter."
+/// "Making a fresh desk is refused only with 20, where the area is shorter." All places are cleared, "room for 16
+/// transfers of 64 runs, all empty".
 pub fn fresh(area: &mut [u8]) -> Result<(), Refusal> {
-    if area.len() < OCTETS {
-        return Err(Refusal::Buffer);
-    }
-    lay_out(&Table::default(), area);
+    area.get_mut(..OCTETS).ok_or(Refusal::Buffer)?.fill(0);
     Ok(())
 }
 
@@ -120,6 +107,11 @@ pub fn open(area: &mut [u8], packet: &[u8]) -> Result<Opened, Refusal> {
 /// Recording.
 pub fn record(area: &mut [u8], packet: &[u8]) -> Result<State, Refusal> {
     change(area, |table| table.record(packet))
+}
+
+/// What recording would answer, the area only read.
+pub fn try_record(area: &[u8], packet: &[u8]) -> Result<State, Refusal> {
+    take_up(area)?.try_record(packet)
 }
 
 /// Closing.
@@ -137,10 +129,20 @@ pub fn transfer_at(area: &[u8], index: u64) -> Result<Listed, Refusal> {
     take_up(area)?.transfer(index)
 }
 
-/// "Desk and buffers keep what they held" where the rule refuses; else the area is the image of what it gives.
+/// One transfer by its Id.
+pub fn find(area: &[u8], id: u64) -> Result<Listed, Refusal> {
+    take_up(area)?.find(id)
+}
+
+/// One of its holes.
+pub fn hole(area: &[u8], id: u64, index: u64) -> Result<Hole, Refusal> {
+    take_up(area)?.hole(id, index)
+}
+
+/// "Desk and buffers keep what they held" where the rule refuses; else what it gives is stored.
 fn change<T>(area: &mut [u8], rule: impl FnOnce(&mut Table) -> Result<T, Refusal>) -> Result<T, Refusal> {
     let mut table = take_up(area)?;
     let answer = rule(&mut table)?;
-    lay_out(&table, area);
+    store(&table, area);
     Ok(answer)
 }

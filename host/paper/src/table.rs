@@ -4,7 +4,7 @@
 use std::collections::BTreeMap;
 
 use crate::layout::{end_of_data, DATA, METADATA};
-use crate::read::{read_types, Packet};
+use crate::read::{read_types, Hole, Packet};
 use crate::received::Received;
 use crate::refusal::Refusal;
 
@@ -51,6 +51,11 @@ pub struct Listed {
 impl Transfer {
     pub fn state(&self) -> State {
         State { edge: self.received.edge(), complete: self.received.complete(self.length) }
+    }
+
+    fn listed(&self, id: u64) -> Listed {
+        let runs = self.received.run_count();
+        Listed { id, width: self.width, length: self.length, state: self.state(), runs }
     }
 }
 
@@ -104,6 +109,11 @@ impl Table {
         Ok(transfer.state())
     }
 
+    /// What recording would answer; nothing is recorded.
+    pub fn try_record(&self, packet: &[u8]) -> Result<State, Refusal> {
+        self.clone().record(packet)
+    }
+
     /// "**Closing** removes an Id; its place is used again." "Closing: 12."
     pub fn close(&mut self, id: u64) -> Result<(), Refusal> {
         self.transfers.remove(&id).map(drop).ok_or(Refusal::NotOpen)
@@ -113,7 +123,19 @@ impl Table {
     pub fn transfer(&self, index: u64) -> Result<Listed, Refusal> {
         let mut numbered = (0..).zip(&self.transfers);
         let (_, (&id, transfer)) = numbered.find(|&(number, _)| number == index).ok_or(Refusal::NotOpen)?;
-        let runs = transfer.received.run_count();
-        Ok(Listed { id, width: transfer.width, length: transfer.length, state: transfer.state(), runs })
+        Ok(transfer.listed(id))
+    }
+
+    /// The open transfer with this Id; 12 where there is none.
+    pub fn find(&self, id: u64) -> Result<Listed, Refusal> {
+        Ok(self.transfers.get(&id).ok_or(Refusal::NotOpen)?.listed(id))
+    }
+
+    /// Hole `index` of its received set, lowest first; 12, then 19 for an index that there is no hole for.
+    pub fn hole(&self, id: u64, index: u64) -> Result<Hole, Refusal> {
+        let holes = self.transfers.get(&id).ok_or(Refusal::NotOpen)?.received.holes();
+        let place = usize::try_from(index).map_err(|_| Refusal::Index)?;
+        let &(start, end) = holes.get(place).ok_or(Refusal::Index)?;
+        Ok(Hole { start, end })
     }
 }

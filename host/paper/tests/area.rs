@@ -1,9 +1,9 @@
-//! The area: the example of docs/AREA.md, and each of that page's rules by itself.
+//! The area: the example of docs/AREA.md, each of that page's rules by itself, and what calls leave.
 
 mod common;
 
 use common::{data, metadata};
-use paper::area::{self, lay_out, take_up, OCTETS};
+use paper::area::{self, store, take_up, OCTETS};
 use paper::refusal::Refusal;
 use paper::table::Table;
 
@@ -18,10 +18,18 @@ fn example() -> Table {
     table
 }
 
-fn image(table: &Table) -> Vec<u8> {
+/// The words that the example uses, by the page's table.
+const USED: [usize; 15] = [0, 1, 2, 3, 4, 5, 6, 7, 8, 65, 66, 129, 1_089, 1_090, 1_153];
+
+/// An area that holds the table; every other octet is 0xA5.
+fn holding(table: &Table) -> Vec<u8> {
     let mut area = vec![0xA5; OCTETS];
-    lay_out(table, &mut area);
+    store(table, &mut area);
     area
+}
+
+fn set(area: &mut [u8], word: usize, value: u64) {
+    area[8 * word..8 * word + 8].copy_from_slice(&value.to_le_bytes());
 }
 
 /// The rows of the example: octet, eight octets, word.
@@ -40,29 +48,29 @@ fn example_of_the_page() -> Vec<(usize, Vec<u8>, usize)> {
 #[test]
 fn example_of_area_md() {
     let rows = example_of_the_page();
-    assert_eq!(rows.len(), 16);
-    let mut area = vec![0; OCTETS];
-    for (octet, octets, word) in rows {
-        assert_eq!(octet, 8 * word);
-        area[octet..octet + 8].copy_from_slice(&octets);
+    assert_eq!(rows.iter().map(|row| row.2).collect::<Vec<_>>(), USED);
+    for unused in [0x00, 0xA5, 0xFF] {
+        let mut area = vec![unused; OCTETS];
+        for (octet, octets, word) in &rows {
+            assert_eq!(*octet, 8 * word);
+            area[*octet..octet + 8].copy_from_slice(octets);
+        }
+        assert_eq!(take_up(&area), Ok(example()));
+        let mut stored = vec![unused; OCTETS];
+        store(&example(), &mut stored);
+        assert_eq!(stored, area);
     }
-    assert_eq!(area, image(&example()));
-    assert_eq!(take_up(&area), Ok(example()));
-}
-
-#[test]
-fn size_of_the_layout() {
-    assert_eq!(OCTETS, 16_904);
-    assert_eq!(image(&Table::default()), vec![0; OCTETS]);
 }
 
 #[test]
 fn length_of_an_area() {
-    let mut area = image(&example());
+    assert_eq!(OCTETS, 16_904);
+    let mut area = holding(&example());
     for len in [0, 1, 8, OCTETS - 8, OCTETS - 1] {
         assert_eq!(take_up(&area[..len]), Err(Refusal::Area));
         assert_eq!(area::fresh(&mut area[..len]), Err(Refusal::Buffer));
     }
+    assert_eq!(area, holding(&example()));
     area.extend([1, 2, 3]);
     assert_eq!(take_up(&area), Ok(example()));
     assert_eq!(area::fresh(&mut area), Ok(()));
@@ -70,46 +78,45 @@ fn length_of_an_area() {
 }
 
 /// The example with some words changed.
-fn changed(words: &[(usize, u64)]) -> Result<Table, Refusal> {
-    let mut area = image(&example());
+fn changed(words: &[(usize, u64)]) -> Vec<u8> {
+    let mut area = holding(&example());
     for &(word, value) in words {
-        area[8 * word..8 * word + 8].copy_from_slice(&value.to_be_bytes());
+        set(&mut area, word, value);
     }
-    take_up(&area)
+    area
 }
 
 #[test]
-fn words_that_are_no_image() {
+fn words_that_hold_no_table() {
     let refused: &[&[(usize, u64)]] = &[
-        // The number of transfers.
-        &[(0, 0)],
-        &[(0, 1)],
+        // The number of transfers. Of three, the third is 0xA5 throughout; high octet first, it is 2 << 56.
         &[(0, 3)],
         &[(0, 17)],
         &[(0, 2 + (1 << 32))],
+        &[(0, 2 << 56)],
         &[(0, u64::MAX)],
         // Ids: equal, falling, over 32 bits.
         &[(1, 300)],
-        &[(2, 7)],
+        &[(5, 7)],
         &[(1, 301)],
-        &[(2, 1 << 32)],
-        &[(2, u64::MAX)],
+        &[(5, 1 << 32)],
+        &[(5, 300 + (1 << 32))],
+        &[(5, u64::MAX)],
         // Widths.
-        &[(17, 0)],
-        &[(17, 1)],
-        &[(17, 3)],
-        &[(17, 16)],
-        &[(17, 2 + (1 << 32))],
+        &[(2, 0)],
+        &[(2, 1)],
+        &[(2, 3)],
+        &[(2, 16)],
+        &[(2, 2 + (1 << 32))],
         // Lengths: over the width, below the last stop.
-        &[(33, 65_536)],
-        &[(18, 4)],
-        &[(33, 2_999)],
-        // Numbers of runs.
-        &[(49, 1)],
-        &[(49, 3)],
-        &[(49, 65)],
-        &[(50, 0)],
-        &[(50, u64::MAX)],
+        &[(3, 65_536)],
+        &[(6, 4)],
+        &[(3, 2_999)],
+        &[(7, (1 << 32) + 499)],
+        // Numbers of runs. Of three, the third is 0xA5 throughout.
+        &[(4, 3)],
+        &[(4, 65)],
+        &[(8, u64::MAX)],
         // Runs: empty, turned round, overlapping, touching, past the length.
         &[(1_089, 0)],
         &[(66, 3_000)],
@@ -118,47 +125,51 @@ fn words_that_are_no_image() {
         &[(66, 1_000)],
         &[(1_090, 3_001)],
         &[(1_090, u64::MAX)],
-        // Places that nothing uses.
-        &[(3, 1)],
-        &[(19, 2)],
-        &[(35, 1)],
-        &[(51, 1)],
-        &[(67, 1)],
-        &[(128, 1)],
-        &[(1_091, 1)],
-        &[(193, 1)],
-        &[(2_112, 1)],
+        &[(1_089, 3_001)],
     ];
     for words in refused {
-        assert_eq!(changed(words), Err(Refusal::Area), "{words:?}");
+        assert_eq!(take_up(&changed(words)), Err(Refusal::Area), "{words:?}");
     }
 }
 
 #[test]
 fn words_of_another_table() {
     let taken: &[&[(usize, u64)]] = &[
+        &[(0, 0)],
+        &[(0, 1)],
+        &[(0, 3), (9, 301), (10, 2), (11, 0), (12, 0)],
         &[(1, 0)],
         &[(1, 299)],
-        &[(2, 0xFFFF_FFFF)],
-        &[(17, 4)],
-        &[(17, 8)],
-        &[(33, 65_535)],
-        &[(34, u64::MAX)],
+        &[(5, 0xFFFF_FFFF)],
+        &[(2, 4)],
+        &[(2, 8)],
+        &[(3, 65_535)],
+        &[(7, u64::MAX)],
         &[(65, 999)],
         &[(66, 1_001)],
         &[(1_089, 1_999)],
         &[(1_090, 2_001)],
-        &[(49, 3), (67, 4_001), (1_091, 5_000), (33, 5_000)],
-        &[(49, 1), (66, 0), (1_090, 0)],
+        &[(4, 3), (67, 4_001), (1_091, 5_000), (3, 5_000)],
+        &[(4, 1)],
+        &[(8, 0)],
     ];
     for words in taken {
-        let table = changed(words).unwrap_or_else(|_| panic!("{words:?}"));
+        let area = changed(words);
+        let table = take_up(&area).unwrap_or_else(|_| panic!("{words:?}"));
         assert_ne!(table, example());
-        let mut area = image(&example());
-        for &(word, value) in *words {
-            area[8 * word..8 * word + 8].copy_from_slice(&value.to_be_bytes());
+        // What an area holds, stored in it, changes nothing.
+        let mut again = area.clone();
+        store(&table, &mut again);
+        assert_eq!(again, area, "{words:?}");
+    }
+}
+
+#[test]
+fn unused_places_hold_anything() {
+    for word in (0..OCTETS / 8).filter(|word| !USED.contains(word)) {
+        for value in [0, 1, 7, 300, 1 << 56, u64::MAX] {
+            assert_eq!(take_up(&changed(&[(word, value)])), Ok(example()), "{word}: {value}");
         }
-        assert_eq!(image(&table), area);
     }
 }
 
@@ -167,20 +178,36 @@ fn calls_on_areas() {
     let mut area = vec![0xA5; OCTETS + 3];
     assert_eq!(area::open(&mut area, &metadata(7, 2, 3_000)), Err(Refusal::Area));
     assert_eq!(area, vec![0xA5; OCTETS + 3]);
-    area::fresh(&mut area).unwrap();
+    // Nothing is open, and the rest is left.
+    set(&mut area, 0, 0);
     area::open(&mut area, &metadata(300, 8, 5_000_000_000)).unwrap();
     area::open(&mut area, &metadata(7, 2, 3_000)).unwrap();
     for (id, width, offset, len) in [(300, 8, 1 << 32, 500), (7, 2, 2_000, 1_000), (7, 2, 0, 1_000)] {
         area::record(&mut area, &data(id, width, offset, len)).unwrap();
     }
-    let before = [image(&example()), vec![0xA5; 3]].concat();
-    assert_eq!(area, before);
+    let mut want = [holding(&example()), vec![0xA5; 3]].concat();
+    assert_eq!(area, want);
     // A refusal changes nothing.
     assert_eq!(area::record(&mut area, &data(7, 2, 2_999, 2)), Err(Refusal::PastEnd));
     assert_eq!(area::close(&mut area, 8), Err(Refusal::NotOpen));
-    assert_eq!(area, before);
+    assert_eq!(area, want);
+    // Two runs become one: the second's place keeps its numbers.
+    area::record(&mut area, &data(7, 2, 1_000, 1_000)).unwrap();
+    for (word, value) in [(4, 1), (1_089, 3_000)] {
+        set(&mut want, word, value);
+    }
+    assert_eq!(area, want);
+    // The second transfer gets the first's place, and its own keeps its numbers.
     area::close(&mut area, 7).unwrap();
+    for (word, value) in [(0, 1), (1, 300), (2, 8), (3, 5_000_000_000), (4, 1), (65, 1 << 32), (1_089, (1 << 32) + 500)]
+    {
+        set(&mut want, word, value);
+    }
+    assert_eq!(area, want);
     assert_eq!(area::transfer_at(&area, 0).map(|listed| listed.id), Ok(300));
     area::close(&mut area, 300).unwrap();
+    set(&mut want, 0, 0);
+    assert_eq!(area, want);
+    area::fresh(&mut area).unwrap();
     assert_eq!(area, [vec![0; OCTETS], vec![0xA5; 3]].concat());
 }

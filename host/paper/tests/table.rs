@@ -218,3 +218,30 @@ fn listing() {
     assert_eq!(list(3), Err(Refusal::NotOpen));
     assert_eq!(list(u64::MAX), Err(Refusal::NotOpen));
 }
+
+#[test]
+fn asked_before_recording() {
+    let table = received(9, &[(1, 1), (3, 1)]);
+    let before = table.clone();
+    let tried = |packet: &[u8]| table.try_record(packet).map(|state| (state.edge, state.complete));
+    assert_eq!(tried(&data(7, 2, 0, 9)), Ok((9, true)));
+    assert_eq!(tried(&data(7, 2, 4, 1)), Ok((5, false)));
+    assert_eq!(tried(&data(7, 2, 9, 1)), Err(Refusal::PastEnd));
+    assert_eq!(tried(&data(8, 2, 0, 1)), Err(Refusal::NotOpen));
+    assert_eq!(table, before);
+}
+
+#[test]
+fn by_id() {
+    let table = received(9, &[(1, 1), (3, 1)]);
+    let found = table.find(7).unwrap();
+    assert_eq!((found.id, found.width, found.length, found.state.edge, found.runs), (7, 2, 9, 4, 2));
+    assert_eq!(table.find(8), Err(Refusal::NotOpen));
+    assert_eq!(table.find(7 + (1 << 32)), Err(Refusal::NotOpen));
+    let hole = |index| table.hole(7, index).map(|hole| (hole.start, hole.end));
+    assert_eq!(hole(0), Ok((0, 1)));
+    assert_eq!(hole(1), Ok((2, 3)));
+    assert_eq!(hole(2), Err(Refusal::Index));
+    assert_eq!(hole(u64::MAX), Err(Refusal::Index));
+    assert_eq!(table.hole(8, 0).map(|hole| hole.start), Err(Refusal::NotOpen));
+}

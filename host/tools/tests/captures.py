@@ -1,8 +1,10 @@
 """Capture files for the tests: frames of each link type, in classic pcap and pcapng."""
+import ipaddress
 import struct
 
-PORT = 7542
-ETHERNET, COOKED, COOKED2, RAW = 1, 113, 276, 101
+from packets import PORT
+
+ETHERNET, COOKED, COOKED2, RAW, NULL, LOOP = 1, 113, 276, 101, 0, 108
 
 
 def udp(payload, source=40000, target=PORT, length=None):
@@ -17,22 +19,22 @@ def checksum(octets):
     return ~total & 0xFFFF
 
 
-def ipv4(segment, options=b"", fragment=0, protocol=17, total=None, ident=1):
+def ipv4(segment, options=b"", fragment=0, protocol=17, total=None, ident=1, sender="127.0.0.1", receiver="127.0.0.1"):
     header = 20 + len(options)
     total = header + len(segment) if total is None else total
     start = struct.pack(">BBHHHBBH4s4s", 0x40 | header // 4, 0, total, ident, fragment, 64, protocol, 0,
-                        bytes([127, 0, 0, 1]), bytes([127, 0, 0, 1])) + options
+                        ipaddress.ip_address(sender).packed, ipaddress.ip_address(receiver).packed) + options
     return start[:10] + struct.pack(">H", checksum(start)) + start[12:] + segment
 
 
-def ipv6(segment, extensions=(), following=17):
+def ipv6(segment, extensions=(), following=17, sender="::1", receiver="::1"):
     """`extensions`: pairs of the header's number and its octets, without the first, which names the next header."""
     chain = b""
     numbers = [number for number, _ in extensions] + [following]
     for (_, rest), after in zip(extensions, numbers[1:]):
         chain += bytes([after]) + rest
-    loop = bytes(15) + b"\x01"
-    return struct.pack(">IHBB", 0x60000000, len(chain) + len(segment), numbers[0], 64) + loop + loop + chain + segment
+    ends = ipaddress.ip_address(sender).packed + ipaddress.ip_address(receiver).packed
+    return struct.pack(">IHBB", 0x60000000, len(chain) + len(segment), numbers[0], 64) + ends + chain + segment
 
 
 def version(packet):
@@ -51,6 +53,13 @@ def cooked(packet):
 
 def cooked2(packet):
     return struct.pack(">HHIHBB8s", version(packet), 0, 1, 772, 0, 6, bytes(8)) + packet
+
+
+def loopback(packet, order="<", family=None):
+    """Behind the family, as a BSD machine writes it in its own byte order; OpenBSD's, in the network's, is ">"."""
+    if family is None:
+        family = 24 if packet[0] >> 4 == 6 else 2
+    return struct.pack(order + "I", family) + packet
 
 
 def pcap(frames, link=ETHERNET, order="<", magic=0xA1B2C3D4):
@@ -72,16 +81,20 @@ def section(order="<"):
     return block(0x0A0D0D0A, struct.pack(order + "IHHq", 0x1A2B3C4D, 1, 0, -1), order)
 
 
-def interface(link, order="<", limit=262144):
-    resolution = struct.pack(order + "HHB3xHH", 9, 1, 9, 0, 0)  # if_tsresol: nanoseconds; then the end of options
-    return block(1, struct.pack(order + "HHI", link, 0, limit) + resolution, order)
+def interface(link, order="<", limit=262144, resolution=9, offset=None):
+    """if_tsresol, nanoseconds where none is given; if_tsoffset where one is given; then the end of options."""
+    options = struct.pack(order + "HHB3x", 9, 1, resolution)
+    if offset is not None:
+        options += struct.pack(order + "HHq", 14, 8, offset)
+    return block(1, struct.pack(order + "HHI", link, 0, limit) + options + struct.pack(order + "HH", 0, 0), order)
 
 
-def enhanced(octets, order="<", which=0, length=None):
+def enhanced(octets, order="<", which=0, length=None, time=0):
     length = len(octets) if length is None else length
     padded = octets + bytes(-len(octets) % 4)
     comment = struct.pack(order + "HH8sHH", 1, 7, b"comment\0", 0, 0)
-    return block(6, struct.pack(order + "IIIII", which, 0, 0, len(octets), length) + padded + comment, order)
+    start = struct.pack(order + "IIIII", which, time >> 32, time & 0xFFFFFFFF, len(octets), length)
+    return block(6, start + padded + comment, order)
 
 
 def simple(octets, order="<", length=None):

@@ -6,6 +6,7 @@ import sys
 
 PLACE = os.path.join(os.path.dirname(os.path.abspath(__file__)), "..")
 sys.dont_write_bytecode = True
+sys.path.insert(0, PLACE)
 
 
 def path_of(name):

@@ -7,6 +7,7 @@ import unittest
 import xml.etree.ElementTree as tree
 
 import loading
+from packets import data, metadata, record
 
 passplot = loading.tool("passplot")
 SVG = "{http://www.w3.org/2000/svg}"
@@ -42,12 +43,21 @@ LATE = """\
 """
 
 
-def drawing(text):
-    return passplot.Drawing(passplot.read(text.split("\n")), "Pass").svg()
+def drawing(text, times=None, passed=None):
+    drawn = passplot.read(text.split("\n"))
+    if passed is not None:
+        passplot.give_names(drawn, passed)
+    return passplot.Drawing(drawn, "Pass", times).svg()
+
+
+def boxes(svg, fill):
+    """The boxes of a colour that say what they are: those of the legend don't."""
+    return [box for box in tree.fromstring(svg).iter(SVG + "rect")
+            if box.get("fill") == fill and box.find(SVG + "title") is not None]
 
 
 def texts(svg):
-    return ["".join(element.itertext()) for element in tree.fromstring(svg).iter(SVG + "text")]
+    return [element.text for element in tree.fromstring(svg).iter(SVG + "text")]
 
 
 def tips(svg):
@@ -57,7 +67,7 @@ def tips(svg):
 class Drawn(unittest.TestCase):
     def test_every_line_of_replay_is_taken(self):
         svg = drawing(EVERY_LINE)
-        self.assertIn("15 records; 1 transfer, 0 complete; 1 refused; the pass is cut short", texts(svg))
+        self.assertIn("15 records; 1 transfer, 0 complete; 1 refused (14); the pass is cut short", texts(svg))
         self.assertIn("NOT complete: 1,000 of 3,000 octets received, nothing from 1,000 on", texts(svg))
         self.assertIn("closed", texts(svg))
 
@@ -120,6 +130,117 @@ class Drawn(unittest.TestCase):
                 self.assertEqual(set(transfer.since), set(transfer.holes()))
                 self.assertEqual(transfer.complete, len(offsets) == 60)
 
+    def test_names_of_pages(self):
+        """From the pass, and from lines with the path. No octet of a path leaves the text it stands in."""
+        packets = [record(b"F"), record(b"P", metadata(7, 16, 3000, b"plant/page 611.pla")),
+                   record(b"O", metadata(8, 64, 9, b"\x1b[2J</text>&%\xff\r\n", 0x52, bytes(20)))]
+        lines = ("1 fresh\n2 open id=7 width=16 length=3000 edge=0 complete=0 new\n"
+                 "3 open id=8 width=64 length=9 edge=0 complete=0 new\n")
+        told = texts(drawing(lines, passed=b"".join(packets)))
+        self.assertIn("Transfer 7, plant/page 611.pla: 3,000 octets, width 16", told)
+        self.assertIn("Transfer 8, %1b[2J</text>&%25%ff%0d%0a: 9 octets, width 64", told)
+        shown = ("1 metadata id=7 flags=000000 width=16 checksum= properties=0000 size=3000 mtime=0 ctime=0 "
+                 "path=706167653631312e706c61\n2 open id=7 width=16 length=3000 edge=0 complete=0 new\n")
+        self.assertIn("Transfer 7, page611.pla: 3,000 octets, width 16", texts(drawing(shown)))
+        linked = ("1 open id=7 width=16 length=1 edge=0 complete=0 new\n"
+                  "2 record id=7 offset=0 length=1 edge=1 complete=1\n"
+                  "2 complete id=7 length=1 file=00000007.page mtime=0 ctime=0 checksum= path=plant/page611.pla\n"
+                  "3 lost id=7 offset=0 length=1\n4 too-large id=8 length=9 code=3\n5 close id=7 to-make-room\n")
+        self.assertIn("Transfer 7, plant/page611.pla: 1 octet, width 16", texts(drawing(linked)))
+        long = record(b"P", metadata(7, 16, 3000, b"a" * 500 + b"z" * 500))
+        svg = drawing("1 open id=7 width=16 length=3000 edge=0 complete=0 new\n", passed=long)
+        self.assertTrue(all(len(text) < 110 for text in texts(svg)), texts(svg))
+        self.assertIn("Transfer 7, " + "a" * 500 + "z" * 500, tips(svg))
+
+    def test_any_pass_gives_names_or_an_error(self):
+        chance = random.Random(613)
+        lines = "1 open id=7 width=16 length=3000 edge=0 complete=0 new\n"
+        for _ in range(3000):
+            packet = bytearray(metadata(7, chance.choice((16, 32, 64)), 3000, chance.randbytes(chance.randrange(20))))
+            packet[chance.randrange(len(packet))] = chance.randrange(256)
+            try:
+                svg = drawing(lines, passed=record(b"P", bytes(packet[:chance.randrange(len(packet) + 1)])))
+            except passplot.Wrong:
+                continue
+            tree.fromstring(svg)
+
+    def test_the_legend_has_every_mark(self):
+        told = texts(drawing(LATE))
+        for name in ("received by this record", "received before", "hole", "beyond the edge", "not open", "complete",
+                     "repeat: nothing new", "closed", "STATUS", "failure STATUS", "refused, with its number"):
+            self.assertIn(name, told)
+
+    def test_nothing_received_is_invisible(self):
+        """Each packet that brought something lies in a box of a pixel at least, in long files and long passes too."""
+        chance = random.Random(614)
+        for length, count, times in ((2**64 - 1, 40, None), (10**9, 6000, None), (5000, 6000, None),
+                                     (10**6, 900, {record: 10**15 + record // 100 for record in range(1, 901)})):
+            lines, transfer = [f"1 open id=7 width=64 length={length} edge=0 complete=0 new"], passplot.Transfer(
+                1, 7, 64, length)
+            for number in range(2, count + 1):
+                start = chance.choice((0, length - 1, chance.randrange(length), number * length // (count + 1)))
+                stop = min(length, start + chance.choice((1, 1000)))
+                transfer.record(number, start, stop)
+                lines.append(f"{number} record id=7 offset={start} length={stop - start} edge={transfer.edge} "
+                             f"complete={int(transfer.complete)}")
+            svg = drawing("\n".join(lines), times)
+            covered = []
+            for box in boxes(svg, passplot.NEW):
+                self.assertGreaterEqual(float(box.get("width")), 1)
+                self.assertGreaterEqual(float(box.get("height")), 1)
+                found = re.fullmatch(r"records? (\d+)(?: to (\d+))?: ([\d,]+) to ([\d,]+)", box.find(SVG + "title").text)
+                first, last = int(found[1]), int(found[2] or found[1])
+                covered.append((first, last, *(int(found[at].replace(",", "")) for at in (3, 4))))
+            for record, start, stop in transfer.pieces:
+                self.assertTrue(any(first <= record <= last and low <= start and stop <= high
+                                    for first, last, low, high in covered), (record, start, stop))
+            self.assertLess(len(svg), 2_500_000)
+
+    def test_low_holes_leave_room_for_what_was_received(self):
+        """Many holes in few pixels: together they cover no more than half of what they lie in, or little more."""
+        lines, runs = ["1 open id=7 width=32 length=60000000 edge=0 complete=0 new"], 60
+        for number in range(2, 2 + runs):
+            start = (number - 2) * 100000
+            lines.append(f"{number} record id=7 offset={start} length=99000 edge={start + 99000} complete=0")
+        lines.append(f"{2 + runs} record id=7 offset=59999999 length=1 edge=60000000 complete=0")
+        svg = drawing("\n".join(lines))
+        low = [float(box.get("height")) for box in boxes(svg, passplot.HOLE) if float(box.get("height")) < 1]
+        self.assertEqual(len(low), runs - 1)
+        self.assertLess(sum(low), 0.7 * 210 * 6000000 / 60000000)
+        self.assertGreater(min(low), 0.1)
+
+    def test_many_transfers(self):
+        """A line for each, with its name, and the drawing stays low."""
+        lines, passed = [], b""
+        for ident in range(100):
+            lines.append(f"{2 * ident + 1} open id={ident} width=16 length=10 edge=0 complete=0 new")
+            lines.append(f"{2 * ident + 2} record id={ident} offset=0 length={ident % 2 * 5 + 5} "
+                         f"edge={ident % 2 * 5 + 5} complete={ident % 2}")
+            passed += record(b"P", metadata(ident, 16, 10, b"page%d" % ident)) + record(b"P", data(
+                ident, 16, 0, bytes(ident % 2 * 5 + 5)))
+        svg = drawing("\n".join(lines), passed=passed)
+        self.assertLess(float(tree.fromstring(svg).get("height")), 2300)
+        told = texts(svg)
+        for ident in range(100):
+            self.assertIn(f"page{ident} {ident}", told)
+        self.assertEqual(told.count("NOT complete: 50.0% of 10"), 50)
+        self.assertEqual(len(boxes(svg, passplot.NEW)), 100)
+
+    def test_times(self):
+        times = {record: 1700000000 * 10**9 + record * 10**9 for record in range(1, 9) if record != 4}
+        svg = drawing(LATE, times)
+        self.assertIn("s since 2023-11-14 22:13:21 UTC", texts(svg))
+        self.assertIn("7", texts(svg))
+        self.assertIn("record 4: 0 to 1,000 again", tips(svg))
+        for odd in ({1: 0}, {1: 10**60, 2: 0, 3: 10**59}, {8: 5}, {record: 7 for record in range(1, 9)}):
+            tree.fromstring(drawing(LATE, odd))
+        with self.assertRaisesRegex(passplot.Wrong, "no time of any record"):
+            drawing(LATE, {9: 5})
+        self.assertEqual(passplot.read_times(b"1 1700000000.000005000\n"), {1: 1700000000000005000})
+        for wrong in (b"x", b"1 2", b"1 2.5", b"1 -1.000000000", b"\xff\xff", b"1 2.000000000\n\n"):
+            with self.assertRaisesRegex(passplot.Wrong, "^line "):
+                passplot.read_times(wrong)
+
     def test_ticks(self):
         self.assertEqual(list(passplot.ticks(1, 19, 20)), list(range(1, 20)))
         self.assertEqual(list(passplot.ticks(0, 3000, 6)), list(range(0, 3001, 500)))
@@ -161,6 +282,14 @@ class Errors(unittest.TestCase):
         self.assertIn("Page <611> & more", texts(out))
         self.assertTrue(re.match(r'<svg xmlns="http://www.w3.org/2000/svg" ', out))
         self.assertEqual(run("1 what\n"), ("", "passplot: standard input: line 1: no line of replay: what\n", 1))
+        self.assertEqual(run("1 \x1b[2J\n")[1], "passplot: standard input: line 1: no line of replay: \\x1b[2J\n")
+        self.assertEqual(run("9" * 9999 + " fresh\n")[2], 1)
+        self.assertEqual(run(LATE, "-o", "/dev/full"), ("", "passplot: /dev/full: No space left on device\n", 1))
+        self.assertEqual(run(LATE, "--pass", "/dev/null"), (
+            "", "passplot: /dev/null: record 1 is no METADATA, and the lines say that it opened a transfer: they are of "
+                "another pass\n", 1))
+        self.assertEqual(run(LATE, "--times", "/dev/null"),
+                         ("", "passplot: /dev/null: no time of any record that the lines tell of\n", 1))
         self.assertEqual(run("", "/nowhere/lines"), ("", "passplot: /nowhere/lines: No such file or directory\n", 1))
 
 

@@ -163,6 +163,15 @@ class Errors(unittest.TestCase):
                          (b"", "passtext: standard input: line 2: close needs id=\n", 1))
         self.assertEqual(run(b"fresh\n\xff\n", "-p"),
                          (b"", "passtext: standard input: line 2: not text; is it a pass already?\n", 1))
+        self.assertEqual(run(b"\x1b[2J\n", "-p"), (b"", "passtext: standard input: line 1: no line begins with "
+                                                          "\\x1b[2J; see passtext --help\n", 1))
+        self.assertEqual(run(b"close id=" + b"9" * 9999, "-p")[1:],
+                         ("passtext: standard input: line 1: id=" + "9" * 40 + "... is over 32 bits\n", 1))
+        self.assertEqual(run(record(b"F"), "-o", "/nowhere/text"),
+                         (b"", "passtext: /nowhere/text: No such file or directory\n", 1))
+        self.assertEqual(run(record(b"F"), "-o", "/dev/full"),
+                         (b"", "passtext: /dev/full: No space left on device\n", 1))
+        self.assertEqual(run(b"", "/"), (b"", "passtext: /: Is a directory\n", 1))
         self.assertEqual(run(b"", "/nowhere/pass"), (b"", "passtext: /nowhere/pass: No such file or directory\n", 1))
 
 

@@ -12,8 +12,9 @@ import unittest
 
 import captures
 import loading
-from captures import cooked, cooked2, enhanced, ethernet, interface, ipv4, ipv6, pcap, pcapng, section, simple, udp
-from packets import page_packets, record
+from captures import (cooked, cooked2, enhanced, ethernet, interface, ipv4, ipv6, loopback, pcap, pcapng, section, simple,
+                      udp)
+from packets import page_packets, record, split
 
 pcap2pass = loading.tool("pcap2pass")
 PACKETS = page_packets()
@@ -41,14 +42,18 @@ WRAPPINGS = {
     "raw 229": (229, lambda p: ipv6(udp(p))),
     "IPv4 options": (captures.ETHERNET, lambda p: ethernet(ipv4(udp(p), options=b"\x94\x04\0\0" + b"\1" * 4))),
     "IPv6 extensions": (captures.RAW, lambda p: ipv6(udp(p), [HOP, OPTIONS, ROUTING, ATOMIC, AUTHENTICATION])),
+    "loopback": (captures.NULL, lambda p: loopback(ipv4(udp(p)))),
+    "loopback, the other order": (captures.NULL, lambda p: loopback(ipv6(udp(p)), ">", 30)),
+    "loopback of OpenBSD": (captures.LOOP, lambda p: loopback(ipv4(udp(p)), ">")),
+    "loopback of OpenBSD, IPv6": (captures.LOOP, lambda p: loopback(ipv6(udp(p)), ">")),
     "source port": (captures.ETHERNET, lambda p: ethernet(ipv4(udp(p, source=7542, target=50000)))),
 }
 
 
-def run(capture):
+def run(capture, wanted=pcap2pass.Wanted(), **options):
     """Output, messages and exit status of pcap2pass on a capture."""
     out, told = io.BytesIO(), []
-    status = pcap2pass.convert(pcap2pass.Source(io.BytesIO(capture)), captures.PORT, out, told.append)
+    status = pcap2pass.convert(pcap2pass.Source(io.BytesIO(capture)), wanted, out, told.append, **options)
     return out.getvalue(), "".join(f"pcap2pass: {message}\n" for message in told), status
 
 
@@ -106,6 +111,15 @@ class Whole(unittest.TestCase):
         self.assertEqual((out, told, status), (b"", "pcap2pass: /nowhere/capture: No such file or directory\n", 1))
         self.assertEqual(run_program(b"", "--port", "65536")[2], 2)
 
+    def test_a_full_disk_is_named(self):
+        capture = pcap([ethernet(ipv4(udp(b"one")))])
+        self.assertEqual(run_program(capture, "-o", "/dev/full"),
+                         (b"", "pcap2pass: /dev/full: No space left on device\n", 1))
+        with open("/dev/full", "wb") as full:
+            done = subprocess.run([loading.path_of("pcap2pass")], input=capture, stdout=full, stderr=subprocess.PIPE,
+                                  check=False)
+        self.assertEqual((done.stderr, done.returncode), (b"pcap2pass: standard output: No space left on device\n", 1))
+
 
 class Skipping(unittest.TestCase):
     def skipped(self, frame, message, link=1, out=b""):
@@ -114,8 +128,12 @@ class Skipping(unittest.TestCase):
         if link == captures.RAW:
             one, three = ipv4(udp(b"one")), ipv4(udp(b"three"))
         octets, told, status = run(pcap([one, frame, three], link))
-        self.assertEqual((octets, status), (record(b"P", b"one") + out + record(b"P", b"three"), 0))
-        self.assertEqual(told, f"pcap2pass: frame 2: {message}\n" if message else "")
+        self.assertEqual((octets, status), (record(b"P", b"one") + out + record(b"P", b"three"), 3 if message else 0))
+        first, *rest = told.splitlines(keepends=True) or [""]
+        self.assertEqual(first, f"pcap2pass: frame 2: {message}\n" if message else "")
+        self.assertEqual(len(rest), 1 if message else 0)
+        if message:
+            self.assertRegex(rest[0], "^pcap2pass: 3 frames, 2 taken, 1 skipped; [a-z ]+: 1\n$")
 
     def test_other_ports_and_protocols_silently(self):
         self.skipped(ethernet(ipv4(udp(b"dns", target=53))), "")
@@ -157,15 +175,118 @@ class Skipping(unittest.TestCase):
 
     def test_nothing_of_the_port(self):
         self.assertEqual(run(pcap([ethernet(ipv4(udp(b"dns", target=53)))])),
-                         (b"", "pcap2pass: no payload of UDP port 7542 in 1 frames\n", 0))
+                         (b"", "pcap2pass: no payload of UDP port 7542 in 1 frame\n", 3))
 
     def test_unknown_link_types(self):
-        told = "pcap2pass: frame 1: link type 105 isn't known; its frames are skipped\n"
-        self.assertEqual(run(pcap([bytes(60)] * 2, 105)),
-                         (b"", told + "pcap2pass: no payload of UDP port 7542 in 2 frames\n", 1))
+        told = "pcap2pass: frame 1: skipped: link type 105 isn't known\n"
+        counted = "pcap2pass: 2 frames, {} taken, {} skipped; unknown link type: {}\n"
+        out, messages, status = run(pcap([bytes(60)] * 2, 105))
+        self.assertEqual((out, status), (b"", 3))
+        self.assertEqual(messages, told + told.replace("frame 1", "frame 2") + counted.format(0, 2, 2)
+                         + "pcap2pass: no payload of UDP port 7542 in 2 frames\n")
         mixed = section() + interface(105) + interface(1) + enhanced(bytes(60)) + enhanced(
             ethernet(ipv4(udp(b"one"))), which=1)
-        self.assertEqual(run(mixed), (record(b"P", b"one"), told, 0))
+        self.assertEqual(run(mixed), (record(b"P", b"one"), told + counted.format(1, 1, 1), 3))
+
+    def test_loopback_of_other_families_and_cut(self):
+        frames = [loopback(bytes(40), family=7), loopback(ipv4(udp(b"one"))), b"\2\0\0\0"]
+        out, told, status = run(pcap(frames, captures.NULL))
+        self.assertEqual((out, status), (record(b"P", b"one"), 3))
+        self.assertIn("frame 3: skipped: the link header is cut short: 4 of 5 octets are there\n", told)
+
+    def test_counts_by_reason(self):
+        """The first five of a reason are named, one message says that there are more, the last counts all."""
+        whole, fragment = ethernet(ipv4(udp(b"x" * 100))), ethernet(ipv4(b"x" * 100, fragment=5))
+        frames = [fragment] * 8 + [(whole[:80], len(whole))] * 2 + [ethernet(ipv4(udp(b"x" * 50, length=7))), whole]
+        frames += [ethernet(ipv4(udp(b"dns", target=53)))] * 3 + [ethernet(ipv4(bytes(20), protocol=6))]
+        out, told, status = run(pcap(frames))
+        lines = told.splitlines()
+        self.assertEqual((out, status), (record(b"P", b"x" * 100), 3))
+        self.assertEqual(len(lines), 5 + 1 + 2 + 1 + 1)
+        self.assertEqual(lines[5], "pcap2pass: frame 6: skipped: fragment; more of these are counted, and not named")
+        self.assertEqual(lines[-1], "pcap2pass: 16 frames, 1 taken, 11 skipped; cut: 2; fragment: 8; "
+                                    "wrong length or version: 1")
+        told = run(pcap(frames), with_counts=True)[1]
+        self.assertEqual(told.splitlines()[-1], "pcap2pass: 16 frames, 1 taken, 11 skipped; another port: 3; "
+                         "another protocol: 1; cut: 2; fragment: 8; wrong length or version: 1")
+        self.assertEqual(run(pcap([whole]), with_counts=True)[1], "pcap2pass: 1 frame, 1 taken, 0 skipped\n")
+
+
+class Filters(unittest.TestCase):
+    """--from, --to and --port."""
+
+    FRAMES = [ethernet(ipv4(udp(b"there"), sender="10.1.0.1", receiver="10.1.0.2")),
+              ethernet(ipv4(udp(b"back", source=7542, target=40000), sender="10.1.0.2", receiver="10.1.0.1")),
+              ethernet(ipv6(udp(b"six"), sender="2001:db8::1", receiver="2001:db8::2")),
+              ethernet(ipv4(udp(b"far"), sender="10.2.0.1", receiver="10.1.0.2")),
+              ethernet(ipv4(udp(b"other", target=9), sender="10.1.0.1", receiver="10.1.0.2"))]
+
+    def taken(self, bodies, *options, status=0):
+        out, told, ended = run_program(pcap(self.FRAMES), *options)
+        self.assertEqual((out, told if bodies else "", ended), (b"".join(record(b"P", body) for body in bodies), "", status))
+
+    def test_each_filter(self):
+        self.taken([b"there", b"back", b"six", b"far"])
+        self.taken([b"there"], "--from", "10.1.0.1")
+        self.taken([b"there", b"far"], "--to", "10.1.0.2")
+        self.taken([b"back"], "--from", "10.1.0.2", "--to", "10.1.0.1")
+        self.taken([b"six"], "--from", "2001:DB8:0::1")
+        self.taken([b"there", b"back"], "--from", "10.1.0.0/16")
+        self.taken([b"there", b"six"], "--from", "10.1.0.1", "--from", "2001:db8::/32")
+        self.taken([b"other"], "--port", "9", "--from", "10.1.0.1")
+
+    def test_nothing_left(self):
+        out, told, status = run_program(pcap(self.FRAMES), "--from", "10.9.9.9", "--counts")
+        self.assertEqual((out, status), (b"", 3))
+        self.assertEqual(told, "pcap2pass: 5 frames, 0 taken, 0 skipped; another address: 5\n"
+                               "pcap2pass: no payload of UDP port 7542 between the addresses in 5 frames\n")
+
+    def test_fragments_between_other_addresses_are_no_loss(self):
+        frames = [ethernet(ipv4(b"x" * 100, fragment=5, sender="10.9.9.9")), self.FRAMES[0],
+                  ethernet(ipv6(b"x" * 100, [(44, struct.pack(">BHI", 0, 80, 9))], sender="2001:db8::9"))]
+        self.assertEqual(run_program(pcap(frames), "--from", "10.1.0.1"), (record(b"P", b"there"), "", 0))
+
+    def test_wrong_filters(self):
+        for option in (("--from", "here"), ("--to", "10.1.0.999"), ("--port", "x"), ("--port", "-1"), ("--port", "65536"),
+                       ("--port", "7_0"), ("--from", "")):
+            out, told, status = run_program(pcap(self.FRAMES), *option)
+            self.assertEqual((out, status), (b"", 2), option)
+            self.assertNotIn("Traceback", told)
+
+
+class Times(unittest.TestCase):
+    FRAME = ethernet(ipv4(udp(b"one")))
+
+    def times(self, capture):
+        out = io.BytesIO()
+        run(capture, times=out)
+        return out.getvalue().decode().splitlines()
+
+    def test_pcap(self):
+        frames = [self.FRAME, ethernet(ipv4(udp(b"dns", target=53))), self.FRAME]
+        self.assertEqual(self.times(pcap(frames)), ["1 1700000000.000005000", "2 1700000002.000005000"])
+        self.assertEqual(self.times(pcap(frames, order=">", magic=0xA1B23C4D)),
+                         ["1 1700000000.000000005", "2 1700000002.000000005"])
+
+    def test_pcapng(self):
+        for resolution, time, told in ((9, 1700000000 * 10**9 + 7, "1700000000.000000007"), (6, 15, "0.000015000"),
+                                       (0, 3, "3.000000000"), (0x80 | 10, 1536, "1.500000000"),
+                                       (0xFF, 2**64 - 1, "0.000000000"), (127, 2**64 - 1, "0.000000000")):
+            capture = section() + interface(1, resolution=resolution) + enhanced(self.FRAME, time=time)
+            self.assertEqual(self.times(capture), ["1 " + told], resolution)
+        capture = section() + interface(1, offset=1000) + enhanced(self.FRAME, time=7)
+        self.assertEqual(self.times(capture), ["1 1000.000000007"])
+        capture = section() + interface(1, offset=-1000) + enhanced(self.FRAME, time=7)
+        self.assertEqual(self.times(capture), [])
+        capture = section() + interface(1) + simple(self.FRAME) + enhanced(self.FRAME, time=10**9)
+        self.assertEqual(self.times(capture), ["2 1.000000000"])
+
+    def test_the_program(self):
+        with tempfile.TemporaryDirectory() as place:
+            name = os.path.join(place, "times")
+            self.assertEqual(run_program(pcap([self.FRAME]), "--times", name), (record(b"P", b"one"), "", 0))
+            with open(name, encoding="ascii") as file:
+                self.assertEqual(file.read(), "1 1700000000.000005000\n")
 
 
 class Broken(unittest.TestCase):
@@ -174,7 +295,10 @@ class Broken(unittest.TestCase):
 
     def test_no_capture(self):
         self.broken(b"", "the file is empty")
-        self.broken(b"\xd4\xc3", "the file's first four octets: the file ends after 1 of 3 octets, at octet 2")
+        self.broken(b"\xd4\xc3", "the file's first four octets: the file ends after 2 of 4 octets, at octet 2")
+        self.broken(pcap([])[:-1], "the file's header: the file ends after 19 of 20 octets, at octet 23")
+        self.broken(pcap([])[:4], "the file's header: the file ends after 0 of 20 octets, at octet 4")
+        self.broken(pcap([]) + bytes(15), "frame 1: its header: the file ends after 15 of 16 octets, at octet 39")
         self.broken(b"GIF89a", "neither pcap nor pcapng: the first four octets are 47494638")
 
     def test_cut_at_every_octet(self):
@@ -190,7 +314,7 @@ class Broken(unittest.TestCase):
                 out, told, status = run(capture[:cut])
                 with self.subTest(name=name, cut=cut):
                     self.assertEqual(out, b"".join(record(b"P", p) for p in (b"a" * 30, b"b" * 40)[:whole]))
-                    self.assertEqual(status, 0 if boundary else 1)
+                    self.assertEqual(status, (0 if whole else 3) if boundary else 1)
                     if not boundary:
                         self.assertIn("the file ends after", told)
                         if cut > ends[0]:
@@ -220,7 +344,7 @@ class Broken(unittest.TestCase):
             octets = bytearray(chance.choice(base))
             for _ in range(chance.randrange(1, 6)):
                 octets[chance.randrange(4, min(len(octets), 200))] = chance.randrange(256)
-            self.assertIn(run(bytes(octets))[2], (0, 1))
+            self.assertIn(run(bytes(octets))[2], (0, 1, 3))
 
 
 class OtherReaders(unittest.TestCase):
@@ -259,7 +383,7 @@ class OtherReaders(unittest.TestCase):
                     else:
                         octets.append(b"")
                         lengths.append(int(re.search(r"7542.* UDP, length (\d+)", line).group(1)))
-                records = split(passed)
+                records = bodies(passed)
                 self.assertEqual(lengths, [len(body) for body in records])
                 for packet, body in zip(octets, records):
                     padding = packet[packet.rfind(body) + len(body):]
@@ -273,16 +397,11 @@ class OtherReaders(unittest.TestCase):
             with self.subTest(name=name):
                 shown = subprocess.run([program, "-r", path, "-T", "fields", "-e", "udp.payload", "udp.port==7542"],
                                        capture_output=True, check=True, text=True).stdout
-                self.assertEqual([bytes.fromhex(line) for line in shown.split()], split(passed))
+                self.assertEqual([bytes.fromhex(line) for line in shown.split()], bodies(passed))
 
 
-def split(passed):
-    bodies = []
-    while passed:
-        length = int.from_bytes(passed[1:5], "big")
-        bodies.append(passed[5:5 + length])
-        passed = passed[5 + length:]
-    return bodies
+def bodies(passed):
+    return [body for _, body in split(passed)[0]]
 
 
 if __name__ == "__main__":

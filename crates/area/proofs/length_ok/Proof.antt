@@ -1,4 +1,5 @@
--- `area::length_ok` meets its contract: a return for each width, and one for every other number. Assumes nothing.
+-- `area::length_ok` meets its contract: a return for each width, and one for every other number.
+-- Assumes nothing.
 use Prim.Native.Nat.{_^_}
 use mathlib.Core.Path.{sym}
 use borrow.Author.Tests.{lt-ltb, ne-eqb}

@@ -1,77 +1,74 @@
--- `area_open::close` meets its contract. Assumes nothing.
-use mathlib.Core.Path.{_≡_, sym, ap, _∙_}
-use mathlib.Core.Bool.{true}
-use mathlib.Core.List.{_++_}
-use denote.Ref.{now}
-use lib.ListN.{drop}
-use Rattle.table.specs.declared.Finished.the-variants as finished
-use Rattle.area.specs.Words.{wordOctets}
-use Rattle.area.specs.Image.{wordsOf, numbersAt}
-use Rattle.area.specs.Judge.{judged}
-use Rattle.area.specs.Operations.{AreaFinished}
-use Rattle.area.specs.declared.Table.{Table}
-use Rattle.area_slots.specs.Slots.{numbersWithout}
-use Rattle.area_open.proofs.HeldLaws.{long, count-held, few-held}
-use Rattle.area_open.proofs.OpenLaws.{stored-without, close-kept, close-leaves, close-unheld}
-use borrow.Author.Needs.{needs}
+-- `area_open::close` meets its contract: 22, then 12.
+-- Assumes nothing.
 use native.Mathlib.Omega.{arith}
+use borrow.Author.Needs.{needs}
+use mathlib.Core.Path.{_≡_, refl, sym, ap, _∙_}
+use mathlib.Core.Bool.{true}
+use denote.Ref.{now}
+use Rattle.refusals.specs.Refusals.{refusalOf}
+use Rattle.table.specs.Close.{closeId}
+use Rattle.table.specs.declared.Finished.the-variants as finished
+use Rattle.area.specs.Judge.{judged}
+use Rattle.area.specs.Places.{readTable}
+use Rattle.area.specs.Operations.{closeArea}
+use Rattle.area.proofs.JudgeLaws.{judged-passed}
+use Rattle.area.specs.Places.{KeptAt}
+use Rattle.area.proofs.KeptLaws.{place-open, place-free, by-unjudged, by-judged, by-kept}
+use Rattle.area_open.proofs.OpenLaws.{close-done, close-missing}
 use Rattle.area_open.proofs.close.Statement.{statement}
 use Rattle.area_open.proofs.close.Tie as tie
+
+-- the area passed
+passed : (c : tie.After-find-place-arg) → judged (now (c .before .before .before .before .before .args .area)) ≡ true
+passed c = sym (c .before .before .judge .ensures) ∙ c .before .if1 .taken
+
+-- the Id is open
+kept : (c : tie.After-find-place) → c .find-place .result .«open» ≡ true
+    → KeptAt (c .before .before .before .before .before .before .args .id) (readTable (now (c .before .before .before .before .before .before .args .area)))
+    (c .find-place .result .at)
+kept c h = place-open _ _ (c .find-place .result) (c .find-place .ensures) h
 
 judge-requires : tie.Need-judge-requires
 judge-requires c κs = search needs
 
-passed : (c : tie.Then1) → judged (now (c .before .before .before .before .args .area)) ≡ true
-passed c = sym (c .before .judge .ensures) ∙ c .if1 .taken
-
-word-requires : tie.Need-word-requires
-word-requires c κs = omega (arith, long (now (c .before .before .before .before .before .args .area)) (passed (c .before)))
-
 find-place-requires : tie.Need-find-place-requires
-find-place-requires c κs = passed (c .before .before .before)
+find-place-requires c κs = passed c
 
-refuse-requires : tie.Need-refuse-requires
-refuse-requires c κs = search needs
+remove-at-requires : tie.Need-remove-at-requires
+remove-at-requires c κs =
+    let f = c .before .before in
+    (passed (f .before), omega (arith, kept f (c .before .if2 .taken) .inside))
 
 same-length : tie.Need-same-length
 same-length c = search needs
 
 returns : tie.Need-returns
+unfolding closeArea
 returns c =
-    let s = c .before .before .before .before .before .before in
-    let a = now (s .before .before .before .before .args .area) in
-    let n = count-held a (passed s) in
-    let e = close-kept a (passed s) (s .before .before .before .before .args .id) (λ i. s .before .before .before .slice-known .given i .fits) (omega arith) in (
-      ap finished.Refused (c .refuse .ensures) ∙ sym (ap (λ (o : AreaFinished). o .answer) e),
-      sym (ap (λ (o : AreaFinished). o .area) e),
-    )
+    let r = c .before .before in
+    let f = r .before .before .before in
+    let s = f .before .before .before .before .before .before in
+    let a = now (s .args .area) in
+    by-judged (finished.Refused (refusalOf 22)) (λ t. closeId t (s .args .id)) a (passed (f .before)) _
+    (close-done (readTable a) (s .args .id) _ (kept f (r .before .before .if2 .taken))) _ refl _ (r .remove-at .ensures)
 
-numbers-without-requires : tie.Need-numbers-without-requires
-numbers-without-requires c κs =
-    let s = c .before .before .before .before .before .before in
-    let a = now (s .before .before .before .before .args .area) in
-    (long a (passed s), omega (arith, few-held a (passed s)), omega arith)
-
-store-requires : tie.Need-store-requires
-store-requires c κs = long (now (c .before .before .before .before .before .before .before .before .before .before .before .before .args .area)) (passed (c .before .before .before .before .before .before .before .before))
+refuse-requires : tie.Need-refuse-requires
+refuse-requires c κs = search needs
 
 same-length-2 : tie.Need-same-length-2
 same-length-2 c = search needs
 
 returns-2 : tie.Need-returns-2
+unfolding closeArea
 returns-2 c =
-    let s = c .before .before .before .before .before .before .before .before .before .before .before in
-    let a = now (s .before .before .before .before .args .area) in
-    let id = s .before .before .before .before .args .id in
-    let n = count-held a (passed s) in
-    let e = close-leaves a (passed s) id (omega arith) in
-    let p = ap (λ p. numbersWithout (numbersAt a) p) (c .before .before .before .before .before .before .before .find-place .ensures) in (
-      sym (ap (λ (o : AreaFinished). o .answer) e),
-      c .before .before .store .ensures
-          ∙ ap (λ (s : Table). wordOctets (wordsOf s) ++ drop 16904 a) (c .before .before .before .before .numbers-without .ensures ∙ p)
-          ∙ stored-without a (passed s) id (omega arith)
-          ∙ sym (ap (λ (o : AreaFinished). o .area) e),
-    )
+    let f = c .before .before in
+    let s = f .before .before .before .before .before .before in
+    let a = now (s .args .area) in
+    let j = passed (f .before) in
+    let h = place-free (s .args .id) (readTable a) (f .find-place .result) (f .find-place .ensures) (c .before .if2 .left) in
+    by-kept (finished.Refused (refusalOf 22)) (λ t. closeId t (s .args .id)) a j _
+    (close-missing (readTable a) (s .args .id) _ h (judged-passed a j .1 .fine))
+    _ (ap finished.Refused (c .refuse .ensures)) (λ i. f .before .before .before .before .before .slice-known .given i .fits) refl
 
 refuse-requires-2 : tie.Need-refuse-requires-2
 refuse-requires-2 c κs = search needs
@@ -80,25 +77,22 @@ same-length-3 : tie.Need-same-length-3
 same-length-3 c = search needs
 
 returns-3 : tie.Need-returns-3
+unfolding closeArea
 returns-3 c =
-    let a = now (c .before .before .before .before .before .args .area) in
-    let e = close-unheld a (sym (c .before .before .judge .ensures) ∙ c .before .if1 .left) (c .before .before .before .before .before .args .id) in (
-      ap finished.Refused (c .refuse2 .ensures) ∙ sym (ap (λ (o : AreaFinished). o .answer) e),
-      sym (ap (λ (o : AreaFinished). o .area) e),
-    )
+    let s = c .before .before .before .before .before in
+    by-unjudged (finished.Refused (refusalOf 22)) (λ t. closeId t (s .args .id)) (now (s .args .area)) _
+    (sym (c .before .before .judge .ensures) ∙ c .before .if1 .left) (ap finished.Refused (c .refuse2 .ensures))
 
 pub close-spec : {M : Type 1} → statement M
 close-spec =
     tie.close
     (tie.spec
     judge-requires
-    word-requires
     find-place-requires
-    refuse-requires
+    remove-at-requires
     same-length
     returns
-    numbers-without-requires
-    store-requires
+    refuse-requires
     same-length-2
     returns-2
     refuse-requires-2

@@ -1,12 +1,15 @@
--- `area_open::fresh` meets its contract. Assumes nothing.
+-- `area_open::fresh` meets its contract: 20, or every number of the layout 0.
+-- Assumes nothing.
+use native.Mathlib.Omega.{arith}
+use borrow.Author.Needs.{needs}
 use mathlib.Core.Path.{sym, ap, _∙_}
 use denote.Ref.{now}
+use Rattle.table.specs.declared.Finished.{Finished}
 use Rattle.table.specs.declared.Finished.the-variants as finished
-use Rattle.area.specs.Operations.{AreaFinished}
+use Rattle.area.specs.Layout.{idField, headAt, runAt}
+use Rattle.area.specs.Operations.{OnArea}
 use Rattle.area.proofs.OperationLaws.{fresh-refused, fresh-done}
-use Rattle.area_open.proofs.OpenLaws.{stored-fresh}
-use borrow.Author.Needs.{needs}
-use native.Mathlib.Omega.{arith}
+use Rattle.area_open.proofs.FreshLaws.{words-at, fresh-stored}
 use Rattle.area_open.proofs.fresh.Statement.{statement}
 use Rattle.area_open.proofs.fresh.Tie as tie
 
@@ -15,30 +18,69 @@ refuse-requires c κs = search needs
 
 returns : tie.Need-returns
 returns c =
-    let a = now (c .before .before .before .args .area) in
-    let e = fresh-refused a (omega arith) in (
-      ap finished.Refused (c .refuse .ensures) ∙ sym (ap (λ (f : AreaFinished). f .answer) e),
-      sym (ap (λ (f : AreaFinished). f .area) e),
+    let e = fresh-refused (now (c .before .before .before .args .area)) (omega arith) in (
+      ap finished.Refused (c .refuse .ensures) ∙ sym (ap (λ (f : OnArea Finished). f .answer) e),
+      sym (ap (λ (f : OnArea Finished). f .area) e),
     )
 
-fresh-requires : tie.Need-fresh-requires
-fresh-requires c κs = search needs
+no-numbers-requires : tie.Need-no-numbers-requires
+no-numbers-requires c κs = search needs
 
-store-requires : tie.Need-store-requires
-store-requires c κs = search needs
+put-word-requires : tie.Need-put-word-requires
+put-word-requires c κs = search needs
+
+head-at-requires : tie.Need-head-at-requires
+head-at-requires c κs = search needs
+
+put-words-requires : tie.Need-put-words-requires
+put-words-requires c κs = search needs
+
+starts-at-requires : tie.Need-starts-at-requires
+starts-at-requires c κs = search needs
+
+put-words-requires-2 : tie.Need-put-words-requires-2
+put-words-requires-2 c κs = search needs
+
+stops-at-requires : tie.Need-stops-at-requires
+stops-at-requires c κs = search needs
+
+put-words-requires-3 : tie.Need-put-words-requires-3
+put-words-requires-3 c κs = search needs
 
 same-length : tie.Need-same-length
 same-length c = search needs
 
 returns-2 : tie.Need-returns-2
 returns-2 c =
-    let a = now (c .before .before .before .before .before .before .before .args .area) in
+    let stops = c .before .before in
+    let starts = stops .before .before .before .before .before .before .before .before in
+    let heads = starts .before .before .before .before .before .before .before .before in
+    let count = heads .before .before .before .before .before .before .before .before in
+    let n = count .before .before in
+    let a = now (n .before .before .before .args .area) in
     let e = fresh-done a (omega arith) in (
-      sym (ap (λ (f : AreaFinished). f .answer) e),
-      c .before .before .store .ensures ∙ stored-fresh a (c .before .before .before .before .fresh .result) (c .before .before .before .before .fresh .ensures) ∙ sym (ap (λ (f : AreaFinished). f .area) e),
+      sym (ap (λ (f : OnArea Finished). f .answer) e),
+      fresh-stored a _ _ _ _ (n .no-numbers .result) (n .no-numbers .ensures) (omega arith) (count .put-word .ensures)
+          (words-at (headAt 0 idField) (heads .put-words .ensures) (heads .before .before .before .before .head-at .ensures))
+          (words-at (runAt 0 0 0) (starts .put-words2 .ensures) (starts .before .before .before .before .starts-at .ensures))
+          (words-at (runAt 1 0 0) (stops .put-words3 .ensures) (stops .before .before .before .before .stops-at .ensures))
+          (λ i. c .slice-known5 .given i .fits)
+          ∙ sym (ap (λ (f : OnArea Finished). f .area) e),
     )
 
 pub fresh-spec : {M : Type 1} → statement M
 fresh-spec =
     tie.close
-    (tie.spec refuse-requires returns fresh-requires store-requires same-length returns-2)
+    (tie.spec
+    refuse-requires
+    returns
+    no-numbers-requires
+    put-word-requires
+    head-at-requires
+    put-words-requires
+    starts-at-requires
+    put-words-requires-2
+    stops-at-requires
+    put-words-requires-3
+    same-length
+    returns-2)

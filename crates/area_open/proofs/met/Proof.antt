@@ -1,80 +1,74 @@
--- `area_open::met` meets its contract. Assumes nothing.
+-- `area_open::met` meets its contract: 18, or already open.
+-- Assumes nothing.
+use native.Mathlib.Omega.{arith}
+use borrow.Author.Needs.{needs}
 use mathlib.Core.Path.{sym, ap, _∙_}
 use denote.Ref.{now}
+use Rattle.transfer.specs.Transfers.{reached}
 use Rattle.table.specs.declared.Opened.the-variants as opened
-use Rattle.area.specs.Numbers.{nth}
-use Rattle.area_open.specs.Opening.{heldIn}
-use Rattle.area_open.proofs.HeldLaws.{long, width-held, length-held}
+use Rattle.area.proofs.KeptLaws.{kept-known, kept-rows, kept-runs-in}
 use Rattle.area_open.proofs.OpenLaws.{met-width, met-length, met-same}
-use borrow.Author.Needs.{needs}
-use native.Mathlib.Omega.{arith}
 use Rattle.area_open.proofs.met.Statement.{statement}
 use Rattle.area_open.proofs.met.Tie as tie
 
-add-word : tie.Need-add-word
-add-word c = search needs
-
-word-requires : tie.Need-word-requires
-word-requires c κs =
+key-at-requires : tie.Need-key-at-requires
+key-at-requires c κs =
     let s = c .before in
-    omega (arith, long (now (s .args .area)) (s .pre .0))
+    kept-known (now (s .args .area)) (s .args .key .id) (s .args .i) (s .pre .1) (s .pre .0)
 
 refuse-requires : tie.Need-refuse-requires
 refuse-requires c κs = search needs
 
 returns : tie.Need-returns
 returns c =
-    let s = c .before .before .before .before in
-    let a = now (s .args .area) in
-    let p = s .args .place in
-    let w = width-held a (s .pre .0) p (s .pre .1) in
-    ap opened.Refused (c .refuse .ensures) ∙ sym (met-width (nth (heldIn a) p) (s .args .width) (s .args .size) (λ q. omega arith))
-
-add-word-2 : tie.Need-add-word-2
-add-word-2 c = search needs
-
-word-requires-2 : tie.Need-word-requires-2
-word-requires-2 c κs =
-    let s = c .before .before .before in
-    omega (arith, long (now (s .args .area)) (s .pre .0))
+    let h = c .before .before .before .before in
+    let s = h .before .before in
+    ap opened.Refused (c .refuse .ensures)
+    ∙ sym (met-width (now (s .args .area)) (s .args .key) (s .args .i) (s .pre .1) (h .key-at .result) (h .key-at .ensures) (λ q. omega arith))
 
 refuse-requires-2 : tie.Need-refuse-requires-2
 refuse-requires-2 c κs = search needs
 
 returns-2 : tie.Need-returns-2
 returns-2 c =
-    let s = c .before .before .before .before .before .before in
-    let a = now (s .args .area) in
-    let p = s .args .place in
-    let w = width-held a (s .pre .0) p (s .pre .1) in
-    let n = length-held a (s .pre .0) p (s .pre .1) in
+    let before-place = c .before .before .before .before .before .before in
+    let h = before-place .before in
+    let s = h .before .before in
     ap opened.Refused (c .refuse2 .ensures)
-    ∙ sym (met-length (nth (heldIn a) p) (s .args .width) (s .args .size) (omega arith) (λ q. omega arith))
+    ∙ sym (met-length (now (s .args .area)) (s .args .key) (s .args .i) (s .pre .1) (h .key-at .result) (h .key-at .ensures) (omega arith) (λ q. omega arith))
 
-reached-at-requires : tie.Need-reached-at-requires
-reached-at-requires c κs = search needs
+rows-at-requires : tie.Need-rows-at-requires
+rows-at-requires c κs =
+    let before-place = c .before .before .before .before .before .before .before in
+    let s = before-place .before in
+    kept-known (now (s .args .area)) (s .args .key .id) (s .args .i) (s .pre .1) (s .pre .0)
+
+reached-in-requires : tie.Need-reached-in-requires
+reached-in-requires c κs =
+    let before-place = c .before .before .before .before .before .before .before .before in
+    let s = before-place .before in
+    kept-rows (now (s .args .area)) (s .args .key .id) (s .args .i) (s .pre .1) (s .pre .0) (c .rows-at .result) (c .rows-at .ensures)
 
 returns-3 : tie.Need-returns-3
 returns-3 c =
-    let s = c .before .before .before .before .before .before in
+    let r = c .before in
+    let h = r .before .before .before .before .before .before .before in
+    let s = h .before .before in
     let a = now (s .args .area) in
-    let p = s .args .place in
-    let w = width-held a (s .pre .0) p (s .pre .1) in
-    let n = length-held a (s .pre .0) p (s .pre .1) in
-    ap opened.AlreadyOpen (c .reached-at .ensures)
-    ∙ sym (met-same (nth (heldIn a) p) (s .args .width) (s .args .size) (omega arith) (omega arith))
+    let x = s .args .key in
+    ap opened.AlreadyOpen
+    (c .reached-in .ensures ∙ ap (reached x) (kept-runs-in a (x .id) (s .args .i) (s .pre .1) (r .rows-at .result) (r .rows-at .ensures)))
+    ∙ sym (met-same a x (s .args .i) (s .pre .1) (h .key-at .result) (h .key-at .ensures) (omega arith) (omega arith))
 
 pub met-spec : {M : Type 1} → statement M
 met-spec =
     tie.close
     (tie.spec
-    add-word
-    word-requires
+    key-at-requires
     refuse-requires
     returns
-    add-word-2
-    word-requires-2
     refuse-requires-2
     returns-2
-    reached-at-requires
+    rows-at-requires
+    reached-in-requires
     returns-3)

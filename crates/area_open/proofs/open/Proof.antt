@@ -1,14 +1,18 @@
--- `area_open::open` meets its contract: 22, then the reader's, then those of the table. Assumes nothing.
-use mathlib.Core.Path.{_≡_, sym, ap, _∙_}
-use mathlib.Core.Bool.{true}
-use denote.Ref.{now}
-use Rattle.table.specs.declared.Opened.the-variants as opened
-use Rattle.area.specs.Judge.{judged}
-use Rattle.area.specs.Operations.{AreaOpened}
-use Rattle.header.specs.Refusals.{refusalOf}
-use Rattle.area_open.proofs.OpenLaws.{open-kept, open-done, open-unheld}
-use borrow.Author.Needs.{needs}
+-- `area_open::open` meets its contract: 22, then the reader's, then those of the table.
+-- Assumes nothing.
 use native.Mathlib.Omega.{arith}
+use borrow.Author.Needs.{needs}
+use mathlib.Core.Path.{refl, sym, ap, _∙_}
+use denote.Ref.{now}
+use Rattle.refusals.specs.Refusals.{refusalOf}
+use Rattle.packet_metadata.specs.declared.Metadata.{Metadata}
+use Rattle.transfer.specs.Transfers.{keyOf}
+use Rattle.table.specs.Open.{openPacket}
+use Rattle.table.specs.declared.Opened.the-variants as opened
+use Rattle.area.specs.Places.{readTable}
+use Rattle.area.specs.Operations.{openArea}
+use Rattle.area.proofs.KeptLaws.{by-unjudged, by-judged, by-kept}
+use Rattle.area_open.proofs.OpenLaws.{packet-refused, packet-read}
 use Rattle.area_open.proofs.open.Statement.{statement}
 use Rattle.area_open.proofs.open.Tie as tie
 
@@ -25,29 +29,43 @@ same-length : tie.Need-same-length
 same-length c = search needs
 
 returns : tie.Need-returns
+unfolding openArea
 returns c =
-    let s = c .before .before .before .before .before .before .before .before in
+    let j = c .before .before .before .before in
+    let s = j .before .before .before .before in
     let a = now (s .args .area) in
-    let j : judged a ≡ true = sym (c .before .before .before .before .judge .ensures) ∙ c .before .before .before .if1 .taken in
-    open-kept a j (now (s .args .packet)) _ (λ i. c .before .before .before .before .before .before .before .slice-known .given i .fits) (λ q. omega arith)
-    (ap opened.Refused (c .refuse .ensures ∙ ap refusalOf (c .before .before .metadata-refusal .ensures)))
+    by-kept (opened.Refused (refusalOf 22)) (λ t. openPacket t (now (s .args .packet))) a (sym (j .judge .ensures) ∙ c .before .before .before .if1 .taken) _
+    (packet-refused (readTable a) (now (s .args .packet)) (λ q. omega (arith, c .before .before .metadata-refusal .ensures)))
+    _ (ap opened.Refused (c .refuse .ensures ∙ ap refusalOf (c .before .before .metadata-refusal .ensures)))
+    (λ i. j .before .before .before .slice-known .given i .fits) refl
 
 metadata-fields-requires : tie.Need-metadata-fields-requires
 metadata-fields-requires c κs = search needs
 
+key-of-requires : tie.Need-key-of-requires
+key-of-requires c κs = search needs
+
 open-key-requires : tie.Need-open-key-requires
-open-key-requires c κs = sym (c .before .before .before .before .before .judge .ensures) ∙ c .before .before .before .before .if1 .taken
+open-key-requires c κs =
+    let if1-place = c .before .before .before .before .before in
+    let judge-place = if1-place .before in
+    sym (judge-place .judge .ensures) ∙ if1-place .if1 .taken
 
 same-length-2 : tie.Need-same-length-2
 same-length-2 c = search needs
 
 returns-2 : tie.Need-returns-2
+unfolding openArea
 returns-2 c =
-    let s = c .before .before .before .before .before .before .before .before .before .before .before .before in
+    let o = c .before .before in
+    let k = o .before .before in
+    let j = k .before .before .before .before .before in
+    let s = j .before .before .before .before in
     let a = now (s .args .area) in
-    let j : judged a ≡ true = sym (c .before .before .before .before .before .before .before .before .judge .ensures) ∙ c .before .before .before .before .before .before .before .if1 .taken in
-    open-done a j (now (s .args .packet)) (c .before .before .before .before .metadata-fields .result) (c .before .before .open-key .result) _ (omega arith) (c .before .before .before .before .metadata-fields .ensures)
-    (c .before .before .open-key .ensures .0) (c .before .before .open-key .ensures .1)
+    by-judged (opened.Refused (refusalOf 22)) (λ t. openPacket t (now (s .args .packet))) a (sym (j .judge .ensures) ∙ k .before .before .before .before .if1 .taken) _
+    (packet-read (readTable a) (now (s .args .packet)) (k .key-of .result) (omega (arith, k .before .before .before .metadata-refusal .ensures))
+    (k .key-of .ensures ∙ ap (λ (m : Metadata). keyOf m) (k .before .metadata-fields .ensures)))
+    _ (o .open-key .ensures .0) _ (o .open-key .ensures .1)
 
 refuse-requires-2 : tie.Need-refuse-requires-2
 refuse-requires-2 c κs = search needs
@@ -56,13 +74,13 @@ same-length-3 : tie.Need-same-length-3
 same-length-3 c = search needs
 
 returns-3 : tie.Need-returns-3
+unfolding openArea
 returns-3 c =
-    let s = c .before .before .before .before .before .before in
-    let a = now (s .args .area) in
-    let e = open-unheld a (sym (c .before .before .judge .ensures) ∙ c .before .if1 .left) (now (s .args .packet)) in (
-      ap opened.Refused (c .refuse2 .ensures) ∙ sym (ap (λ (o : AreaOpened). o .answer) e),
-      sym (ap (λ (o : AreaOpened). o .area) e),
-    )
+    let judge-place = c .before .before in
+    let before-place = judge-place .before .before .before in
+    let s = before-place .before in
+    by-unjudged (opened.Refused (refusalOf 22)) (λ t. openPacket t (now (s .args .packet))) (now (s .args .area)) _
+    (sym (judge-place .judge .ensures) ∙ c .before .if1 .left) (ap opened.Refused (c .refuse2 .ensures))
 
 pub open-spec : {M : Type 1} → statement M
 open-spec =
@@ -74,6 +92,7 @@ open-spec =
     same-length
     returns
     metadata-fields-requires
+    key-of-requires
     open-key-requires
     same-length-2
     returns-2

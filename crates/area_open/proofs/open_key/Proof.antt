@@ -1,43 +1,46 @@
--- `area_open::open_key` meets its contract: an Id that is open, or has no room, leaves the area. Assumes nothing.
+-- `area_open::open_key` meets its contract: an Id that is open, or has no room, leaves the area.
+-- Assumes nothing.
+use native.Mathlib.Omega.{arith}
+use borrow.Author.Needs.{needs}
 use mathlib.Core.Path.{refl, sym, ap, _∙_}
 use denote.Ref.{now}
-use Rattle.table.specs.Open.{OpenOutcome}
+use Rattle.table.specs.Outcome.{Outcome}
+use Rattle.table.specs.declared.Opened.{Opened}
 use Rattle.table.specs.declared.Opened.the-variants as opened
-use Rattle.area.specs.Image.{storedIn}
-use Rattle.area.specs.Numbers.{nth}
-use Rattle.area_slots.specs.Slots.{key}
-use Rattle.area_open.specs.Opening.{heldIn, metAnswer}
-use Rattle.area_open.proofs.HeldLaws.{long, count-held, few-held}
-use Rattle.area_open.proofs.OpenLaws.{open-met, open-full, open-new, reached-new, key-kept}
-use borrow.Author.Needs.{needs}
-use native.Mathlib.Omega.{arith}
+use Rattle.area.specs.Places.{readTable}
+use Rattle.area.specs.Stored.{storedIn}
+use Rattle.area.proofs.PlaceLaws.{read-holds}
+use Rattle.area.proofs.JudgeLaws.{judged-passed}
+use Rattle.area.proofs.FindLaws.{place-le}
+use Rattle.area.proofs.KeptLaws.{place-open, place-free, kept-area}
+use Rattle.area_open.proofs.OpenLaws.{met-table, open-full, open-new, reached-new}
 use Rattle.area_open.proofs.open_key.Statement.{statement}
 use Rattle.area_open.proofs.open_key.Tie as tie
-
-word-requires : tie.Need-word-requires
-word-requires c κs =
-    let s = c .before .before in
-    omega (arith, long (now (s .args .area)) (s .pre))
 
 find-place-requires : tie.Need-find-place-requires
 find-place-requires c κs = search needs
 
 met-requires : tie.Need-met-requires
 met-requires c κs =
-    let s = c .before .before .before .before .before .before .before in
-    (s .pre, omega (arith, few-held (now (s .args .area)) (s .pre)))
+    let f = c .before .before in
+    let s = f .before .before .before in
+    (s .pre, place-open (s .args .key .id) (readTable (now (s .args .area))) (f .find-place .result) (f .find-place .ensures) (c .before .if1 .taken))
 
 same-length : tie.Need-same-length
 same-length c = search needs
 
 returns : tie.Need-returns
 returns c =
-    let s = c .before .before .before .before .before .before .before .before in
+    let f = c .before .before .before in
+    let s = f .before .before .before in
     let a = now (s .args .area) in
-    let k = key (s .args .id) (s .args .width) (s .args .size) in
-    let n = count-held a (s .pre) in
-    key-kept a (s .pre) k _ (c .met .result) (λ i. c .before .before .before .before .before .before .before .slice-known .given i .fits) (open-met (heldIn a) k (omega arith))
-    (c .met .ensures ∙ ap (λ p. metAnswer (nth (heldIn a) p) (s .args .width) (s .args .size)) (c .before .before .before .find-place .ensures))
+    let h = place-open (s .args .key .id) (readTable a) (f .find-place .result) (f .find-place .ensures) (c .before .before .if1 .taken) in
+    (c .met .ensures, kept-area a (s .pre) (λ i. f .before .before .slice-known .given i .fits) _ (met-table (readTable a) (s .args .key) _ h))
+
+open-count-requires : tie.Need-open-count-requires
+open-count-requires c κs =
+    let s = c .before .before .before .before .before in
+    judged-passed (now (s .args .area)) (s .pre) .0
 
 refuse-requires : tie.Need-refuse-requires
 refuse-requires c κs = search needs
@@ -47,42 +50,52 @@ same-length-2 c = search needs
 
 returns-2 : tie.Need-returns-2
 returns-2 c =
-    let s = c .before .before .before .before .before .before .before .before in
+    let f = c .before .before .before .before .before in
+    let s = f .before .before .before in
     let a = now (s .args .area) in
-    let k = key (s .args .id) (s .args .width) (s .args .size) in
-    let n = count-held a (s .pre) in
-    key-kept a (s .pre) k _ _ (λ i. c .before .before .before .before .before .before .before .slice-known .given i .fits) (open-full (heldIn a) k (omega arith) (omega arith))
-    (ap opened.Refused (c .refuse .ensures))
+    let h = place-free (s .args .key .id) (readTable a) (f .find-place .result) (f .find-place .ensures) (c .before .before .before .before .if1 .left) in
+    let m = c .before .before .open-count in
+    let e = open-full (readTable a) (s .args .key) _ h (judged-passed a (s .pre) .1 .fine) (omega (arith, m .ensures, read-holds a .count)) in (
+      ap opened.Refused (c .refuse .ensures) ∙ sym (ap (λ (o : Outcome Opened). o .answer) e),
+      kept-area a (s .pre) (λ i. f .before .before .slice-known .given i .fits) _ (ap (λ (o : Outcome Opened). o .table) e),
+    )
 
-add-key-requires : tie.Need-add-key-requires
-add-key-requires c κs = search needs
+insert-at-requires : tie.Need-insert-at-requires
+insert-at-requires c κs =
+    let f = c .before .before .before .before .before in
+    let s = f .before .before .before in
+    let a = now (s .args .area) in
+    let h = place-free (s .args .key .id) (readTable a) (f .find-place .result) (f .find-place .ensures) (c .before .before .before .before .if1 .left) in
+    (s .pre, omega (arith, place-le (h .place)), omega (arith, c .before .before .open-count .ensures, read-holds a .count))
 
 same-length-3 : tie.Need-same-length-3
 same-length-3 c = search needs
 
 returns-3 : tie.Need-returns-3
 returns-3 c =
-    let s = c .before .before .before .before .before .before .before .before .before .before .before in
+    let r = c .before .before .before in
+    let f = r .before .before .before .before .before .before in
+    let s = f .before .before .before in
     let a = now (s .args .area) in
-    let k = key (s .args .id) (s .args .width) (s .args .size) in
-    let n = count-held a (s .pre) in
-    let e = open-new (heldIn a) k (omega arith) (omega arith) in (
-      ap opened.New (reached-new k _ refl) ∙ sym (ap (λ (o : OpenOutcome). o .answer) e),
-      c .before .before .add-key .ensures ∙ sym (ap (λ (o : OpenOutcome). storedIn a (o .table)) e),
+    let h = place-free (s .args .key .id) (readTable a) (f .find-place .result) (f .find-place .ensures) (r .before .before .before .before .before .if1 .left) in
+    let m = r .before .before .before .open-count in
+    let e = open-new (readTable a) (s .args .key) _ h (judged-passed a (s .pre) .1 .fine) (omega (arith, m .ensures, read-holds a .count)) in (
+      ap opened.New (reached-new (s .args .key) _ refl) ∙ sym (ap (λ (o : Outcome Opened). o .answer) e),
+      r .insert-at .ensures ∙ sym (ap (λ (o : Outcome Opened). storedIn a (o .table)) e),
     )
 
 pub open-key-spec : {M : Type 1} → statement M
 open-key-spec =
     tie.close
     (tie.spec
-    word-requires
     find-place-requires
     met-requires
     same-length
     returns
+    open-count-requires
     refuse-requires
     same-length-2
     returns-2
-    add-key-requires
+    insert-at-requires
     same-length-3
     returns-3)

@@ -1,129 +1,141 @@
--- `area_record::extend` meets its contract: 16, or the runs put and what they reach. Assumes nothing.
-use denote.Ref.{now}
-use mathlib.Core.Path.{_≡_, refl, ap, _∙_}
-use mathlib.Core.Bool.{true}
-use mathlib.Core.Option.{some}
-use Prim.Native.Nat.{_≤_, _<_}
-use lib.ListN.{length}
-use Rattle.run_set.specs.RunSets.{insertedOf}
-use Rattle.run_set.specs.declared.RunSet.{RunSet}
-use Rattle.table.specs.declared.Recorded.the-variants.{Refused}
-use Rattle.area.specs.Numbers.{transfersOf}
-use Rattle.area.specs.Image.{areaOctets, numbersAt}
-use Rattle.area.specs.Judge.{tableOf}
-use Rattle.area.proofs.AreaLaws.{held-long}
-use Rattle.area_places.specs.Change.{runSetAt}
-use Rattle.area_places.proofs.HeldLaws.{judged-holds}
-use Rattle.area_places.proofs.UsedLaws.{count-few}
-use Rattle.area_record.proofs.RecordLaws.{both, place-small, extend-few, extend-alike, extend-over, extend-done}
-use borrow.Author.Needs.{needs}
+-- `area_record::extend` meets its contract: 16 where the runs would be too many, and else the runs spliced in.
+-- Assumes nothing.
 use native.Mathlib.Omega.{arith}
+use borrow.Author.Needs.{needs}
+use denote.Ref.{now}
+use Prim.Native.Nat.{_≤_}
+use mathlib.Core.Path.{refl, ap}
+use Rattle.runs.specs.Runs.{insert}
+use Rattle.table.specs.declared.Recorded.the-variants.{Refused}
+use Rattle.area.specs.Layout.{runPlaces}
+use Rattle.area.specs.Places.{rowsAt, readTable, nth}
+use Rattle.area_record.specs.Record.{runsAfter}
+use Rattle.area_record.proofs.RecordLaws.{both}
+use Rattle.area_record.proofs.ExtendLaws.{PlaceKnown, known, Left, left-done, extend-over, extend-left}
 use Rattle.area_record.proofs.extend.Statement.{statement}
 use Rattle.area_record.proofs.extend.Tie as tie
 
--- the area holds its table, is long enough, and the place is one of 16
-held : (c : tie.Start) → let a = now (c .args .area) in tableOf a ≡ some (transfersOf (numbersAt a))
-held c = judged-holds (now (c .args .area)) (c .pre .0)
+-- the place is one of the area's, and its rows lie in it
+place : (c : tie.Start) → let a = now (c .args .area) in PlaceKnown a (c .args .place) (c .pre .0) (c .pre .1) (rowsAt a (c .args .place))
+place c = known (now (c .args .area)) (c .args .place) (c .pre .0) (c .pre .1) _ refl
 
-fits : (c : tie.Start) → (areaOctets ≤ length (now (c .args .area))) × (c .args .place < 16)
-fits c =
-    let a = now (c .args .area) in
-    (held-long a _ (held c), place-small a _ (c .args .place) (held c) (c .pre .1))
+rows-at-requires : tie.Need-rows-at-requires
+rows-at-requires c κs = let k = place (c .before .before) in (k .long, k .place)
 
-used-runs-requires : tie.Need-used-runs-requires
-used-runs-requires c κs = let s = c .before .before in (s .pre .0, fits s .1)
+rows : (c : tie.After-rows-at)
+    → let s = c .before .before .before in PlaceKnown (now (s .args .area)) (s .args .place) (s .pre .0) (s .pre .1) (c .rows-at .result)
+rows c = let s = c .before .before .before in known (now (s .args .area)) (s .args .place) (s .pre .0) (s .pre .1) _ (c .rows-at .ensures)
 
--- the runs that stand there are few
-old-few : (c : tie.After-used-runs) → c .used-runs .result .count ≤ 64
-old-few c =
-    let s = c .before .before .before in
-    let n = count-few (now (s .args .area)) _ (s .args .place) (held s) (fits s .1) in
-    omega (arith, ap (λ (r : RunSet). r .count) (c .used-runs .ensures))
+cut-to-requires : tie.Need-cut-to-requires
+cut-to-requires c κs = rows (c .before) .fit .starts-fit
 
-inserted-requires : tie.Need-inserted-requires
-inserted-requires c κs = omega (arith, old-few c)
+cut-below-requires : tie.Need-cut-below-requires
+cut-below-requires c κs = let f = rows (c .before .before .before) .fit .stops-fit in omega (arith, c .before .cut-to .ensures .inside)
 
--- what is inserted into is what stands at the place, and what comes of it has room
-inserted-is : (c : tie.After-inserted)
-    → let s = c .before .before .before .before in
-    c .inserted .result ≡ insertedOf (runSetAt (now (s .args .area)) (s .args .place)) (s .args .from) (s .args .to)
-inserted-is c =
-    let s = c .before .before .before .before in
-    c .inserted .ensures ∙ ap (λ (r : RunSet). insertedOf r (s .args .from) (s .args .to)) (c .before .used-runs .ensures)
+-- the cuts are two of its places
+cuts : (c : tie.After-cut-below)
+    → let j = c .before .before .cut-to .result in
+    let n = c .before .before .before .before .rows-at .result .count in
+    (c .cut-below .result ≤ j) × (j ≤ n) × (n ≤ runPlaces)
+cuts c = (c .cut-below .ensures .inside, c .before .before .cut-to .ensures .inside, rows (c .before .before .before .before) .few-runs)
 
-few : (c : tie.After-inserted) → c .inserted .result .ok ≡ true → c .inserted .result .runs .count ≤ 64
-few c =
-    let s = c .before .before .before .before in
-    extend-few (now (s .args .area)) _ (s .args .place) (held s) (s .pre .1) (s .args .from) (s .args .to) (c .inserted .result) (inserted-is c)
+add-after : tie.Need-add-after
+add-after c = omega (arith, cuts c)
 
-greater-requires : tie.Need-greater-requires
-greater-requires c κs = search needs
+sub-after : tie.Need-sub-after
+sub-after c = search needs
 
-edge-of-requires : tie.Need-edge-of-requires
-edge-of-requires c κs =
-    let t = c .before .before .before .before .before .before .if1 .taken in
-    omega (arith, few (c .before .before .before .before .before .before .before) t, old-few (c .before .before .before .before .before .before .before .before))
+add-after-2 : tie.Need-add-after-2
+add-after-2 c = omega (arith, cuts c)
 
-is-complete-requires : tie.Need-is-complete-requires
-is-complete-requires c κs =
-    let t = c .before .before .before .before .before .before .before .if1 .taken in
-    omega (arith, few (c .before .before .before .before .before .before .before .before) t, old-few (c .before .before .before .before .before .before .before .before .before))
+refuse-requires : tie.Need-refuse-requires
+refuse-requires c κs = search needs
 
 same-length : tie.Need-same-length
 same-length c = search needs
 
 returns : tie.Need-returns
 returns c =
-    let s = c .before .before .before .before .before .before .before .before .before .before .before .before .before in
-    let p = c .before .before .before .before .before .before .before .before .before in
-    both refl
-    (extend-done (now (s .args .area)) _ (s .args .place) (held s) (s .pre .1) (s .args .from) (s .args .to) (p .inserted .result) (inserted-is p)
-    (s .args .size) (c .before .before .before .before .before .before .before .before .if1 .taken) _ (c .before .edge-of .result) (c .is-complete .result) (c .before .before .before .before .put-used-runs .ensures) (c .before .edge-of .ensures)
-    (c .is-complete .ensures))
+    let q = c .before .before in
+    let r = q .before .before .before .before in
+    let s = r .before .before .before in
+    both (ap Refused (c .refuse .ensures))
+    (extend-over (now (s .args .area)) (s .args .place) (s .pre .0) (s .pre .1) _ (r .rows-at .ensures) (s .args .from) (s .args .to) _ _ (s .pre .2)
+    (q .before .before .cut-to .ensures) (q .cut-below .ensures) (s .args .key) (omega arith))
 
-refuse-requires : tie.Need-refuse-requires
-refuse-requires c κs = search needs
+-- where there is room
+room : (c : tie.Else1)
+    → runsAfter (c .before .before .before .before .before .rows-at .result .count) (c .before .cut-below .result) (c .before .before .before .cut-to .result) ≤ runPlaces
+room c = omega arith
+
+joined-start-requires : tie.Need-joined-start-requires
+joined-start-requires c κs = let q = c .before .before in (rows (q .before .before .before .before) .fit, q .before .before .cut-to .ensures .inside)
+
+joined-stop-requires : tie.Need-joined-stop-requires
+joined-stop-requires c κs = joined-start-requires (c .before .before) κs
+
+put-runs-requires : tie.Need-put-runs-requires
+put-runs-requires c κs =
+    let e = c .before .before .before .before .before in
+    let k = rows (e .before .before .before .before .before) in
+    let f = cuts (e .before) in
+    omega (arith, k .long, k .place, room e)
+
+-- what it leaves there
+left : (c : tie.After-put-runs)
+    → let q = c .before .before .before .before .before .before .before in
+    let r = q .before .before .before .before in
+    let s = r .before .before .before in
+    let a = now (s .args .area) in
+    let rows = r .rows-at .result in
+    Left a (s .args .place) (insert (s .args .from) (s .args .to) (nth (readTable a) (s .args .place) .runs)) (c .put-runs .last .0)
+    (record { starts = rows .starts; stops = rows .stops; count = runsAfter (rows .count) (q .cut-below .result) (q .before .before .cut-to .result) })
+left c =
+    let h = c .before .before in
+    let l = h .before .before in
+    let e = l .before .before in
+    let q = e .before in
+    let r = q .before .before .before .before in
+    let s = r .before .before .before in
+    extend-left (now (s .args .area)) (s .args .place) (s .pre .0) (s .pre .1) _ (r .rows-at .ensures) (s .args .from) (s .args .to) _ _ (s .pre .2)
+    (q .before .before .cut-to .ensures) (q .cut-below .ensures) (l .joined-start .result) (h .joined-stop .result) (l .joined-start .ensures)
+    (h .joined-stop .ensures) (omega arith) (omega arith) (room e) _ (c .put-runs .ensures)
+
+reached-in-requires : tie.Need-reached-in-requires
+reached-in-requires c κs =
+    let w = c .before .before .before in
+    let e = w .before .before .before .before .before .before in
+    let k = rows (e .before .before .before .before .before) in
+    let f = cuts (e .before) in
+    let m = room e in
+    record { starts-fit = omega (arith, w .put-runs .kept .0); stops-fit = omega (arith, w .put-runs .kept .0) }
 
 same-length-2 : tie.Need-same-length-2
 same-length-2 c = search needs
 
 returns-2 : tie.Need-returns-2
 returns-2 c =
-    let s = c .before .before .before .before .before .before in
-    let p = c .before .before in
-    both (ap Refused (c .refuse .ensures))
-    (extend-over (now (s .args .area)) _ (s .args .place) (held s) (s .pre .1) (s .args .from) (s .args .to) (p .inserted .result) (inserted-is p)
-    (s .args .size) (c .before .if1 .left))
-
--- what is not put is zero before and after (the last here, so that a wrong store is refused at `returns`)
-put-used-runs-requires : tie.Need-put-used-runs-requires
-put-used-runs-requires c κs =
-    let s = c .before .before .before .before .before .before .before .before in
-    let p = c .before .before .before .before in
-    let t = c .before .before .before .if1 .taken in
-    let k = fits s in
-    let o = old-few (p .before) in
-    let m = few p t in
-    let g = c .greater .ensures in
-    let u : runSetAt (now (s .args .area)) (s .args .place) .count ≤ c .greater .result
-    = omega (arith, ap (λ (r : RunSet). r .count) (p .before .used-runs .ensures)) in
-    let l =
-    extend-alike (now (s .args .area)) _ (s .args .place) (held s) (s .pre .1) (s .args .from) (s .args .to) (p .inserted .result) (inserted-is p)
-    (c .greater .result) t u (omega arith) in
-    (k .0, omega (arith, k), omega arith, l .0, l .1)
+    let b = c .before .before in
+    let s = b .before .before .before .before .before .before .before .before .before .before .before .before .before .before .before .before in
+    both refl
+    (left-done (now (s .args .area)) (s .args .place) _ _ _ (s .args .key) _ (left (b .before .before)) (λ i. b .slice-known2 .given i .fits) (c .reached-in .ensures))
 
 pub extend-spec : {M : Type 1} → statement M
 extend-spec =
     tie.close
     (tie.spec
-    used-runs-requires
-    inserted-requires
-    greater-requires
-    put-used-runs-requires
-    edge-of-requires
-    is-complete-requires
+    rows-at-requires
+    cut-to-requires
+    cut-below-requires
+    add-after
+    sub-after
+    add-after-2
+    refuse-requires
     same-length
     returns
-    refuse-requires
+    joined-start-requires
+    joined-stop-requires
+    put-runs-requires
+    reached-in-requires
     same-length-2
     returns-2)

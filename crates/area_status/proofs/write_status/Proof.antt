@@ -1,18 +1,15 @@
 -- `area_status::write_status` meets its contract: 22, then 12, then the STATUS of the Id's transfer.
 -- Assumes nothing.
-use Prim.Native.Nat.{_<_, _≤_}
 use mathlib.Core.Path.{_≡_, sym, _∙_}
-use mathlib.Core.Bool.{true, false}
-use denote.Ref.{now}
-use lib.ListN.{length}
-use borrow.Author.Tests.{not-true, not-false}
-use Rattle.area.specs.Numbers.{transfersOf}
-use Rattle.area.specs.Image.{numbersAt}
-use Rattle.area.specs.Judge.{judged}
-use Rattle.area_places.specs.Places.{placeOf}
-use Rattle.area_status.proofs.StatusLaws.{area-long, open-count, status-unheld, status-missing}
+use mathlib.Core.Bool.{true}
 use borrow.Author.Needs.{needs}
-use native.Mathlib.Omega.{arith}
+use borrow.Author.Tests.{not-true, not-false}
+use denote.Ref.{now}
+use Rattle.area.specs.Judge.{judged}
+use Rattle.area.proofs.AreaLaws.{judged-unheld}
+use Rattle.area_status.specs.Used.{UsedPlace}
+use Rattle.area_status.proofs.UsedLaws.{used-place, open-used}
+use Rattle.area_status.proofs.WriteStatusLaws.{status-unheld, status-missing, status-found}
 use Rattle.area_status.proofs.write_status.Statement.{statement}
 use Rattle.area_status.proofs.write_status.Tie as tie
 
@@ -24,9 +21,11 @@ refuse-requires c κs = search needs
 
 returns : tie.Need-returns
 returns c =
-    let a = c .before .before .before .before .before .args in
-    let e : judged (now (a .area)) ≡ false = sym (c .before .before .judge .ensures) ∙ not-true (c .before .before .judge .result) (c .before .if1 .taken) in
-    let k = status-unheld (now (a .area)) (a .id) (a .skip) (a .unasked) (now (a .out)) e in
+    let judge-place = c .before .before in
+    let start = judge-place .before .before .before in
+    let a = start .args in
+    let j = judge-place .judge in
+    let k = status-unheld (now (a .area)) (a .id) (a .skip) (a .unasked) (now (a .out)) (judged-unheld (now (a .area)) (sym (j .ensures) ∙ not-true (j .result) (c .before .if1 .taken))) in
     (rw (c .refuse .ensures) (k .0), k .1)
 
 passed : (c : tie.Else1) → judged (now (c .before .before .before .before .args .area)) ≡ true
@@ -35,35 +34,57 @@ passed c = sym (c .before .judge .ensures) ∙ not-false (c .before .judge .resu
 find-place-requires : tie.Need-find-place-requires
 find-place-requires c κs = passed c
 
-word-requires : tie.Need-word-requires
-word-requires c κs = omega (arith, area-long (now (c .before .before .before .before .before .args .area)) (passed (c .before)))
-
 refuse-requires-2 : tie.Need-refuse-requires-2
 refuse-requires-2 c κs = search needs
 
 returns-2 : tie.Need-returns-2
 returns-2 c =
-    let a = c .before .before .before .before .before .before .before .before .args in
-    let y = passed (c .before .before .before .before) in
-    let t = transfersOf (numbersAt (now (a .area))) in
-    let h : length t ≤ placeOf (a .id) t
-    = omega (arith, c .before .before .word .ensures, open-count (now (a .area)) y, c .before .before .before .find-place .ensures) in
-    let k = status-missing (now (a .area)) y (a .id) (a .skip) (a .unasked) (now (a .out)) h in
+    let f = c .before .before .before in
+    let a = f .before .before .before .before .before .args in
+    let p = f .find-place in
+    let k = status-missing (now (a .area)) (a .id) (a .skip) (a .unasked) (now (a .out)) (passed (f .before)) (p .result) (p .ensures)
+    (not-true (p .result .«open») (c .before .if2 .taken)) in
     (rw (c .refuse2 .ensures) (k .0), k .1)
 
-status-at-requires : tie.Need-status-at-requires
-status-at-requires c κs =
-    let a = c .before .before .before .before .before .before .before .before .args in
-    let y = passed (c .before .before .before .before) in
-    let h : c .before .before .before .find-place .result < length (transfersOf (numbersAt (now (a .area))))
-    = omega (arith, c .before .before .word .ensures, open-count (now (a .area)) y) in
-    (y, c .before .before .before .find-place .ensures, h)
+-- the Id is open, so its place is used
+is-open : (c : tie.Else2) → c .before .before .find-place .result .«open» ≡ true
+is-open c = not-false (c .before .before .find-place .result .«open») (c .if2 .left)
+
+used : (c : tie.Else2) → UsedPlace (now (c .before .before .before .before .before .before .before .args .area)) (c .before .before .find-place .result .at)
+used c =
+    let f = c .before .before in
+    let a = f .before .before .before .before .before .args in
+    let p = f .find-place in
+    used-place (now (a .area)) (p .result .at) (passed (f .before))
+    (open-used (now (a .area)) (a .id) (passed (f .before)) (p .result) (p .ensures) (is-open c))
+
+key-at-requires : tie.Need-key-at-requires
+key-at-requires c κs = let u = used c in (u .long, u .low)
+
+rows-at-requires : tie.Need-rows-at-requires
+rows-at-requires c κs = let u = used (c .before) in (u .long, u .low)
+
+write-rows-requires : tie.Need-write-rows-requires
+write-rows-requires c κs =
+    let u = used (c .before .before .before) in
+    (rw (c .before .rows-at .ensures) (u .rows), rw (c .before .before .key-at .ensures) (u .width))
 
 same-length : tie.Need-same-length
 same-length c = search needs
 
 returns-3 : tie.Need-returns-3
-returns-3 c = search needs
+returns-3 c =
+    let write-rows-place = c .before .before in
+    let rows-at-place = write-rows-place .before .before in
+    let before-place = rows-at-place .before in
+    let e = before-place .before in
+    let f = e .before .before in
+    let a = f .before .before .before .before .before .args in
+    let p = f .find-place in
+    let k = before-place .key-at in
+    let r = rows-at-place .rows-at in
+    status-found (now (a .area)) (a .id) (a .skip) (a .unasked) (now (a .out)) (passed (f .before)) (p .result) (p .ensures) (is-open e)
+    (k .result) (r .result) (k .ensures) (r .ensures) _ _ (write-rows-place .write-rows .ensures .0) (write-rows-place .write-rows .ensures .1)
 
 pub write-status-spec : {M : Type 1} → statement M
 write-status-spec =
@@ -73,9 +94,10 @@ write-status-spec =
     refuse-requires
     returns
     find-place-requires
-    word-requires
     refuse-requires-2
     returns-2
-    status-at-requires
+    key-at-requires
+    rows-at-requires
+    write-rows-requires
     same-length
     returns-3)

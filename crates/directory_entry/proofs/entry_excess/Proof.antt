@@ -33,20 +33,28 @@ returns-2 c =
 returns-3 : tie.Need-returns-3
 unfolding entryExcess
 returns-3 c =
-    let a = c .before .before .before .before .before .args in
-    rw (lt-ltb (a .properties) (2 ^ 16) (omega arith), tested (c .before .before), not-false (c .before .before .fits2 .result) (c .before .if2 .left), le-ltb (a .mtime) (2 ^ 32) (omega arith))
+    let fits2-place = c .before .before in
+    let start = fits2-place .before .before .before in
+    let a = start .args in
+    rw (lt-ltb (a .properties) (2 ^ 16) (omega arith), tested (c .before .before), not-false (fits2-place .fits2 .result) (c .before .if2 .left), le-ltb (a .mtime) (2 ^ 32) (omega arith))
 
 returns-4 : tie.Need-returns-4
 unfolding entryExcess
 returns-4 c =
-    let a = c .before .before .before .before .before .before .args in
-    rw (lt-ltb (a .properties) (2 ^ 16) (omega arith), tested (c .before .before .before), not-false (c .before .before .before .fits2 .result) (c .before .before .if2 .left), lt-ltb (a .mtime) (2 ^ 32) (omega arith), le-ltb (a .ctime) (2 ^ 32) (omega arith))
+    let before-place = c .before .before in
+    let fits2-place = before-place .before in
+    let start = fits2-place .before .before .before in
+    let a = start .args in
+    rw (lt-ltb (a .properties) (2 ^ 16) (omega arith), tested (before-place .before), not-false (fits2-place .fits2 .result) (before-place .if2 .left), lt-ltb (a .mtime) (2 ^ 32) (omega arith), le-ltb (a .ctime) (2 ^ 32) (omega arith))
 
 returns-5 : tie.Need-returns-5
 unfolding entryExcess
 returns-5 c =
-    let a = c .before .before .before .before .before .before .args in
-    rw (lt-ltb (a .properties) (2 ^ 16) (omega arith), tested (c .before .before .before), not-false (c .before .before .before .fits2 .result) (c .before .before .if2 .left), lt-ltb (a .mtime) (2 ^ 32) (omega arith), lt-ltb (a .ctime) (2 ^ 32) (omega arith))
+    let before-place = c .before .before in
+    let fits2-place = before-place .before in
+    let start = fits2-place .before .before .before in
+    let a = start .args in
+    rw (lt-ltb (a .properties) (2 ^ 16) (omega arith), tested (before-place .before), not-false (fits2-place .fits2 .result) (before-place .if2 .left), lt-ltb (a .mtime) (2 ^ 32) (omega arith), lt-ltb (a .ctime) (2 ^ 32) (omega arith))
 
 pub entry-excess-spec : {M : Type 1} → statement M
 entry-excess-spec =

@@ -31,20 +31,20 @@ known c =
 add-path : tie.Need-add-path
 add-path c = omega (arith, known c)
 
-read-number-requires-2 : tie.Need-read-number-requires-2
-read-number-requires-2 c κs = (known c .1, omega (arith, known c))
+descriptor-requires : tie.Need-descriptor-requires
+descriptor-requires c κs = (known c .1, omega (arith, known c))
 
 add-read-number : tie.Need-add-read-number
 add-read-number c = omega (arith, known (c .before))
 
-read-number-requires-3 : tie.Need-read-number-requires-3
-read-number-requires-3 c κs = (four, omega (arith, known (c .before)))
+read-number-requires-2 : tie.Need-read-number-requires-2
+read-number-requires-2 c κs = (four, omega (arith, known (c .before)))
 
 add-read-number-2 : tie.Need-add-read-number-2
 add-read-number-2 c = omega (arith, known (c .before .before))
 
-read-number-requires-4 : tie.Need-read-number-requires-4
-read-number-requires-4 c κs = (four, omega (arith, known (c .before .before)))
+read-number-requires-3 : tie.Need-read-number-requires-3
+read-number-requires-3 c κs = (four, omega (arith, known (c .before .before)))
 
 add-t12 : tie.Need-add-t12
 add-t12 c = omega (arith, known (c .before .before .before))
@@ -57,7 +57,7 @@ sub-t15 c = omega (arith, known (c .before .before .before))
 
 returns : tie.Need-returns
 unfolding entryOf
-returns c = simp (c .before .before .read-number2 .ensures, c .before .read-number3 .ensures, c .read-number4 .ensures, known (c .before .before .before) .0, c .before .before .before .before .read-number .ensures)
+returns c = simp (c .before .before .descriptor .ensures, c .before .read-number2 .ensures, c .read-number3 .ensures, known (c .before .before .before) .0, c .before .before .before .before .read-number .ensures)
 
 pub entry-fields-spec : {M : Type 1} → statement M
 entry-fields-spec =
@@ -66,11 +66,11 @@ entry-fields-spec =
     read-number-requires
     size-octets-requires
     add-path
-    read-number-requires-2
+    descriptor-requires
     add-read-number
-    read-number-requires-3
+    read-number-requires-2
     add-read-number-2
-    read-number-requires-4
+    read-number-requires-3
     add-t12
     sub-t14
     sub-t15

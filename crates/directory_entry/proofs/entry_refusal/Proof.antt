@@ -2,12 +2,13 @@
 use Prim.Native.Nat.{ℕ, _+_, _^_, _≤_}
 use mathlib.Core.Path.{_≡_, sym, ap, _∙_}
 use denote.Ref.{now}
-use lib.ListN.{length, take, drop}
+use lib.ListN.{length, drop}
 use lib.Dec.{ltb}
 use borrow.Author.Tests.{lt-ltb, le-ltb, not-true, not-false}
-use Rattle.octets.specs.Numbers.{beValue}
 use Rattle.octets.specs.Numbers.Width.{two}
-use Rattle.header.proofs.RefusalLaws.{stays}
+use Rattle.refusals.proofs.RefusalLaws.{stays}
+use Rattle.header.specs.Descriptor.{descriptorAt, descriptorRefusal}
+use Rattle.header.proofs.DescriptorLaws.{descriptor-there}
 use Rattle.directory_entry.specs.Properties.{sizeOctets, pathAt, propertyRefusal}
 use Rattle.directory_entry.specs.Path.{pathRefusal}
 use Rattle.directory_entry.specs.Entry.{propertiesOf, sizeOf, afterTimes, entryRefusal}
@@ -34,7 +35,8 @@ property c = c .property-refusal .ensures ∙ ap propertyRefusal (c .before .rea
 returns-2 : tie.Need-returns-2
 unfolding entryRefusal
 returns-2 c =
-    let e = now (c .before .before .before .before .before .args .e) in
+    let start = c .before .before .before .before .before in
+    let e = now (start .args .e) in
     let p = property (c .before) in
     rw (le-ltb (length e) 2 (omega arith)) (p ∙ sym (stays (propertyRefusal (propertiesOf e)) _ (omega arith)))
 
@@ -44,18 +46,44 @@ size-octets-requires c κs = search needs
 known : (c : tie.After-size-octets)
     → (c .size-octets .result ≡ sizeOctets (propertiesOf (now (c .before .before .before .before .before .before .args .e)))) × (c .size-octets .result ≤ 16) × (propertyRefusal (propertiesOf (now (c .before .before .before .before .before .before .args .e))) ≡ 0)
 known c =
-    let k : c .size-octets .result ≡ sizeOctets (propertiesOf (now (c .before .before .before .before .before .before .args .e))) = c .size-octets .ensures ∙ ap (λ (x : ℕ). sizeOctets x) (c .before .before .before .read-number .ensures) in
-    (k, omega (arith, size-le (propertiesOf (now (c .before .before .before .before .before .before .args .e)))), omega (arith, property (c .before .before)))
+    let read-number-place = c .before .before .before in
+    let start = read-number-place .before .before .before in
+    let k : c .size-octets .result ≡ sizeOctets (propertiesOf (now (start .args .e))) = c .size-octets .ensures ∙ ap (λ (x : ℕ). sizeOctets x) (read-number-place .read-number .ensures) in
+    (k, omega (arith, size-le (propertiesOf (now (start .args .e)))), omega (arith, property (c .before .before)))
 
-add-at : tie.Need-add-at
-add-at c = omega (arith, known c)
+descriptor-refusal-requires : tie.Need-descriptor-refusal-requires
+descriptor-refusal-requires c κs = omega (arith, known c)
+
+judged : (c : tie.After-descriptor-refusal)
+    → let e = now (c .before .before .before .before .before .before .before .args .e) in
+    c .descriptor-refusal .result ≡ descriptorRefusal (sizeOctets (propertiesOf e)) 2 e
+judged c = c .descriptor-refusal .ensures ∙ rw (known (c .before) .0)
 
 returns-3 : tie.Need-returns-3
 unfolding entryRefusal
 returns-3 c =
-    let e = now (c .before .before .before .before .before .before .before .args .e) in
-    let k = known (c .before) in
-    rw (le-ltb (length e) 2 (omega arith), k .2, lt-ltb (length e) (pathAt (propertiesOf e)) (omega arith))
+    let before-place-7 = c .before .before .before .before .before .before .before in
+    let start = before-place-7 .before in
+    let e = now (start .args .e) in
+    let k = known (c .before .before) in
+    let j = judged (c .before) in
+    rw (le-ltb (length e) 2 (omega arith), k .2) (j ∙ sym (stays (descriptorRefusal (sizeOctets (propertiesOf e)) 2 e) _ (omega arith)))
+
+-- the size is all there
+there : (c : tie.Else3) → let e = now (c .before .before .before .before .before .before .before .before .args .e) in descriptorRefusal (sizeOctets (propertiesOf e)) 2 e ≡ 0
+there c = omega (arith, judged (c .before))
+
+add-at : tie.Need-add-at
+add-at c = omega (arith, known (c .before .before))
+
+returns-4 : tie.Need-returns-4
+unfolding entryRefusal
+returns-4 c =
+    let before-place = c .before .before in
+    let start = before-place .before .before .before .before .before .before .before in
+    let e = now (start .args .e) in
+    let k = known (before-place .before) in
+    rw (le-ltb (length e) 2 (omega arith), k .2, there (c .before), lt-ltb (length e) (pathAt (propertiesOf e)) (omega arith))
 
 sub-path-refusal : tie.Need-sub-path-refusal
 sub-path-refusal c = search needs
@@ -69,50 +97,85 @@ part-path-refusal-end c = search needs
 path-refusal-requires : tie.Need-path-refusal-requires
 path-refusal-requires c κs = search needs
 
-path : (c : tie.After-path-refusal) → c .path-refusal .result ≡ pathRefusal (afterTimes (now (c .before .before .before .before .before .before .before .before .before .args .e)))
+path : (c : tie.After-path-refusal) → c .path-refusal .result ≡ pathRefusal (afterTimes (now (c .before .before .before .before .before .before .before .before .before .before .before .args .e)))
 path c =
-    let e = now (c .before .before .before .before .before .before .before .before .before .args .e) in
-    c .path-refusal .ensures ∙ ap pathRefusal (rest-part e (10 + c .before .before .before .size-octets .result) ∙ ap (λ (n : ℕ). drop (10 + n) e) (known (c .before .before .before) .0))
-
-returns-4 : tie.Need-returns-4
-unfolding entryRefusal
-returns-4 c =
-    let e = now (c .before .before .before .before .before .before .before .before .before .before .args .e) in
-    let k = known (c .before .before .before .before) in
-    let p = path (c .before) in
-    rw (le-ltb (length e) 2 (omega arith), k .2, le-ltb (length e) (pathAt (propertiesOf e)) (omega arith))
-    (p ∙ sym (stays (pathRefusal (afterTimes e)) _ (omega arith)))
-
-read-number-requires-2 : tie.Need-read-number-requires-2
-read-number-requires-2 c κs =
-    let k = known (c .before .before .before .before) in
-    let f = properties-fine (propertiesOf (now (c .before .before .before .before .before .before .before .before .before .before .args .e))) (k .2) in
-    (rw (k .0) (f .octets), omega arith)
-
-fits-requires : tie.Need-fits-requires
-fits-requires c κs = search needs
-
-size : (c : tie.After-fits2) → ltb (sizeOf (now (c .before .before .before .before .before .before .before .before .before .before .before .before .args .e))) (256 ^ c .before .before .before .before .before .before .before .before .before .before .before .before .args .d) ≡ c .fits2 .result
-size c =
-    let e = now (c .before .before .before .before .before .before .before .before .before .before .before .before .args .e) in
-    sym (c .fits2 .ensures ∙ ap (λ (n : ℕ). ltb n (256 ^ c .before .before .before .before .before .before .before .before .before .before .before .before .args .d)) (c .before .read-number2 .ensures ∙ ap (λ (n : ℕ). beValue (take n (drop 2 e))) (known (c .before .before .before .before .before .before) .0)))
-
-passed : (c : tie.After-fits2) → pathRefusal (afterTimes (now (c .before .before .before .before .before .before .before .before .before .before .before .before .args .e))) ≡ 0
-passed c = omega (arith, path (c .before .before .before))
+    let before-place = c .before .before .before .before in
+    let start = before-place .before .before .before .before .before .before .before in
+    let e = now (start .args .e) in
+    let p = before-place .before in
+    c .path-refusal .ensures ∙ ap pathRefusal (rest-part e (10 + p .size-octets .result) ∙ ap (λ (n : ℕ). drop (10 + n) e) (known p .0))
 
 returns-5 : tie.Need-returns-5
 unfolding entryRefusal
 returns-5 c =
-    let e = now (c .before .before .before .before .before .before .before .before .before .before .before .before .before .args .e) in
-    let k = known (c .before .before .before .before .before .before .before) in
-    rw (le-ltb (length e) 2 (omega arith), k .2, le-ltb (length e) (pathAt (propertiesOf e)) (omega arith), passed (c .before), size (c .before), not-true (c .before .fits2 .result) (c .if5 .taken))
+    let before-place = c .before .before .before in
+    let before-place-5 = before-place .before .before in
+    let start = before-place-5 .before .before .before .before .before .before .before in
+    let e = now (start .args .e) in
+    let k = known (before-place-5 .before) in
+    let p = path (c .before) in
+    rw (le-ltb (length e) 2 (omega arith), k .2, there (before-place .before), le-ltb (length e) (pathAt (propertiesOf e)) (omega arith))
+    (p ∙ sym (stays (pathRefusal (afterTimes e)) _ (omega arith)))
+
+descriptor-requires : tie.Need-descriptor-requires
+descriptor-requires c κs =
+    let before-place = c .before .before .before in
+    let before-place-5 = before-place .before .before in
+    let start = before-place-5 .before .before .before .before .before .before .before in
+    let e = now (start .args .e) in
+    let k = known (before-place-5 .before) in
+    let f = properties-fine (propertiesOf e) (k .2) in
+    (rw (k .0) (f .octets), rw (k .0) (descriptor-there (sizeOctets (propertiesOf e)) 2 e (there (before-place .before))))
+
+fits-requires : tie.Need-fits-requires
+fits-requires c κs = search needs
+
+size : (c : tie.After-fits2) → ltb (sizeOf (now (c .before .before .before .before .before .before .before .before .before .before .before .before .before .before .args .e))) (256 ^ c .before .before .before .before .before .before .before .before .before .before .before .before .before .before .args .d) ≡ c .fits2 .result
+size c =
+    let before-place = c .before .before .before .before .before .before .before in
+    let start = before-place .before .before .before .before .before .before .before in
+    let e = now (start .args .e) in
+    let d = start .args .d in
+    sym (c .fits2 .ensures ∙ ap (λ (n : ℕ). ltb n (256 ^ d)) (c .before .descriptor .ensures ∙ ap (λ (n : ℕ). descriptorAt n 2 e) (known (before-place .before) .0)))
+
+passed : (c : tie.After-fits2) → pathRefusal (afterTimes (now (c .before .before .before .before .before .before .before .before .before .before .before .before .before .before .args .e))) ≡ 0
+passed c = omega (arith, path (c .before .before .before))
 
 returns-6 : tie.Need-returns-6
 unfolding entryRefusal
 returns-6 c =
-    let e = now (c .before .before .before .before .before .before .before .before .before .before .before .before .before .args .e) in
-    let k = known (c .before .before .before .before .before .before .before) in
-    rw (le-ltb (length e) 2 (omega arith), k .2, le-ltb (length e) (pathAt (propertiesOf e)) (omega arith), passed (c .before), size (c .before), not-false (c .before .fits2 .result) (c .if5 .left))
+    let before-place = c .before .before .before .before .before .before in
+    let before-place-8 = before-place .before .before in
+    let start = before-place-8 .before .before .before .before .before .before .before in
+    let e = now (start .args .e) in
+    let k = known (before-place-8 .before) in
+    rw (
+      le-ltb (length e) 2 (omega arith),
+      k .2,
+      there (before-place .before),
+      le-ltb (length e) (pathAt (propertiesOf e)) (omega arith),
+      passed (c .before),
+      size (c .before),
+      not-true (c .before .fits2 .result) (c .if6 .taken),
+    )
+
+returns-7 : tie.Need-returns-7
+unfolding entryRefusal
+returns-7 c =
+    let before-place = c .before .before .before .before .before .before in
+    let before-place-8 = before-place .before .before in
+    let start = before-place-8 .before .before .before .before .before .before .before in
+    let e = now (start .args .e) in
+    let k = known (before-place-8 .before) in
+    rw (
+      le-ltb (length e) 2 (omega arith),
+      k .2,
+      there (before-place .before),
+      le-ltb (length e) (pathAt (propertiesOf e)) (omega arith),
+      passed (c .before),
+      size (c .before),
+      not-false (c .before .fits2 .result) (c .if6 .left),
+    )
 
 pub entry-refusal-spec : {M : Type 1} → statement M
 entry-refusal-spec =
@@ -123,14 +186,16 @@ entry-refusal-spec =
     property-refusal-requires
     returns-2
     size-octets-requires
-    add-at
+    descriptor-refusal-requires
     returns-3
+    add-at
+    returns-4
     sub-path-refusal
     part-path-refusal-start
     part-path-refusal-end
     path-refusal-requires
-    returns-4
-    read-number-requires-2
-    fits-requires
     returns-5
-    returns-6)
+    descriptor-requires
+    fits-requires
+    returns-6
+    returns-7)

@@ -2,7 +2,7 @@
 use mathlib.Core.Path.{_≡_, sym, _∙_}
 use denote.Ref.{now}
 use borrow.Author.Tests.{not-true, not-false}
-use Rattle.header.proofs.RefusalLaws.{stays}
+use Rattle.refusals.proofs.RefusalLaws.{stays}
 use Rattle.directory_entry.specs.Properties.{propertyRefusal}
 use Rattle.directory_entry.specs.Path.{pathWriteRefusal}
 use Rattle.directory_entry.specs.WriteEntry.{entryWriteRefusal}
@@ -24,8 +24,9 @@ path-write-refusal-requires c κs = search needs
 returns-2 : tie.Need-returns-2
 unfolding entryWriteRefusal
 returns-2 c =
-    let y : propertyRefusal (c .before .before .before .before .before .args .properties) ≡ 0 = omega arith in
-    rw y (c .before .path-write-refusal .ensures ∙ sym (stays (pathWriteRefusal (now (c .before .before .before .before .before .args .path))) _ (omega arith)))
+    let start = c .before .before .before .before .before in
+    let y : propertyRefusal (start .args .properties) ≡ 0 = omega arith in
+    rw y (c .before .path-write-refusal .ensures ∙ sym (stays (pathWriteRefusal (now (start .args .path))) _ (omega arith)))
 
 fits-requires : tie.Need-fits-requires
 fits-requires c κs = search needs
@@ -33,15 +34,17 @@ fits-requires c κs = search needs
 returns-3 : tie.Need-returns-3
 unfolding entryWriteRefusal
 returns-3 c =
-    let y : propertyRefusal (c .before .before .before .before .before .before .before .args .properties) ≡ 0 = omega arith in
-    let z : pathWriteRefusal (now (c .before .before .before .before .before .before .before .args .path)) ≡ 0 = omega arith in
+    let start = c .before .before .before .before .before .before .before in
+    let y : propertyRefusal (start .args .properties) ≡ 0 = omega arith in
+    let z : pathWriteRefusal (now (start .args .path)) ≡ 0 = omega arith in
     rw (y, z, ← c .before .fits2 .ensures, not-true (c .before .fits2 .result) (c .if3 .taken))
 
 returns-4 : tie.Need-returns-4
 unfolding entryWriteRefusal
 returns-4 c =
-    let y : propertyRefusal (c .before .before .before .before .before .before .before .args .properties) ≡ 0 = omega arith in
-    let z : pathWriteRefusal (now (c .before .before .before .before .before .before .before .args .path)) ≡ 0 = omega arith in
+    let start = c .before .before .before .before .before .before .before in
+    let y : propertyRefusal (start .args .properties) ≡ 0 = omega arith in
+    let z : pathWriteRefusal (now (start .args .path)) ≡ 0 = omega arith in
     rw (y, z, ← c .before .fits2 .ensures, not-false (c .before .fits2 .result) (c .if3 .left))
 
 pub entry-write-refusal-spec : {M : Type 1} → statement M

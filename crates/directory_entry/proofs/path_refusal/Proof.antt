@@ -33,7 +33,8 @@ returns-3 c =
 returns-4 : tie.Need-returns-4
 unfolding pathRefusal
 returns-4 c =
-    let r = now (c .before .before .before .before .before .args .r) in
+    let start = c .before .before .before .before .before in
+    let r = now (start .args .r) in
     simp (ne-eqb (zeroAt r) (length r) (omega arith), ne-eqb (zeroAt r) 0 (omega arith), lt-ltb 1023 (zeroAt r) (omega arith))
 
 add-if5 : tie.Need-add-if5
@@ -42,13 +43,15 @@ add-if5 c = search needs
 returns-5 : tie.Need-returns-5
 unfolding pathRefusal
 returns-5 c =
-    let r = now (c .before .before .before .before .before .before .args .r) in
+    let start = c .before .before .before .before .before .before in
+    let r = now (start .args .r) in
     simp (ne-eqb (zeroAt r) (length r) (omega arith), ne-eqb (zeroAt r) 0 (omega arith), le-ltb 1023 (zeroAt r) (omega arith), ne-eqb (zeroAt r + 1) (length r) (omega arith))
 
 returns-6 : tie.Need-returns-6
 unfolding pathRefusal
 returns-6 c =
-    let r = now (c .before .before .before .before .before .before .args .r) in
+    let start = c .before .before .before .before .before .before in
+    let r = now (start .args .r) in
     simp (ne-eqb (zeroAt r) (length r) (omega arith), ne-eqb (zeroAt r) 0 (omega arith), le-ltb 1023 (zeroAt r) (omega arith), eq-eqb (zeroAt r + 1) (length r) (omega arith))
 
 pub path-refusal-spec : {M : Type 1} → statement M

@@ -21,11 +21,15 @@ zero-at-requires c κs = search needs
 
 returns-3 : tie.Need-returns-3
 unfolding pathWriteRefusal
-returns-3 c = let p = now (c .before .before .before .before .before .args .path) in rw (ne-eqb (length p) 0 (omega arith), le-ltb 1023 (length p) (omega arith), ne-eqb (zeroAt p) (length p) (omega arith))
+returns-3 c =
+    let start = c .before .before .before .before .before in
+    let p = now (start .args .path) in rw (ne-eqb (length p) 0 (omega arith), le-ltb 1023 (length p) (omega arith), ne-eqb (zeroAt p) (length p) (omega arith))
 
 returns-4 : tie.Need-returns-4
 unfolding pathWriteRefusal
-returns-4 c = let p = now (c .before .before .before .before .before .args .path) in rw (ne-eqb (length p) 0 (omega arith), le-ltb 1023 (length p) (omega arith), eq-eqb (zeroAt p) (length p) (omega arith))
+returns-4 c =
+    let start = c .before .before .before .before .before in
+    let p = now (start .args .path) in rw (ne-eqb (length p) 0 (omega arith), le-ltb 1023 (length p) (omega arith), eq-eqb (zeroAt p) (length p) (omega arith))
 
 pub path-write-refusal-spec : {M : Type 1} → statement M
 path-write-refusal-spec =

@@ -15,15 +15,21 @@ returns c = let x = c .before .before .before .args .x in rw (ne-eqb (specialOf 
 
 returns-2 : tie.Need-returns-2
 unfolding propertyRefusal
-returns-2 c = let x = c .before .before .before .before .before .args .x in rw (eq-eqb (specialOf x) 0 (omega arith), ne-eqb (bundleOf x) 0 (omega arith))
+returns-2 c =
+    let start = c .before .before .before .before .before in
+    let x = start .args .x in rw (eq-eqb (specialOf x) 0 (omega arith), ne-eqb (bundleOf x) 0 (omega arith))
 
 returns-3 : tie.Need-returns-3
 unfolding propertyRefusal
-returns-3 c = let x = c .before .before .before .before .before .before .before .args .x in rw (eq-eqb (specialOf x) 0 (omega arith), eq-eqb (bundleOf x) 0 (omega arith), eq-eqb (sizeWidth x) 3 (omega arith))
+returns-3 c =
+    let start = c .before .before .before .before .before .before .before in
+    let x = start .args .x in rw (eq-eqb (specialOf x) 0 (omega arith), eq-eqb (bundleOf x) 0 (omega arith), eq-eqb (sizeWidth x) 3 (omega arith))
 
 returns-4 : tie.Need-returns-4
 unfolding propertyRefusal
-returns-4 c = let x = c .before .before .before .before .before .before .before .args .x in rw (eq-eqb (specialOf x) 0 (omega arith), eq-eqb (bundleOf x) 0 (omega arith), ne-eqb (sizeWidth x) 3 (omega arith))
+returns-4 c =
+    let start = c .before .before .before .before .before .before .before in
+    let x = start .args .x in rw (eq-eqb (specialOf x) 0 (omega arith), eq-eqb (bundleOf x) 0 (omega arith), ne-eqb (sizeWidth x) 3 (omega arith))
 
 pub property-refusal-spec : {M : Type 1} → statement M
 property-refusal-spec =

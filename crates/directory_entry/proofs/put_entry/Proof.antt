@@ -62,11 +62,19 @@ same-length c = search needs
 returns : tie.Need-returns
 unfolding entryOctets
 returns c =
-    let a = c .before .before .before .before .before .before .before .before .before .before .before .before .before .before .before .before .before .before .before .before .before .before .before .before .before .before .before .args in
+    let write-number5-place = c .before .before in
+    let copy-into-place = write-number5-place .before .before .before .before in
+    let write-number4-place = copy-into-place .before .before .before .before in
+    let write-number3-place = write-number4-place .before .before .before .before in
+    let write-number2-place = write-number3-place .before .before .before .before in
+    let write-number-place = write-number2-place .before .before .before .before in
+    let size-octets-place = write-number-place .before .before in
+    let start = size-octets-place .before .before .before in
+    let a = start .args in
     let k = sizeOctets (a .properties) in
     let p = now (a .path) in
     let l : length (beDigits k (a .size)) ≡ k = length-digits k (a .size) in
-    rw (c .before .before .write-number5 .ensures, c .before .before .before .before .before .before .copy-into .ensures, c .before .before .before .before .before .before .before .before .before .before .write-number4 .ensures, c .before .before .before .before .before .before .before .before .before .before .before .before .before .before .write-number3 .ensures, c .before .before .before .before .before .before .before .before .before .before .before .before .before .before .before .before .before .before .write-number2 .ensures, c .before .before .before .before .before .before .before .before .before .before .before .before .before .before .before .before .before .before .before .before .before .before .write-number .ensures, c .before .before .before .before .before .before .before .before .before .before .before .before .before .before .before .before .before .before .before .before .before .before .before .before .size-octets .ensures)
+    rw (write-number5-place .write-number5 .ensures, copy-into-place .copy-into .ensures, write-number4-place .write-number4 .ensures, write-number3-place .write-number3 .ensures, write-number2-place .write-number2 .ensures, write-number-place .write-number .ensures, size-octets-place .size-octets .ensures)
     (puts (beDigits 2 (a .properties)) (beDigits k (a .size)) (beDigits 4 (a .mtime)) (beDigits 4 (a .ctime)) p (0 ∷ []) (now (a .out)) (a .at) (a .at + 2) (a .at + 2 + k) (a .at + 2 + k + 4) (a .at + 2 + k + 8) (a .at + 2 + k + 8 + length p) refl (omega arith) (omega arith) (omega arith) refl (omega arith))
 
 pub put-entry-spec : {M : Type 1} → statement M

@@ -2,7 +2,7 @@
 use lib.ListN.{length}
 use denote.Ref.{now}
 use borrow.Author.Tests.{lt-ltb, le-ltb, eq-eqb, ne-eqb}
-use Rattle.header.specs.Word.{markOf}
+use Rattle.header.specs.FirstWord.{markOf}
 use Rattle.header.specs.Start.{wordOf, startRefusal}
 use borrow.Author.Needs.{needs}
 use native.Mathlib.Omega.{arith}
@@ -26,13 +26,15 @@ split-requires c κs = search needs
 returns-3 : tie.Need-returns-3
 unfolding startRefusal
 returns-3 c =
-    let s = now (c .before .before .before .before .before .before .before .args .p) in
+    let start = c .before .before .before .before .before .before .before in
+    let s = now (start .args .p) in
     rw (le-ltb 65535 (length s) (omega arith), le-ltb (length s) 8 (omega arith), ne-eqb (markOf (wordOf s)) 1 (omega arith))
 
 returns-4 : tie.Need-returns-4
 unfolding startRefusal
 returns-4 c =
-    let s = now (c .before .before .before .before .before .before .before .args .p) in
+    let start = c .before .before .before .before .before .before .before in
+    let s = now (start .args .p) in
     rw (le-ltb 65535 (length s) (omega arith), le-ltb (length s) 8 (omega arith), eq-eqb (markOf (wordOf s)) 1 (omega arith))
 
 pub start-refusal-spec : {M : Type 1} → statement M

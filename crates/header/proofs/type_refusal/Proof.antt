@@ -3,9 +3,9 @@
 use mathlib.Core.Path.{_≡_, sym, _∙_}
 use denote.Ref.{now}
 use borrow.Author.Tests.{eq-eqb, ne-eqb}
-use Rattle.header.specs.Word.{typeOf}
+use Rattle.header.specs.FirstWord.{typeOf}
 use Rattle.header.specs.Start.{wordOf, startRefusal, typeRefusal}
-use Rattle.header.proofs.RefusalLaws.{stays}
+use Rattle.refusals.proofs.RefusalLaws.{stays}
 use Rattle.header.proofs.StartLaws.{start-fine}
 use borrow.Author.Needs.{needs}
 use native.Mathlib.Omega.{arith}
@@ -28,16 +28,18 @@ split-requires c κs = search needs
 returns-2 : tie.Need-returns-2
 unfolding typeRefusal
 returns-2 c =
-    let s = now (c .before .before .before .before .before .before .before .args .p) in
+    let start = c .before .before .before .before .before .before .before in
+    let s = now (start .args .p) in
     let z : startRefusal s ≡ 0 = omega arith in
-    rw (z, ne-eqb (typeOf (wordOf s)) (c .before .before .before .before .before .before .before .args .ptype) (omega arith))
+    rw (z, ne-eqb (typeOf (wordOf s)) (start .args .ptype) (omega arith))
 
 returns-3 : tie.Need-returns-3
 unfolding typeRefusal
 returns-3 c =
-    let s = now (c .before .before .before .before .before .before .before .args .p) in
+    let start = c .before .before .before .before .before .before .before in
+    let s = now (start .args .p) in
     let z : startRefusal s ≡ 0 = omega arith in
-    rw (z, eq-eqb (typeOf (wordOf s)) (c .before .before .before .before .before .before .before .args .ptype) (omega arith))
+    rw (z, eq-eqb (typeOf (wordOf s)) (start .args .ptype) (omega arith))
 
 pub type-refusal-spec : {M : Type 1} → statement M
 type-refusal-spec =

@@ -6,79 +6,46 @@ use native.Mathlib.Omega.{arith}
 use Rattle.octets.proofs.read_four.Statement.{statement}
 use Rattle.octets.proofs.read_four.Tie as tie
 
-shared-slice-read-wide : tie.Need-shared-slice-read-wide
-shared-slice-read-wide c = search needs
+shared-slice-read-join-four : tie.Need-shared-slice-read-join-four
+shared-slice-read-join-four c = search needs
 
-wide-requires : tie.Need-wide-requires
-wide-requires c κs = search needs
+add-join-four : tie.Need-add-join-four
+add-join-four c = search needs
 
-mul-result : tie.Need-mul-result
-mul-result c = search needs
+shared-slice-read-join-four-2 : tie.Need-shared-slice-read-join-four-2
+shared-slice-read-join-four-2 c = search needs
 
-add-wide : tie.Need-add-wide
-add-wide c = search needs
+add-join-four-2 : tie.Need-add-join-four-2
+add-join-four-2 c = search needs
 
-shared-slice-read-wide-2 : tie.Need-shared-slice-read-wide-2
-shared-slice-read-wide-2 c = search needs
+shared-slice-read-join-four-3 : tie.Need-shared-slice-read-join-four-3
+shared-slice-read-join-four-3 c = search needs
 
-wide-requires-2 : tie.Need-wide-requires-2
-wide-requires-2 c κs = search needs
+add-join-four-3 : tie.Need-add-join-four-3
+add-join-four-3 c = search needs
 
-mul-result-2 : tie.Need-mul-result-2
-mul-result-2 c = search needs
+shared-slice-read-join-four-4 : tie.Need-shared-slice-read-join-four-4
+shared-slice-read-join-four-4 c = search needs
 
-add-result : tie.Need-add-result
-add-result c = search needs
-
-add-wide-2 : tie.Need-add-wide-2
-add-wide-2 c = search needs
-
-shared-slice-read-wide-3 : tie.Need-shared-slice-read-wide-3
-shared-slice-read-wide-3 c = search needs
-
-wide-requires-3 : tie.Need-wide-requires-3
-wide-requires-3 c κs = search needs
-
-mul-result-3 : tie.Need-mul-result-3
-mul-result-3 c = search needs
-
-add-result-2 : tie.Need-add-result-2
-add-result-2 c = search needs
-
-add-wide-3 : tie.Need-add-wide-3
-add-wide-3 c = search needs
-
-shared-slice-read-wide-4 : tie.Need-shared-slice-read-wide-4
-shared-slice-read-wide-4 c = search needs
-
-wide-requires-4 : tie.Need-wide-requires-4
-wide-requires-4 c κs = search needs
-
-add-result-3 : tie.Need-add-result-3
-add-result-3 c = search needs
+join-four-requires : tie.Need-join-four-requires
+join-four-requires c κs = search needs
 
 returns : tie.Need-returns
-returns c = omega (arith, four-octets (now (c .before .before .before .before .before .before .before .before .before .args .s)) (c .before .before .before .before .before .before .before .before .before .args .at) (c .before .before .before .before .before .before .before .before .before .pre))
+returns c =
+    let before-place = c .before .before .before .before .before in
+    let p = before-place .before in
+    omega (arith, four-octets (now (p .args .s)) (p .args .at) (p .pre))
 
 pub read-four-spec : {M : Type 1} → statement M
 read-four-spec =
     tie.close
     (tie.spec
-    shared-slice-read-wide
-    wide-requires
-    mul-result
-    add-wide
-    shared-slice-read-wide-2
-    wide-requires-2
-    mul-result-2
-    add-result
-    add-wide-2
-    shared-slice-read-wide-3
-    wide-requires-3
-    mul-result-3
-    add-result-2
-    add-wide-3
-    shared-slice-read-wide-4
-    wide-requires-4
-    add-result-3
+    shared-slice-read-join-four
+    add-join-four
+    shared-slice-read-join-four-2
+    add-join-four-2
+    shared-slice-read-join-four-3
+    add-join-four-3
+    shared-slice-read-join-four-4
+    join-four-requires
     returns)

@@ -40,12 +40,17 @@ shared-slice-read-v : tie.Need-shared-slice-read-v Inv-loop μ-loop
 shared-slice-read-v c = omega arith
 
 cast-v : tie.Need-cast-v Inv-loop μ-loop
-cast-v c = let l = c .before .before .loop in omega (arith, c .shared-slice-known2 .given (c .before .before .before .before .before .args .at + l .i))
+cast-v c =
+    let loop-place = c .before .before in
+    let start = loop-place .before .before .before in
+    let l = loop-place .loop in omega (arith, c .shared-slice-known2 .given (start .args .at + l .i))
 
 add-v-2 : tie.Need-add-v-2 Inv-loop μ-loop
 add-v-2 c =
-    let l = c .before .before .loop in
-    record { fits = fits-step (l .i) (l .v) _ (omega (arith, width-le (c .before .before .before .before .before .pre .0))) (l .inv .1) (c .shared-slice-known2 .given (c .before .before .before .before .before .args .at + l .i) .fits) }
+    let loop-place = c .before .before in
+    let start = loop-place .before .before .before in
+    let l = loop-place .loop in
+    record { fits = fits-step (l .i) (l .v) _ (omega (arith, width-le (start .pre .0))) (l .inv .1) (c .shared-slice-known2 .given (start .args .at + l .i) .fits) }
 
 add-i : tie.Need-add-i Inv-loop μ-loop
 add-i c = omega arith
@@ -55,8 +60,10 @@ loop-less c = omega arith
 
 loop-again : tie.Need-loop-again Inv-loop μ-loop
 loop-again c =
-    let l = c .before .before .loop in
-    let a = c .before .before .before .before .before .args in (
+    let loop-place = c .before .before in
+    let start = loop-place .before .before .before in
+    let l = loop-place .loop in
+    let a = start .args in (
       omega arith,
       rw add-one (value-step (l .i) (l .v) _ (l .inv .1) (c .shared-slice-known2 .given (a .at + l .i) .fits)),
       sym (read-step (now (a .s)) (a .at) (a .d) (l .i) (l .v) (omega arith) (omega arith)) ∙ l .inv .2,

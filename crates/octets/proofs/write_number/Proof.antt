@@ -1,6 +1,6 @@
 -- `octets::write_number` meets its contract: the octets that are still to be written, in front of what stands after them, always give the whole.
 -- Assumes nothing.
-use Prim.Native.Nat.{_+_, _-_, _≤_}
+use Prim.Native.Nat.{_+_, _≤_}
 use mathlib.Core.Path.{_≡_, refl, sym, _∙_}
 use mathlib.Core.List.{_++_}
 use native.Mathlib.Omega.{arith}

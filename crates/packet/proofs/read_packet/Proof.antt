@@ -3,7 +3,7 @@
 use mathlib.Core.Path.{_≡_, ap, _∙_}
 use denote.Ref.{now}
 use borrow.Author.Tests.{ne-eqb}
-use Rattle.header.specs.Word.{typeOf}
+use Rattle.header.specs.FirstWord.{typeOf}
 use Rattle.header.specs.Start.{wordOf, startRefusal}
 use Rattle.header.proofs.StartLaws.{start-fine}
 use Rattle.packet.specs.Read.{ofMetadata, ofData, ofStatus, readType}
@@ -44,8 +44,10 @@ known c = (omega arith, c .split .ensures .ptype-is ∙ ap typeOf (c .before .wo
 returns-2 : tie.Need-returns-2
 unfolding readType
 returns-2 c =
-    let s = now (c .before .before .before .before .before .before .before .before .before .args .p) in
-    let k = known (c .before .before .before .before) in
+    let before-place = c .before .before .before in
+    let start = before-place .before .before .before .before .before .before in
+    let s = now (start .args .p) in
+    let k = known (before-place .before) in
     let t : typeOf (wordOf s) ≡ 2 = omega arith in
     c .of-metadata .ensures ∙ ap ofMetadata (c .before .read-metadata .ensures) ∙ read-by-type s (k .0) (rw (t, readType))
 
@@ -58,8 +60,10 @@ of-data-requires c κs = search needs
 returns-3 : tie.Need-returns-3
 unfolding readType
 returns-3 c =
-    let s = now (c .before .before .before .before .before .before .before .before .before .before .before .args .p) in
-    let k = known (c .before .before .before .before .before .before) in
+    let before-place = c .before .before .before .before .before in
+    let start = before-place .before .before .before .before .before .before in
+    let s = now (start .args .p) in
+    let k = known (before-place .before) in
     let t : typeOf (wordOf s) ≡ 3 = omega arith in
     c .of-data .ensures ∙ ap ofData (c .before .read-data .ensures) ∙ read-by-type s (k .0) (rw (t, readType))
 
@@ -72,8 +76,10 @@ of-status-requires c κs = search needs
 returns-4 : tie.Need-returns-4
 unfolding readType
 returns-4 c =
-    let s = now (c .before .before .before .before .before .before .before .before .before .before .before .before .before .args .p) in
-    let k = known (c .before .before .before .before .before .before .before .before) in
+    let before-place = c .before .before .before .before .before .before .before in
+    let start = before-place .before .before .before .before .before .before in
+    let s = now (start .args .p) in
+    let k = known (before-place .before) in
     let t : typeOf (wordOf s) ≡ 4 = omega arith in
     c .of-status .ensures ∙ ap ofStatus (c .before .read-status .ensures) ∙ read-by-type s (k .0) (rw (t, readType))
 
@@ -83,8 +89,10 @@ refuse-requires-2 c κs = search needs
 returns-5 : tie.Need-returns-5
 unfolding readType
 returns-5 c =
-    let s = now (c .before .before .before .before .before .before .before .before .before .before .before .before .args .p) in
-    let k = known (c .before .before .before .before .before .before .before) in
+    let before-place = c .before .before .before .before .before .before in
+    let start = before-place .before .before .before .before .before .before in
+    let s = now (start .args .p) in
+    let k = known (before-place .before) in
     let t = typeOf (wordOf s) in
     rw (c .refuse2 .ensures)
     (read-by-type s (k .0) (rw (ne-eqb t 2 (omega arith), ne-eqb t 3 (omega arith), ne-eqb t 4 (omega arith))))

@@ -4,7 +4,7 @@ use mathlib.Core.Bool.{true, false}
 use Prim.Native.Nat.{ℕ, _^_}
 use lib.Dec.{ltb}
 use borrow.Author.Tests.{lt-ltb, le-ltb, not-true, not-false}
-use Rattle.header.specs.Word.{descriptorOctets, timestampOctets}
+use Rattle.header.specs.FirstWord.{descriptorOctets, timestampOctets}
 use Rattle.packet_data.specs.WriteData.{dataExcess}
 use borrow.Author.Needs.{needs}
 use native.Mathlib.Omega.{arith}
@@ -40,16 +40,21 @@ fits-requires c κs = search needs
 
 -- whether the offset fits, as the definition has it
 offset-fits : (c : tie.After-fits2) → c .fits2 .result ≡ ltb (c .before .before .before .before .before .before .args .offset) (256 ^ descriptorOctets (c .before .before .before .before .before .before .args .flags))
-offset-fits c = c .fits2 .ensures ∙ ap (λ (d : ℕ). ltb (c .before .before .before .before .before .before .args .offset) (256 ^ d)) (c .before .descriptor-octets .ensures)
+offset-fits c =
+    let start = c .before .before .before .before .before .before in
+    c .fits2 .ensures ∙ ap (λ (d : ℕ). ltb (start .args .offset) (256 ^ d)) (c .before .descriptor-octets .ensures)
 
 returns-4 : tie.Need-returns-4
 unfolding dataExcess
 returns-4 c =
-    let a = c .before .before .before .before .before .before .before .args in
+    let if2-place = c .before .before .before .before .before in
+    let if1-place = if2-place .before in
+    let start = if1-place .before in
+    let a = start .args in
     let v : ltb (a .offset) (256 ^ descriptorOctets (a .flags)) ≡ false = sym (offset-fits (c .before)) ∙ not-true _ (c .if4 .taken) in
     rw (
-      lt-ltb (a .flags) (2 ^ 24) (c .before .before .before .before .before .before .if1 .left),
-      lt-ltb (a .id) (2 ^ 32) (c .before .before .before .before .before .if2 .left),
+      lt-ltb (a .flags) (2 ^ 24) (if1-place .if1 .left),
+      lt-ltb (a .id) (2 ^ 32) (if2-place .if2 .left),
       le-ltb (timestampOctets (a .flags)) (a .timestamp) (omega arith),
       v,
     )
@@ -57,11 +62,14 @@ returns-4 c =
 returns-5 : tie.Need-returns-5
 unfolding dataExcess
 returns-5 c =
-    let a = c .before .before .before .before .before .before .before .args in
+    let if2-place = c .before .before .before .before .before in
+    let if1-place = if2-place .before in
+    let start = if1-place .before in
+    let a = start .args in
     let v : ltb (a .offset) (256 ^ descriptorOctets (a .flags)) ≡ true = sym (offset-fits (c .before)) ∙ not-false _ (c .if4 .left) in
     rw (
-      lt-ltb (a .flags) (2 ^ 24) (c .before .before .before .before .before .before .if1 .left),
-      lt-ltb (a .id) (2 ^ 32) (c .before .before .before .before .before .if2 .left),
+      lt-ltb (a .flags) (2 ^ 24) (if1-place .if1 .left),
+      lt-ltb (a .id) (2 ^ 32) (if2-place .if2 .left),
       le-ltb (timestampOctets (a .flags)) (a .timestamp) (omega arith),
       v,
     )

@@ -3,11 +3,14 @@
 use mathlib.Core.Path.{_≡_, sym, ap, _∙_}
 use denote.Ref.{now}
 use lib.ListN.{length}
-use borrow.Author.Tests.{lt-ltb, le-ltb, eq-eqb, ne-eqb}
+use borrow.Author.Tests.{eq-eqb, ne-eqb}
+use Rattle.header.specs.FirstWord.{descriptorOctets}
 use Rattle.header.specs.Start.{wordOf, typeRefusal, fileRefusal}
-use Rattle.header.proofs.RefusalLaws.{stays}
+use Rattle.header.specs.Descriptor.{descriptorRefusal}
+use Rattle.refusals.proofs.RefusalLaws.{stays}
 use Rattle.header.proofs.StartLaws.{type-fine}
-use Rattle.packet_data.specs.Data.{payloadAt, dataRefusal}
+use Rattle.header.proofs.FirstWordLaws.{octets-le}
+use Rattle.packet_data.specs.Data.{offsetAt, payloadAt, dataRefusal}
 use borrow.Author.Needs.{needs}
 use native.Mathlib.Omega.{arith}
 use Rattle.packet_data.proofs.data_refusal.Statement.{statement}
@@ -29,45 +32,76 @@ file-refusal-requires c κs = search needs
 returns-2 : tie.Need-returns-2
 unfolding dataRefusal
 returns-2 c =
-    let s = now (c .before .before .before .before .before .before .args .p) in
+    let word-place = c .before .before in
+    let start = word-place .before .before .before .before in
+    let s = now (start .args .p) in
     let z : typeRefusal 3 s ≡ 0 = omega arith in
-    let f : c .before .file-refusal .result ≡ fileRefusal (wordOf s) = c .before .file-refusal .ensures ∙ ap fileRefusal (c .before .before .word .ensures) in
+    let f : c .before .file-refusal .result ≡ fileRefusal (wordOf s) = c .before .file-refusal .ensures ∙ ap fileRefusal (word-place .word .ensures) in
     rw z (f ∙ sym (stays (fileRefusal (wordOf s)) _ (omega arith)))
 
-payload-at-requires : tie.Need-payload-at-requires
-payload-at-requires c κs = search needs
+offset-at-requires : tie.Need-offset-at-requires
+offset-at-requires c κs = search needs
 
--- what is known where the start of the payload is at hand
-known : (c : tie.After-payload-at)
-    → let s = now (c .before .before .before .before .before .before .before .args .p) in
-    (typeRefusal 3 s ≡ 0) × (fileRefusal (wordOf s) ≡ 0) × (c .payload-at .result ≡ payloadAt (wordOf s))
+descriptor-octets-requires : tie.Need-descriptor-octets-requires
+descriptor-octets-requires c κs = search needs
+
+descriptor-refusal-requires : tie.Need-descriptor-refusal-requires
+descriptor-refusal-requires c κs = omega (arith, octets-le (c .before .before .before .before .word .result))
+
+-- what is known where the offset was judged
+known : (c : tie.After-descriptor-refusal)
+    → let s = now (c .before .before .before .before .before .before .before .before .before .args .p) in
+    let w = wordOf s in
+    (typeRefusal 3 s ≡ 0)
+    × (fileRefusal w ≡ 0)
+    × (c .descriptor-refusal .result ≡ descriptorRefusal (descriptorOctets w) (offsetAt w) s)
 known c =
-    let s = now (c .before .before .before .before .before .before .before .args .p) in
-    let f : c .before .before .file-refusal .result ≡ fileRefusal (wordOf s) = c .before .before .file-refusal .ensures ∙ ap fileRefusal (c .before .before .before .word .ensures) in
-    (omega arith, omega arith, c .payload-at .ensures ∙ ap payloadAt (c .before .before .before .word .ensures))
+    let s = now (c .before .before .before .before .before .before .before .before .before .args .p) in
+    let w = c .before .before .before .before .before .word .ensures in
+    let f : c .before .before .before .before .file-refusal .result ≡ fileRefusal (wordOf s) = c .before .before .before .before .file-refusal .ensures ∙ ap fileRefusal w in
+    (omega arith, omega arith, c .descriptor-refusal .ensures ∙ rw (c .before .descriptor-octets .ensures, c .before .before .offset-at .ensures, w))
 
 returns-3 : tie.Need-returns-3
 unfolding dataRefusal
 returns-3 c =
+    let start = c .before .before .before .before .before .before .before .before .before .before in
     let k = known (c .before) in
-    let s = now (c .before .before .before .before .before .before .before .before .args .p) in
-    rw (k .0, k .1, lt-ltb (length s) (payloadAt (wordOf s)) (omega (arith, k)))
+    let s = now (start .args .p) in
+    let w = wordOf s in
+    rw (k .0, k .1) (k .2 ∙ sym (stays (descriptorRefusal (descriptorOctets w) (offsetAt w) s) _ (omega arith)))
+
+payload-at-requires : tie.Need-payload-at-requires
+payload-at-requires c κs = search needs
+
+-- the offset is there, and the start of the payload is at hand
+there : (c : tie.After-payload-at)
+    → let s = now (c .before .before .before .before .before .before .before .before .before .before .before .args .p) in
+    let w = wordOf s in
+    (descriptorRefusal (descriptorOctets w) (offsetAt w) s ≡ 0) × (c .payload-at .result ≡ payloadAt w)
+there c =
+    let word-place = c .before .before .before .before .before .before .before in
+    let k = known (c .before .before) in
+    (omega arith, c .payload-at .ensures ∙ ap payloadAt (word-place .word .ensures))
 
 returns-4 : tie.Need-returns-4
 unfolding dataRefusal
 returns-4 c =
-    let k = known (c .before .before) in
-    let s = now (c .before .before .before .before .before .before .before .before .before .args .p) in
-    let at = payloadAt (wordOf s) in
-    rw (k .0, k .1, le-ltb (length s) at (omega (arith, k)), eq-eqb (length s) at (omega (arith, k)))
+    let before-place = c .before .before in
+    let start = before-place .before .before .before .before .before .before .before .before .before .before in
+    let k = known (before-place .before) in
+    let h = there (c .before) in
+    let s = now (start .args .p) in
+    rw (k .0, k .1, h .0, eq-eqb (length s) (payloadAt (wordOf s)) (omega arith))
 
 returns-5 : tie.Need-returns-5
 unfolding dataRefusal
 returns-5 c =
-    let k = known (c .before .before) in
-    let s = now (c .before .before .before .before .before .before .before .before .before .args .p) in
-    let at = payloadAt (wordOf s) in
-    rw (k .0, k .1, le-ltb (length s) at (omega (arith, k)), ne-eqb (length s) at (omega (arith, k)))
+    let before-place = c .before .before in
+    let start = before-place .before .before .before .before .before .before .before .before .before .before in
+    let k = known (before-place .before) in
+    let h = there (c .before) in
+    let s = now (start .args .p) in
+    rw (k .0, k .1, h .0, ne-eqb (length s) (payloadAt (wordOf s)) (omega arith))
 
 pub data-refusal-spec : {M : Type 1} → statement M
 data-refusal-spec =
@@ -78,7 +112,10 @@ data-refusal-spec =
     word-requires
     file-refusal-requires
     returns-2
-    payload-at-requires
+    offset-at-requires
+    descriptor-octets-requires
+    descriptor-refusal-requires
     returns-3
+    payload-at-requires
     returns-4
     returns-5)

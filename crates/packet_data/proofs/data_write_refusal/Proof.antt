@@ -3,10 +3,10 @@
 use mathlib.Core.Path.{_≡_, sym, ap, _∙_}
 use Prim.Native.Nat.{ℕ, _+_}
 use borrow.Author.Tests.{lt-ltb, le-ltb, eq-eqb, ne-eqb}
-use Rattle.header.specs.Word.{timestampOctets}
+use Rattle.header.specs.FirstWord.{timestampOctets}
 use Rattle.header.specs.Start.{fileRefusal}
-use Rattle.header.specs.Writing.{roomRefusal}
-use Rattle.header.proofs.RefusalLaws.{stays}
+use Rattle.refusals.specs.Writing.{roomRefusal}
+use Rattle.refusals.proofs.RefusalLaws.{stays}
 use Rattle.packet_data.specs.WriteData.{dataExcess, dataWriteRefusal}
 use Rattle.packet_data.proofs.DataLaws.{payload-at-le}
 use borrow.Author.Needs.{needs}
@@ -44,22 +44,27 @@ known c = (omega arith, omega arith)
 returns-3 : tie.Need-returns-3
 unfolding dataWriteRefusal
 returns-3 c =
-    let a = c .before .before .before .before .before .before .args in
+    let start = c .before .before .before .before .before .before in
+    let a = start .args in
     let k = known (c .before .before) in
     rw (k .0, k .1, lt-ltb (a .timestamp) (timestampOctets (a .flags)) (omega arith))
 
 returns-4 : tie.Need-returns-4
 unfolding dataWriteRefusal
 returns-4 c =
-    let a = c .before .before .before .before .before .before .before .args in
-    let k = known (c .before .before .before) in
+    let before-place = c .before .before in
+    let start = before-place .before .before .before .before .before in
+    let a = start .args in
+    let k = known (before-place .before) in
     rw (k .0, k .1, le-ltb (a .timestamp) (timestampOctets (a .flags)) (omega arith), eq-eqb (a .payload) 0 (c .if4 .taken))
 
 payload-at-requires : tie.Need-payload-at-requires
 payload-at-requires c κs = search needs
 
 add-room-refusal : tie.Need-add-room-refusal
-add-room-refusal c = omega (arith, payload-at-le (c .before .before .before .before .before .before .before .before .args .flags))
+add-room-refusal c =
+    let start = c .before .before .before .before .before .before .before .before in
+    omega (arith, payload-at-le (start .args .flags))
 
 room-refusal-requires : tie.Need-room-refusal-requires
 room-refusal-requires c κs = search needs
@@ -67,9 +72,12 @@ room-refusal-requires c κs = search needs
 returns-5 : tie.Need-returns-5
 unfolding dataWriteRefusal
 returns-5 c =
-    let a = c .before .before .before .before .before .before .before .before .before .args in
-    let k = known (c .before .before .before .before .before) in
-    rw (k .0, k .1, le-ltb (a .timestamp) (timestampOctets (a .flags)) (omega arith), ne-eqb (a .payload) 0 (c .before .before .if4 .left))
+    let if4-place = c .before .before in
+    let before-place = if4-place .before .before in
+    let start = before-place .before .before .before .before .before in
+    let a = start .args in
+    let k = known (before-place .before) in
+    rw (k .0, k .1, le-ltb (a .timestamp) (timestampOctets (a .flags)) (omega arith), ne-eqb (a .payload) 0 (if4-place .if4 .left))
     (c .room-refusal .ensures ∙ ap (λ (n : ℕ). roomRefusal (n + a .payload) (a .room)) (c .before .payload-at .ensures))
 
 pub data-write-refusal-spec : {M : Type 1} → statement M

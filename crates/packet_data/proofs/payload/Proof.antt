@@ -33,7 +33,8 @@ starts : (c : tie.After-payload-at)
     → let s = now (c .before .before .before .before .before .args .p) in
     (dataRefusal s ≡ 0) × (c .payload-at .result ≡ payloadAt (wordOf s)) × (payloadAt (wordOf s) ≤ length s)
 starts c =
-    let s = now (c .before .before .before .before .before .args .p) in
+    let start = c .before .before .before .before .before in
+    let s = now (start .args .p) in
     let z : dataRefusal s ≡ 0 = omega arith in
     (z, c .payload-at .ensures ∙ ap payloadAt (c .before .word .ensures), omega (arith, data-fine s z .more))
 
@@ -49,7 +50,8 @@ part-result-end c = search needs
 returns-2 : tie.Need-returns-2
 unfolding payloadOf
 returns-2 c =
-    let s = now (c .before .before .before .before .before .before .args .p) in
+    let start = c .before .before .before .before .before .before in
+    let s = now (start .args .p) in
     let k = starts (c .before) in
     let at = payloadAt (wordOf s) in
     rw (k .0, k .1) (take-all (length s - at) (drop at s) (simp length-drop (omega arith)))

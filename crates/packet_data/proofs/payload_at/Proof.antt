@@ -1,5 +1,5 @@
 -- `packet_data::payload_at` meets its contract. Assumes nothing.
-use Rattle.header.proofs.WordLaws.{octets-le}
+use Rattle.header.proofs.FirstWordLaws.{octets-le}
 use borrow.Author.Needs.{needs}
 use native.Mathlib.Omega.{arith}
 use Rattle.packet_data.proofs.payload_at.Statement.{statement}

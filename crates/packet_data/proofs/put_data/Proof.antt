@@ -6,7 +6,7 @@ use denote.Ref.{now}
 use lib.ListN.{length}
 use Rattle.octets.specs.Numbers.{beDigits}
 use Rattle.octets.proofs.NumberLaws.{length-digits}
-use Rattle.header.specs.Word.{descriptorOctets, timestampOctets, wordFor}
+use Rattle.header.specs.FirstWord.{descriptorOctets, timestampOctets, wordFor}
 use Rattle.packet_data.specs.Data.{offsetAt, payloadAt}
 use Rattle.packet_data.specs.WriteData.{dataOctets}
 use Rattle.packet_data.proofs.WriteDataLaws.{puts}
@@ -51,24 +51,34 @@ same-length c = search needs
 returns : tie.Need-returns
 unfolding dataOctets
 returns c =
-    let a = c .before .before .before .before .before .before .before .before .before .before .before .before .before .before .before .before .before .before .before .before .before .before .before .before .before .before .before .args in
+    let copy-into2-place = c .before .before in
+    let write-number3-place = copy-into2-place .before .before .before .before in
+    let descriptor-octets-place = write-number3-place .before in
+    let offset-at-place = descriptor-octets-place .before in
+    let copy-into-place = offset-at-place .before .before .before .before in
+    let write-number2-place = copy-into-place .before .before .before .before in
+    let write-number-place = write-number2-place .before .before .before .before in
+    let join-place = write-number-place .before in
+    let payload-at-place = join-place .before .before in
+    let start = payload-at-place .before .before .before .before in
+    let a = start .args in
     let f = a .flags in
     let t = now (a .timestamp) in
     let p = now (a .payload) in
-    let s : length t ≡ timestampOctets f = c .before .before .before .before .before .before .before .before .before .before .before .before .before .before .before .before .before .before .before .before .before .before .before .before .before .before .before .pre .timestamp-is in
-    let h : payloadAt f + length p ≤ length (now (a .out)) = c .before .before .before .before .before .before .before .before .before .before .before .before .before .before .before .before .before .before .before .before .before .before .before .before .before .before .before .pre .fits in
+    let s : length t ≡ timestampOctets f = start .pre .timestamp-is in
+    let h : payloadAt f + length p ≤ length (now (a .out)) = start .pre .fits in
     let l : length (beDigits (descriptorOctets f) (a .offset)) ≡ descriptorOctets f = length-digits (descriptorOctets f) (a .offset) in (
       omega arith,
       rw (
-        c .before .before .copy-into2 .ensures,
-        c .before .before .before .before .before .before .write-number3 .ensures,
-        c .before .before .before .before .before .before .before .before .before .before .before .before .copy-into .ensures,
-        c .before .before .before .before .before .before .before .before .before .before .before .before .before .before .before .before .write-number2 .ensures,
-        c .before .before .before .before .before .before .before .before .before .before .before .before .before .before .before .before .before .before .before .before .write-number .ensures,
-        c .before .before .before .before .before .before .before .before .before .before .before .before .before .before .before .before .before .before .before .before .before .join .ensures,
-        c .before .before .before .before .before .before .before .before .offset-at .ensures,
-        c .before .before .before .before .before .before .before .before .before .before .before .before .before .before .before .before .before .before .before .before .before .before .before .payload-at .ensures,
-        c .before .before .before .before .before .before .before .descriptor-octets .ensures,
+        copy-into2-place .copy-into2 .ensures,
+        write-number3-place .write-number3 .ensures,
+        copy-into-place .copy-into .ensures,
+        write-number2-place .write-number2 .ensures,
+        write-number-place .write-number .ensures,
+        join-place .join .ensures,
+        offset-at-place .offset-at .ensures,
+        payload-at-place .payload-at .ensures,
+        descriptor-octets-place .descriptor-octets .ensures,
       )
           (puts (beDigits 4 (wordFor 3 f)) (beDigits 4 (a .id)) t (beDigits (descriptorOctets f) (a .offset)) p (now (a .out))
           4 8 (offsetAt f) (payloadAt f) refl refl (omega arith) (omega arith) h),

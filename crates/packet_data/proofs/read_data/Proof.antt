@@ -3,7 +3,8 @@ use mathlib.Core.Path.{_≡_, ap}
 use denote.Ref.{now}
 use Rattle.packet_data.specs.Data.{dataRefusal, dataOf, readData}
 use Rattle.packet_data.specs.declared.DataRead.the-variants.{Accepted}
-use Rattle.packet_data.proofs.DataLaws.{answer-refused}
+use Rattle.refusals.proofs.RefusalLaws.{answered-refused}
+use Rattle.packet_data.specs.declared.DataRead.the-variants.{Accepted, Refused}
 use borrow.Author.Needs.{needs}
 use native.Mathlib.Omega.{arith}
 use Rattle.packet_data.proofs.read_data.Statement.{statement}
@@ -20,7 +21,7 @@ unfolding readData
 returns c =
     let s = now (c .before .before .before .before .args .p) in
     let n : c .before .before .data-refusal .result ≡ dataRefusal s = c .before .before .data-refusal .ensures in
-    rw (c .refuse .ensures, n) (answer-refused (dataRefusal s) (dataOf s) (omega arith))
+    rw (c .refuse .ensures, n) (answered-refused Refused (dataRefusal s) (Accepted (dataOf s)) (omega arith))
 
 data-fields-requires : tie.Need-data-fields-requires
 data-fields-requires c κs = search needs

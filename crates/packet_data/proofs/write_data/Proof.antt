@@ -3,7 +3,7 @@
 use mathlib.Core.Path.{_≡_}
 use denote.Ref.{now}
 use lib.ListN.{length}
-use Rattle.header.proofs.WritingLaws.{written-refused, buffer-refused}
+use Rattle.refusals.proofs.WritingLaws.{written-refused, buffer-refused}
 use Rattle.packet_data.specs.WriteData.{dataRefused, dataWritten, dataBuffer}
 use Rattle.packet_data.proofs.WriteDataLaws.{writable}
 use borrow.Author.Needs.{needs}
@@ -20,16 +20,19 @@ refuse-requires c κs = search needs
 returns : tie.Need-returns
 unfolding dataWritten dataBuffer
 returns c =
-    let a = c .before .before .before .before .before .before .args in
+    let data-write-refusal-place = c .before .before in
+    let start = data-write-refusal-place .before .before .before .before in
+    let a = start .args in
     let n = dataRefused (a .flags) (a .id) (now (a .timestamp)) (a .offset) (now (a .payload)) (now (a .out)) in
-    let e : c .before .before .data-write-refusal .result ≡ n = c .before .before .data-write-refusal .ensures in (
+    let e : data-write-refusal-place .data-write-refusal .result ≡ n = data-write-refusal-place .data-write-refusal .ensures in (
       rw (c .refuse .ensures, e) (written-refused n _ (omega arith)),
       buffer-refused n _ (now (a .out)) (omega arith),
     )
 
 put-data-requires : tie.Need-put-data-requires
 put-data-requires c κs =
-    let a = c .before .before .before .before .before .before .args in
+    let start = c .before .before .before .before .before .before in
+    let a = start .args in
     writable (a .flags) (a .id) (length (now (a .timestamp))) (a .offset) (length (now (a .payload))) (length (now (a .out))) (omega arith) .fine
 
 same-length : tie.Need-same-length
@@ -38,11 +41,13 @@ same-length c = search needs
 returns-2 : tie.Need-returns-2
 unfolding dataWritten dataBuffer
 returns-2 c =
-    let a = c .before .before .before .before .before .before .before .before .before .args in
+    let put-data-place = c .before .before in
+    let start = put-data-place .before .before .before .before .before .before .before in
+    let a = start .args in
     let n = dataRefused (a .flags) (a .id) (now (a .timestamp)) (a .offset) (now (a .payload)) (now (a .out)) in
     let z : n ≡ 0 = omega arith in (
-      rw (z, c .before .before .put-data .ensures .0),
-      rw z (c .before .before .put-data .ensures .1),
+      rw (z, put-data-place .put-data .ensures .0),
+      rw z (put-data-place .put-data .ensures .1),
     )
 
 pub write-data-spec : {M : Type 1} → statement M

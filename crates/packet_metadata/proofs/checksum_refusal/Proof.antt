@@ -2,7 +2,7 @@
 use mathlib.Core.Path.{_≡_, sym, _∙_}
 use borrow.Author.Tests.{lt-ltb, le-ltb}
 use Rattle.header.specs.Start.{fileRefusal}
-use Rattle.header.proofs.RefusalLaws.{stays}
+use Rattle.refusals.proofs.RefusalLaws.{stays}
 use Rattle.packet_metadata.specs.Checksum.{pairRefusal, checksumOctets}
 use Rattle.packet_metadata.specs.WriteMetadata.{checksumRefusal}
 use borrow.Author.Needs.{needs}
@@ -32,16 +32,18 @@ checksum-octets-requires c κs = search needs
 returns-3 : tie.Need-returns-3
 unfolding checksumRefusal
 returns-3 c =
-    let y : fileRefusal (c .before .before .before .before .before .before .args .flags) ≡ 0 = omega arith in
-    let z : pairRefusal (c .before .before .before .before .before .before .args .flags) ≡ 0 = omega arith in
-    rw (y, z, lt-ltb (c .before .before .before .before .before .before .args .checksum) (checksumOctets (c .before .before .before .before .before .before .args .flags)) (omega arith))
+    let start = c .before .before .before .before .before .before in
+    let y : fileRefusal (start .args .flags) ≡ 0 = omega arith in
+    let z : pairRefusal (start .args .flags) ≡ 0 = omega arith in
+    rw (y, z, lt-ltb (start .args .checksum) (checksumOctets (start .args .flags)) (omega arith))
 
 returns-4 : tie.Need-returns-4
 unfolding checksumRefusal
 returns-4 c =
-    let y : fileRefusal (c .before .before .before .before .before .before .args .flags) ≡ 0 = omega arith in
-    let z : pairRefusal (c .before .before .before .before .before .before .args .flags) ≡ 0 = omega arith in
-    rw (y, z, le-ltb (c .before .before .before .before .before .before .args .checksum) (checksumOctets (c .before .before .before .before .before .before .args .flags)) (omega arith))
+    let start = c .before .before .before .before .before .before in
+    let y : fileRefusal (start .args .flags) ≡ 0 = omega arith in
+    let z : pairRefusal (start .args .flags) ≡ 0 = omega arith in
+    rw (y, z, le-ltb (start .args .checksum) (checksumOctets (start .args .flags)) (omega arith))
 
 pub checksum-refusal-spec : {M : Type 1} → statement M
 checksum-refusal-spec =

@@ -5,7 +5,7 @@ use denote.Ref.{now}
 use lib.ListN.{length}
 use borrow.Author.Tests.{lt-ltb, le-ltb}
 use Rattle.header.specs.Start.{wordOf, typeRefusal, fileRefusal}
-use Rattle.header.proofs.RefusalLaws.{stays}
+use Rattle.refusals.proofs.RefusalLaws.{stays}
 use Rattle.header.proofs.StartLaws.{type-fine}
 use Rattle.directory_entry.specs.Entry.{entryRefusal}
 use Rattle.directory_entry.proofs.EntryLaws.{rest-part}
@@ -29,29 +29,34 @@ word-requires c κs = type-fine 2 (now (c .before .before .before .args .p)) (om
 file-refusal-requires : tie.Need-file-refusal-requires
 file-refusal-requires c κs = search needs
 
-file : (c : tie.After-file-refusal) → (typeRefusal 2 (now (c .before .before .before .before .before .args .p)) ≡ 0) × (c .file-refusal .result ≡ fileRefusal (wordOf (now (c .before .before .before .before .before .args .p))))
-file c = (omega arith, c .file-refusal .ensures ∙ ap fileRefusal (c .before .word .ensures))
+pair-refusal-requires : tie.Need-pair-refusal-requires
+pair-refusal-requires c κs = search needs
+
+-- the refusals of the word, both at hand before the first is given
+word : (c : tie.After-pair-refusal)
+    → let s = now (c .before .before .before .before .before .before .args .p) in
+    (typeRefusal 2 s ≡ 0)
+    × (c .before .file-refusal .result ≡ fileRefusal (wordOf s))
+    × (c .pair-refusal .result ≡ pairRefusal (wordOf s))
+word c =
+    let w = c .before .before .word .ensures in
+    (omega arith, c .before .file-refusal .ensures ∙ ap fileRefusal w, c .pair-refusal .ensures ∙ ap pairRefusal w)
 
 returns-2 : tie.Need-returns-2
 unfolding metadataRefusal
 returns-2 c =
-    let f = file (c .before) in
-    rw (f .0) (f .1 ∙ sym (stays (fileRefusal (wordOf (now (c .before .before .before .before .before .before .args .p)))) _ (omega arith)))
-
-pair-refusal-requires : tie.Need-pair-refusal-requires
-pair-refusal-requires c κs = search needs
-
-pair : (c : tie.After-pair-refusal)
-    → (typeRefusal 2 (now (c .before .before .before .before .before .before .before .args .p)) ≡ 0) × (fileRefusal (wordOf (now (c .before .before .before .before .before .before .before .args .p))) ≡ 0) × (c .pair-refusal .result ≡ pairRefusal (wordOf (now (c .before .before .before .before .before .before .before .args .p))))
-pair c =
-    let f = file (c .before .before) in
-    (f .0, omega arith, c .pair-refusal .ensures ∙ ap pairRefusal (c .before .before .before .word .ensures))
+    let start = c .before .before .before .before .before .before .before in
+    let k = word (c .before) in
+    rw (k .0) (k .1 ∙ sym (stays (fileRefusal (wordOf (now (start .args .p)))) _ (omega arith)))
 
 returns-3 : tie.Need-returns-3
 unfolding metadataRefusal
 returns-3 c =
-    let g = pair (c .before) in
-    rw (g .0, g .1) (g .2 ∙ sym (stays (pairRefusal (wordOf (now (c .before .before .before .before .before .before .before .before .args .p)))) _ (omega arith)))
+    let start = c .before .before .before .before .before .before .before .before in
+    let s = now (start .args .p) in
+    let k = word (c .before .before) in
+    let f : fileRefusal (wordOf s) ≡ 0 = omega arith in
+    rw (k .0, f) (k .2 ∙ sym (stays (pairRefusal (wordOf s)) _ (omega arith)))
 
 checksum-octets-requires : tie.Need-checksum-octets-requires
 checksum-octets-requires c κs = search needs
@@ -63,13 +68,16 @@ known : (c : tie.After-checksum-octets)
     → (typeRefusal 2 (now (c .before .before .before .before .before .before .before .before .before .args .p)) ≡ 0) × (fileRefusal (wordOf (now (c .before .before .before .before .before .before .before .before .before .args .p))) ≡ 0) × (pairRefusal (wordOf (now (c .before .before .before .before .before .before .before .before .before .args .p))) ≡ 0)
     × (c .checksum-octets .result ≡ checksumOctets (wordOf (now (c .before .before .before .before .before .before .before .before .before .args .p))))
 known c =
-    let g = pair (c .before .before) in
-    (g .0, g .1, omega arith, c .checksum-octets .ensures ∙ ap (λ (x : ℕ). checksumOctets x) (c .before .before .before .before .before .word .ensures))
+    let before-place = c .before .before in
+    let word-place = before-place .before .before .before in
+    let k = word (before-place .before) in
+    (k .0, omega arith, omega arith, c .checksum-octets .ensures ∙ ap (λ (x : ℕ). checksumOctets x) (word-place .word .ensures))
 
 returns-4 : tie.Need-returns-4
 unfolding metadataRefusal
 returns-4 c =
-    let s = now (c .before .before .before .before .before .before .before .before .before .before .args .p) in
+    let start = c .before .before .before .before .before .before .before .before .before .before in
+    let s = now (start .args .p) in
     let k = known (c .before) in
     rw (k .0, k .1, k .2, lt-ltb (length s) (entryAt (wordOf s)) (omega arith))
 
@@ -91,13 +99,17 @@ entry-refusal-requires c κs = search needs
 returns-5 : tie.Need-returns-5
 unfolding metadataRefusal
 returns-5 c =
-    let s = now (c .before .before .before .before .before .before .before .before .before .before .before .before .before .args .p) in
-    let k = known (c .before .before .before .before) in
-    let n = c .before .before .before .before .checksum-octets .result in
+    let before-place = c .before .before .before in
+    let checksum-octets-place = before-place .before in
+    let word-place = checksum-octets-place .before .before .before .before .before in
+    let start = word-place .before .before .before .before in
+    let s = now (start .args .p) in
+    let k = known (before-place .before) in
+    let n = checksum-octets-place .checksum-octets .result in
     rw (k .0, k .1, k .2, le-ltb (length s) (entryAt (wordOf s)) (omega arith))
     (c .entry-refusal .ensures
     ∙ ap (entryRefusal (c .before .descriptor-octets .result)) (rest-part s (8 + n))
-    ∙ rw (c .before .descriptor-octets .ensures, k .3, c .before .before .before .before .before .before .before .before .before .word .ensures))
+    ∙ rw (c .before .descriptor-octets .ensures, k .3, word-place .word .ensures))
 
 pub metadata-refusal-spec : {M : Type 1} → statement M
 metadata-refusal-spec =
@@ -107,8 +119,8 @@ metadata-refusal-spec =
     returns
     word-requires
     file-refusal-requires
-    returns-2
     pair-refusal-requires
+    returns-2
     returns-3
     checksum-octets-requires
     add-at

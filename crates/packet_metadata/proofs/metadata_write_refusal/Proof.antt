@@ -3,9 +3,9 @@ use Prim.Native.Nat.{ℕ}
 use mathlib.Core.Path.{_≡_, sym, ap, _∙_}
 use denote.Ref.{now}
 use lib.ListN.{length}
-use Rattle.header.specs.Word.{descriptorOctets}
-use Rattle.header.specs.Writing.{roomRefusal}
-use Rattle.header.proofs.RefusalLaws.{stays}
+use Rattle.header.specs.FirstWord.{descriptorOctets}
+use Rattle.refusals.specs.Writing.{roomRefusal}
+use Rattle.refusals.proofs.RefusalLaws.{stays}
 use Rattle.directory_entry.specs.WriteEntry.{entryExcess, entryWriteRefusal}
 use Rattle.packet_metadata.specs.WriteMetadata.{metadataExcess, checksumRefusal, metadataWriteRefusal}
 use borrow.Author.Needs.{needs}
@@ -28,7 +28,8 @@ entry-excess-requires c κs = search needs
 returns-2 : tie.Need-returns-2
 unfolding metadataWriteRefusal
 returns-2 c =
-    let a = c .before .before .before .before .before .before .args in
+    let start = c .before .before .before .before .before .before in
+    let a = start .args in
     let x : metadataExcess (a .flags) (a .id) (length (now (a .checksum))) ≡ 0 = omega arith in
     rw x (c .before .entry-excess .ensures ∙ sym (stays (entryExcess (a .properties) (a .size) (a .mtime) (a .ctime)) _ (omega arith)))
 
@@ -38,7 +39,8 @@ checksum-refusal-requires c κs = search needs
 returns-3 : tie.Need-returns-3
 unfolding metadataWriteRefusal
 returns-3 c =
-    let a = c .before .before .before .before .before .before .before .before .args in
+    let start = c .before .before .before .before .before .before .before .before in
+    let a = start .args in
     let x : metadataExcess (a .flags) (a .id) (length (now (a .checksum))) ≡ 0 = omega arith in
     let y : entryExcess (a .properties) (a .size) (a .mtime) (a .ctime) ≡ 0 = omega arith in
     rw (x, y) (c .before .checksum-refusal .ensures ∙ sym (stays (checksumRefusal (a .flags) (length (now (a .checksum)))) _ (omega arith)))
@@ -56,7 +58,8 @@ known : (c : tie.After-entry-write-refusal)
     × (checksumRefusal (c .before .before .before .before .before .before .before .before .before .before .args .flags) (length (now (c .before .before .before .before .before .before .before .before .before .before .args .checksum))) ≡ 0)
     × (c .entry-write-refusal .result ≡ entryWriteRefusal (descriptorOctets (c .before .before .before .before .before .before .before .before .before .before .args .flags)) (c .before .before .before .before .before .before .before .before .before .before .args .properties) (c .before .before .before .before .before .before .before .before .before .before .args .size) (now (c .before .before .before .before .before .before .before .before .before .before .args .path)))
 known c =
-    let a = c .before .before .before .before .before .before .before .before .before .before .args in (
+    let start = c .before .before .before .before .before .before .before .before .before .before in
+    let a = start .args in (
       omega arith,
       omega arith,
       omega arith,
@@ -66,7 +69,8 @@ known c =
 returns-4 : tie.Need-returns-4
 unfolding metadataWriteRefusal
 returns-4 c =
-    let a = c .before .before .before .before .before .before .before .before .before .before .before .args in
+    let start = c .before .before .before .before .before .before .before .before .before .before .before in
+    let a = start .args in
     let k = known (c .before) in
     rw (k .0, k .1, k .2) (k .3 ∙ sym (stays (entryWriteRefusal (descriptorOctets (a .flags)) (a .properties) (a .size) (now (a .path))) _ (omega arith)))
 
@@ -79,8 +83,10 @@ room-refusal-requires c κs = search needs
 returns-5 : tie.Need-returns-5
 unfolding metadataWriteRefusal
 returns-5 c =
-    let a = c .before .before .before .before .before .before .before .before .before .before .before .before .before .args in
-    let k = known (c .before .before .before) in
+    let before-place = c .before .before in
+    let start = before-place .before .before .before .before .before .before .before .before .before .before .before in
+    let a = start .args in
+    let k = known (before-place .before) in
     let z : entryWriteRefusal (descriptorOctets (a .flags)) (a .properties) (a .size) (now (a .path)) ≡ 0 = omega arith in
     rw (k .0, k .1, k .2, z) (c .room-refusal .ensures ∙ ap (λ (n : ℕ). roomRefusal n (a .room)) (c .before .metadata-size .ensures))
 

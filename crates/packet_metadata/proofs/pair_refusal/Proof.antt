@@ -1,6 +1,6 @@
 -- `packet_metadata::pair_refusal` meets its contract. Assumes nothing.
 use mathlib.Core.Path.{_≡_, sym, _∙_}
-use Rattle.header.specs.Word.{sumType, sumWords}
+use Rattle.header.specs.FirstWord.{sumType, sumWords}
 use Rattle.packet_metadata.specs.Checksum.{pairAllowed, pairRefusal}
 use borrow.Author.Needs.{needs}
 use Rattle.packet_metadata.proofs.pair_refusal.Statement.{statement}

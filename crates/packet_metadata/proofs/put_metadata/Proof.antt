@@ -4,7 +4,7 @@ use mathlib.Core.Path.{_≡_, refl}
 use denote.Ref.{now}
 use lib.ListN.{length}
 use Rattle.octets.specs.Numbers.{beDigits}
-use Rattle.header.specs.Word.{wordFor}
+use Rattle.header.specs.FirstWord.{wordFor}
 use Rattle.directory_entry.specs.WriteEntry.{entryOctets, entrySize}
 use Rattle.directory_entry.proofs.EntryLaws.{length-entry}
 use Rattle.packet_metadata.specs.WriteMetadata.{metadataOctets}
@@ -38,12 +38,18 @@ same-length c = search needs
 returns : tie.Need-returns
 unfolding metadataOctets
 returns c =
-    let a = c .before .before .before .before .before .before .before .before .before .before .before .before .before .before .before .before .before .before .before .before .args in
+    let put-entry-place = c .before .before in
+    let copy-into-place = put-entry-place .before .before .before .before in
+    let write-number2-place = copy-into-place .before .before .before .before in
+    let write-number-place = write-number2-place .before .before .before .before in
+    let join-place = write-number-place .before in
+    let start = join-place .before .before .before .before .before in
+    let a = start .args in
     let k = now (a .checksum) in
     let p = now (a .path) in
-    let f = c .before .before .before .before .before .before .before .before .before .before .before .before .before .before .before .before .before .before .before .before .pre in
+    let f = start .pre in
     let l : length (entryOctets (a .properties) (a .size) (a .mtime) (a .ctime) p) ≡ entrySize (a .properties) (length p) = length-entry (a .properties) (a .size) (a .mtime) (a .ctime) p in
-    rw (c .before .before .put-entry .ensures, c .before .before .before .before .before .before .copy-into .ensures, c .before .before .before .before .before .before .before .before .before .before .write-number2 .ensures, c .before .before .before .before .before .before .before .before .before .before .before .before .before .before .write-number .ensures, c .before .before .before .before .before .before .before .before .before .before .before .before .before .before .before .join .ensures)
+    rw (put-entry-place .put-entry .ensures, copy-into-place .copy-into .ensures, write-number2-place .write-number2 .ensures, write-number-place .write-number .ensures, join-place .join .ensures)
     (puts (beDigits 4 (wordFor 2 (a .flags))) (beDigits 4 (a .id)) k (entryOctets (a .properties) (a .size) (a .mtime) (a .ctime) p) (now (a .out)) 4 8 (8 + length k) refl refl refl (omega arith))
 
 pub put-metadata-spec : {M : Type 1} → statement M

@@ -2,7 +2,8 @@
 use mathlib.Core.Path.{_≡_}
 use denote.Ref.{now}
 use Rattle.packet_metadata.specs.Metadata.{metadataRefusal, metadataOf, readMetadata}
-use Rattle.packet_metadata.proofs.MetadataLaws.{answer-refused}
+use Rattle.refusals.proofs.RefusalLaws.{answered-refused}
+use Rattle.packet_metadata.specs.declared.MetadataRead.the-variants.{Accepted, Refused}
 use borrow.Author.Needs.{needs}
 use native.Mathlib.Omega.{arith}
 use Rattle.packet_metadata.proofs.read_metadata.Statement.{statement}
@@ -18,7 +19,7 @@ returns : tie.Need-returns
 unfolding readMetadata
 returns c =
     let s = now (c .before .before .before .before .args .p) in
-    rw (c .refuse .ensures, c .before .before .metadata-refusal .ensures) (answer-refused (metadataRefusal s) (metadataOf s) (omega arith))
+    rw (c .refuse .ensures, c .before .before .metadata-refusal .ensures) (answered-refused Refused (metadataRefusal s) (Accepted (metadataOf s)) (omega arith))
 
 metadata-fields-requires : tie.Need-metadata-fields-requires
 metadata-fields-requires c κs = search needs

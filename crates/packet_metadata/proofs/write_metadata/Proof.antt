@@ -3,7 +3,7 @@
 use mathlib.Core.Path.{_≡_}
 use denote.Ref.{now}
 use lib.ListN.{length}
-use Rattle.header.proofs.WritingLaws.{written-refused, buffer-refused}
+use Rattle.refusals.proofs.WritingLaws.{written-refused, buffer-refused}
 use Rattle.packet_metadata.specs.WriteMetadata.{metadataWriteRefusal, metadataOctets, metadataWritten, metadataBuffer}
 use Rattle.packet_metadata.proofs.WriteLaws.{write-fine}
 use borrow.Author.Needs.{needs}
@@ -20,17 +20,20 @@ refuse-requires c κs = search needs
 returns : tie.Need-returns
 unfolding metadataWritten metadataBuffer
 returns c =
-    let a = c .before .before .before .before .before .before .args in
+    let metadata-write-refusal-place = c .before .before in
+    let start = metadata-write-refusal-place .before .before .before .before in
+    let a = start .args in
     let k = now (a .checksum) in
     let p = now (a .path) in
     let n = metadataWriteRefusal (a .flags) (a .id) k (a .properties) (a .size) (a .mtime) (a .ctime) p (length (now (a .out))) in (
-      rw (c .refuse .ensures, c .before .before .metadata-write-refusal .ensures) (written-refused n _ (omega arith)),
+      rw (c .refuse .ensures, metadata-write-refusal-place .metadata-write-refusal .ensures) (written-refused n _ (omega arith)),
       buffer-refused n (metadataOctets (a .flags) (a .id) k (a .properties) (a .size) (a .mtime) (a .ctime) p) (now (a .out)) (omega arith),
     )
 
 put-metadata-requires : tie.Need-put-metadata-requires
 put-metadata-requires c κs =
-    let a = c .before .before .before .before .before .before .args in
+    let start = c .before .before .before .before .before .before in
+    let a = start .args in
     write-fine (a .flags) (a .id) (now (a .checksum)) (a .properties) (a .size) (a .mtime) (a .ctime) (now (a .path)) (length (now (a .out))) (omega arith) .fits
 
 metadata-size-requires : tie.Need-metadata-size-requires
@@ -42,9 +45,11 @@ same-length c = search needs
 returns-2 : tie.Need-returns-2
 unfolding metadataWritten metadataBuffer
 returns-2 c =
-    let a = c .before .before .before .before .before .before .before .before .before .before .args in
+    let put-metadata-place = c .before .before .before in
+    let start = put-metadata-place .before .before .before .before .before .before .before in
+    let a = start .args in
     let z : metadataWriteRefusal (a .flags) (a .id) (now (a .checksum)) (a .properties) (a .size) (a .mtime) (a .ctime) (now (a .path)) (length (now (a .out))) ≡ 0 = omega arith in
-    (rw (z, c .metadata-size .ensures), rw z (c .before .before .before .put-metadata .ensures))
+    (rw (z, c .metadata-size .ensures), rw z (put-metadata-place .put-metadata .ensures))
 
 pub write-metadata-spec : {M : Type 1} → statement M
 write-metadata-spec =

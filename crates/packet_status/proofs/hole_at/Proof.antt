@@ -3,18 +3,18 @@ use borrow.Author.Needs.{needs}
 use Rattle.packet_status.proofs.hole_at.Statement.{statement}
 use Rattle.packet_status.proofs.hole_at.Tie as tie
 
-read-number-requires : tie.Need-read-number-requires
-read-number-requires c κs = search needs
+descriptor-requires : tie.Need-descriptor-requires
+descriptor-requires c κs = search needs
 
-add-read-number : tie.Need-add-read-number
-add-read-number c = search needs
+add-descriptor : tie.Need-add-descriptor
+add-descriptor c = search needs
 
-read-number-requires-2 : tie.Need-read-number-requires-2
-read-number-requires-2 c κs = search needs
+descriptor-requires-2 : tie.Need-descriptor-requires-2
+descriptor-requires-2 c κs = search needs
 
 returns : tie.Need-returns
-returns c = rw (c .before .read-number .ensures, c .read-number2 .ensures)
+returns c = rw (c .before .descriptor .ensures, c .descriptor2 .ensures)
 
 pub hole-at-spec : {M : Type 1} → statement M
 hole-at-spec =
-    tie.close (tie.spec read-number-requires add-read-number read-number-requires-2 returns)
+    tie.close (tie.spec descriptor-requires add-descriptor descriptor-requires-2 returns)

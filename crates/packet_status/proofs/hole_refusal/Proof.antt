@@ -3,9 +3,9 @@
 use mathlib.Core.Path.{_≡_, sym, ap, _∙_}
 use borrow.Author.Tests.{eq-eqb, ne-eqb, lt-ltb, le-ltb}
 use denote.Ref.{now}
-use Rattle.header.specs.Word.{statusOf}
+use Rattle.header.specs.FirstWord.{statusOf}
 use Rattle.header.specs.Start.{wordOf}
-use Rattle.header.proofs.RefusalLaws.{stays}
+use Rattle.refusals.proofs.RefusalLaws.{stays}
 use Rattle.packet_status.specs.Status.{holeCount, statusRefusal, successOf, holeRefusal}
 use Rattle.packet_status.specs.declared.SuccessStatus.{SuccessStatus}
 use Rattle.packet_status.proofs.StatusLaws.{status-fine}
@@ -30,7 +30,8 @@ split-requires c κs = search needs
 returns-2 : tie.Need-returns-2
 unfolding holeRefusal
 returns-2 c =
-    let s = now (c .before .before .before .before .before .before .before .args .p) in
+    let start = c .before .before .before .before .before .before .before in
+    let s = now (start .args .p) in
     let z : statusRefusal s ≡ 0 = omega arith in
     rw (z, ne-eqb (statusOf (wordOf s)) 0 (omega arith))
 
@@ -48,18 +49,20 @@ counted c = ap (λ (f : SuccessStatus). f .count) (c .success-fields .ensures)
 returns-3 : tie.Need-returns-3
 unfolding holeRefusal
 returns-3 c =
-    let s = now (c .before .before .before .before .before .before .before .before .before .args .p) in
+    let start = c .before .before .before .before .before .before .before .before .before in
+    let s = now (start .args .p) in
     let z : statusRefusal s ≡ 0 = omega arith in
     let n : c .before .success-fields .result .count ≡ holeCount s = counted (c .before) in
-    rw (z, eq-eqb (statusOf (wordOf s)) 0 (omega arith), le-ltb (c .before .before .before .before .before .before .before .before .before .args .index) (holeCount s) (omega arith))
+    rw (z, eq-eqb (statusOf (wordOf s)) 0 (omega arith), le-ltb (start .args .index) (holeCount s) (omega arith))
 
 returns-4 : tie.Need-returns-4
 unfolding holeRefusal
 returns-4 c =
-    let s = now (c .before .before .before .before .before .before .before .before .before .args .p) in
+    let start = c .before .before .before .before .before .before .before .before .before in
+    let s = now (start .args .p) in
     let z : statusRefusal s ≡ 0 = omega arith in
     let n : c .before .success-fields .result .count ≡ holeCount s = counted (c .before) in
-    rw (z, eq-eqb (statusOf (wordOf s)) 0 (omega arith), lt-ltb (c .before .before .before .before .before .before .before .before .before .args .index) (holeCount s) (omega arith))
+    rw (z, eq-eqb (statusOf (wordOf s)) 0 (omega arith), lt-ltb (start .args .index) (holeCount s) (omega arith))
 
 pub hole-refusal-spec : {M : Type 1} → statement M
 hole-refusal-spec =

@@ -6,8 +6,8 @@ use mathlib.Core.List.{_∷_}
 use borrow.Author.Tests.{le-ltb, lt-ltb, le-leb, lt-leb}
 use denote.Ref.{now}
 use lib.ListN.{length}
-use Rattle.packet_status.specs.Holes.{holesOf, holesAfter}
-use Rattle.packet_status.proofs.HoleLaws.{less-one, holes-step}
+use Rattle.packet_status.specs.HoleList.{holesOf, holesAfter}
+use Rattle.packet_status.proofs.HoleListLaws.{less-one, holes-step}
 use native.Mathlib.Omega.{arith}
 use Rattle.packet_status.proofs.holes_after.Statement.{statement}
 use Rattle.packet_status.proofs.holes_after.Tie as tie
@@ -50,8 +50,11 @@ returns c =
 
 returns-2 : tie.Need-returns-2 Inv-loop μ-loop
 returns-2 c =
-    let h = c .before .before .before .before .hole-at .result in
-    sym (first (c .before .before .before .before) ∙ rw (lt-ltb (c .before .before .before .before .before .before .loop .last) (h .start) (omega arith), le-ltb (h .start) (h .end) (omega arith)))
+    let before-place = c .before .before .before in
+    let hole-at-place = before-place .before in
+    let loop-place = hole-at-place .before .before in
+    let h = hole-at-place .hole-at .result in
+    sym (first (before-place .before) ∙ rw (lt-ltb (loop-place .loop .last) (h .start) (omega arith), le-ltb (h .start) (h .end) (omega arith)))
 
 returns-3 : tie.Need-returns-3 Inv-loop μ-loop
 returns-3 c =
@@ -61,10 +64,14 @@ returns-3 c =
     ∙ rw (lt-ltb (c .before .before .before .before .before .before .before .before .loop .last) (h .start) (omega arith), lt-ltb (h .start) (h .end) (omega arith), lt-leb (h .end) (c .before .before .before .before .before .before .before .before .before .before .args .top) (omega arith)))
 
 mul-at : tie.Need-mul-at Inv-loop μ-loop
-mul-at c = omega (arith, room (c .before .before .before .before .before .before .before))
+mul-at c =
+    let before-place = c .before .before .before .before .before .before in
+    omega (arith, room (before-place .before))
 
 add-at : tie.Need-add-at Inv-loop μ-loop
-add-at c = omega (arith, room (c .before .before .before .before .before .before .before))
+add-at c =
+    let before-place = c .before .before .before .before .before .before in
+    omega (arith, room (before-place .before))
 
 sub-left : tie.Need-sub-left Inv-loop μ-loop
 sub-left c = omega arith

@@ -7,8 +7,8 @@ use mathlib.Core.List.{_∷_}
 use borrow.Author.Tests.{le-ltb, lt-ltb, le-leb, lt-leb, not-true, not-false}
 use denote.Ref.{now}
 use lib.ListN.{length}
-use Rattle.packet_status.specs.Holes.{holesOf, startsWell, holesWell}
-use Rattle.packet_status.proofs.HoleLaws.{less-one, holes-step}
+use Rattle.packet_status.specs.HoleList.{holesOf, startsWell, holesWell}
+use Rattle.packet_status.proofs.HoleListLaws.{less-one, holes-step}
 use borrow.Author.Needs.{needs}
 use native.Mathlib.Omega.{arith}
 use Rattle.packet_status.proofs.holes_well.Statement.{statement}
@@ -62,16 +62,23 @@ returns-4 c =
     sym (first (c .before .before .before .before .before .before) ∙ rw (started (c .before .before .before .before), lt-ltb (h .start) (h .end) (omega arith), lt-leb (h .end) (c .before .before .before .before .before .before .before .before .before .args .top) (omega arith)))
 
 mul-holes-after : tie.Need-mul-holes-after
-mul-holes-after c = omega (arith, room (c .before .before .before .before .before .before .before))
+mul-holes-after c =
+    let before-place = c .before .before .before .before .before .before in
+    omega (arith, room (before-place .before))
 
 add-holes-after : tie.Need-add-holes-after
-add-holes-after c = omega (arith, room (c .before .before .before .before .before .before .before))
+add-holes-after c =
+    let before-place = c .before .before .before .before .before .before in
+    omega (arith, room (before-place .before))
 
 sub-holes-after : tie.Need-sub-holes-after
 sub-holes-after c = search needs
 
 holes-after-requires : tie.Need-holes-after-requires
-holes-after-requires c κs = (c .before .before .before .before .before .before .before .before .before .pre .0, room (c .before .before .before .before .before .before .before))
+holes-after-requires c κs =
+    let before-place = c .before .before .before .before .before .before in
+    let start = before-place .before .before .before in
+    (start .pre .0, room (before-place .before))
 
 returns-5 : tie.Need-returns-5
 unfolding holesWell

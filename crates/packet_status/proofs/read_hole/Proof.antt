@@ -5,10 +5,12 @@ use mathlib.Core.Path.{_≡_, ap, _∙_}
 use denote.Ref.{now}
 use lib.ListN.{length}
 use Rattle.octets.specs.Numbers.{Width}
-use Rattle.header.specs.Word.{descriptorOctets, timestampOctets}
+use Rattle.header.specs.FirstWord.{descriptorOctets, timestampOctets}
 use Rattle.header.specs.Start.{wordOf}
 use Rattle.packet_status.specs.Status.{holeRefusal, indexedHole, readHole}
-use Rattle.packet_status.proofs.StatusLaws.{success-octets, hole-fine, hole-fits, hole-refused}
+use Rattle.packet_status.proofs.StatusLaws.{success-octets, hole-fine, hole-fits}
+use Rattle.refusals.proofs.RefusalLaws.{answered-refused}
+use Rattle.packet_status.specs.declared.HoleRead.the-variants.{Accepted, Refused}
 use borrow.Author.Needs.{needs}
 use native.Mathlib.Omega.{arith}
 use Rattle.packet_status.proofs.read_hole.Statement.{statement}
@@ -26,7 +28,7 @@ returns c =
     let a = c .before .before .before .before .args in
     let n = holeRefusal (a .index) (now (a .p)) in
     let e : c .before .before .hole-refusal .result ≡ n = c .before .before .hole-refusal .ensures in
-    rw (c .refuse .ensures, e) (hole-refused n (indexedHole (a .index) (now (a .p))) (omega arith))
+    rw (c .refuse .ensures, e) (answered-refused Refused n (Accepted (indexedHole (a .index) (now (a .p)))) (omega arith))
 
 word-requires : tie.Need-word-requires
 word-requires c κs = let a = c .before .before .before .args in hole-fine (a .index) (now (a .p)) (omega arith) .start .long
@@ -49,11 +51,13 @@ known : (c : tie.After-timestamp-octets)
     × Width d
     × (8 + c .timestamp-octets .result + 2 * d + c .before .before .before .before .before .before .args .index * (2 * d) + 2 * d ≤ length s)
 known c =
-    let s = now (c .before .before .before .before .before .before .args .p) in
-    let i = c .before .before .before .before .before .before .args .index in
+    let word-place = c .before .before in
+    let start = word-place .before .before .before .before in
+    let s = now (start .args .p) in
+    let i = start .args .index in
     let f = hole-fine i s (omega arith) in
-    let d : c .before .descriptor-octets .result ≡ descriptorOctets (wordOf s) = c .before .descriptor-octets .ensures ∙ ap descriptorOctets (c .before .before .word .ensures) in
-    let t : c .timestamp-octets .result ≡ timestampOctets (wordOf s) = c .timestamp-octets .ensures ∙ ap timestampOctets (c .before .before .word .ensures) in
+    let d : c .before .descriptor-octets .result ≡ descriptorOctets (wordOf s) = c .before .descriptor-octets .ensures ∙ ap descriptorOctets (word-place .word .ensures) in
+    let t : c .timestamp-octets .result ≡ timestampOctets (wordOf s) = c .timestamp-octets .ensures ∙ ap timestampOctets (word-place .word .ensures) in
     (d, t, rw d (success-octets s (f .fine)), rw (d, t) (hole-fits i s f))
 
 mul-holes : tie.Need-mul-holes
@@ -77,8 +81,9 @@ hole-at-requires c κs = let k = known c in (k .2, k .3)
 returns-2 : tie.Need-returns-2
 unfolding readHole indexedHole
 returns-2 c =
+    let start = c .before .before .before .before .before .before .before in
     let k = known (c .before) in
-    let a = c .before .before .before .before .before .before .before .args in
+    let a = start .args in
     let z : holeRefusal (a .index) (now (a .p)) ≡ 0 = omega arith in
     rw (z, c .hole-at .ensures, k .0, k .1)
 

@@ -2,10 +2,12 @@
 -- Assumes nothing.
 use mathlib.Core.Path.{_≡_}
 use denote.Ref.{now}
-use Rattle.header.specs.Word.{statusOf}
+use Rattle.header.specs.FirstWord.{statusOf}
 use Rattle.header.specs.Start.{wordOf}
 use Rattle.packet_status.specs.Status.{statusRefusal, failureOf, readStatus}
-use Rattle.packet_status.proofs.StatusLaws.{status-fine, status-refused, failure-accepted}
+use Rattle.packet_status.proofs.StatusLaws.{status-fine, failure-accepted}
+use Rattle.refusals.proofs.RefusalLaws.{answered-refused}
+use Rattle.packet_status.specs.declared.StatusRead.the-variants.{Refused}
 use borrow.Author.Needs.{needs}
 use native.Mathlib.Omega.{arith}
 use Rattle.packet_status.proofs.read_status.Statement.{statement}
@@ -22,7 +24,7 @@ unfolding readStatus
 returns c =
     let s = now (c .before .before .before .before .args .p) in
     let e : c .before .before .status-refusal .result ≡ statusRefusal s = c .before .before .status-refusal .ensures in
-    rw (c .refuse .ensures, e) (status-refused (statusRefusal s) s (omega arith))
+    rw (c .refuse .ensures, e) (answered-refused Refused (statusRefusal s) _ (omega arith))
 
 word-requires : tie.Need-word-requires
 word-requires c κs = status-fine (now (c .before .before .before .args .p)) (omega arith) .typed .start .long
@@ -40,7 +42,8 @@ success-fields-requires c κs =
 returns-2 : tie.Need-returns-2
 unfolding readStatus
 returns-2 c =
-    let s = now (c .before .before .before .before .before .before .before .args .p) in
+    let start = c .before .before .before .before .before .before .before in
+    let s = now (start .args .p) in
     let z : statusRefusal s ≡ 0 = omega arith in
     let y : statusOf (wordOf s) ≡ 0 = omega arith in
     rw (z, y, c .success-fields .ensures)
@@ -51,10 +54,13 @@ id-requires c κs = status-fine (now (c .before .before .before .before .before 
 returns-3 : tie.Need-returns-3
 unfolding readStatus failureOf
 returns-3 c =
-    let s = now (c .before .before .before .before .before .before .before .args .p) in
+    let split-place = c .before .before in
+    let word-place = split-place .before in
+    let start = word-place .before .before .before .before in
+    let s = now (start .args .p) in
     let z : statusRefusal s ≡ 0 = omega arith in
-    let f = c .before .before .split .ensures in
-    rw (z, c .id .ensures, f .flags-is, f .status-is, c .before .before .before .word .ensures) (failure-accepted (statusOf (wordOf s)) s (omega arith))
+    let f = split-place .split .ensures in
+    rw (z, c .id .ensures, f .flags-is, f .status-is, word-place .word .ensures) (failure-accepted (statusOf (wordOf s)) s (omega arith))
 
 pub read-status-spec : {M : Type 1} → statement M
 read-status-spec =

@@ -1,5 +1,5 @@
 -- `packet_status::starts_well` meets its contract. Assumes nothing.
-use Rattle.packet_status.specs.Holes.{startsWell}
+use Rattle.packet_status.specs.HoleList.{startsWell}
 use Rattle.packet_status.proofs.starts_well.Statement.{statement}
 use Rattle.packet_status.proofs.starts_well.Tie as tie
 

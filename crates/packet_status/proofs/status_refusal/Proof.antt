@@ -3,9 +3,9 @@
 use mathlib.Core.Path.{_≡_, sym, _∙_}
 use borrow.Author.Tests.{eq-eqb, ne-eqb}
 use denote.Ref.{now}
-use Rattle.header.specs.Word.{statusOf}
+use Rattle.header.specs.FirstWord.{statusOf}
 use Rattle.header.specs.Start.{wordOf, typeRefusal}
-use Rattle.header.proofs.RefusalLaws.{stays}
+use Rattle.refusals.proofs.RefusalLaws.{stays}
 use Rattle.header.proofs.StartLaws.{type-fine}
 use Rattle.packet_status.specs.Status.{statusRefusal}
 use borrow.Author.Needs.{needs}
@@ -29,7 +29,8 @@ split-requires c κs = search needs
 returns-2 : tie.Need-returns-2
 unfolding statusRefusal
 returns-2 c =
-    let s = now (c .before .before .before .before .before .before .before .args .p) in
+    let start = c .before .before .before .before .before .before .before in
+    let s = now (start .args .p) in
     let z : typeRefusal 4 s ≡ 0 = omega arith in
     rw (z, ne-eqb (statusOf (wordOf s)) 0 (omega arith))
 
@@ -39,7 +40,8 @@ success-refusal-requires c κs = type-fine 4 (now (c .before .before .before .be
 returns-3 : tie.Need-returns-3
 unfolding statusRefusal
 returns-3 c =
-    let s = now (c .before .before .before .before .before .before .before .before .args .p) in
+    let start = c .before .before .before .before .before .before .before .before in
+    let s = now (start .args .p) in
     let z : typeRefusal 4 s ≡ 0 = omega arith in
     rw (z, eq-eqb (statusOf (wordOf s)) 0 (omega arith)) (c .success-refusal .ensures)
 

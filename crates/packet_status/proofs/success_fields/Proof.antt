@@ -5,9 +5,9 @@ use mathlib.Core.Path.{_≡_, ap, _∙_}
 use denote.Ref.{now}
 use lib.ListN.{length}
 use Rattle.octets.specs.Numbers.{Width}
-use Rattle.header.specs.Word.{descriptorOctets, timestampOctets}
+use Rattle.header.specs.FirstWord.{descriptorOctets, timestampOctets}
 use Rattle.header.specs.Start.{wordOf}
-use Rattle.header.proofs.WordLaws.{octets-le}
+use Rattle.header.proofs.FirstWordLaws.{octets-le}
 use Rattle.packet_status.specs.Status.{holesAt, successOf}
 use Rattle.packet_status.proofs.StatusLaws.{success-fine, success-octets}
 use Rattle.octets.proofs.NumberLaws.{width-some}
@@ -40,9 +40,11 @@ known : (c : tie.After-timestamp-octets)
     × (holesAt (wordOf s) ≤ length s)
     × Width (c .before .descriptor-octets .result)
 known c =
-    let s = now (c .before .before .before .before .before .args .p) in
-    let e : c .before .before .before .word .result ≡ wordOf s = c .before .before .before .word .ensures in
-    let f = success-fine s (c .before .before .before .before .before .pre .1) in
+    let word-place = c .before .before .before in
+    let start = word-place .before .before in
+    let s = now (start .args .p) in
+    let e : word-place .word .result ≡ wordOf s = word-place .word .ensures in
+    let f = success-fine s (start .pre .1) in
     let d : c .before .descriptor-octets .result ≡ descriptorOctets (wordOf s) = c .before .descriptor-octets .ensures ∙ ap descriptorOctets e in
     (e, d, c .timestamp-octets .ensures ∙ ap timestampOctets e, f .long, rw d (success-octets s f))
 
@@ -55,14 +57,14 @@ add-holes c = omega (arith, octets-le (c .before .before .before .word .result))
 id-requires : tie.Need-id-requires
 id-requires c κs = search needs
 
-read-number-requires : tie.Need-read-number-requires
-read-number-requires c κs = let k = known (c .before) in (k .4, omega arith)
+descriptor-requires : tie.Need-descriptor-requires
+descriptor-requires c κs = let k = known (c .before) in (k .4, omega arith)
 
-add-read-number : tie.Need-add-read-number
-add-read-number c = let k = known (c .before .before) in omega arith
+add-descriptor : tie.Need-add-descriptor
+add-descriptor c = let k = known (c .before .before) in omega arith
 
-read-number-requires-2 : tie.Need-read-number-requires-2
-read-number-requires-2 c κs = let k = known (c .before .before) in (k .4, omega arith)
+descriptor-requires-2 : tie.Need-descriptor-requires-2
+descriptor-requires-2 c κs = let k = known (c .before .before) in (k .4, omega arith)
 
 sub-t13 : tie.Need-sub-t13
 sub-t13 c = let k = known (c .before .before .before) in omega arith
@@ -76,8 +78,10 @@ div-t15 c = omega (arith, width-some (known (c .before .before .before) .4))
 returns : tie.Need-returns
 unfolding successOf
 returns c =
-    let k = known (c .before .before .before) in
-    rw (c .before .before .id .ensures, c .before .read-number .ensures, c .read-number2 .ensures, c .before .before .before .before .before .split .ensures .flags-is, k .0, k .1, k .2)
+    let before-place = c .before .before in
+    let split-place = before-place .before .before .before in
+    let k = known (before-place .before) in
+    rw (before-place .id .ensures, c .before .descriptor .ensures, c .descriptor2 .ensures, split-place .split .ensures .flags-is, k .0, k .1, k .2)
 
 pub success-fields-spec : {M : Type 1} → statement M
 success-fields-spec =
@@ -91,9 +95,9 @@ success-fields-spec =
     mul-holes
     add-holes
     id-requires
-    read-number-requires
-    add-read-number
-    read-number-requires-2
+    descriptor-requires
+    add-descriptor
+    descriptor-requires-2
     sub-t13
     mul-t14
     div-t15

@@ -3,7 +3,7 @@
 use mathlib.Core.Path.{_≡_}
 use denote.Ref.{now}
 use lib.ListN.{length}
-use Rattle.header.proofs.WritingLaws.{written-refused, buffer-refused}
+use Rattle.refusals.proofs.WritingLaws.{written-refused, buffer-refused}
 use Rattle.packet_status.specs.WriteFailure.{failureWriteRefusal, failureOctets, failureWritten, failureBuffer}
 use Rattle.packet_status.proofs.FailureLaws.{failure-fine, failure-put}
 use borrow.Author.Needs.{needs}
@@ -29,10 +29,14 @@ join-requires : tie.Need-join-requires
 join-requires c κs = let a = c .before .before .before .before .args in let f = failure-fine (a .id) (a .status) (length (now (a .out))) (omega arith) in omega arith
 
 write-number-requires : tie.Need-write-number-requires
-write-number-requires c κs = let a = c .before .before .before .before .before .args in let f = failure-fine (a .id) (a .status) (length (now (a .out))) (omega arith) in omega arith
+write-number-requires c κs =
+    let start = c .before .before .before .before .before in
+    let a = start .args in let f = failure-fine (a .id) (a .status) (length (now (a .out))) (omega arith) in omega arith
 
 write-number-requires-2 : tie.Need-write-number-requires-2
-write-number-requires-2 c κs = let a = c .before .before .before .before .before .before .before .before .before .args in let f = failure-fine (a .id) (a .status) (length (now (a .out))) (omega arith) in omega arith
+write-number-requires-2 c κs =
+    let start = c .before .before .before .before .before .before .before .before .before in
+    let a = start .args in let f = failure-fine (a .id) (a .status) (length (now (a .out))) (omega arith) in omega arith
 
 same-length : tie.Need-same-length
 same-length c = search needs
@@ -40,9 +44,13 @@ same-length c = search needs
 returns-2 : tie.Need-returns-2
 unfolding failureWritten failureBuffer
 returns-2 c =
-    let a = c .before .before .before .before .before .before .before .before .before .before .before .before .args in
+    let write-number2-place = c .before .before in
+    let write-number-place = write-number2-place .before .before .before .before in
+    let join-place = write-number-place .before in
+    let start = join-place .before .before .before .before .before in
+    let a = start .args in
     let z : failureWriteRefusal (a .id) (a .status) (length (now (a .out))) ≡ 0 = omega arith in
-    (rw z, rw (z, c .before .before .write-number2 .ensures, c .before .before .before .before .before .before .write-number .ensures, c .before .before .before .before .before .before .before .join .ensures) (failure-put (a .id) (a .status) (now (a .out)) (failure-fine _ _ _ z .fits)))
+    (rw z, rw (z, write-number2-place .write-number2 .ensures, write-number-place .write-number .ensures, join-place .join .ensures) (failure-put (a .id) (a .status) (now (a .out)) (failure-fine _ _ _ z .fits)))
 
 pub write-failure-spec : {M : Type 1} → statement M
 write-failure-spec =

@@ -21,7 +21,12 @@ loop-holds : tie.Need-loop-holds Inv-loop μ-loop
 loop-holds c = (refl, refl, refl, refl)
 
 step-requires : tie.Need-step-requires Inv-loop μ-loop
-step-requires c κs = tt
+step-requires c κs =
+    let loop-place = c .before .before .before .before .before in
+    let start = loop-place .before .before .before .before .before .before .before .before .before in
+    let l = loop-place .loop .inv in
+    let p = start .pre in
+    record { body-fits = rw (l .1) (p .body-fits); lent-fits = rw (l .2) (p .lent-fits); out-holds = rw (l .3) (p .out-holds) }
 
 add-number : tie.Need-add-number Inv-loop μ-loop
 add-number c = omega arith
@@ -31,21 +36,36 @@ loop-less c = omega arith
 
 loop-again : tie.Need-loop-again Inv-loop μ-loop
 loop-again c =
-    let k = c .before .before .before .before .before .before .before .before .before .step .kept in
-    let l = c .before .before .before .before .before .before .before .before .before .before .before .before .before .before .before .loop .inv in
+    let step-place = c .before .before .before .before .before .before .before .before .before in
+    let loop-place = step-place .before .before .before .before .before .before in
+    let k = step-place .step .kept in
+    let l = loop-place .loop .inv in
     (k .1 .1 .0 ∙ l .0, k .1 .1 .1 .0 ∙ l .1, k .1 .1 .1 .1 .0 ∙ l .2, k .1 .1 .1 .1 .1 .0 ∙ l .3)
 
 same-length : tie.Need-same-length Inv-loop μ-loop
-same-length c = c .before .before .before .before .before .before .before .before .before .step .kept .1 .1 .0 ∙ c .before .before .before .before .before .before .before .before .before .before .before .before .before .before .before .loop .inv .0 ∙ c .before .before .before .before .before .before .before .before .before .before .before .before .before .before .before .before .before .before .fresh .kept .0
+same-length c =
+    let step-place = c .before .before .before .before .before .before .before .before .before in
+    let loop-place = step-place .before .before .before .before .before .before in
+    let fresh-place = loop-place .before .before .before in
+    step-place .step .kept .1 .1 .0 ∙ loop-place .loop .inv .0 ∙ fresh-place .fresh .kept .0
 
 same-length-2 : tie.Need-same-length-2 Inv-loop μ-loop
-same-length-2 c = c .before .before .before .before .before .before .before .before .before .step .kept .1 .1 .1 .0 ∙ c .before .before .before .before .before .before .before .before .before .before .before .before .before .before .before .loop .inv .1
+same-length-2 c =
+    let step-place = c .before .before .before .before .before .before .before .before .before in
+    let loop-place = step-place .before .before .before .before .before .before in
+    step-place .step .kept .1 .1 .1 .0 ∙ loop-place .loop .inv .1
 
 same-length-3 : tie.Need-same-length-3 Inv-loop μ-loop
-same-length-3 c = c .before .before .before .before .before .before .before .before .before .step .kept .1 .1 .1 .1 .0 ∙ c .before .before .before .before .before .before .before .before .before .before .before .before .before .before .before .loop .inv .2
+same-length-3 c =
+    let step-place = c .before .before .before .before .before .before .before .before .before in
+    let loop-place = step-place .before .before .before .before .before .before in
+    step-place .step .kept .1 .1 .1 .1 .0 ∙ loop-place .loop .inv .2
 
 same-length-4 : tie.Need-same-length-4 Inv-loop μ-loop
-same-length-4 c = c .before .before .before .before .before .before .before .before .before .step .kept .1 .1 .1 .1 .1 .0 ∙ c .before .before .before .before .before .before .before .before .before .before .before .before .before .before .before .loop .inv .3
+same-length-4 c =
+    let step-place = c .before .before .before .before .before .before .before .before .before in
+    let loop-place = step-place .before .before .before .before .before .before in
+    step-place .step .kept .1 .1 .1 .1 .1 .0 ∙ loop-place .loop .inv .3
 
 returns : tie.Need-returns Inv-loop μ-loop
 returns c = tt

@@ -7,6 +7,7 @@ use denote.Ref.{now}
 use lib.ListN.{length, take, drop, length-append}
 use lib.Seq.{length-take-le}
 use borrow.Author.Needs.{needs}
+use Rattle.text.proofs.LengthLaws.{taken}
 use Rattle.replay.proofs.step.Statement.{statement}
 use Rattle.replay.proofs.step.Tie as tie
 
@@ -34,14 +35,16 @@ slice-aggregate-body-length c = search needs
 body-length-requires : tie.Need-body-length-requires
 body-length-requires c κs = search needs
 
-kept-requires : tie.Need-kept-requires
-kept-requires c κs = search needs
+within-requires : tie.Need-within-requires
+within-requires c κs = search needs
 
 slice-relend-prefix-read-full : tie.Need-slice-relend-prefix-read-full
 slice-relend-prefix-read-full c = search needs
 
 slice-aggregate-read-full-2 : tie.Need-slice-aggregate-read-full-2
-slice-aggregate-read-full-2 c = sym (length-take-le (c .before .kept .result) (now (c .before .before .before .before .before .before .before .before .before .before .before .before .before .args .body)) (c .before .kept .ensures .0))
+slice-aggregate-read-full-2 c =
+    let start = c .before .before .before .before .before .before .before .before .before .before .before .before .before in
+    sym (length-take-le (c .before .within .result) (now (start .args .body)) (omega (arith, c .before .within .ensures)))
 
 read-full-requires-2 : tie.Need-read-full-requires-2
 read-full-requires-2 c κs = search needs
@@ -59,7 +62,9 @@ returns-3 : tie.Need-returns-3
 returns-3 c = search needs
 
 sub-skip : tie.Need-sub-skip
-sub-skip c = c .before .before .before .before .before .kept .ensures .1
+sub-skip c =
+    let within-place = c .before .before .before .before .before in
+    omega (arith, within-place .within .ensures)
 
 skip-requires : tie.Need-skip-requires
 skip-requires c κs = search needs
@@ -84,20 +89,36 @@ slice-reshare-prefix-answer c = search needs
 
 slice-aggregate-answer : tie.Need-slice-aggregate-answer
 slice-aggregate-answer c =
-    let k = c .before .before .before .before .before .before .before .before .before .kept in
-    let r = c .before .before .before .before .before .before .before .read-full2 in
-    let body = now (c .before .before .before .before .before .before .before .before .before .before .before .before .before .before .before .before .before .before .before .before .before .args .body) in
-    let front : length (take (k .result) body) ≡ k .result = length-take-le (k .result) body (k .ensures .0) in
+    let read-full2-place = c .before .before .before .before .before .before .before in
+    let within-place = read-full2-place .before .before in
+    let start = within-place .before .before .before .before .before .before .before .before .before .before .before .before in
+    let k = within-place .within in
+    let r = read-full2-place .read-full2 in
+    let body = now (start .args .body) in
+    let front : length (take (k .result) body) ≡ k .result = length-take-le (k .result) body (omega (arith, k .ensures)) in
     sym (length-take-le (k .result) (r .last .1 .0 ++ drop (k .result) body) (omega (arith, length-append (r .last .1 .0) (drop (k .result) body), r .kept .1 .0)))
 
 answer-requires : tie.Need-answer-requires
-answer-requires c κs = search needs
+answer-requires c κs =
+    let read-full2-place = c .before .before .before .before .before .before .before .before .before in
+    let before-place = read-full2-place .before in
+    let w = before-place .before in
+    let s = w .before .before .before .before .before .before .before .before .before .before .before .before in
+    let k = w .within in
+    let kept = read-full2-place .read-full2 .last .1 .0 ++ drop (k .result) (now (s .args .body)) in
+    record {
+      body-fits = omega (arith, taken (k .result) kept .most, k .ensures, s .pre .body-fits);
+      lent-fits = s .pre .lent-fits;
+      out-holds = s .pre .out-holds;
+    }
 
 slice-reshare-prefix-write-all : tie.Need-slice-reshare-prefix-write-all
 slice-reshare-prefix-write-all c = search needs
 
 slice-aggregate-write-all : tie.Need-slice-aggregate-write-all
-slice-aggregate-write-all c = sym (length-take-le (c .before .before .before .before .before .before .before .answer .result) (c .before .before .before .before .before .before .before .answer .last .1 .1 .1 .1 .1 .0) (c .before .before .before .before .before .before .before .answer .ensures .0 .within))
+slice-aggregate-write-all c =
+    let answer-place = c .before .before .before .before .before .before .before in
+    sym (length-take-le (answer-place .answer .result) (answer-place .answer .last .1 .1 .1 .1 .1 .0) (answer-place .answer .ensures .0))
 
 write-all-requires : tie.Need-write-all-requires
 write-all-requires c κs = search needs
@@ -129,7 +150,7 @@ step-spec =
     returns-2
     slice-aggregate-body-length
     body-length-requires
-    kept-requires
+    within-requires
     slice-relend-prefix-read-full
     slice-aggregate-read-full-2
     read-full-requires-2

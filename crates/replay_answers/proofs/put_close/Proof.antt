@@ -2,7 +2,7 @@
 -- Assumes nothing.
 use mathlib.Core.Path.{sym, ap}
 use Rattle.text.proofs.AddedLaws.{added-as}
-use Rattle.replay_answers.specs.Answers.{closeText}
+use Rattle.replay_answers.specs.AnswerLines.{closeText}
 use borrow.Author.Needs.{needs}
 use Rattle.replay_answers.proofs.put_close.Statement.{statement}
 use Rattle.replay_answers.proofs.put_close.Tie as tie
@@ -17,7 +17,9 @@ enum-known-a : tie.Need-enum-known-a
 enum-known-a c = search needs
 
 put-refused-requires : tie.Need-put-refused-requires
-put-refused-requires c κs = c .before .before .before .before .before .pre
+put-refused-requires c κs =
+    let start = c .before .before .before .before .before in
+    start .pre
 
 same-length : tie.Need-same-length
 same-length c = c .before .before .put-closed .ensures .size
@@ -25,9 +27,12 @@ same-length c = c .before .before .put-closed .ensures .size
 returns : tie.Need-returns
 unfolding closeText
 returns c =
-    let a = c .before .before .before .before .before .before .before .args in
-    added-as (ap (closeText (a .number) (a .id)) (sym (c .before .before .before .before .enum-told .given .1)))
-    (c .before .before .put-closed .ensures)
+    let put-closed-place = c .before .before in
+    let enum-told-place = put-closed-place .before .before in
+    let start = enum-told-place .before .before .before in
+    let a = start .args in
+    added-as (ap (closeText (a .number) (a .id)) (sym (enum-told-place .enum-told .given .1)))
+    (put-closed-place .put-closed .ensures)
 
 same-length-2 : tie.Need-same-length-2
 same-length-2 c = c .before .before .put-refused .ensures .size
@@ -35,9 +40,12 @@ same-length-2 c = c .before .before .put-refused .ensures .size
 returns-2 : tie.Need-returns-2
 unfolding closeText
 returns-2 c =
-    let a = c .before .before .before .before .before .before .before .before .args in
-    added-as (ap (closeText (a .number) (a .id)) (sym (c .before .before .before .before .before .a .given .1)))
-    (c .before .before .put-refused .ensures)
+    let put-refused-place = c .before .before in
+    let a-place = put-refused-place .before .before .before in
+    let start = a-place .before .before .before in
+    let a = start .args in
+    added-as (ap (closeText (a .number) (a .id)) (sym (a-place .a .given .1)))
+    (put-refused-place .put-refused .ensures)
 
 pub put-close-spec : {M : Type 1} → statement M
 put-close-spec =

@@ -2,7 +2,7 @@
 -- Assumes nothing.
 use mathlib.Core.Path.{sym, ap}
 use Rattle.text.proofs.AddedLaws.{added-as}
-use Rattle.replay_answers.specs.Answers.{freshText}
+use Rattle.replay_answers.specs.AnswerLines.{freshText}
 use borrow.Author.Needs.{needs}
 use Rattle.replay_answers.proofs.put_fresh.Statement.{statement}
 use Rattle.replay_answers.proofs.put_fresh.Tie as tie
@@ -14,13 +14,17 @@ slice-aggregate-put-plain : tie.Need-slice-aggregate-put-plain
 slice-aggregate-put-plain c = search needs
 
 put-plain-requires : tie.Need-put-plain-requires
-put-plain-requires c κs = c .before .before .before .before .before .pre
+put-plain-requires c κs =
+    let start = c .before .before .before .before .before in
+    start .pre
 
 enum-known-a : tie.Need-enum-known-a
 enum-known-a c = search needs
 
 put-refused-requires : tie.Need-put-refused-requires
-put-refused-requires c κs = c .before .before .before .before .before .pre
+put-refused-requires c κs =
+    let start = c .before .before .before .before .before in
+    start .pre
 
 same-length : tie.Need-same-length
 same-length c = c .before .before .put-plain .ensures .size
@@ -28,9 +32,12 @@ same-length c = c .before .before .put-plain .ensures .size
 returns : tie.Need-returns
 unfolding freshText
 returns c =
-    let a = c .before .before .before .before .before .before .before .before .args in
-    added-as (ap (freshText (a .number)) (sym (c .before .before .before .before .before .enum-told .given .1)))
-    (c .before .before .put-plain .ensures)
+    let put-plain-place = c .before .before in
+    let enum-told-place = put-plain-place .before .before .before in
+    let start = enum-told-place .before .before .before in
+    let a = start .args in
+    added-as (ap (freshText (a .number)) (sym (enum-told-place .enum-told .given .1)))
+    (put-plain-place .put-plain .ensures)
 
 same-length-2 : tie.Need-same-length-2
 same-length-2 c = c .before .before .put-refused .ensures .size
@@ -38,9 +45,12 @@ same-length-2 c = c .before .before .put-refused .ensures .size
 returns-2 : tie.Need-returns-2
 unfolding freshText
 returns-2 c =
-    let a = c .before .before .before .before .before .before .before .before .args in
-    added-as (ap (freshText (a .number)) (sym (c .before .before .before .before .before .a .given .1)))
-    (c .before .before .put-refused .ensures)
+    let put-refused-place = c .before .before in
+    let a-place = put-refused-place .before .before .before in
+    let start = a-place .before .before .before in
+    let a = start .args in
+    added-as (ap (freshText (a .number)) (sym (a-place .a .given .1)))
+    (put-refused-place .put-refused .ensures)
 
 pub put-fresh-spec : {M : Type 1} → statement M
 put-fresh-spec =

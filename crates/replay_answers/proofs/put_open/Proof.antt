@@ -3,7 +3,7 @@
 use mathlib.Core.Path.{sym, ap}
 use Rattle.packet_metadata.specs.declared.MetadataRead.{MetadataRead}
 use Rattle.text.proofs.AddedLaws.{added-as}
-use Rattle.replay_answers.specs.Answers.{openText}
+use Rattle.replay_answers.specs.AnswerLines.{openText}
 use borrow.Author.Needs.{needs}
 use Rattle.replay_answers.proofs.put_open.Statement.{statement}
 use Rattle.replay_answers.proofs.put_open.Tie as tie
@@ -12,13 +12,17 @@ enum-known-m : tie.Need-enum-known-m
 enum-known-m c = search needs
 
 put-opening-requires : tie.Need-put-opening-requires
-put-opening-requires c κs = c .before .before .before .before .before .pre
+put-opening-requires c κs =
+    let start = c .before .before .before .before .before in
+    start .pre
 
 enum-known-m-2 : tie.Need-enum-known-m-2
 enum-known-m-2 c = search needs
 
 put-refused-requires : tie.Need-put-refused-requires
-put-refused-requires c κs = c .before .before .before .before .before .pre
+put-refused-requires c κs =
+    let start = c .before .before .before .before .before in
+    start .pre
 
 same-length : tie.Need-same-length
 same-length c = c .before .before .put-opening .ensures .size
@@ -26,9 +30,12 @@ same-length c = c .before .before .put-opening .ensures .size
 returns : tie.Need-returns
 unfolding openText
 returns c =
-    let a = c .before .before .before .before .before .before .before .before .args in
-    added-as (ap (λ (x : MetadataRead). openText (a .number) x (a .a)) (sym (c .before .before .before .before .before .m .given .1)))
-    (c .before .before .put-opening .ensures)
+    let put-opening-place = c .before .before in
+    let m-place = put-opening-place .before .before .before in
+    let start = m-place .before .before .before in
+    let a = start .args in
+    added-as (ap (λ (x : MetadataRead). openText (a .number) x (a .a)) (sym (m-place .m .given .1)))
+    (put-opening-place .put-opening .ensures)
 
 same-length-2 : tie.Need-same-length-2
 same-length-2 c = c .before .before .put-refused .ensures .size
@@ -36,9 +43,12 @@ same-length-2 c = c .before .before .put-refused .ensures .size
 returns-2 : tie.Need-returns-2
 unfolding openText
 returns-2 c =
-    let a = c .before .before .before .before .before .before .before .before .args in
-    added-as (ap (λ (x : MetadataRead). openText (a .number) x (a .a)) (sym (c .before .before .before .before .before .m2 .given .1)))
-    (c .before .before .put-refused .ensures)
+    let put-refused-place = c .before .before in
+    let m2-place = put-refused-place .before .before .before in
+    let start = m2-place .before .before .before in
+    let a = start .args in
+    added-as (ap (λ (x : MetadataRead). openText (a .number) x (a .a)) (sym (m2-place .m2 .given .1)))
+    (put-refused-place .put-refused .ensures)
 
 pub put-open-spec : {M : Type 1} → statement M
 put-open-spec =

@@ -2,7 +2,7 @@
 -- Assumes nothing.
 use mathlib.Core.Path.{sym, ap}
 use Rattle.text.proofs.AddedLaws.{added-as}
-use Rattle.replay_answers.specs.Answers.{openingText}
+use Rattle.replay_answers.specs.AnswerLines.{openingText}
 use borrow.Author.Needs.{needs}
 use Rattle.replay_answers.proofs.put_opening.Statement.{statement}
 use Rattle.replay_answers.proofs.put_opening.Tie as tie
@@ -14,7 +14,9 @@ slice-aggregate-put-opened : tie.Need-slice-aggregate-put-opened
 slice-aggregate-put-opened c = search needs
 
 put-opened-requires : tie.Need-put-opened-requires
-put-opened-requires c κs = c .before .before .before .before .before .before .pre
+put-opened-requires c κs =
+    let start = c .before .before .before .before .before .before in
+    start .pre
 
 enum-known-a-2 : tie.Need-enum-known-a-2
 enum-known-a-2 c = search needs
@@ -23,13 +25,17 @@ slice-aggregate-put-opened-2 : tie.Need-slice-aggregate-put-opened-2
 slice-aggregate-put-opened-2 c = search needs
 
 put-opened-requires-2 : tie.Need-put-opened-requires-2
-put-opened-requires-2 c κs = c .before .before .before .before .before .before .pre
+put-opened-requires-2 c κs =
+    let start = c .before .before .before .before .before .before in
+    start .pre
 
 enum-known-a-3 : tie.Need-enum-known-a-3
 enum-known-a-3 c = search needs
 
 put-refused-requires : tie.Need-put-refused-requires
-put-refused-requires c κs = c .before .before .before .before .before .pre
+put-refused-requires c κs =
+    let start = c .before .before .before .before .before in
+    start .pre
 
 same-length : tie.Need-same-length
 same-length c = c .before .before .put-opened .ensures .size
@@ -37,9 +43,12 @@ same-length c = c .before .before .put-opened .ensures .size
 returns : tie.Need-returns
 unfolding openingText
 returns c =
-    let a = c .before .before .before .before .before .before .before .before .before .args in
-    added-as (ap (openingText (a .number) (a .m)) (sym (c .before .before .before .before .before .before .a .given .1)))
-    (c .before .before .put-opened .ensures)
+    let put-opened-place = c .before .before in
+    let a-place = put-opened-place .before .before .before .before in
+    let start = a-place .before .before .before in
+    let a = start .args in
+    added-as (ap (openingText (a .number) (a .m)) (sym (a-place .a .given .1)))
+    (put-opened-place .put-opened .ensures)
 
 same-length-2 : tie.Need-same-length-2
 same-length-2 c = c .before .before .put-opened2 .ensures .size
@@ -47,9 +56,12 @@ same-length-2 c = c .before .before .put-opened2 .ensures .size
 returns-2 : tie.Need-returns-2
 unfolding openingText
 returns-2 c =
-    let a = c .before .before .before .before .before .before .before .before .before .args in
-    added-as (ap (openingText (a .number) (a .m)) (sym (c .before .before .before .before .before .before .a2 .given .1)))
-    (c .before .before .put-opened2 .ensures)
+    let put-opened2-place = c .before .before in
+    let a2-place = put-opened2-place .before .before .before .before in
+    let start = a2-place .before .before .before in
+    let a = start .args in
+    added-as (ap (openingText (a .number) (a .m)) (sym (a2-place .a2 .given .1)))
+    (put-opened2-place .put-opened2 .ensures)
 
 same-length-3 : tie.Need-same-length-3
 same-length-3 c = c .before .before .put-refused .ensures .size
@@ -57,9 +69,12 @@ same-length-3 c = c .before .before .put-refused .ensures .size
 returns-3 : tie.Need-returns-3
 unfolding openingText
 returns-3 c =
-    let a = c .before .before .before .before .before .before .before .before .args in
-    added-as (ap (openingText (a .number) (a .m)) (sym (c .before .before .before .before .before .a3 .given .1)))
-    (c .before .before .put-refused .ensures)
+    let put-refused-place = c .before .before in
+    let a3-place = put-refused-place .before .before .before in
+    let start = a3-place .before .before .before in
+    let a = start .args in
+    added-as (ap (openingText (a .number) (a .m)) (sym (a3-place .a3 .given .1)))
+    (put-refused-place .put-refused .ensures)
 
 pub put-opening-spec : {M : Type 1} → statement M
 put-opening-spec =

@@ -3,7 +3,7 @@
 use mathlib.Core.Path.{sym, ap}
 use Rattle.packet_data.specs.declared.DataRead.{DataRead}
 use Rattle.text.proofs.AddedLaws.{added-as}
-use Rattle.replay_answers.specs.Answers.{recordText}
+use Rattle.replay_answers.specs.AnswerLines.{recordText}
 use borrow.Author.Needs.{needs}
 use Rattle.replay_answers.proofs.put_record.Statement.{statement}
 use Rattle.replay_answers.proofs.put_record.Tie as tie
@@ -12,13 +12,17 @@ enum-known-d : tie.Need-enum-known-d
 enum-known-d c = search needs
 
 put-recording-requires : tie.Need-put-recording-requires
-put-recording-requires c κs = c .before .before .before .before .before .pre
+put-recording-requires c κs =
+    let start = c .before .before .before .before .before in
+    start .pre
 
 enum-known-d-2 : tie.Need-enum-known-d-2
 enum-known-d-2 c = search needs
 
 put-refused-requires : tie.Need-put-refused-requires
-put-refused-requires c κs = c .before .before .before .before .before .pre
+put-refused-requires c κs =
+    let start = c .before .before .before .before .before in
+    start .pre
 
 same-length : tie.Need-same-length
 same-length c = c .before .before .put-recording .ensures .size
@@ -26,9 +30,12 @@ same-length c = c .before .before .put-recording .ensures .size
 returns : tie.Need-returns
 unfolding recordText
 returns c =
-    let a = c .before .before .before .before .before .before .before .before .args in
-    added-as (ap (λ (x : DataRead). recordText (a .number) x (a .a)) (sym (c .before .before .before .before .before .d .given .1)))
-    (c .before .before .put-recording .ensures)
+    let put-recording-place = c .before .before in
+    let d-place = put-recording-place .before .before .before in
+    let start = d-place .before .before .before in
+    let a = start .args in
+    added-as (ap (λ (x : DataRead). recordText (a .number) x (a .a)) (sym (d-place .d .given .1)))
+    (put-recording-place .put-recording .ensures)
 
 same-length-2 : tie.Need-same-length-2
 same-length-2 c = c .before .before .put-refused .ensures .size
@@ -36,9 +43,12 @@ same-length-2 c = c .before .before .put-refused .ensures .size
 returns-2 : tie.Need-returns-2
 unfolding recordText
 returns-2 c =
-    let a = c .before .before .before .before .before .before .before .before .args in
-    added-as (ap (λ (x : DataRead). recordText (a .number) x (a .a)) (sym (c .before .before .before .before .before .d2 .given .1)))
-    (c .before .before .put-refused .ensures)
+    let put-refused-place = c .before .before in
+    let d2-place = put-refused-place .before .before .before in
+    let start = d2-place .before .before .before in
+    let a = start .args in
+    added-as (ap (λ (x : DataRead). recordText (a .number) x (a .a)) (sym (d2-place .d2 .given .1)))
+    (put-refused-place .put-refused .ensures)
 
 pub put-record-spec : {M : Type 1} → statement M
 put-record-spec =

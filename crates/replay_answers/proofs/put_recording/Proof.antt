@@ -2,7 +2,7 @@
 -- Assumes nothing.
 use mathlib.Core.Path.{sym, ap}
 use Rattle.text.proofs.AddedLaws.{added-as}
-use Rattle.replay_answers.specs.Answers.{recordingText}
+use Rattle.replay_answers.specs.AnswerLines.{recordingText}
 use borrow.Author.Needs.{needs}
 use Rattle.replay_answers.proofs.put_recording.Statement.{statement}
 use Rattle.replay_answers.proofs.put_recording.Tie as tie
@@ -11,13 +11,17 @@ enum-known-a : tie.Need-enum-known-a
 enum-known-a c = search needs
 
 put-recorded-requires : tie.Need-put-recorded-requires
-put-recorded-requires c κs = c .before .before .before .before .before .pre
+put-recorded-requires c κs =
+    let start = c .before .before .before .before .before in
+    start .pre
 
 enum-known-a-2 : tie.Need-enum-known-a-2
 enum-known-a-2 c = search needs
 
 put-refused-requires : tie.Need-put-refused-requires
-put-refused-requires c κs = c .before .before .before .before .before .pre
+put-refused-requires c κs =
+    let start = c .before .before .before .before .before in
+    start .pre
 
 same-length : tie.Need-same-length
 same-length c = c .before .before .put-recorded .ensures .size
@@ -25,9 +29,12 @@ same-length c = c .before .before .put-recorded .ensures .size
 returns : tie.Need-returns
 unfolding recordingText
 returns c =
-    let a = c .before .before .before .before .before .before .before .before .args in
-    added-as (ap (recordingText (a .number) (a .d)) (sym (c .before .before .before .before .before .a .given .1)))
-    (c .before .before .put-recorded .ensures)
+    let put-recorded-place = c .before .before in
+    let a-place = put-recorded-place .before .before .before in
+    let start = a-place .before .before .before in
+    let a = start .args in
+    added-as (ap (recordingText (a .number) (a .d)) (sym (a-place .a .given .1)))
+    (put-recorded-place .put-recorded .ensures)
 
 same-length-2 : tie.Need-same-length-2
 same-length-2 c = c .before .before .put-refused .ensures .size
@@ -35,9 +42,12 @@ same-length-2 c = c .before .before .put-refused .ensures .size
 returns-2 : tie.Need-returns-2
 unfolding recordingText
 returns-2 c =
-    let a = c .before .before .before .before .before .before .before .before .args in
-    added-as (ap (recordingText (a .number) (a .d)) (sym (c .before .before .before .before .before .a2 .given .1)))
-    (c .before .before .put-refused .ensures)
+    let put-refused-place = c .before .before in
+    let a2-place = put-refused-place .before .before .before in
+    let start = a2-place .before .before .before in
+    let a = start .args in
+    added-as (ap (recordingText (a .number) (a .d)) (sym (a2-place .a2 .given .1)))
+    (put-refused-place .put-refused .ensures)
 
 pub put-recording-spec : {M : Type 1} → statement M
 put-recording-spec =

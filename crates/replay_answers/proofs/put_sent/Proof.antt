@@ -2,11 +2,11 @@
 -- Assumes nothing.
 use mathlib.Core.Path.{sym, ap}
 use denote.Ref.{now}
-use Rattle.header.specs.declared.Written.{Written}
+use Rattle.refusals.specs.declared.Written.{Written}
 use Rattle.text.proofs.AddedLaws.{added-as, added-none}
 use Rattle.replay_lines.specs.Lines.{octetsLine}
-use Rattle.replay_fields.specs.Words.{w-send}
-use Rattle.replay_answers.specs.Answers.{sentText}
+use Rattle.replay_fields.specs.LineWords.{w-send}
+use Rattle.replay_answers.specs.AnswerLines.{sentText}
 use borrow.Author.Needs.{needs}
 use Rattle.replay_answers.proofs.put_sent.Statement.{statement}
 use Rattle.replay_answers.proofs.put_sent.Tie as tie
@@ -32,9 +32,13 @@ same-length c = c .before .before .put-packet .ensures .size
 returns : tie.Need-returns
 unfolding sentText
 returns c =
-    let a = c .before .before .before .before .before .before .before .before .before .before .before .args in
-    added-as (ap (λ (x : Written). sentText (a .number) x (now (a .lent))) (sym (c .before .before .before .before .before .before .before .w .given .1)))
-    (added-as (ap (octetsLine (a .number) w-send) (c .before .before .before .part .ensures)) (c .before .before .put-packet .ensures))
+    let put-packet-place = c .before .before in
+    let part-place = put-packet-place .before in
+    let w-place = part-place .before .before .before .before in
+    let start = w-place .before .before .before .before in
+    let a = start .args in
+    added-as (ap (λ (x : Written). sentText (a .number) x (now (a .lent))) (sym (w-place .w .given .1)))
+    (added-as (ap (octetsLine (a .number) w-send) (part-place .part .ensures)) (put-packet-place .put-packet .ensures))
 
 returns-2 : tie.Need-returns-2
 unfolding sentText

@@ -2,11 +2,11 @@
 -- Assumes nothing.
 use mathlib.Core.Path.{sym, ap}
 use denote.Ref.{now}
-use Rattle.header.specs.declared.Written.{Written}
+use Rattle.refusals.specs.declared.Written.{Written}
 use Rattle.text.proofs.AddedLaws.{added-as}
 use Rattle.replay_lines.specs.Lines.{octetsLine}
-use Rattle.replay_fields.specs.Words.{w-written}
-use Rattle.replay_answers.specs.Answers.{statusText}
+use Rattle.replay_fields.specs.LineWords.{w-written}
+use Rattle.replay_answers.specs.AnswerLines.{statusText}
 use borrow.Author.Needs.{needs}
 use Rattle.replay_answers.proofs.put_written.Statement.{statement}
 use Rattle.replay_answers.proofs.put_written.Tie as tie
@@ -27,7 +27,9 @@ enum-known-w-2 : tie.Need-enum-known-w-2
 enum-known-w-2 c = search needs
 
 put-refused-requires : tie.Need-put-refused-requires
-put-refused-requires c κs = c .before .before .before .before .before .before .pre
+put-refused-requires c κs =
+    let start = c .before .before .before .before .before .before in
+    start .pre
 
 same-length : tie.Need-same-length
 same-length c = c .before .before .put-packet .ensures .size
@@ -35,9 +37,13 @@ same-length c = c .before .before .put-packet .ensures .size
 returns : tie.Need-returns
 unfolding statusText
 returns c =
-    let a = c .before .before .before .before .before .before .before .before .before .before .before .args in
-    added-as (ap (λ (x : Written). statusText (a .number) x (now (a .lent))) (sym (c .before .before .before .before .before .before .before .w .given .1)))
-    (added-as (ap (octetsLine (a .number) w-written) (c .before .before .before .part .ensures)) (c .before .before .put-packet .ensures))
+    let put-packet-place = c .before .before in
+    let part-place = put-packet-place .before in
+    let w-place = part-place .before .before .before .before in
+    let start = w-place .before .before .before .before in
+    let a = start .args in
+    added-as (ap (λ (x : Written). statusText (a .number) x (now (a .lent))) (sym (w-place .w .given .1)))
+    (added-as (ap (octetsLine (a .number) w-written) (part-place .part .ensures)) (put-packet-place .put-packet .ensures))
 
 same-length-2 : tie.Need-same-length-2
 same-length-2 c = c .before .before .put-refused .ensures .size
@@ -45,9 +51,12 @@ same-length-2 c = c .before .before .put-refused .ensures .size
 returns-2 : tie.Need-returns-2
 unfolding statusText
 returns-2 c =
-    let a = c .before .before .before .before .before .before .before .before .before .args in
-    added-as (ap (λ (x : Written). statusText (a .number) x (now (a .lent))) (sym (c .before .before .before .before .before .w2 .given .1)))
-    (c .before .before .put-refused .ensures)
+    let put-refused-place = c .before .before in
+    let w2-place = put-refused-place .before .before .before in
+    let start = w2-place .before .before .before .before in
+    let a = start .args in
+    added-as (ap (λ (x : Written). statusText (a .number) x (now (a .lent))) (sym (w2-place .w2 .given .1)))
+    (put-refused-place .put-refused .ensures)
 
 pub put-written-spec : {M : Type 1} → statement M
 put-written-spec =

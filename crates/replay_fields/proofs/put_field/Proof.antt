@@ -13,8 +13,10 @@ put-decimal-requires c κs = c .before .before .before .put-text .ensures .withi
 
 returns : tie.Need-returns
 returns c =
-    c .before .before .before .before .before .before .put-text .ensures
-    then c .before .before .put-decimal .ensures
+    let put-decimal-place = c .before .before in
+    let put-text-place = put-decimal-place .before .before .before .before in
+    put-text-place .put-text .ensures
+    then put-decimal-place .put-decimal .ensures
 
 same-length : tie.Need-same-length
 same-length c = returns c .size

@@ -13,8 +13,10 @@ put-number-requires c κs = (c .before .before .before .put-text .ensures .withi
 
 returns : tie.Need-returns
 returns c =
-    c .before .before .before .before .before .before .put-text .ensures
-    then c .before .before .put-number .ensures
+    let put-number-place = c .before .before in
+    let put-text-place = put-number-place .before .before .before .before in
+    put-text-place .put-text .ensures
+    then put-number-place .put-number .ensures
 
 same-length : tie.Need-same-length
 same-length c = returns c .size

@@ -13,8 +13,10 @@ put-hex-requires c κs = c .before .before .before .put-text .ensures .within
 
 returns : tie.Need-returns
 returns c =
-    c .before .before .before .before .before .before .put-text .ensures
-    then c .before .before .put-hex .ensures
+    let put-hex-place = c .before .before in
+    let put-text-place = put-hex-place .before .before .before .before in
+    put-text-place .put-text .ensures
+    then put-hex-place .put-hex .ensures
 
 same-length : tie.Need-same-length
 same-length c = returns c .size

@@ -4,7 +4,7 @@ use borrow.Author.Needs.{needs}
 use mathlib.Core.Path.{ap}
 use Rattle.text.proofs.AddedLaws.{_then_, added-as}
 use Rattle.replay_fields.specs.Fields.{field}
-use Rattle.replay_fields.specs.Words.{w-complete}
+use Rattle.replay_fields.specs.LineWords.{w-complete}
 use Rattle.replay_fields.proofs.put_reached.Statement.{statement}
 use Rattle.replay_fields.proofs.put_reached.Tie as tie
 
@@ -21,12 +21,17 @@ flag-of-requires : tie.Need-flag-of-requires
 flag-of-requires c κs = search needs
 
 put-field-requires-2 : tie.Need-put-field-requires-2
-put-field-requires-2 c κs = c .before .before .before .before .before .put-field .ensures .within
+put-field-requires-2 c κs =
+    let put-field-place = c .before .before .before .before .before in
+    put-field-place .put-field .ensures .within
 
 returns : tie.Need-returns
 returns c =
-    c .before .before .before .before .before .before .before .before .put-field .ensures
-    then added-as (ap (field w-complete) (c .before .before .before .flag-of .ensures)) (c .before .before .put-field2 .ensures)
+    let put-field2-place = c .before .before in
+    let flag-of-place = put-field2-place .before in
+    let put-field-place = flag-of-place .before .before .before .before .before in
+    put-field-place .put-field .ensures
+    then added-as (ap (field w-complete) (flag-of-place .flag-of .ensures)) (put-field2-place .put-field2 .ensures)
 
 same-length : tie.Need-same-length
 same-length c = returns c .size

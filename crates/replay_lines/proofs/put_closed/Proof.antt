@@ -21,9 +21,12 @@ push-requires c κs = c .before .before .before .put-field .ensures .within
 returns : tie.Need-returns
 unfolding closeLine
 returns c =
-    c .before .before .before .before .before .before .before .before .before .before .before .put-decimal .ensures
-    then c .before .before .before .before .before .before .put-field .ensures
-    then c .before .before .push .ensures
+    let push-place = c .before .before in
+    let put-field-place = push-place .before .before .before .before in
+    let put-decimal-place = put-field-place .before .before .before .before .before in
+    put-decimal-place .put-decimal .ensures
+    then put-field-place .put-field .ensures
+    then push-place .push .ensures
 
 same-length : tie.Need-same-length
 same-length c = returns c .size

@@ -7,7 +7,7 @@ use lib.ListN.{length}
 use borrow.Author.Needs.{needs}
 use Rattle.text.proofs.AddedLaws.{_then_, added-as}
 use Rattle.replay_fields.specs.Fields.{field, octetsField}
-use Rattle.replay_fields.specs.Words.{w-timestamp, w-length}
+use Rattle.replay_fields.specs.LineWords.{w-timestamp, w-length}
 use Rattle.replay_lines.specs.Lines.{dataLine}
 use Rattle.replay_lines.proofs.put_data.Statement.{statement}
 use Rattle.replay_lines.proofs.put_data.Tie as tie
@@ -48,11 +48,18 @@ push-requires c κs = search needs
 returns : tie.Need-returns
 unfolding dataLine
 returns c =
-    c .before .before .before .before .before .before .before .before .before .before .before .before .before .before .before .before .before .before .before .before .before .before .put-head .ensures
-    then added-as (ap (octetsField w-timestamp) (c .before .before .before .before .before .before .before .before .before .before .before .before .before .before .before .before .before .part .ensures)) (c .before .before .before .before .before .before .before .before .before .before .before .before .before .before .before .before .put-octets .ensures)
-    then c .before .before .before .before .before .before .before .before .before .before .before .put-field .ensures
-    then added-as (ap (λ (l : List ℕ). field w-length (length l)) (c .before .before .before .before .before .before .before .before .before .before .before .before .before .before .before .before .before .before .before .before .before .before .before .before .before .payload .ensures)) (c .before .before .before .before .before .before .put-field2 .ensures)
-    then c .before .before .push .ensures
+    let push-place = c .before .before in
+    let put-field2-place = push-place .before .before .before .before in
+    let put-field-place = put-field2-place .before .before .before .before .before in
+    let put-octets-place = put-field-place .before .before .before .before .before in
+    let part-place = put-octets-place .before in
+    let put-head-place = part-place .before .before .before .before .before in
+    let payload-place = put-head-place .before .before .before in
+    put-head-place .put-head .ensures
+    then added-as (ap (octetsField w-timestamp) (part-place .part .ensures)) (put-octets-place .put-octets .ensures)
+    then put-field-place .put-field .ensures
+    then added-as (ap (λ (l : List ℕ). field w-length (length l)) (payload-place .payload .ensures)) (put-field2-place .put-field2 .ensures)
+    then push-place .push .ensures
 
 same-length : tie.Need-same-length
 same-length c = returns c .size

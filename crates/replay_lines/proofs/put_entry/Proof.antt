@@ -4,7 +4,7 @@ use mathlib.Core.Path.{ap}
 use borrow.Author.Needs.{needs}
 use Rattle.text.proofs.AddedLaws.{_then_, added-as}
 use Rattle.replay_fields.specs.Fields.{octetsField}
-use Rattle.replay_fields.specs.Words.{w-path}
+use Rattle.replay_fields.specs.LineWords.{w-path}
 use Rattle.replay_lines.proofs.put_entry.Statement.{statement}
 use Rattle.replay_lines.proofs.put_entry.Tie as tie
 
@@ -43,11 +43,17 @@ put-octets-requires c κs = search needs
 
 returns : tie.Need-returns
 returns c =
-    c .before .before .before .before .before .before .before .before .before .before .before .before .before .before .before .before .before .before .before .before .before .before .before .put-number .ensures
-    then c .before .before .before .before .before .before .before .before .before .before .before .before .before .before .before .before .before .before .put-field .ensures
-    then c .before .before .before .before .before .before .before .before .before .before .before .before .before .put-field2 .ensures
-    then c .before .before .before .before .before .before .before .before .put-field3 .ensures
-    then added-as (ap (octetsField w-path) (c .before .before .before .part .ensures)) (c .before .before .put-octets .ensures)
+    let put-octets-place = c .before .before in
+    let part-place = put-octets-place .before in
+    let put-field3-place = part-place .before .before .before .before .before in
+    let put-field2-place = put-field3-place .before .before .before .before .before in
+    let put-field-place = put-field2-place .before .before .before .before .before in
+    let put-number-place = put-field-place .before .before .before .before .before in
+    put-number-place .put-number .ensures
+    then put-field-place .put-field .ensures
+    then put-field2-place .put-field2 .ensures
+    then put-field3-place .put-field3 .ensures
+    then added-as (ap (octetsField w-path) (part-place .part .ensures)) (put-octets-place .put-octets .ensures)
 
 same-length : tie.Need-same-length
 same-length c = returns c .size

@@ -4,7 +4,7 @@ use mathlib.Core.Path.{ap}
 use borrow.Author.Needs.{needs}
 use Rattle.text.proofs.AddedLaws.{_then_, added-as}
 use Rattle.replay_fields.specs.Fields.{field}
-use Rattle.replay_fields.specs.Words.{w-width}
+use Rattle.replay_fields.specs.LineWords.{w-width}
 use Rattle.replay_lines.proofs.put_head.Statement.{statement}
 use Rattle.replay_lines.proofs.put_head.Tie as tie
 
@@ -31,10 +31,15 @@ put-field-requires-2 c κs = search needs
 
 returns : tie.Need-returns
 returns c =
-    c .before .before .before .before .before .before .before .before .before .before .before .before .before .before .before .before .before .put-decimal .ensures
-    then c .before .before .before .before .before .before .before .before .before .before .before .before .before .put-field .ensures
-    then c .before .before .before .before .before .before .before .before .put-number .ensures
-    then added-as (ap (field w-width) (c .before .before .before .bits-of .ensures)) (c .before .before .put-field2 .ensures)
+    let put-field2-place = c .before .before in
+    let bits-of-place = put-field2-place .before in
+    let put-number-place = bits-of-place .before .before .before .before .before in
+    let put-field-place = put-number-place .before .before .before .before .before in
+    let put-decimal-place = put-field-place .before .before .before .before in
+    put-decimal-place .put-decimal .ensures
+    then put-field-place .put-field .ensures
+    then put-number-place .put-number .ensures
+    then added-as (ap (field w-width) (bits-of-place .bits-of .ensures)) (put-field2-place .put-field2 .ensures)
 
 same-length : tie.Need-same-length
 same-length c = returns c .size

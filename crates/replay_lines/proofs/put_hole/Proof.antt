@@ -27,13 +27,19 @@ same-length c = search needs
 returns : tie.Need-returns
 unfolding holeAfter
 returns c =
-    added-as (ap (holeAfter (c .before .before .before .before .before .before .before .before .before .before .args .index)) (sym (c .before .before .before .before .before .h .given .1) ∙ c .before .before .before .before .before .before .before .read-hole .ensures)) (c .before .before .put-next-pair .ensures)
+    let put-next-pair-place = c .before .before in
+    let h-place = put-next-pair-place .before .before .before in
+    let read-hole-place = h-place .before .before in
+    let start = read-hole-place .before .before .before in
+    added-as (ap (holeAfter (start .args .index)) (sym (h-place .h .given .1) ∙ read-hole-place .read-hole .ensures)) (put-next-pair-place .put-next-pair .ensures)
 
 returns-2 : tie.Need-returns-2
 unfolding holeAfter
 returns-2 c =
-    let a = c .before .before .before .before .before .args in
-    added-as (ap (holeAfter (a .index)) (sym (c .enum-told .given .1) ∙ c .before .before .read-hole .ensures)) (added-none (now (a .out)) (a .at) (omega arith))
+    let read-hole-place = c .before .before in
+    let start = read-hole-place .before .before .before in
+    let a = start .args in
+    added-as (ap (holeAfter (a .index)) (sym (c .enum-told .given .1) ∙ read-hole-place .read-hole .ensures)) (added-none (now (a .out)) (a .at) (omega arith))
 
 pub put-hole-spec : {M : Type 1} → statement M
 put-hole-spec =

@@ -32,7 +32,10 @@ loop-less c = omega arith
 
 loop-again : tie.Need-loop-again Inv-loop μ-loop
 unfolding holesText
-loop-again c = (omega arith, rw add-one (c .before .before .before .before .before .loop .inv .1 then c .before .before .put-hole .ensures))
+loop-again c =
+    let put-hole-place = c .before .before in
+    let loop-place = put-hole-place .before .before .before in
+    (omega arith, rw add-one (loop-place .loop .inv .1 then put-hole-place .put-hole .ensures))
 
 same-length : tie.Need-same-length Inv-loop μ-loop
 same-length c = c .before .loop .inv .1 .size

@@ -4,7 +4,7 @@ use mathlib.Core.Path.{ap}
 use borrow.Author.Needs.{needs}
 use Rattle.text.proofs.AddedLaws.{_then_, added-as}
 use Rattle.replay_fields.specs.Fields.{octetsField}
-use Rattle.replay_fields.specs.Words.{w-checksum}
+use Rattle.replay_fields.specs.LineWords.{w-checksum}
 use Rattle.replay_lines.specs.Lines.{metadataLine}
 use Rattle.replay_lines.proofs.put_metadata.Statement.{statement}
 use Rattle.replay_lines.proofs.put_metadata.Tie as tie
@@ -33,10 +33,15 @@ push-requires c κs = search needs
 returns : tie.Need-returns
 unfolding metadataLine
 returns c =
-    c .before .before .before .before .before .before .before .before .before .before .before .before .before .before .before .before .put-head .ensures
-    then added-as (ap (octetsField w-checksum) (c .before .before .before .before .before .before .before .before .before .before .before .part .ensures)) (c .before .before .before .before .before .before .before .before .before .before .put-octets .ensures)
-    then c .before .before .before .before .before .before .put-entry .ensures
-    then c .before .before .push .ensures
+    let push-place = c .before .before in
+    let put-entry-place = push-place .before .before .before .before in
+    let put-octets-place = put-entry-place .before .before .before .before in
+    let part-place = put-octets-place .before in
+    let put-head-place = part-place .before .before .before .before .before in
+    put-head-place .put-head .ensures
+    then added-as (ap (octetsField w-checksum) (part-place .part .ensures)) (put-octets-place .put-octets .ensures)
+    then put-entry-place .put-entry .ensures
+    then push-place .push .ensures
 
 same-length : tie.Need-same-length
 same-length c = returns c .size

@@ -13,7 +13,11 @@ same-length : tie.Need-same-length
 same-length c = search needs
 
 returns : tie.Need-returns
-returns c = rw (eq-eqb (c .before .before .before .before .before .before .args .index) 0 (c .before .before .before .before .if1 .taken)) (c .before .before .put-pair .ensures)
+returns c =
+    let put-pair-place = c .before .before in
+    let if1-place = put-pair-place .before .before in
+    let start = if1-place .before .before in
+    rw (eq-eqb (start .args .index) 0 (if1-place .if1 .taken)) (put-pair-place .put-pair .ensures)
 
 push-requires : tie.Need-push-requires
 push-requires c κs = search needs
@@ -26,7 +30,11 @@ same-length-2 c = search needs
 
 returns-2 : tie.Need-returns-2
 returns-2 c =
-    rw (ne-eqb (c .before .before .before .before .before .before .before .before .before .before .args .index) 0 (c .before .before .before .before .before .before .before .before .if1 .left)) (c .before .before .before .before .before .before .push .ensures then c .before .before .put-pair2 .ensures)
+    let put-pair2-place = c .before .before in
+    let push-place = put-pair2-place .before .before .before .before in
+    let if1-place = push-place .before .before in
+    let start = if1-place .before .before in
+    rw (ne-eqb (start .args .index) 0 (if1-place .if1 .left)) (push-place .push .ensures then put-pair2-place .put-pair2 .ensures)
 
 pub put-next-pair-spec : {M : Type 1} → statement M
 put-next-pair-spec =

@@ -4,7 +4,7 @@ use borrow.Author.Needs.{needs}
 use mathlib.Core.Path.{ap}
 use Rattle.text.proofs.AddedLaws.{_then_, added-as}
 use Rattle.replay_fields.specs.Fields.{field}
-use Rattle.replay_fields.specs.Words.{w-width}
+use Rattle.replay_fields.specs.LineWords.{w-width}
 use Rattle.replay_lines.specs.Lines.{openedLine}
 use Rattle.replay_lines.proofs.put_opened.Statement.{statement}
 use Rattle.replay_lines.proofs.put_opened.Tie as tie
@@ -25,7 +25,9 @@ bits-of-requires : tie.Need-bits-of-requires
 bits-of-requires c κs = search needs
 
 put-field-requires-2 : tie.Need-put-field-requires-2
-put-field-requires-2 c κs = c .before .before .before .before .before .put-field .ensures .within
+put-field-requires-2 c κs =
+    let put-field-place = c .before .before .before .before .before in
+    put-field-place .put-field .ensures .within
 
 slice-aggregate-put-field-3 : tie.Need-slice-aggregate-put-field-3
 slice-aggregate-put-field-3 c = search needs
@@ -42,12 +44,19 @@ put-text-requires c κs = c .before .before .before .put-reached .ensures .withi
 returns : tie.Need-returns
 unfolding openedLine
 returns c =
-    c .before .before .before .before .before .before .before .before .before .before .before .before .before .before .before .before .before .before .before .before .before .before .before .before .before .before .put-decimal .ensures
-    then c .before .before .before .before .before .before .before .before .before .before .before .before .before .before .before .before .before .before .before .before .before .put-field .ensures
-    then added-as (ap (field w-width) (c .before .before .before .before .before .before .before .before .before .before .before .before .before .before .before .before .bits-of .ensures)) (c .before .before .before .before .before .before .before .before .before .before .before .before .before .before .before .put-field2 .ensures)
-    then c .before .before .before .before .before .before .before .before .before .before .put-field3 .ensures
-    then c .before .before .before .before .before .before .put-reached .ensures
-    then c .before .before .put-text .ensures
+    let put-text-place = c .before .before in
+    let put-reached-place = put-text-place .before .before .before .before in
+    let put-field3-place = put-reached-place .before .before .before .before in
+    let put-field2-place = put-field3-place .before .before .before .before .before in
+    let bits-of-place = put-field2-place .before in
+    let put-field-place = bits-of-place .before .before .before .before .before in
+    let put-decimal-place = put-field-place .before .before .before .before .before in
+    put-decimal-place .put-decimal .ensures
+    then put-field-place .put-field .ensures
+    then added-as (ap (field w-width) (bits-of-place .bits-of .ensures)) (put-field2-place .put-field2 .ensures)
+    then put-field3-place .put-field3 .ensures
+    then put-reached-place .put-reached .ensures
+    then put-text-place .put-text .ensures
 
 same-length : tie.Need-same-length
 same-length c = returns c .size

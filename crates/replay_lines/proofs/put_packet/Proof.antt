@@ -18,9 +18,12 @@ push-requires c κs = c .before .before .before .put-octets .ensures .within
 returns : tie.Need-returns
 unfolding octetsLine
 returns c =
-    c .before .before .before .before .before .before .before .before .before .before .put-decimal .ensures
-    then c .before .before .before .before .before .before .put-octets .ensures
-    then c .before .before .push .ensures
+    let push-place = c .before .before in
+    let put-octets-place = push-place .before .before .before .before in
+    let put-decimal-place = put-octets-place .before .before .before .before in
+    put-decimal-place .put-decimal .ensures
+    then put-octets-place .put-octets .ensures
+    then push-place .push .ensures
 
 same-length : tie.Need-same-length
 same-length c = returns c .size

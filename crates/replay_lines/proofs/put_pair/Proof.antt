@@ -16,8 +16,10 @@ put-field-requires c κs = c .before .before .before .before .put-decimal .ensur
 
 returns : tie.Need-returns
 returns c =
-    c .before .before .before .before .before .before .before .put-decimal .ensures
-    then c .before .before .put-field .ensures
+    let put-field-place = c .before .before in
+    let put-decimal-place = put-field-place .before .before .before .before .before in
+    put-decimal-place .put-decimal .ensures
+    then put-field-place .put-field .ensures
 
 same-length : tie.Need-same-length
 same-length c = returns c .size

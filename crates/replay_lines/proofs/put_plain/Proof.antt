@@ -15,8 +15,10 @@ put-text-requires c κs = c .before .before .before .put-decimal .ensures .withi
 returns : tie.Need-returns
 unfolding plainLine
 returns c =
-    c .before .before .before .before .before .before .put-decimal .ensures
-    then c .before .before .put-text .ensures
+    let put-text-place = c .before .before in
+    let put-decimal-place = put-text-place .before .before .before .before in
+    put-decimal-place .put-decimal .ensures
+    then put-text-place .put-text .ensures
 
 same-length : tie.Need-same-length
 same-length c = returns c .size

@@ -4,7 +4,7 @@ use mathlib.Core.Path.{ap}
 use borrow.Author.Needs.{needs}
 use Rattle.text.proofs.AddedLaws.{_then_, added-as}
 use Rattle.replay_fields.specs.Fields.{octetsField}
-use Rattle.replay_fields.specs.Words.{w-timestamp}
+use Rattle.replay_fields.specs.LineWords.{w-timestamp}
 use Rattle.replay_lines.specs.Lines.{successLine}
 use Rattle.replay_lines.proofs.put_success.Statement.{statement}
 use Rattle.replay_lines.proofs.put_success.Tie as tie
@@ -51,13 +51,21 @@ push-requires c κs = search needs
 returns : tie.Need-returns
 unfolding successLine
 returns c =
-    c .before .before .before .before .before .before .before .before .before .before .before .before .before .before .before .before .before .before .before .before .before .before .before .before .before .before .before .before .before .before .before .put-head .ensures
-    then added-as (ap (octetsField w-timestamp) (c .before .before .before .before .before .before .before .before .before .before .before .before .before .before .before .before .before .before .before .before .before .before .before .before .before .before .part .ensures)) (c .before .before .before .before .before .before .before .before .before .before .before .before .before .before .before .before .before .before .before .before .before .before .before .before .before .put-octets .ensures)
-    then c .before .before .before .before .before .before .before .before .before .before .before .before .before .before .before .before .before .before .before .before .put-field .ensures
-    then c .before .before .before .before .before .before .before .before .before .before .before .before .before .before .before .put-field2 .ensures
-    then c .before .before .before .before .before .before .before .before .before .before .put-text .ensures
-    then c .before .before .before .before .before .before .put-holes .ensures
-    then c .before .before .push .ensures
+    let push-place = c .before .before in
+    let put-holes-place = push-place .before .before .before .before in
+    let put-text-place = put-holes-place .before .before .before .before in
+    let put-field2-place = put-text-place .before .before .before .before .before in
+    let put-field-place = put-field2-place .before .before .before .before .before in
+    let put-octets-place = put-field-place .before .before .before .before .before in
+    let part-place = put-octets-place .before in
+    let put-head-place = part-place .before .before .before .before .before in
+    put-head-place .put-head .ensures
+    then added-as (ap (octetsField w-timestamp) (part-place .part .ensures)) (put-octets-place .put-octets .ensures)
+    then put-field-place .put-field .ensures
+    then put-field2-place .put-field2 .ensures
+    then put-text-place .put-text .ensures
+    then put-holes-place .put-holes .ensures
+    then push-place .push .ensures
 
 same-length : tie.Need-same-length
 same-length c = returns c .size

@@ -45,9 +45,15 @@ loop-less c = omega arith
 
 loop-again : tie.Need-loop-again Inv-loop μ-loop
 loop-again c =
-    let s = now (c .before .before .before .before .before .before .before .before .before .before .before .before .before .before .before .args .s) in
-    let l = c .before .before .before .before .before .before .before .before .before .before .before .before .loop in
-    (omega arith, hex-next s (l .i) _ _ (omega arith) (c .before .before .before .before .before .before .before .before .digit .ensures) (c .before .before .before .digit2 .ensures) (l .inv .1) (c .before .before .before .before .before .before .before .push .ensures) (c .before .before .push2 .ensures))
+    let push2-place = c .before .before in
+    let digit2-place = push2-place .before in
+    let push-place = digit2-place .before .before .before .before in
+    let digit-place = push-place .before in
+    let loop-place = digit-place .before .before .before .before in
+    let start = loop-place .before .before .before in
+    let s = now (start .args .s) in
+    let l = loop-place .loop in
+    (omega arith, hex-next s (l .i) _ _ (omega arith) (digit-place .digit .ensures) (digit2-place .digit2 .ensures) (l .inv .1) (push-place .push .ensures) (push2-place .push2 .ensures))
 
 same-length : tie.Need-same-length Inv-loop μ-loop
 same-length c = c .before .loop .inv .1 .size

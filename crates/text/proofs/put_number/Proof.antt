@@ -24,8 +24,10 @@ array-share-prefix-room c = search needs
 
 slice-aggregate-put-hex : tie.Need-slice-aggregate-put-hex
 slice-aggregate-put-hex c =
-    let w = c .before .before .before .write-number in
-    sym (length-take-le (c .before .before .before .before .before .before .args .d) (w .last .0) (omega (arith, w .kept .0)))
+    let write-number-place = c .before .before .before in
+    let start = write-number-place .before .before .before in
+    let w = write-number-place .write-number in
+    sym (length-take-le (start .args .d) (w .last .0) (omega (arith, w .kept .0)))
 
 put-hex-requires : tie.Need-put-hex-requires
 put-hex-requires c κs = search needs
@@ -35,11 +37,14 @@ same-length c = search needs
 
 returns : tie.Need-returns
 returns c =
-    let a = c .before .before .before .before .before .before .before .before .before .args in
-    let w = c .before .before .before .before .before .before .write-number in
+    let put-hex-place = c .before .before in
+    let write-number-place = put-hex-place .before .before .before .before in
+    let start = write-number-place .before .before .before in
+    let a = start .args in
+    let w = write-number-place .write-number in
     let e : take (a .d) (w .last .0) ≡ beDigits (a .d) (a .v) =
     ap (take (a .d)) (w .ensures) ∙ take-put (a .d) (beDigits (a .d) (a .v)) _ (length-digits (a .d) (a .v)) in
-    added-as (ap hexOf e) (c .before .before .put-hex .ensures)
+    added-as (ap hexOf e) (put-hex-place .put-hex .ensures)
 
 pub put-number-spec : {M : Type 1} → statement M
 put-number-spec =

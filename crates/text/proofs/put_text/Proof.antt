@@ -35,10 +35,13 @@ loop-less c = omega arith
 
 loop-again : tie.Need-loop-again Inv-loop μ-loop
 loop-again c =
-    let s = now (c .before .before .before .before .before .before .before .before .before .args .s) in
-    let l = c .before .before .before .before .before .before .loop in
+    let push-place = c .before .before in
+    let loop-place = push-place .before .before .before .before in
+    let start = loop-place .before .before .before in
+    let s = now (start .args .s) in
+    let l = loop-place .loop in
     let f : l .i < length s = omega arith in
-    (omega arith, added-as (sym (rw add-one (take-suc s (l .i) 0 f))) (l .inv .1 then c .before .before .push .ensures))
+    (omega arith, added-as (sym (rw add-one (take-suc s (l .i) 0 f))) (l .inv .1 then push-place .push .ensures))
 
 same-length : tie.Need-same-length Inv-loop μ-loop
 same-length c = c .before .loop .inv .1 .size

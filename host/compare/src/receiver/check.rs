@@ -2,7 +2,7 @@
 
 use std::fmt::Debug;
 
-use crate::answer::{Done, Listed, Opened, Packet, Recorded, Written};
+use crate::answer::{Done, Hole, Listed, Opened, Packet, Recorded, Written};
 use crate::check::{describe_packet, require, same_answer, same_octets, Check, Step, Stop};
 use crate::lent::Lent;
 use crate::receiver::held::Held;
@@ -36,8 +36,11 @@ impl Check<'_> {
         Ok(got)
     }
 
-    /// `saratoga_record`.
+    /// `saratoga_record`; now and then it is asked before what it would answer.
     pub fn record(&mut self, held: &mut Held, packet: &[u8]) -> Result<Recorded, Stop> {
+        if self.rng.one_in(3) {
+            self.try_record(held, packet)?;
+        }
         self.count()?;
         let before = held.want.clone();
         let lent = Lent::copy(packet, &mut self.rng);
@@ -48,6 +51,20 @@ impl Check<'_> {
         self.same(Function::Record, &got, &want, held, context)?;
         same_octets(Function::Record, "packet", &lent, &lent_before, context)?;
         self.tally.add(Function::Record, got.number);
+        Ok(got)
+    }
+
+    /// `saratoga_try_record`.
+    pub fn try_record(&mut self, held: &Held, packet: &[u8]) -> Result<Recorded, Stop> {
+        self.count()?;
+        let lent = Lent::copy(packet, &mut self.rng);
+        let lent_before = lent.clone();
+        let got = self.receiver.try_record(held.area.octets(), lent.octets());
+        let want = held.look(|table| table.try_record(packet)).into();
+        let context = || format!("{}\n{}", describe_packet(packet), describe_area(&held.want));
+        self.same(Function::TryRecord, &got, &want, held, context)?;
+        same_octets(Function::TryRecord, "packet", &lent, &lent_before, context)?;
+        self.tally.add(Function::TryRecord, got.number);
         Ok(got)
     }
 
@@ -73,6 +90,28 @@ impl Check<'_> {
         Ok(got)
     }
 
+    /// `saratoga_find`.
+    pub fn find(&mut self, held: &Held, id: u64) -> Result<Listed, Stop> {
+        self.count()?;
+        let got = self.receiver.find(held.area.octets(), id);
+        let want = held.look(|table| table.find(id)).into();
+        let context = || format!("  id {id:#x}\n{}", describe_area(&held.want));
+        self.same(Function::Find, &got, &want, held, context)?;
+        self.tally.add(Function::Find, got.number);
+        Ok(got)
+    }
+
+    /// `saratoga_transfer_hole`.
+    pub fn transfer_hole(&mut self, held: &Held, id: u64, index: u64) -> Result<Hole, Stop> {
+        self.count()?;
+        let got = self.receiver.transfer_hole(held.area.octets(), id, index);
+        let want = held.look(|table| table.hole(id, index)).into();
+        let context = || format!("  id {id:#x}, index {index:#x}\n{}", describe_area(&held.want));
+        self.same(Function::TransferHole, &got, &want, held, context)?;
+        self.tally.add(Function::TransferHole, got.number);
+        Ok(got)
+    }
+
     /// `saratoga_write_status` into a buffer with these octets; with all of the buffer afterwards.
     pub fn write_status_into(&mut self, held: &Held, ask: Ask, out: &[u8]) -> Result<(Written, Vec<u8>), Stop> {
         self.count()?;
@@ -91,8 +130,14 @@ impl Check<'_> {
         Ok((got, out.octets().to_vec()))
     }
 
-    /// `saratoga_write_status` into a buffer of `room` octets; what it writes is read now and then.
+    /// `saratoga_write_status` into a buffer of `room` octets; what it writes is read now and then, and so is the transfer by
+    /// its Id, and the hole after those that are skipped.
     pub fn write_status(&mut self, held: &Held, ask: Ask, room: usize) -> Result<Written, Stop> {
+        match self.rng.below(6) {
+            0 => drop(self.find(held, ask.id)?),
+            1 | 2 => drop(self.transfer_hole(held, ask.id, ask.skip)?),
+            _ => {}
+        }
         let out = self.rng.octets(room);
         let (got, out) = self.write_status_into(held, ask, &out)?;
         if got.number == 0 && self.rng.one_in(4) {

@@ -1,6 +1,7 @@
-//! Damaged areas: any octet, the length, and words that are wrong in each of the ways that docs/AREA.md names. Some
-//! leave the image of another table.
+//! Damaged areas: any octet, the length, and words that are wrong in each of the ways that docs/AREA.md names. Some leave
+//! another table; what changes unused words alone leaves the same, and must be taken.
 
+use crate::receiver::held::fill_unused;
 use crate::receiver::words::*;
 use crate::rng::Rng;
 
@@ -30,125 +31,137 @@ pub const ALL: &[Damage] = &[
     |area, _| change(area, COUNT, |count| count.wrapping_add(1)),
     |area, _| change(area, COUNT, |count| count.wrapping_sub(1)),
     |area, rng| set(area, COUNT, rng.below(17)),
+    |area, _| change(area, COUNT, u64::swap_bytes),
     // 3: Ids.
     |area, rng| {
         let i = transfer(area, rng);
-        change(area, IDS + i, |id| rng.pick(&[id | 1 << 32, 1 << 32, id | 1 << 63, u64::MAX]));
+        change(area, id(i), |id| rng.pick(&[id | 1 << 32, 1 << 32, id | 1 << 63, u64::MAX]));
     },
     |area, rng| {
         let (i, j) = (transfer(area, rng), transfer(area, rng));
-        let other = get(area, IDS + j);
-        set(area, IDS + i, other);
+        let other = get(area, id(j));
+        set(area, id(i), other);
     },
     |area, rng| {
         let (i, j) = (transfer(area, rng), transfer(area, rng));
-        let (one, other) = (get(area, IDS + i), get(area, IDS + j));
-        set(area, IDS + i, other);
-        set(area, IDS + j, one);
+        let (one, other) = (get(area, id(i)), get(area, id(j)));
+        set(area, id(i), other);
+        set(area, id(j), one);
     },
     |area, rng| {
         let i = transfer(area, rng);
-        change(area, IDS + i, |id| id.wrapping_add(1));
+        change(area, id(i), |id| id.wrapping_add(1));
     },
     // 4: widths.
     |area, rng| {
         let i = transfer(area, rng);
-        set(area, WIDTHS + i, rng.pick(&[0, 1, 3, 5, 6, 7, 9, 16, 128, 2 + (1 << 32), u64::MAX]));
+        set(area, width(i), rng.pick(&[0, 1, 3, 5, 6, 7, 9, 16, 128, 2 + (1 << 32), u64::MAX]));
     },
     |area, rng| {
         let i = transfer(area, rng);
-        set(area, WIDTHS + i, rng.pick(&[2, 4, 8]));
+        set(area, width(i), rng.pick(&[2, 4, 8]));
     },
     // 5: lengths.
     |area, rng| {
         let i = transfer(area, rng);
-        set(area, WIDTHS + i, 2);
-        set(area, LENGTHS + i, rng.pick(&[65_535, 65_536, 65_537, 1 << 32, u64::MAX]));
+        set(area, width(i), 2);
+        set(area, length(i), rng.pick(&[65_535, 65_536, 65_537, 1 << 32, u64::MAX]));
     },
     |area, rng| {
         let i = transfer(area, rng);
-        set(area, WIDTHS + i, 4);
-        set(area, LENGTHS + i, rng.pick(&[(1 << 32) - 1, 1 << 32, (1 << 32) + 1, u64::MAX]));
+        set(area, width(i), 4);
+        set(area, length(i), rng.pick(&[(1 << 32) - 1, 1 << 32, (1 << 32) + 1, u64::MAX]));
     },
     |area, rng| {
         let i = transfer(area, rng);
-        let last = STOPS + 64 * i + (get(area, RUN_COUNTS + i).clamp(1, 64) as usize - 1);
-        let stop = get(area, last);
-        set(area, LENGTHS + i, rng.pick(&[stop, stop.wrapping_sub(1), stop.wrapping_add(1), 0]));
+        let last = get(area, stop(i, runs_of(area, i).max(1) - 1));
+        set(area, length(i), rng.pick(&[last, last.wrapping_sub(1), last.wrapping_add(1), 0]));
     },
     // 6: numbers of runs.
     |area, rng| {
         let i = transfer(area, rng);
-        change(area, RUN_COUNTS + i, |runs| {
+        change(area, run_count(i), |runs| {
             rng.pick(&[runs.wrapping_add(1), runs.wrapping_sub(1), 64, 65, 66, 1 << 32, u64::MAX])
         });
     },
     // 7: runs by themselves.
     |area, rng| {
         let (i, j) = run(area, rng);
-        let (start, stop) = (get(area, STARTS + 64 * i + j), get(area, STOPS + 64 * i + j));
+        let (from, to) = (get(area, start(i, j)), get(area, stop(i, j)));
         match rng.below(3) {
-            0 => set(area, STARTS + 64 * i + j, stop),
-            1 => set(area, STARTS + 64 * i + j, stop.wrapping_add(1)),
-            _ => set(area, STOPS + 64 * i + j, start),
+            0 => set(area, start(i, j), to),
+            1 => set(area, start(i, j), to.wrapping_add(1)),
+            _ => set(area, stop(i, j), from),
         }
     },
     |area, rng| {
         let (i, j) = run(area, rng);
-        let length = get(area, LENGTHS + i);
-        set(area, STOPS + 64 * i + j, rng.pick(&[length, length.wrapping_add(1), u64::MAX]));
+        let length = get(area, length(i));
+        set(area, stop(i, j), rng.pick(&[length, length.wrapping_add(1), u64::MAX]));
     },
     |area, rng| {
         let (i, j) = run(area, rng);
-        let word = rng.pick(&[STARTS, STOPS]) + 64 * i + j;
+        let word = rng.pick(&[start, stop])(i, j);
         change(area, word, |offset| rng.pick(&[offset.wrapping_add(1), offset.wrapping_sub(1)]));
     },
     // 8: runs that touch, overlap, or stand in another order.
     |area, rng| {
         let (i, j) = run(area, rng);
         let next = (j + 1).min(63);
-        let stop = get(area, STOPS + 64 * i + j);
-        set(area, STARTS + 64 * i + next, rng.pick(&[stop, stop, stop.wrapping_sub(1), stop.wrapping_add(1)]));
+        let to = get(area, stop(i, j));
+        set(area, start(i, next), rng.pick(&[to, to, to.wrapping_sub(1), to.wrapping_add(1)]));
     },
     |area, rng| {
         let (i, j) = run(area, rng);
         let next = (j + 1).min(63);
-        for array in [STARTS, STOPS] {
-            let (one, other) = (get(area, array + 64 * i + j), get(area, array + 64 * i + next));
-            set(area, array + 64 * i + j, other);
-            set(area, array + 64 * i + next, one);
+        for side in [start, stop] {
+            let (one, other) = (get(area, side(i, j)), get(area, side(i, next)));
+            set(area, side(i, j), other);
+            set(area, side(i, next), one);
         }
     },
-    // 9: places that nothing uses.
+    // Unused words: all of them, the next head, the next transfer's runs, and an open transfer's next ones.
+    |area, rng| fill_unused(area, rng),
     |area, rng| {
         let i = (get(area, COUNT) as usize).min(15);
-        let word = rng.pick(&[IDS + i, WIDTHS + i, LENGTHS + i, RUN_COUNTS + i, STARTS + 64 * i, STOPS + 64 * i]);
-        set(area, word, rng.pick(&[1, 2, 8, 1 << 56, u64::MAX]));
+        let word = rng.pick(&[id(i), width(i), length(i), run_count(i), start(i, 0), stop(i, 0)]);
+        set(area, word, rng.pick(&[0, 1, 2, 8, 1 << 56, u64::MAX]));
     },
     |area, rng| {
         let i = transfer(area, rng);
-        let j = (get(area, RUN_COUNTS + i) as usize).min(63);
-        let word = rng.pick(&[STARTS, STOPS]) + 64 * i + rng.place(j, 63);
-        let length = get(area, LENGTHS + i);
-        set(area, word, rng.pick(&[1, length, 1 << 56]));
+        let j = runs_of(area, i).min(63);
+        let word = rng.pick(&[start, stop])(i, rng.place(j, 63));
+        let length = get(area, length(i));
+        set(area, word, rng.pick(&[0, 1, length, 1 << 56]));
     },
     // A run more behind the last, right or wrong.
     |area, rng| {
         let i = transfer(area, rng);
-        let runs = get(area, RUN_COUNTS + i).min(63) as usize;
-        let before = if runs == 0 { 0 } else { get(area, STOPS + 64 * i + runs - 1) };
-        let start = before.wrapping_add(rng.below(3));
-        set(area, RUN_COUNTS + i, runs as u64 + 1);
-        set(area, STARTS + 64 * i + runs, start);
-        set(area, STOPS + 64 * i + runs, start.wrapping_add(rng.below(3)));
+        let runs = runs_of(area, i).min(63);
+        let before = if runs == 0 { 0 } else { get(area, stop(i, runs - 1)) };
+        let from = before.wrapping_add(rng.below(3));
+        set(area, run_count(i), runs as u64 + 1);
+        set(area, start(i, runs), from);
+        set(area, stop(i, runs), from.wrapping_add(rng.below(3)));
     },
     // A run less.
     |area, rng| {
         let i = transfer(area, rng);
-        let runs = get(area, RUN_COUNTS + i).clamp(1, 64) as usize - 1;
-        set(area, RUN_COUNTS + i, runs as u64);
-        set(area, STARTS + 64 * i + runs, 0);
-        set(area, STOPS + 64 * i + runs, 0);
+        let runs = runs_of(area, i).max(1) - 1;
+        set(area, run_count(i), runs as u64);
+    },
+    // A transfer more behind the last, right or wrong.
+    |area, rng| {
+        let i = (get(area, COUNT) as usize).min(15);
+        let before = if i == 0 { 0 } else { get(area, id(i - 1)) };
+        let new = Entry {
+            id: before.wrapping_add(rng.below(3)),
+            width: rng.pick(&[2, 4, 8]),
+            length: rng.between(65_000, 66_000),
+            runs: vec![(1, 2), (4, 65_000)],
+        };
+        store_at(i, &new, area);
+        set(area, COUNT, i as u64 + 1);
     },
 ];
 
@@ -157,10 +170,15 @@ fn transfer(area: &[u8], rng: &mut Rng) -> usize {
     rng.place(0, get(area, COUNT).clamp(1, 16) as usize - 1)
 }
 
+/// Its number of runs, at most 64.
+fn runs_of(area: &[u8], i: usize) -> usize {
+    get(area, run_count(i)).min(64) as usize
+}
+
 /// A transfer's place and one of its runs'.
 fn run(area: &[u8], rng: &mut Rng) -> (usize, usize) {
     let i = transfer(area, rng);
-    (i, rng.place(0, get(area, RUN_COUNTS + i).clamp(1, 64) as usize - 1))
+    (i, rng.place(0, runs_of(area, i).max(1) - 1))
 }
 
 /// One or two of them.

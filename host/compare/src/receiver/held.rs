@@ -1,10 +1,12 @@
-//! An area lent to the receiver under test, beside what it should hold by the paper's rules.
+//! An area lent to the receiver under test, beside what it should hold by the paper's rules. What no rule speaks of, the
+//! places that no transfer or run uses, holds anything as a rule.
 
 use paper::area;
 use paper::refusal::Refusal;
 use paper::table::Table;
 
 use crate::lent::Lent;
+use crate::receiver::words::{self, Entry, OCTETS};
 use crate::rng::Rng;
 
 #[derive(Clone)]
@@ -12,7 +14,7 @@ pub struct Held {
     pub area: Lent,
     /// What the area should be, octet for octet. The receiver under test never sees it.
     pub want: Lent,
-    /// The table whose image it should be; none where it should be refused with 22.
+    /// The table that it should hold; none where it should be refused with 22.
     pub table: Option<Table>,
 }
 
@@ -23,11 +25,12 @@ impl Held {
         Held { want: area.clone(), table: area::take_up(octets).ok(), area }
     }
 
-    /// The table's image, with some octets past it.
-    pub fn image(table: Table, rng: &mut Rng) -> Held {
+    /// The table stored in an area with anything in it, and some octets past the layout.
+    pub fn holding(table: Table, rng: &mut Rng) -> Held {
         let len = area_len(rng);
         let mut area = Lent::random(len, rng);
-        area::lay_out(&table, area.octets_mut());
+        area::store(&table, area.octets_mut());
+        fill_unused(area.octets_mut(), rng);
         Held { want: area.clone(), table: Some(table), area }
     }
 
@@ -44,11 +47,11 @@ impl Held {
         Held::of(&octets, rng)
     }
 
-    /// What the paper's rule for a call answers; what it leaves is laid out. "22 comes before all".
+    /// What the paper's rule for a call answers; what it leaves is stored. "22 comes before all".
     pub fn change<T>(&mut self, rule: impl FnOnce(&mut Table) -> Result<T, Refusal>) -> Result<T, Refusal> {
         let table = self.table.as_mut().ok_or(Refusal::Area)?;
         let answer = rule(table)?;
-        area::lay_out(table, self.want.octets_mut());
+        area::store(table, self.want.octets_mut());
         Ok(answer)
     }
 
@@ -67,5 +70,32 @@ impl Held {
 
 /// Lengths that are enough.
 fn area_len(rng: &mut Rng) -> usize {
-    area::OCTETS + rng.pick(&[0, 0, 0, 1, 7, 8, 100])
+    OCTETS + rng.pick(&[0, 0, 0, 1, 7, 8, 100])
+}
+
+/// Fills the unused words of an area: with random octets, one octet, or numbers that a table could have there. Areas
+/// whose counts speak of more words than there are stay.
+pub fn fill_unused(area: &mut [u8], rng: &mut Rng) {
+    let Some(used) = words::entries(area) else { return };
+    match rng.below(4) {
+        0 => area[..OCTETS].fill(rng.pick(&[0, 1, 0xFF])),
+        1 | 2 => rng.fill(&mut area[..OCTETS]),
+        _ => {
+            for i in 0..words::TRANSFERS {
+                words::store_at(i, &likely(&used, rng), area);
+            }
+        }
+    }
+    words::store(&used, area);
+}
+
+/// A transfer as it could be left in an unused place: an Id that is likely to be asked for, and 64 runs.
+fn likely(used: &[Entry], rng: &mut Rng) -> Entry {
+    let id = match used {
+        [first, ..] if rng.one_in(2) => first.id ^ rng.below(64),
+        _ => rng.below(40),
+    };
+    let base = rng.between(0, 300);
+    let runs = (0..words::RUNS as u64).map(|run| (base + 3 * run, base + 3 * run + rng.between(1, 2))).collect();
+    Entry { id, width: rng.pick(&[2, 4, 8]), length: rng.between(1_000, 65_535), runs }
 }

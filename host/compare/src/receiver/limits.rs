@@ -8,8 +8,9 @@ use crate::check::{require, Check, Step};
 use crate::faults;
 use crate::packets::{last, Ending};
 use crate::receiver::files::{opening, recording, File};
-use crate::receiver::held::Held;
-use crate::receiver::Ask;
+use crate::receiver::held::{fill_unused, Held};
+use crate::receiver::pass::empty;
+use crate::receiver::{words, Ask};
 use crate::rng::Rng;
 
 /// All of it.
@@ -39,8 +40,7 @@ fn lengths(check: &mut Check) -> Step {
     let lengths = [0, 1, 2, 0xFFFE, 0xFFFF, 0x1_0000, 0xFFFF_FFFE, 0xFFFF_FFFF, 0x1_0000_0000, u64::MAX - 1, u64::MAX];
     for code in 0..3 {
         for length in lengths {
-            let mut held = Held::random(&mut check.rng);
-            check.fresh(&mut held)?;
+            let mut held = empty(check)?;
             let file = File { id: 7, code, length };
             let fits = length <= last(2 << code);
             let packet = opening(&mut check.rng, file).octets(&mut check.rng);
@@ -71,8 +71,7 @@ fn lengths(check: &mut Check) -> Step {
 /// Up to 17 Ids; each closed in turn, and its place used again.
 fn full_table(check: &mut Check) -> Step {
     for closed in 0..16u32 {
-        let mut held = Held::random(&mut check.rng);
-        check.fresh(&mut held)?;
+        let mut held = empty(check)?;
         for id in 0..17u32 {
             // In an order that isn't rising.
             let id = id * 5 % 17;
@@ -103,6 +102,7 @@ fn full_table(check: &mut Check) -> Step {
 fn list(check: &mut Check, held: &Held) -> Step {
     for index in (0..18).chain([1 << 32, u64::MAX]) {
         check.transfer(held, index)?;
+        check.find(held, index)?;
     }
     Ok(())
 }
@@ -111,21 +111,24 @@ fn list(check: &mut Check, held: &Held) -> Step {
 fn small_sets(check: &mut Check) -> Step {
     for set in 0..32u64 {
         let runs: Vec<_> = (0..5).filter(|&offset| set >> offset & 1 == 1).map(|offset| (offset, offset + 1)).collect();
-        let held = Held::image(one(9, 2, 5, &runs), &mut check.rng);
+        let held = Held::holding(one(9, 2, 5, &runs), &mut check.rng);
         for offset in 0..7 {
             for len in 1..7 {
                 for end_of_data in [false, true] {
                     let packet = recording(&mut check.rng, 9, 0, offset, len, end_of_data).octets(&mut check.rng);
+                    check.try_record(&held, &packet)?;
                     check.record(&mut held.clone(), &packet)?;
                 }
             }
         }
         for skip in 0..4 {
+            check.transfer_hole(&held, 9, skip)?;
             for room in 0..26 {
                 check.write_status(&held, Ask { id: 9, skip, unasked: 0 }, room)?;
             }
         }
         check.transfer(&held, 0)?;
+        check.find(&held, 9)?;
     }
     Ok(())
 }
@@ -134,10 +137,11 @@ fn small_sets(check: &mut Check) -> Step {
 fn many_runs(check: &mut Check) -> Step {
     for (count, gap, base) in [(64, 1, 0), (64, 2, 1), (64, 3, 2), (63, 2, 0), (62, 1, 3)] {
         let runs: Vec<_> = (0..count).map(|run| base + run * (gap + 1)).map(|start| (start, start + 1)).collect();
-        let held = Held::image(one(9, 4, 300, &runs), &mut check.rng);
+        let held = Held::holding(one(9, 4, 300, &runs), &mut check.rng);
         for offset in 0..300 {
             for len in 1..5 {
                 let packet = recording(&mut check.rng, 9, 1, offset, len, false).octets(&mut check.rng);
+                check.try_record(&held, &packet)?;
                 check.record(&mut held.clone(), &packet)?;
             }
         }
@@ -156,7 +160,7 @@ fn ends_of_numbers(check: &mut Check) -> Step {
         for length in [most, most - 1, most - 2, 1 << 15] {
             let runs = [(length - 1, length)];
             for held in [one(9, 2 << code, length, &[]), one(9, 2 << code, length, &runs)] {
-                let held = Held::image(held, &mut check.rng);
+                let held = Held::holding(held, &mut check.rng);
                 for back in 0..4 {
                     for from in [length, most] {
                         for len in [1, 2, 3, 4, 60_000, 65_000] {
@@ -187,7 +191,7 @@ fn statuses(check: &mut Check) -> Step {
                 (0, false) => one(9, d, 200, &[(0, 7)]),
                 _ => one(9, d, 200, &runs),
             };
-            let held = Held::image(held, &mut check.rng);
+            let held = Held::holding(held, &mut check.rng);
             for skip in (0..=holes + 2).chain([1 << 32, 1 << 62, u64::MAX]) {
                 if holes > 10 && skip > 3 && skip < holes - 2 && !check.rng.one_in(8) {
                     continue;
@@ -217,7 +221,7 @@ fn packet_faults(check: &mut Check) -> Step {
             let mut packet = opening(rng, File { id: 9, code: 1, length: 300 });
             fault(&mut packet, rng);
             let packet = packet.octets(rng);
-            let mut held = Held::image(one(8, 2, 5, &[]), rng);
+            let mut held = Held::holding(one(8, 2, 5, &[]), rng);
             let got = check.open(&mut held, &packet)?.number;
             require(got == number, || format!("opening: refusal {number} is expected, not {got}"))?;
         }
@@ -228,7 +232,8 @@ fn packet_faults(check: &mut Check) -> Step {
             let mut packet = recording(rng, 9, 1, 17, 10, false);
             fault(&mut packet, rng);
             let packet = packet.octets(rng);
-            let mut held = Held::image(one(9, 4, 300, &[]), rng);
+            let mut held = Held::holding(one(9, 4, 300, &[]), rng);
+            check.try_record(&held, &packet)?;
             let got = check.record(&mut held, &packet)?.number;
             require(got == number, || format!("recording: refusal {number} is expected, not {got}"))?;
         }
@@ -252,7 +257,7 @@ fn opening_order(check: &mut Check) -> Step {
                 packet.close.clear();
             }
             let packet = packet.octets(rng);
-            let mut held = damaged_if(choice & 8 != 0, Held::image(table, rng), rng);
+            let mut held = damaged_if(choice & 8 != 0, Held::holding(table, rng), rng);
             check.open(&mut held, &packet)?;
         }
     }
@@ -265,7 +270,7 @@ fn recording_order(check: &mut Check) -> Step {
     for choice in 0..512u32 {
         let rng = &mut check.rng;
         let is = |bit: u32| choice >> bit & 1 != 0;
-        let held = Held::image(one(9, 2, 3_000, if is(8) { &runs[..3] } else { &runs }), rng);
+        let held = Held::holding(one(9, 2, 3_000, if is(8) { &runs[..3] } else { &runs }), rng);
         let mut held = damaged_if(is(0), held, rng);
         let (id, code) = (if is(1) { 10 } else { 9 }, if is(2) { 1 } else { 0 });
         let offset = if is(3) { 2_999 } else { 2_000 };
@@ -280,15 +285,16 @@ fn recording_order(check: &mut Check) -> Step {
             packet.ending = Ending::Cut(9);
         }
         let packet = packet.octets(rng);
+        check.try_record(&held, &packet)?;
         check.record(&mut held, &packet)?;
     }
     Ok(())
 }
 
-/// The area with an octet in an unused place, if so chosen.
+/// The area with 17 open, if so chosen; else with other octets in the places that nothing uses.
 fn damaged_if(chosen: bool, held: Held, rng: &mut Rng) -> Held {
     match chosen {
-        true => held.changed(rng, |area, _| area[16_903] = 1),
-        false => held,
+        true => held.changed(rng, |area, _| words::set(area, words::COUNT, 17)),
+        false => held.changed(rng, |area, rng| fill_unused(area, rng)),
     }
 }

@@ -1,4 +1,4 @@
-//! What is compared second: the six functions of include/saratoga.h that use an area, here over slices.
+//! What is compared second: the nine functions of include/saratoga.h that use an area, here over slices.
 
 pub mod aim;
 pub mod check;
@@ -11,20 +11,24 @@ pub mod orders;
 pub mod pass;
 pub mod words;
 pub mod wrong;
+pub mod wrong_areas;
 pub mod wrong_calls;
 
 use paper::area;
 
-use crate::answer::{Done, Listed, Opened, Recorded, Written};
+use crate::answer::{Done, Hole, Listed, Opened, Recorded, Written};
 use crate::codec::Paper;
 
 pub trait Receiver {
     fn fresh(&self, area: &mut [u8]) -> Done;
     fn open(&self, area: &mut [u8], packet: &[u8]) -> Opened;
     fn record(&self, area: &mut [u8], packet: &[u8]) -> Recorded;
+    fn try_record(&self, area: &[u8], packet: &[u8]) -> Recorded;
     fn close(&self, area: &mut [u8], id: u64) -> Done;
     fn write_status(&self, area: &[u8], ask: Ask, out: &mut [u8]) -> Written;
     fn transfer(&self, area: &[u8], index: u64) -> Listed;
+    fn find(&self, area: &[u8], id: u64) -> Listed;
+    fn transfer_hole(&self, area: &[u8], id: u64, index: u64) -> Hole;
 }
 
 /// What a STATUS is asked for: the Id, the number of holes to skip, and whether it is unasked.
@@ -49,6 +53,10 @@ impl Receiver for Paper {
         area::record(area, packet).into()
     }
 
+    fn try_record(&self, area: &[u8], packet: &[u8]) -> Recorded {
+        area::try_record(area, packet).into()
+    }
+
     fn close(&self, area: &mut [u8], id: u64) -> Done {
         area::close(area, id).into()
     }
@@ -59,5 +67,13 @@ impl Receiver for Paper {
 
     fn transfer(&self, area: &[u8], index: u64) -> Listed {
         area::transfer_at(area, index).into()
+    }
+
+    fn find(&self, area: &[u8], id: u64) -> Listed {
+        area::find(area, id).into()
+    }
+
+    fn transfer_hole(&self, area: &[u8], id: u64, index: u64) -> Hole {
+        area::hole(area, id, index).into()
     }
 }

@@ -43,9 +43,10 @@ pub fn trial(check: &mut Check) -> Step {
         require(number == 0, || refused("recording", number, packet))?;
     }
 
-    // "Both desks end with the same transfers open and the same received octets for each".
+    // "Both desks end with the same transfers open and the same received octets for each". Their areas may differ in
+    // places that nothing uses.
     let (one, other) = (first.area.octets(), second.area.octets());
-    let same = one[..area::OCTETS] == other[..area::OCTETS];
+    let same = area::take_up(one) == area::take_up(other);
     require(same, || format!("the two orders end otherwise\n{}\n{}", words::describe(one), words::describe(other)))?;
     brought(&accepted, one)?;
     statuses(check, &first, &second, &files)
@@ -60,7 +61,7 @@ fn list(check: &mut Check, held: &mut Held, files: &[File]) -> Result<Accepted, 
     let mut accepted = Accepted::default();
     for _ in 0..check.rng.between(1, 80) {
         let rng = &mut check.rng;
-        let table = held.table.as_ref().expect("an image");
+        let table = held.table.as_ref().expect("it holds one");
         let packets = match rng.below(20) {
             0..=4 => vec![opening_packet(rng, files)],
             5..=13 => vec![recording_packet(rng, table, files)],
@@ -144,7 +145,7 @@ fn brought(accepted: &Accepted, got: &[u8]) -> Step {
 /// refused with the same number and code, or both answer the same and leave the same octets."
 fn statuses(check: &mut Check, first: &Held, second: &Held, files: &[File]) -> Step {
     let ids = files.iter().map(|file| u64::from(file.id)).chain([check.rng.number(64)]);
-    let table = first.table.clone().expect("an image");
+    let table = first.table.clone().expect("it holds one");
     for id in ids.collect::<Vec<_>>() {
         let (holes, d) = match table.transfers.get(&id) {
             Some(transfer) => (transfer.received.holes().len() as u64, transfer.width),

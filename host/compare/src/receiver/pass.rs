@@ -3,7 +3,7 @@
 
 use paper::table::Table;
 
-use crate::check::{Check, Step};
+use crate::check::{Check, Step, Stop};
 use crate::faults;
 use crate::packets::Ending;
 use crate::random::{extend, flip, senseless_packet, spoil, valid_packet};
@@ -20,29 +20,36 @@ pub fn case(check: &mut Check) -> Step {
     }
 }
 
-/// A pass on an area made fresh, or on one that holds a table already.
+/// A pass on an area made fresh, or on one that holds a table already, which may be empty.
 fn pass(check: &mut Check) -> Step {
     let count = check.rng.pick(&[1, 1, 2, 3, 5, 16, 17, 17]);
     let files = files(&mut check.rng, count);
-    let mut held = Held::random(&mut check.rng);
-    match check.rng.below(3) {
-        0 => {
+    let mut held = match check.rng.one_in(2) {
+        true => {
             let table = table(&mut check.rng, &files);
-            held = Held::image(table, &mut check.rng);
+            Held::holding(table, &mut check.rng)
         }
-        _ => {
-            check.fresh(&mut held)?;
-        }
-    }
+        false => empty(check)?,
+    };
     for _ in 0..check.rng.between(5, 150) {
         step(check, &mut held, &files)?;
     }
     Ok(())
 }
 
+/// An area with nothing open: made fresh, or with anything in the places that nothing uses.
+pub fn empty(check: &mut Check) -> Result<Held, Stop> {
+    if check.rng.one_in(2) {
+        return Ok(Held::holding(Table::default(), &mut check.rng));
+    }
+    let mut held = Held::random(&mut check.rng);
+    check.fresh(&mut held)?;
+    Ok(held)
+}
+
 fn step(check: &mut Check, held: &mut Held, files: &[File]) -> Step {
     let rng = &mut check.rng;
-    let table = held.table.as_ref().expect("an image");
+    let table = held.table.as_ref().expect("it holds one");
     match rng.below(100) {
         0..=18 => {
             let packet = opening_packet(rng, files);

@@ -1,22 +1,49 @@
-//! The words of an area as docs/AREA.md lays them out, whatever they hold: to damage areas, and for wrong receivers.
+//! The words of an area as docs/AREA.md lays them out, whatever they hold: to fill and damage areas, and for wrong
+//! receivers.
 
-/// Words and octets of the layout, and where its arrays begin.
+use std::ops::Range;
+
+/// Words and octets of the layout, and places for transfers and for the runs of each.
 pub const WORDS: usize = 2_113;
 pub const OCTETS: usize = 16_904;
+pub const TRANSFERS: usize = 16;
+pub const RUNS: usize = 64;
+
+/// The number of open transfers.
 pub const COUNT: usize = 0;
-pub const IDS: usize = 1;
-pub const WIDTHS: usize = 17;
-pub const LENGTHS: usize = 33;
-pub const RUN_COUNTS: usize = 49;
-pub const STARTS: usize = 65;
-pub const STOPS: usize = 1_089;
+
+/// The head of transfer i, by its fields.
+pub fn id(i: usize) -> usize {
+    1 + 4 * i
+}
+
+pub fn width(i: usize) -> usize {
+    2 + 4 * i
+}
+
+pub fn length(i: usize) -> usize {
+    3 + 4 * i
+}
+
+pub fn run_count(i: usize) -> usize {
+    4 + 4 * i
+}
+
+/// Run j of transfer i.
+pub fn start(i: usize, j: usize) -> usize {
+    65 + RUNS * i + j
+}
+
+pub fn stop(i: usize, j: usize) -> usize {
+    1_089 + RUNS * i + j
+}
 
 pub fn get(area: &[u8], word: usize) -> u64 {
-    u64::from_be_bytes(area[8 * word..8 * word + 8].try_into().expect("eight octets"))
+    u64::from_le_bytes(area[8 * word..8 * word + 8].try_into().expect("eight octets"))
 }
 
 pub fn set(area: &mut [u8], word: usize, value: u64) {
-    area[8 * word..8 * word + 8].copy_from_slice(&value.to_be_bytes());
+    area[8 * word..8 * word + 8].copy_from_slice(&value.to_le_bytes());
 }
 
 /// Sets a word to what becomes of it.
@@ -24,8 +51,13 @@ pub fn change(area: &mut [u8], word: usize, new: impl FnOnce(u64) -> u64) {
     set(area, word, new(get(area, word)));
 }
 
+/// Copies words to another place.
+pub fn copy(area: &mut [u8], from: Range<usize>, to: usize) {
+    area.copy_within(8 * from.start..8 * from.end, 8 * to);
+}
+
 /// A transfer's words, judged by nothing.
-#[derive(Clone, Debug)]
+#[derive(Clone, Debug, PartialEq, Eq)]
 pub struct Entry {
     pub id: u64,
     pub width: u64,
@@ -35,39 +67,54 @@ pub struct Entry {
 
 /// The transfers that the counts speak of; none where there is no room for so many transfers or runs.
 pub fn entries(area: &[u8]) -> Option<Vec<Entry>> {
-    let count = usize::try_from(get(area, COUNT)).ok().filter(|&count| count <= 16)?;
     let entry = |i: usize| {
-        let runs = usize::try_from(get(area, RUN_COUNTS + i)).ok().filter(|&runs| runs <= 64)?;
-        let run = |j: usize| (get(area, STARTS + 64 * i + j), get(area, STOPS + 64 * i + j));
+        let run = |j: usize| (get(area, start(i, j)), get(area, stop(i, j)));
         Some(Entry {
-            id: get(area, IDS + i),
-            width: get(area, WIDTHS + i),
-            length: get(area, LENGTHS + i),
-            runs: (0..runs).map(run).collect(),
+            id: get(area, id(i)),
+            width: get(area, width(i)),
+            length: get(area, length(i)),
+            runs: (0..count(area, run_count(i), RUNS)?).map(run).collect(),
         })
     };
-    (0..count).map(entry).collect()
+    (0..count(area, COUNT, TRANSFERS)?).map(entry).collect()
 }
 
-/// Lays the transfers out; every place after them is zero.
-pub fn lay_out(entries: &[Entry], area: &mut [u8]) {
-    area[..OCTETS].fill(0);
+/// The word as a count, if it is at most `most`.
+fn count(area: &[u8], word: usize, most: usize) -> Option<usize> {
+    usize::try_from(get(area, word)).ok().filter(|&count| count <= most)
+}
+
+/// Stores the transfers in the places that they use.
+pub fn store(entries: &[Entry], area: &mut [u8]) {
     set(area, COUNT, entries.len() as u64);
     for (i, entry) in entries.iter().enumerate() {
-        set(area, IDS + i, entry.id);
-        set(area, WIDTHS + i, entry.width);
-        set(area, LENGTHS + i, entry.length);
-        set(area, RUN_COUNTS + i, entry.runs.len() as u64);
-        for (j, &(start, stop)) in entry.runs.iter().enumerate() {
-            set(area, STARTS + 64 * i + j, start);
-            set(area, STOPS + 64 * i + j, stop);
-        }
+        store_at(i, entry, area);
     }
 }
 
-/// The words that aren't zero.
+/// Stores one transfer at a place.
+pub fn store_at(i: usize, entry: &Entry, area: &mut [u8]) {
+    set(area, id(i), entry.id);
+    set(area, width(i), entry.width);
+    set(area, length(i), entry.length);
+    set(area, run_count(i), entry.runs.len() as u64);
+    for (j, &run) in entry.runs.iter().enumerate() {
+        set(area, start(i, j), run.0);
+        set(area, stop(i, j), run.1);
+    }
+}
+
+/// The words that the counts speak of, as far as there is room for them.
 pub fn describe(area: &[u8]) -> String {
-    let words = (0..WORDS.min(area.len() / 8)).filter(|&word| get(area, word) != 0);
-    let words: Vec<_> = words.map(|word| format!("{word}: {:#x}", get(area, word))).collect();
-    format!("  area of {} octets, words: {}", area.len(), words.join(", "))
+    if area.len() < OCTETS {
+        return format!("  area of {} octets", area.len());
+    }
+    let mut lines = vec![format!("  area of {} octets, open: {:#x}", area.len(), get(area, COUNT))];
+    for i in 0..get(area, COUNT).min(TRANSFERS as u64) as usize {
+        let [id, width, length, count] = [id(i), width(i), length(i), run_count(i)].map(|word| get(area, word));
+        let runs = (0..count.min(RUNS as u64) as usize).map(|j| (get(area, start(i, j)), get(area, stop(i, j))));
+        let runs: Vec<_> = runs.map(|(start, stop)| format!("{start:#x}..{stop:#x}")).collect();
+        lines.push(format!("    Id {id:#x}, width {width}, length {length:#x}, {count} runs: {}", runs.join(", ")));
+    }
+    lines.join("\n")
 }

@@ -85,12 +85,22 @@ wrong! {
     // Closing and listing.
     /// The Id is taken modulo 2^32.
     IdWraps,
-    /// The closed place isn't cleared.
-    PlaceNotCleared,
     /// The index is taken modulo 2^32.
     IndexWraps,
     /// Holes are listed for runs.
     HolesForRuns,
+
+    // Asking before recording, and by the Id.
+    /// What recording would answer is told of the transfer as it stands.
+    TryAsItStands,
+    /// A 65th run is foreseen.
+    TryNeverSixteen,
+    /// For an Id that isn't open, the transfer with the next is found.
+    FindsNext,
+    /// From the edge to the length is a transfer's hole.
+    HoleAfterLast,
+    /// A transfer's hole ends at its last octet.
+    HoleClosedEnd,
 
     // STATUS.
     /// From the edge to the length is a hole.
@@ -133,8 +143,10 @@ wrong! {
     LongIdTaken,
     /// Ids in another order are taken.
     OtherOrderTaken,
-    /// Octets in places that nothing uses are taken.
-    StrayTaken,
+    /// Runs are not judged, and none is taken to be there.
+    RunsNotJudged,
+    /// The last transfer isn't judged where it isn't asked for.
+    LastNotJudged,
     /// An area that is short by one octet is taken.
     ShortTaken,
     /// A longer area is refused.
@@ -143,10 +155,56 @@ wrong! {
     PastCleared,
     /// A fresh table has its count cleared alone.
     FreshCountOnly,
-    /// A fresh table is refused where the area is no image.
+    /// A fresh table is refused where the area holds none.
     FreshJudges,
     /// An area too short for a fresh table is written to.
     FreshTouchesShort,
+    /// Words have the highest octet first.
+    HighestFirst,
+    /// The length of an opened transfer is written with the highest octet first.
+    LengthHighestFirst,
+    /// Heads stand by their fields: first all Ids, then all widths.
+    HeadsByField,
+
+    // The places that nothing uses.
+    /// The head after the last open transfer must be zero.
+    NextHeadRefused,
+    /// Every head without a transfer must be zero.
+    StrayHeadRefused,
+    /// The places after an open transfer's runs must be zero.
+    StrayRunRefused,
+    /// All run places without a transfer must be zero.
+    StrayRowRefused,
+    /// The last word must be zero where it isn't used.
+    LastWordRefused,
+    /// An Id is found in a head without a transfer.
+    UnusedIdFound,
+    /// Heads without a transfer are listed.
+    UnusedListed,
+    /// The place after the last run is taken for a run that may touch.
+    UnusedRunJoined,
+    /// All unused places are cleared.
+    UnusedCleared,
+    /// The head that closing leaves unused is cleared.
+    ClosedHeadCleared,
+    /// The run places that closing leaves unused are cleared.
+    ClosedRunsCleared,
+    /// The run places that recording leaves unused are cleared.
+    JoinedCleared,
+    /// All run places of an opened transfer are cleared.
+    OpenedCleared,
+    /// Opening moves all 64 places of the transfers behind.
+    WholeMovedUp,
+    /// Closing moves them all.
+    WholeMovedDown,
+    /// Closing moves all places behind, those without a transfer too.
+    AllMovedDown,
+    /// Recording a run more moves all the places of the row behind it.
+    RowMovedUp,
+    /// Recording a run less moves them all.
+    RowMovedDown,
+    /// Recording writes the runs that it drops behind those that stay.
+    JoinedSwapped,
 }
 
 /// Those that the trial of the two orders must find by itself, without the paper's answers.

@@ -4,10 +4,11 @@ use paper::area::take_up;
 use paper::read;
 use paper::table::Transfer;
 
-use crate::answer::{Done, Listed, Opened, Recorded, Written};
+use crate::answer::{Done, Hole, Listed, Opened, Recorded, Written};
 use crate::codec::{Codec, Paper};
-use crate::receiver::words::{self, entries, lay_out, Entry, OCTETS};
+use crate::receiver::words::{self, entries, store, Entry, OCTETS};
 use crate::receiver::wrong::Wrong::{self, *};
+use crate::receiver::wrong_areas::unused_heads;
 use crate::receiver::{Ask, Receiver};
 
 impl Receiver for Wrong {
@@ -34,8 +35,9 @@ impl Receiver for Wrong {
             return Paper.open(&mut mended, packet);
         }
         let before = area.to_vec();
-        let right = Paper.open(area, packet);
+        let right = self.laid_out(area, |area| Paper.open(area, packet));
         self.clear_past(area, right.number);
+        self.leave(&before, area);
         let refused = |number, code| Opened { number, code, ..Opened::default() };
         let read = Paper.read(packet);
         let table = take_up(&before).unwrap_or_default();
@@ -45,7 +47,7 @@ impl Receiver for Wrong {
             Opened { edge: state.edge, complete: state.complete.into(), already_open: 1, ..Opened::default() }
         };
         match (self, open) {
-            (LongerRefused, _) if longer_image(&before) => {
+            _ if self.refuses(&before) => {
                 area.copy_from_slice(&before);
                 return refused(22, 0);
             }
@@ -80,13 +82,14 @@ impl Receiver for Wrong {
             return Paper.record(&mut mended, packet);
         }
         let before = area.to_vec();
-        let right = Paper.record(area, packet);
+        let right = self.laid_out(area, |area| Paper.record(area, packet));
         self.clear_past(area, right.number);
+        self.leave(&before, area);
         let read = Paper.read(packet);
         let table = take_up(&before).unwrap_or_default();
         let refused = |number, code| Recorded { number, code, ..Recorded::default() };
         let wrong = match (self, table.transfers.get(&read.id).filter(|_| read.number == 0 && read.kind == 3)) {
-            (LongerRefused, _) if longer_image(&before) => refused(22, 0),
+            _ if self.refuses(&before) => refused(22, 0),
             (PacketBeforeArea, _) if right.number == 22 && read.number != 0 => refused(read.number, read.code),
             (IdBeforePacket, _) if matches!(right.number, 1 | 5 | 6 | 10) && packet.len() >= 8 => {
                 let id = u64::from(u32::from_be_bytes(packet[4..8].try_into().expect("four octets")));
@@ -105,6 +108,19 @@ impl Receiver for Wrong {
         wrong
     }
 
+    /// What this receiver's recording answers, of a copy.
+    fn try_record(&self, area: &[u8], packet: &[u8]) -> Recorded {
+        let right = self.record(&mut area.to_vec(), packet);
+        match self {
+            TryAsItStands if right.number == 0 => {
+                let found = Paper.find(area, Paper.read(packet).id);
+                Recorded { edge: found.edge, complete: found.complete, ..right }
+            }
+            TryNeverSixteen if right.number == 16 => Recorded::default(),
+            _ => right,
+        }
+    }
+
     fn close(&self, area: &mut [u8], id: u64) -> Done {
         if let Some(mut mended) = self.mended(area) {
             return Paper.close(&mut mended, id);
@@ -112,18 +128,20 @@ impl Receiver for Wrong {
         let before = area.to_vec();
         let right = match self {
             IdWraps => Paper.close(area, id % (1 << 32)),
-            _ => Paper.close(area, id),
+            _ => self.laid_out(area, |area| Paper.close(area, id)),
         };
         self.clear_past(area, right.number);
+        self.leave(&before, area);
         match self {
-            LongerRefused if longer_image(&before) => {
+            _ if self.refuses(&before) => {
                 area.copy_from_slice(&before);
                 return Done { number: 22, code: 0 };
             }
             IdBeforeArea if right.number == 22 && id >= 1 << 32 => return Done { number: 12, code: 0x06 },
-            PlaceNotCleared if right.number == 0 => {
-                let last = words::IDS + words::get(area, words::COUNT) as usize;
-                words::set(area, last, words::get(&before, last));
+            UnusedIdFound
+                if right.number == 12 && unused_heads(&before).any(|i| words::get(&before, words::id(i)) == id) =>
+            {
+                return Done::default()
             }
             _ => {}
         }
@@ -137,10 +155,10 @@ impl Receiver for Wrong {
         let taken = match self {
             IdWraps => Ask { id: ask.id % (1 << 32), ..ask },
             UnaskedIsOne => Ask { unasked: u64::from(ask.unasked == 1), ..ask },
-            LongerRefused if longer_image(area) => return Written { number: 22, ..Written::default() },
+            _ if self.refuses(area) => return Written { number: 22, ..Written::default() },
             _ => ask,
         };
-        let right = Paper.write_status(area, taken, out);
+        let right = self.laid_out(&mut area.to_vec(), |area| Paper.write_status(area, taken, out));
         let table = take_up(area).unwrap_or_default();
         match table.transfers.get(&ask.id) {
             Some(transfer) => self.status_of(transfer, ask, right, out),
@@ -152,14 +170,55 @@ impl Receiver for Wrong {
         if let Some(mended) = self.mended(area) {
             return Paper.transfer(&mended, index);
         }
-        let right = Paper.transfer(area, index);
+        let right = self.laid_out(&mut area.to_vec(), |area| Paper.transfer(area, index));
         match self {
-            LongerRefused if longer_image(area) => Listed { number: 22, ..Listed::default() },
+            _ if self.refuses(area) => Listed { number: 22, ..Listed::default() },
+            UnusedListed if right.number == 12 => match unused_heads(area).find(|&i| i as u64 == index) {
+                Some(i) => Listed { id: words::get(area, words::id(i)), ..Listed::default() },
+                None => right,
+            },
             IndexWraps => Paper.transfer(area, index % (1 << 32)),
             HolesForRuns if right.number == 0 => {
                 let holes = take_up(area).unwrap_or_default().transfers[&right.id].received.holes().len();
                 Listed { runs: holes as u64, ..right }
             }
+            _ => right,
+        }
+    }
+
+    fn find(&self, area: &[u8], id: u64) -> Listed {
+        if let Some(mended) = self.mended(area) {
+            return Paper.find(&mended, id);
+        }
+        let right = self.laid_out(&mut area.to_vec(), |area| Paper.find(area, id));
+        match self {
+            _ if self.refuses(area) => Listed { number: 22, ..Listed::default() },
+            IdWraps => Paper.find(area, id % (1 << 32)),
+            FindsNext if right.number == 12 => {
+                let table = take_up(area).unwrap_or_default();
+                Paper.transfer(area, table.transfers.range(..id).count() as u64)
+            }
+            _ => right,
+        }
+    }
+
+    fn transfer_hole(&self, area: &[u8], id: u64, index: u64) -> Hole {
+        if let Some(mended) = self.mended(area) {
+            return Paper.transfer_hole(&mended, id, index);
+        }
+        let right = self.laid_out(&mut area.to_vec(), |area| Paper.transfer_hole(area, id, index));
+        match self {
+            _ if self.refuses(area) => Hole { number: 22, ..Hole::default() },
+            IdWraps => Paper.transfer_hole(area, id % (1 << 32), index),
+            HoleAfterLast if right.number == 19 => {
+                let found = Paper.find(area, id);
+                let holes = take_up(area).unwrap_or_default().transfers[&id].received.holes().len();
+                if index != holes as u64 || found.edge == found.length {
+                    return right;
+                }
+                Hole { start: found.edge, end: found.length, ..Hole::default() }
+            }
+            HoleClosedEnd if right.number == 0 => Hole { end: right.end - 1, ..right },
             _ => right,
         }
     }
@@ -201,6 +260,13 @@ impl Wrong {
             }
             AlwaysComplete if accepted => return Recorded { complete: 1, ..right },
             EdgeInside if accepted => return Recorded { edge: right.edge - 1, ..right },
+            UnusedRunJoined if accepted && runs.len() < 64 => {
+                let i = entries(before).expect("a table").iter().position(|entry| entry.id == data.header.id);
+                let next =
+                    [words::start, words::stop].map(|side| words::get(before, side(i.expect("open"), runs.len())));
+                let touches = next[0] <= end && start <= next[1] && next[1] <= length;
+                return if touches { Recorded { edge: right.edge.max(next[1]), ..right } } else { right };
+            }
             // What is recorded otherwise.
             TouchingApart if accepted && touches && !overlaps && runs.len() < 64 => {
                 change_entry(area, data.header.id, |entry| {
@@ -295,7 +361,7 @@ impl Wrong {
         }
     }
 
-    /// An area that is no image and that this receiver takes for one: the image that it takes it for.
+    /// An area that holds no table and that this receiver takes for one that does: that one.
     fn mended(self, area: &[u8]) -> Option<Vec<u8>> {
         let mut mended = area.to_vec();
         if self == ShortTaken && area.len() == OCTETS - 1 {
@@ -306,16 +372,13 @@ impl Wrong {
             return None;
         }
         let mut found = entries(area)?;
-        lay_out(&found, &mut mended);
-        // Where octets are in places that nothing uses, no other way is tried.
-        if (self == StrayTaken) == (mended == area) {
-            return None;
-        }
         found.iter_mut().for_each(|entry| self.mend(entry));
-        if self == OtherOrderTaken {
-            found.sort_by_key(|entry| entry.id);
+        match self {
+            OtherOrderTaken => found.sort_by_key(|entry| entry.id),
+            LastNotJudged => drop(found.pop()),
+            _ => {}
         }
-        lay_out(&found, &mut mended);
+        store(&found, &mut mended);
         take_up(&mended).is_ok().then_some(mended)
     }
 
@@ -327,6 +390,7 @@ impl Wrong {
             LongLengthTaken => entry.width = 8,
             OtherWidthTaken if ![2, 4, 8].contains(&entry.width) => entry.width = 8,
             LongIdTaken => entry.id %= 1 << 32,
+            RunsNotJudged => entry.runs.clear(),
             _ => {}
         }
     }
@@ -346,12 +410,7 @@ fn join(entry: &mut Entry, one: impl Fn((u64, u64), (u64, u64)) -> bool) {
 
 /// Changes the entry of an Id that is open.
 fn change_entry(area: &mut [u8], id: u64, change: impl FnOnce(&mut Entry)) {
-    let mut found = entries(area).expect("an image");
+    let mut found = entries(area).expect("a table");
     change(found.iter_mut().find(|entry| entry.id == id).expect("it is open"));
-    lay_out(&found, area);
-}
-
-/// An image with octets past it.
-fn longer_image(area: &[u8]) -> bool {
-    area.len() > OCTETS && take_up(area).is_ok()
+    store(&found, area);
 }

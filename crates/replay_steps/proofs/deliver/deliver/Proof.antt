@@ -53,9 +53,13 @@ same-length-3 c = search needs
 returns : tie.Need-returns
 unfolding deliverLines deliverArea
 returns c =
-    let a = c .before .before .before .before .before .before .before .before .before .before .before .before .before .before .before .before .before .before .args in
-    of-packet (a .number) (now (a .p)) (now (a .area)) (now (a .lent)) (sym (c .before .before .before .before .before .before .before .before .before .before .before .r .given .1) ∙ c .before .before .before .before .before .before .before .before .before .before .before .before .before .read-packet .ensures)
-    (c .before .before .before .before .before .before .«open» .ensures)
+    let open-place = c .before .before .before .before .before .before in
+    let r-place = open-place .before .before .before .before .before in
+    let read-packet-place = r-place .before .before in
+    let start = read-packet-place .before .before .before .before .before in
+    let a = start .args in
+    of-packet (a .number) (now (a .p)) (now (a .area)) (now (a .lent)) (sym (r-place .r .given .1) ∙ read-packet-place .read-packet .ensures)
+    (open-place .«open» .ensures)
 
 same-length-4 : tie.Need-same-length-4
 same-length-4 c = search needs
@@ -69,9 +73,13 @@ same-length-6 c = search needs
 returns-2 : tie.Need-returns-2
 unfolding deliverLines deliverArea
 returns-2 c =
-    let a = c .before .before .before .before .before .before .before .before .before .before .before .before .before .before .before .before .before .before .args in
-    of-packet (a .number) (now (a .p)) (now (a .area)) (now (a .lent)) (sym (c .before .before .before .before .before .before .before .before .before .before .before .r2 .given .1) ∙ c .before .before .before .before .before .before .before .before .before .before .before .before .before .read-packet .ensures)
-    (c .before .before .before .before .before .before .«record» .ensures)
+    let record-place = c .before .before .before .before .before .before in
+    let r2-place = record-place .before .before .before .before .before in
+    let read-packet-place = r2-place .before .before in
+    let start = read-packet-place .before .before .before .before .before in
+    let a = start .args in
+    of-packet (a .number) (now (a .p)) (now (a .area)) (now (a .lent)) (sym (r2-place .r2 .given .1) ∙ read-packet-place .read-packet .ensures)
+    (record-place .«record» .ensures)
 
 same-length-7 : tie.Need-same-length-7
 same-length-7 c = search needs
@@ -79,9 +87,13 @@ same-length-7 c = search needs
 returns-3 : tie.Need-returns-3
 unfolding deliverLines deliverArea
 returns-3 c =
-    let a = c .before .before .before .before .before .before .before .before .before .before .before .before .args in
-    of-packet (a .number) (now (a .p)) (now (a .area)) (now (a .lent)) (sym (c .before .before .before .before .before .r3 .given .1) ∙ c .before .before .before .before .before .before .before .read-packet .ensures)
-    (c .before .before .put-success .ensures, refl)
+    let put-success-place = c .before .before in
+    let r3-place = put-success-place .before .before .before in
+    let read-packet-place = r3-place .before .before in
+    let start = read-packet-place .before .before .before .before .before in
+    let a = start .args in
+    of-packet (a .number) (now (a .p)) (now (a .area)) (now (a .lent)) (sym (r3-place .r3 .given .1) ∙ read-packet-place .read-packet .ensures)
+    (put-success-place .put-success .ensures, refl)
 
 same-length-8 : tie.Need-same-length-8
 same-length-8 c = search needs
@@ -89,9 +101,13 @@ same-length-8 c = search needs
 returns-4 : tie.Need-returns-4
 unfolding deliverLines deliverArea
 returns-4 c =
-    let a = c .before .before .before .before .before .before .before .before .before .before .before .before .args in
-    of-packet (a .number) (now (a .p)) (now (a .area)) (now (a .lent)) (sym (c .before .before .before .before .before .r4 .given .1) ∙ c .before .before .before .before .before .before .before .read-packet .ensures)
-    (c .before .before .put-failure .ensures, refl)
+    let put-failure-place = c .before .before in
+    let r4-place = put-failure-place .before .before .before in
+    let read-packet-place = r4-place .before .before in
+    let start = read-packet-place .before .before .before .before .before in
+    let a = start .args in
+    of-packet (a .number) (now (a .p)) (now (a .area)) (now (a .lent)) (sym (r4-place .r4 .given .1) ∙ read-packet-place .read-packet .ensures)
+    (put-failure-place .put-failure .ensures, refl)
 
 same-length-9 : tie.Need-same-length-9
 same-length-9 c = search needs
@@ -102,9 +118,13 @@ same-length-10 c = search needs
 returns-5 : tie.Need-returns-5
 unfolding deliverLines deliverArea
 returns-5 c =
-    let a = c .before .before .before .before .before .before .before .before .before .before .before .before .before .before .before .args in
-    of-packet (a .number) (now (a .p)) (now (a .area)) (now (a .lent)) (sym (c .before .before .before .before .before .before .before .before .r5 .given .1) ∙ c .before .before .before .before .before .before .before .before .before .before .read-packet .ensures)
-    (c .before .before .before .before .put-refusal .ensures, refl)
+    let put-refusal-place = c .before .before .before .before in
+    let r5-place = put-refusal-place .before .before .before .before in
+    let read-packet-place = r5-place .before .before in
+    let start = read-packet-place .before .before .before .before .before in
+    let a = start .args in
+    of-packet (a .number) (now (a .p)) (now (a .area)) (now (a .lent)) (sym (r5-place .r5 .given .1) ∙ read-packet-place .read-packet .ensures)
+    (put-refusal-place .put-refusal .ensures, refl)
 
 pub deliver-spec : {M : Type 1} → statement M
 deliver-spec =

@@ -26,9 +26,12 @@ same-length-3 c = search needs
 
 returns : tie.Need-returns
 returns c =
-    let a = c .before .before .before .before .before .before .before .before .before .before .before .before .before .before .before .args in
-    let o = c .before .before .before .before .before .before .before .before .before .«open» .ensures in
-    (added-as (ap (λ (x : Opened). openedLines (a .number) (now (a .p)) (a .m) x (now (a .lent))) (o .0)) (c .before .before .before .before .put-opened .ensures), o .1)
+    let put-opened-place = c .before .before .before .before in
+    let open-place = put-opened-place .before .before .before .before .before in
+    let start = open-place .before .before .before .before .before .before in
+    let a = start .args in
+    let o = open-place .«open» .ensures in
+    (added-as (ap (λ (x : Opened). openedLines (a .number) (now (a .p)) (a .m) x (now (a .lent))) (o .0)) (put-opened-place .put-opened .ensures), o .1)
 
 pub open-spec : {M : Type 1} → statement M
 open-spec =

@@ -8,7 +8,7 @@ use borrow.Author.Tests.{eq-eqb, ne-eqb, lt-ltb, le-ltb}
 use borrow.Author.Needs.{needs}
 use Rattle.packet_status.specs.WriteFailure.{failureWritten, failureBuffer}
 use Rattle.text.proofs.AddedLaws.{added-as, added-none}
-use Rattle.replay_answers.specs.Answers.{sentText}
+use Rattle.replay_answers.specs.AnswerLines.{sentText}
 use Rattle.replay_steps.specs.Deliver.{failureSent}
 use Rattle.replay_steps.proofs.deliver.put_failure_sent.Statement.{statement}
 use Rattle.replay_steps.proofs.deliver.put_failure_sent.Tie as tie
@@ -22,8 +22,9 @@ returns c =
 returns-2 : tie.Need-returns-2
 unfolding failureSent
 returns-2 c =
-    let a = c .before .before .before .before .before .args in
-    rw (ne-eqb (a .code) 0 (c .before .if1 .left), lt-ltb (length (now (a .p))) 8 (c .if2 .taken)) (added-none (now (a .out)) (a .at) (c .before .before .before .before .before .pre))
+    let start = c .before .before .before .before .before in
+    let a = start .args in
+    rw (ne-eqb (a .code) 0 (c .before .if1 .left), lt-ltb (length (now (a .p))) 8 (c .if2 .taken)) (added-none (now (a .out)) (a .at) (start .pre))
 
 id-requires : tie.Need-id-requires
 id-requires c κs = search needs
@@ -43,12 +44,18 @@ same-length-2 c = search needs
 returns-3 : tie.Need-returns-3
 unfolding failureSent
 returns-3 c =
-    let a = c .before .before .before .before .before .before .before .before .before .before .before .before .before .before .before .args in
-    let i = c .before .before .before .before .before .before .before .before .id .ensures in
-    let w = c .before .before .before .before .before .before .before .write-failure .ensures in
-    rw (ne-eqb (a .code) 0 (c .before .before .before .before .before .before .before .before .before .before .before .if1 .left), le-ltb (length (now (a .p))) 8 (c .before .before .before .before .before .before .before .before .before .before .if2 .left))
+    let put-sent-place = c .before .before in
+    let write-failure-place = put-sent-place .before .before .before .before .before in
+    let id-place = write-failure-place .before in
+    let if2-place = id-place .before .before in
+    let if1-place = if2-place .before in
+    let start = if1-place .before .before .before .before in
+    let a = start .args in
+    let i = id-place .id .ensures in
+    let w = write-failure-place .write-failure .ensures in
+    rw (ne-eqb (a .code) 0 (if1-place .if1 .left), le-ltb (length (now (a .p))) 8 (if2-place .if2 .left))
     (added-as (ap₂ (sentText (a .number)) (w .0 ∙ ap (λ (n : ℕ). failureWritten n (a .code) (now (a .lent))) i) (w .1 ∙ ap (λ (n : ℕ). failureBuffer n (a .code) (now (a .lent))) i))
-    (c .before .before .put-sent .ensures))
+    (put-sent-place .put-sent .ensures))
 
 pub put-failure-sent-spec : {M : Type 1} → statement M
 put-failure-sent-spec =

@@ -21,7 +21,9 @@ same-length-2 c = search needs
 returns : tie.Need-returns
 unfolding recordedLines
 returns c =
-    c .before .before .before .before .before .before .before .before .before .put-recording .ensures then c .before .before .before .before .put-recorded-sent .ensures
+    let put-recorded-sent-place = c .before .before .before .before in
+    let put-recording-place = put-recorded-sent-place .before .before .before .before .before in
+    put-recording-place .put-recording .ensures then put-recorded-sent-place .put-recorded-sent .ensures
 
 pub put-recorded-spec : {M : Type 1} → statement M
 put-recorded-spec =

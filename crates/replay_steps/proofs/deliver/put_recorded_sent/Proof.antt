@@ -30,8 +30,11 @@ same-length-2 c = search needs
 returns : tie.Need-returns
 unfolding recordedSent
 returns c =
-    let a = c .before .before .before .before .before .before .before .before .before .before .before .before .before .args in
-    added-as (ap (λ (x : Recorded). recordedSent (a .number) (now (a .p)) (a .d) x (now (a .area)) (now (a .lent))) (sym (c .before .before .before .before .before .before .before .enum-told .given .1))) (c .before .before .before .before .put-wanted-sent .ensures)
+    let put-wanted-sent-place = c .before .before .before .before in
+    let enum-told-place = put-wanted-sent-place .before .before .before in
+    let start = enum-told-place .before .before .before .before .before .before in
+    let a = start .args in
+    added-as (ap (λ (x : Recorded). recordedSent (a .number) (now (a .p)) (a .d) x (now (a .area)) (now (a .lent))) (sym (enum-told-place .enum-told .given .1))) (put-wanted-sent-place .put-wanted-sent .ensures)
 
 same-length-3 : tie.Need-same-length-3
 same-length-3 c = search needs
@@ -42,8 +45,11 @@ same-length-4 c = search needs
 returns-2 : tie.Need-returns-2
 unfolding recordedSent
 returns-2 c =
-    let a = c .before .before .before .before .before .before .before .before .before .before .before .before .before .before .args in
-    added-as (ap (λ (x : Recorded). recordedSent (a .number) (now (a .p)) (a .d) x (now (a .area)) (now (a .lent))) (sym (c .before .before .before .before .before .before .before .before .a .given .1))) (c .before .before .before .before .put-failure-sent .ensures)
+    let put-failure-sent-place = c .before .before .before .before in
+    let a-place = put-failure-sent-place .before .before .before .before in
+    let start = a-place .before .before .before .before .before .before in
+    let a = start .args in
+    added-as (ap (λ (x : Recorded). recordedSent (a .number) (now (a .p)) (a .d) x (now (a .area)) (now (a .lent))) (sym (a-place .a .given .1))) (put-failure-sent-place .put-failure-sent .ensures)
 
 pub put-recorded-sent-spec : {M : Type 1} → statement M
 put-recorded-sent-spec =

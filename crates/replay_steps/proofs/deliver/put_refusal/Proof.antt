@@ -21,7 +21,9 @@ same-length-2 c = search needs
 returns : tie.Need-returns
 unfolding refusalLines
 returns c =
-    c .before .before .before .before .before .before .before .before .before .put-refused .ensures then c .before .before .before .before .put-failure-sent .ensures
+    let put-failure-sent-place = c .before .before .before .before in
+    let put-refused-place = put-failure-sent-place .before .before .before .before .before in
+    put-refused-place .put-refused .ensures then put-failure-sent-place .put-failure-sent .ensures
 
 pub put-refusal-spec : {M : Type 1} → statement M
 put-refusal-spec =

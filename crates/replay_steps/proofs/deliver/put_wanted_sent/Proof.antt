@@ -6,7 +6,7 @@ use denote.Ref.{now}
 use borrow.Author.Tests.{eq-eqb, ne-eqb}
 use borrow.Author.Needs.{needs}
 use Rattle.text.proofs.AddedLaws.{added-as, added-none}
-use Rattle.replay_answers.specs.Answers.{sentText}
+use Rattle.replay_answers.specs.AnswerLines.{sentText}
 use Rattle.replay_steps.specs.Deliver.{wantedSent}
 use Rattle.replay_steps.proofs.deliver.put_wanted_sent.Statement.{statement}
 use Rattle.replay_steps.proofs.deliver.put_wanted_sent.Tie as tie
@@ -14,8 +14,9 @@ use Rattle.replay_steps.proofs.deliver.put_wanted_sent.Tie as tie
 returns : tie.Need-returns
 unfolding wantedSent
 returns c =
-    let a = c .before .before .before .before .before .args in
-    rw (eq-eqb (a .d .wanted) 0 (omega arith)) (added-none (now (a .out)) (a .at) (c .before .before .before .before .before .pre))
+    let start = c .before .before .before .before .before in
+    let a = start .args in
+    rw (eq-eqb (a .d .wanted) 0 (omega arith)) (added-none (now (a .out)) (a .at) (start .pre))
 
 write-status-requires : tie.Need-write-status-requires
 write-status-requires c κs = search needs
@@ -32,9 +33,13 @@ same-length-2 c = search needs
 returns-2 : tie.Need-returns-2
 unfolding wantedSent
 returns-2 c =
-    let a = c .before .before .before .before .before .before .before .before .before .before .before .before .before .before .args in
-    let w = c .before .before .before .before .before .before .before .write-status .ensures in
-    rw (ne-eqb (a .d .wanted) 0 (c .before .before .before .before .before .before .before .before .before .if1 .left)) (added-as (ap₂ (sentText (a .number)) (w .0) (w .1)) (c .before .before .put-sent .ensures))
+    let put-sent-place = c .before .before in
+    let write-status-place = put-sent-place .before .before .before .before .before in
+    let if1-place = write-status-place .before .before in
+    let start = if1-place .before .before .before .before .before in
+    let a = start .args in
+    let w = write-status-place .write-status .ensures in
+    rw (ne-eqb (a .d .wanted) 0 (if1-place .if1 .left)) (added-as (ap₂ (sentText (a .number)) (w .0) (w .1)) (put-sent-place .put-sent .ensures))
 
 pub put-wanted-sent-spec : {M : Type 1} → statement M
 put-wanted-sent-spec =

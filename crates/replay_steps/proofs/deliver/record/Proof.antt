@@ -28,9 +28,12 @@ same-length-3 c = search needs
 
 returns : tie.Need-returns
 returns c =
-    let a = c .before .before .before .before .before .before .before .before .before .before .before .before .before .before .before .before .args in
-    let o = c .before .before .before .before .before .before .before .before .before .before .«record» .ensures in
-    (added-as (ap₂ (λ (x : Recorded) (l : List ℕ). recordedLines (a .number) (now (a .p)) (a .d) x l (now (a .lent))) (o .0) (o .1)) (c .before .before .before .before .put-recorded .ensures), o .1)
+    let put-recorded-place = c .before .before .before .before in
+    let record-place = put-recorded-place .before .before .before .before .before .before in
+    let start = record-place .before .before .before .before .before .before in
+    let a = start .args in
+    let o = record-place .«record» .ensures in
+    (added-as (ap₂ (λ (x : Recorded) (l : List ℕ). recordedLines (a .number) (now (a .p)) (a .d) x l (now (a .lent))) (o .0) (o .1)) (put-recorded-place .put-recorded .ensures), o .1)
 
 pub record-spec : {M : Type 1} → statement M
 record-spec =

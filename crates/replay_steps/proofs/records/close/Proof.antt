@@ -10,7 +10,7 @@ use borrow.Author.Needs.{needs}
 use Rattle.octets.specs.Numbers.{four}
 use Rattle.area.specs.Operations.{closeArea}
 use Rattle.text.proofs.AddedLaws.{added-as}
-use Rattle.replay_answers.specs.Answers.{closeText}
+use Rattle.replay_answers.specs.AnswerLines.{closeText}
 use Rattle.replay_steps.specs.Records.{closeLines, closeAfter}
 use Rattle.replay_steps.proofs.records.close.Statement.{statement}
 use Rattle.replay_steps.proofs.records.close.Tie as tie
@@ -24,9 +24,12 @@ same-length c = search needs
 returns : tie.Need-returns
 unfolding closeLines closeAfter
 returns c =
-    let a = c .before .before .before .before .before .before .before .before .args in
-    let z = ne-eqb (length (now (a .body))) 4 (c .before .before .before .before .if1 .taken) in
-    (rw z (c .before .before .bad-length .ensures), rw z)
+    let bad-length-place = c .before .before in
+    let if1-place = bad-length-place .before .before in
+    let start = if1-place .before .before .before .before in
+    let a = start .args in
+    let z = ne-eqb (length (now (a .body))) 4 (if1-place .if1 .taken) in
+    (rw z (bad-length-place .bad-length .ensures), rw z)
 
 read-number-requires : tie.Need-read-number-requires
 read-number-requires c κs = (four, omega arith)
@@ -46,11 +49,16 @@ same-length-3 c = search needs
 returns-2 : tie.Need-returns-2
 unfolding closeLines closeAfter
 returns-2 c =
-    let a = c .before .before .before .before .before .before .before .before .before .before .before .before .before .args in
-    let z = eq-eqb (length (now (a .body))) 4 (c .before .before .before .before .before .before .before .before .before .if1 .left) in
-    let i = c .before .before .before .before .before .before .before .before .read-number in
-    let o = c .before .before .before .before .before .before .close .ensures in (
-      rw z (added-as (ap (closeText (a .number) (i .result)) (o .0) ∙ ap (λ (n : ℕ). closeText (a .number) n (closeArea (now (a .area)) n .answer)) (i .ensures)) (c .before .before .put-close .ensures)),
+    let put-close-place = c .before .before in
+    let close-place = put-close-place .before .before .before .before in
+    let read-number-place = close-place .before .before in
+    let if1-place = read-number-place .before in
+    let start = if1-place .before .before .before .before in
+    let a = start .args in
+    let z = eq-eqb (length (now (a .body))) 4 (if1-place .if1 .left) in
+    let i = read-number-place .read-number in
+    let o = close-place .close .ensures in (
+      rw z (added-as (ap (closeText (a .number) (i .result)) (o .0) ∙ ap (λ (n : ℕ). closeText (a .number) n (closeArea (now (a .area)) n .answer)) (i .ensures)) (put-close-place .put-close .ensures)),
       rw z (o .1 ∙ ap (λ (n : ℕ). closeArea (now (a .area)) n .area) (i .ensures)),
     )
 

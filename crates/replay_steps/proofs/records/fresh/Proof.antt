@@ -6,7 +6,7 @@ use lib.ListN.{length}
 use borrow.Author.Tests.{eq-eqb, ne-eqb}
 use borrow.Author.Needs.{needs}
 use Rattle.text.proofs.AddedLaws.{added-as}
-use Rattle.replay_answers.specs.Answers.{freshText}
+use Rattle.replay_answers.specs.AnswerLines.{freshText}
 use Rattle.replay_steps.specs.Records.{freshLines, freshAfter}
 use Rattle.replay_steps.proofs.records.fresh.Statement.{statement}
 use Rattle.replay_steps.proofs.records.fresh.Tie as tie
@@ -20,9 +20,12 @@ same-length c = search needs
 returns : tie.Need-returns
 unfolding freshLines freshAfter
 returns c =
-    let a = c .before .before .before .before .before .before .before .before .args in
-    let z = ne-eqb (length (now (a .body))) 0 (c .before .before .before .before .if1 .taken) in
-    (rw z (c .before .before .bad-length .ensures), rw z)
+    let bad-length-place = c .before .before in
+    let if1-place = bad-length-place .before .before in
+    let start = if1-place .before .before .before .before in
+    let a = start .args in
+    let z = ne-eqb (length (now (a .body))) 0 (if1-place .if1 .taken) in
+    (rw z (bad-length-place .bad-length .ensures), rw z)
 
 fresh-requires : tie.Need-fresh-requires
 fresh-requires c κs = search needs
@@ -39,10 +42,14 @@ same-length-3 c = search needs
 returns-2 : tie.Need-returns-2
 unfolding freshLines freshAfter
 returns-2 c =
-    let a = c .before .before .before .before .before .before .before .before .before .before .before .before .args in
-    let z = eq-eqb (length (now (a .body))) 0 (c .before .before .before .before .before .before .before .before .if1 .left) in
-    let o = c .before .before .before .before .before .before .fresh .ensures in
-    (rw z (added-as (ap (freshText (a .number)) (o .0)) (c .before .before .put-fresh .ensures)), rw z (o .1))
+    let put-fresh-place = c .before .before in
+    let fresh-place = put-fresh-place .before .before .before .before in
+    let if1-place = fresh-place .before .before in
+    let start = if1-place .before .before .before .before in
+    let a = start .args in
+    let z = eq-eqb (length (now (a .body))) 0 (if1-place .if1 .left) in
+    let o = fresh-place .fresh .ensures in
+    (rw z (added-as (ap (freshText (a .number)) (o .0)) (put-fresh-place .put-fresh .ensures)), rw z (o .1))
 
 pub fresh-spec : {M : Type 1} → statement M
 fresh-spec =

@@ -3,7 +3,7 @@
 use mathlib.Core.Path.{ap₂}
 use borrow.Author.Needs.{needs}
 use Rattle.text.proofs.AddedLaws.{added-as}
-use Rattle.replay_answers.specs.Answers.{openText}
+use Rattle.replay_answers.specs.AnswerLines.{openText}
 use Rattle.replay_steps.proofs.records.open.Statement.{statement}
 use Rattle.replay_steps.proofs.records.open.Tie as tie
 
@@ -24,9 +24,13 @@ same-length-2 c = search needs
 
 returns : tie.Need-returns
 returns c =
-    let a = c .before .before .before .before .before .before .before .before .before .before .before .before .args in
-    let o = c .before .before .before .before .before .before .before .«open» .ensures in
-    (added-as (ap₂ (openText (a .number)) (c .before .before .before .before .read-metadata .ensures) (o .0)) (c .before .before .put-open .ensures), o .1)
+    let put-open-place = c .before .before in
+    let read-metadata-place = put-open-place .before .before in
+    let open-place = read-metadata-place .before .before .before in
+    let start = open-place .before .before .before .before .before in
+    let a = start .args in
+    let o = open-place .«open» .ensures in
+    (added-as (ap₂ (openText (a .number)) (read-metadata-place .read-metadata .ensures) (o .0)) (put-open-place .put-open .ensures), o .1)
 
 pub open-spec : {M : Type 1} → statement M
 open-spec =

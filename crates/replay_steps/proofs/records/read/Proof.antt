@@ -4,7 +4,7 @@ use mathlib.Core.Path.{ap}
 use denote.Ref.{now}
 use borrow.Author.Needs.{needs}
 use Rattle.text.proofs.AddedLaws.{added-as}
-use Rattle.replay_answers.specs.Answers.{readText}
+use Rattle.replay_answers.specs.AnswerLines.{readText}
 use Rattle.replay_steps.proofs.records.read.Statement.{statement}
 use Rattle.replay_steps.proofs.records.read.Tie as tie
 
@@ -19,8 +19,11 @@ same-length c = search needs
 
 returns : tie.Need-returns
 returns c =
-    let a = c .before .before .before .before .before .before .before .args in
-    added-as (ap (readText (a .number) (now (a .p))) (c .before .before .before .before .read-packet .ensures)) (c .before .before .put-read .ensures)
+    let put-read-place = c .before .before in
+    let read-packet-place = put-read-place .before .before in
+    let start = read-packet-place .before .before .before in
+    let a = start .args in
+    added-as (ap (readText (a .number) (now (a .p))) (read-packet-place .read-packet .ensures)) (put-read-place .put-read .ensures)
 
 pub read-spec : {M : Type 1} → statement M
 read-spec = tie.close (tie.spec read-packet-requires put-read-requires same-length returns)

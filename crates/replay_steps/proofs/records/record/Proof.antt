@@ -3,7 +3,7 @@
 use mathlib.Core.Path.{ap₂}
 use borrow.Author.Needs.{needs}
 use Rattle.text.proofs.AddedLaws.{added-as}
-use Rattle.replay_answers.specs.Answers.{recordText}
+use Rattle.replay_answers.specs.AnswerLines.{recordText}
 use Rattle.replay_steps.proofs.records.record.Statement.{statement}
 use Rattle.replay_steps.proofs.records.record.Tie as tie
 
@@ -24,9 +24,13 @@ same-length-2 c = search needs
 
 returns : tie.Need-returns
 returns c =
-    let a = c .before .before .before .before .before .before .before .before .before .before .before .before .args in
-    let o = c .before .before .before .before .before .before .before .«record» .ensures in
-    (added-as (ap₂ (recordText (a .number)) (c .before .before .before .before .read-data .ensures) (o .0)) (c .before .before .put-record .ensures), o .1)
+    let put-record-place = c .before .before in
+    let read-data-place = put-record-place .before .before in
+    let record-place = read-data-place .before .before .before in
+    let start = record-place .before .before .before .before .before in
+    let a = start .args in
+    let o = record-place .«record» .ensures in
+    (added-as (ap₂ (recordText (a .number)) (read-data-place .read-data .ensures) (o .0)) (put-record-place .put-record .ensures), o .1)
 
 pub record-spec : {M : Type 1} → statement M
 record-spec =

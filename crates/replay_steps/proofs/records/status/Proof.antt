@@ -26,8 +26,11 @@ same-length c = search needs
 returns : tie.Need-returns
 unfolding statusLines
 returns c =
-    let a = c .before .before .before .before .before .before .before .before .before .args in
-    rw (ne-eqb (length (now (a .body))) 17 (c .before .before .before .before .if1 .taken)) (c .before .before .bad-length .ensures)
+    let bad-length-place = c .before .before in
+    let if1-place = bad-length-place .before .before in
+    let start = if1-place .before .before .before .before .before in
+    let a = start .args in
+    rw (ne-eqb (length (now (a .body))) 17 (if1-place .if1 .taken)) (bad-length-place .bad-length .ensures)
 
 read-number-requires : tie.Need-read-number-requires
 read-number-requires c κs = (four, omega arith)
@@ -41,16 +44,17 @@ shared-slice-read-unasked c = search needs
 read-number-requires-3 : tie.Need-read-number-requires-3
 read-number-requires-3 c κs = (four, omega arith)
 
-room-of-requires : tie.Need-room-of-requires
-room-of-requires c κs = search needs
+within-requires : tie.Need-within-requires
+within-requires c κs = search needs
 
 slice-relend-prefix-write : tie.Need-slice-relend-prefix-write
 slice-relend-prefix-write c = search needs
 
 slice-aggregate-write : tie.Need-slice-aggregate-write
 slice-aggregate-write c =
-    let a = c .before .before .before .before .before .before .before .before .before .before .before .args in
-    sym (length-take-le (c .before .room-of .result) (now (a .lent)) (omega (arith, c .before .room-of .ensures)))
+    let start = c .before .before .before .before .before .before .before .before .before .before .before in
+    let a = start .args in
+    sym (length-take-le (c .before .within .result) (now (a .lent)) (omega (arith, c .before .within .ensures)))
 
 write-requires : tie.Need-write-requires
 write-requires c κs = search needs
@@ -64,18 +68,25 @@ same-length-3 c = search needs
 returns-2 : tie.Need-returns-2
 unfolding statusLines
 returns-2 c =
-    let a = c .before .before .before .before .before .before .before .before .before .before .before .before .before .before .before .before .before .args in
-    let id = c .before .before .before .before .before .before .before .before .before .before .before .read-number in
-    let k = c .before .before .before .before .before .before .before .before .before .before .read-number2 in
-    let n = c .before .before .before .before .before .before .before .before .read-number3 in
-    let room = c .before .before .before .before .before .before .before .room-of in
+    let write-place = c .before .before .before .before in
+    let within-place = write-place .before .before .before in
+    let read-number3-place = within-place .before in
+    let read-number2-place = read-number3-place .before .before in
+    let read-number-place = read-number2-place .before in
+    let if1-place = read-number-place .before in
+    let start = if1-place .before .before .before .before .before in
+    let a = start .args in
+    let id = read-number-place .read-number in
+    let k = read-number2-place .read-number2 in
+    let n = read-number3-place .read-number3 in
+    let room = within-place .within in
     let unasked = not (eqb (getD (now (a .body)) 12 0) 0) in
     let asked : n .result ≡ numberAt 13 4 (now (a .body)) = n .ensures in
     let l = ap (λ (r : ℕ). take r (now (a .lent))) (room .ensures ∙ ap (λ (r : ℕ). min r (length (now (a .lent)))) asked) in
-    rw (eq-eqb (length (now (a .body))) 17 (c .before .before .before .before .before .before .before .before .before .before .before .before .if1 .left))
+    rw (eq-eqb (length (now (a .body))) 17 (if1-place .if1 .left))
     (added-as (ap (λ (x : ℕ). writtenLine (a .number) (now (a .area)) x (k .result) unasked (take (room .result) (now (a .lent)))) (id .ensures)
     ∙ ap₂ (λ (x : ℕ) (y : List ℕ). writtenLine (a .number) (now (a .area)) (numberAt 0 4 (now (a .body))) x unasked y) (k .ensures) l)
-    (c .before .before .before .before .write .ensures))
+    (write-place .write .ensures))
 
 pub status-spec : {M : Type 1} → statement M
 status-spec =
@@ -88,7 +99,7 @@ status-spec =
     read-number-requires-2
     shared-slice-read-unasked
     read-number-requires-3
-    room-of-requires
+    within-requires
     slice-relend-prefix-write
     slice-aggregate-write
     write-requires

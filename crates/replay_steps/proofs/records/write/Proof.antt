@@ -3,7 +3,7 @@
 use mathlib.Core.Path.{ap₂}
 use borrow.Author.Needs.{needs}
 use Rattle.text.proofs.AddedLaws.{added-as}
-use Rattle.replay_answers.specs.Answers.{statusText}
+use Rattle.replay_answers.specs.AnswerLines.{statusText}
 use Rattle.replay_steps.specs.Records.{writtenLine}
 use Rattle.replay_steps.proofs.records.write.Statement.{statement}
 use Rattle.replay_steps.proofs.records.write.Tie as tie
@@ -23,9 +23,12 @@ same-length-2 c = search needs
 returns : tie.Need-returns
 unfolding writtenLine
 returns c =
-    let a = c .before .before .before .before .before .before .before .before .before .before .before .before .args in
-    let w = c .before .before .before .before .before .before .before .write-status .ensures in
-    added-as (ap₂ (statusText (a .number)) (w .0) (w .1)) (c .before .before .put-written .ensures)
+    let put-written-place = c .before .before in
+    let write-status-place = put-written-place .before .before .before .before .before in
+    let start = write-status-place .before .before .before .before .before in
+    let a = start .args in
+    let w = write-status-place .write-status .ensures in
+    added-as (ap₂ (statusText (a .number)) (w .0) (w .1)) (put-written-place .put-written .ensures)
 
 pub write-spec : {M : Type 1} → statement M
 write-spec =

@@ -1,10 +1,16 @@
--- `saratoga::packets::data_packet` meets its contract, field by field. Assumes nothing.
-use mathlib.Core.Path.{refl}
+-- `saratoga::packets::data_packet` meets its contract, part by part. Assumes nothing.
+use borrow.Author.Needs.{needs}
 use Rattle.saratoga.proofs.packets.data_packet.Statement.{statement}
 use Rattle.saratoga.proofs.packets.data_packet.Tie as tie
 
+no-metadata-requires : tie.Need-no-metadata-requires
+no-metadata-requires c κs = search needs
+
+no-status-requires : tie.Need-no-status-requires
+no-status-requires c κs = search needs
+
 returns : tie.Need-returns
-returns c = refl
+returns c = cc
 
 pub data-packet-spec : {M : Type 1} → statement M
-data-packet-spec = tie.close (tie.spec returns)
+data-packet-spec = tie.close (tie.spec no-metadata-requires no-status-requires returns)

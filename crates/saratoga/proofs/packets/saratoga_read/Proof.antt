@@ -22,7 +22,8 @@ data-packet-requires c κs = search needs
 
 returns : tie.Need-returns
 returns c =
-    let s = now (c .before .before .before .before .before .args .packet) in
+    let start = c .before .before .before .before .before in
+    let s = now (start .args .packet) in
     let z : dataRefusal s ≡ 0 = omega arith in
     c .data-packet .ensures ∙ ap packetAnswer (ap Data (c .before .data-fields .ensures) ∙ sym (data-taken s z))
 

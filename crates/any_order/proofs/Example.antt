@@ -1,0 +1,134 @@
+-- The definitions compute on real packets: a list with refused calls, what is accepted of it, its sorted order, and the table
+-- after either. And by falling offset the claim would be false.
+-- Assumes nothing.
+use Prim.Native.Nat.{ℕ, zero, suc, _*_, _%_}
+use mathlib.Core.Path.{_≡_, refl}
+use mathlib.Core.List.{List, [], _∷_, _++_}
+use native.Mathlib.Omega.{arith}
+use lib.ListN.{length, replicate}
+use Rattle.octets.specs.Numbers.{beDigits, Octets}
+use Rattle.header.specs.Start.{startRefusal, typeRefusal, fileRefusal}
+use Rattle.header.specs.Descriptor.{descriptorRefusal}
+use Rattle.directory_entry.specs.Properties.{propertyRefusal}
+use Rattle.directory_entry.specs.Path.{pathRefusal}
+use Rattle.directory_entry.specs.Entry.{entryRefusal, entryOf}
+use Rattle.packet_metadata.specs.Checksum.{pairAllowed, pairRefusal}
+use Rattle.packet_metadata.specs.Metadata.{metadataRefusal, metadataOf, readMetadata}
+use Rattle.packet_data.specs.Data.{dataRefusal, dataOf, readData}
+use Rattle.runs.specs.Runs.{run, insert}
+use Rattle.transfer.specs.Transfers.{Transfer}
+use Rattle.transfer.specs.Record.{keyRefusal, extended, runsRefusal}
+use Rattle.table.specs.Tables.{keys, find, runsOf, add, setRuns}
+use Rattle.table.specs.Open.{judgeFound, judgeOpen, openAs, openKey, openRead, openPacket}
+use Rattle.table.specs.Record.{dataJudged, recordRefusal, grown, recordAs, recordData, recordRead, recordPacket}
+use Rattle.any_order.specs.Order.{Packet, Call, opening, recording, openings, recordings, taken, after, idRead, offsetRead, place, sort, sortCalls}
+use Rattle.any_order.proofs.TableOrder.{callTable}
+
+-- ---- packets
+
+unfoldable octetsOf : List ℕ → List ℕ
+octetsOf [] = []
+octetsOf (x ∷ xs) = x % 256 ∷ octetsOf xs
+
+octets-of : (xs : List ℕ) → Octets (octetsOf xs)
+unfolding octetsOf
+octets-of [] i = omega arith
+octets-of (x ∷ xs) zero = omega arith
+octets-of (x ∷ xs) (suc i) = octets-of xs i
+
+abbrev packet : List ℕ → Packet
+packet xs = record { octets = octetsOf xs; are-octets = octets-of xs }
+
+-- METADATA of the width 16: an Id, a length, and a path of one octet
+abbrev metadata : ℕ → ℕ → Packet
+metadata id L = packet (66 ∷ 0 ∷ 0 ∷ 0 ∷ (beDigits 4 id ++ (0 ∷ 0 ∷ (beDigits 2 L ++ (replicate 8 0 ++ (112 ∷ 0 ∷ []))))))
+
+-- DATA of the width 16: an Id, an offset, and so many octets of payload
+abbrev data16 : ℕ → ℕ → ℕ → Packet
+data16 id offset size = packet (67 ∷ 0 ∷ 0 ∷ 0 ∷ (beDigits 4 id ++ (beDigits 2 offset ++ replicate size 1)))
+
+-- ---- a list, with an Id that is not open yet, one open with another length, an offset past the length, and no packet at all
+
+abbrev calls : List Call
+calls =
+    recording (data16 7 0 3)
+    ∷ opening (metadata 7 30)
+    ∷ recording (data16 7 20 10)
+    ∷ opening (metadata 3 50)
+    ∷ opening (metadata 7 30)
+    ∷ opening (metadata 7 31)
+    ∷ recording (data16 3 40 10)
+    ∷ recording (data16 7 0 10)
+    ∷ recording (packet [])
+    ∷ recording (data16 3 41 10)
+    ∷ recording (data16 7 20 10)
+    ∷ []
+
+abbrev accepted : List Call
+accepted =
+    opening (metadata 7 30)
+    ∷ recording (data16 7 20 10)
+    ∷ opening (metadata 3 50)
+    ∷ opening (metadata 7 30)
+    ∷ recording (data16 3 40 10)
+    ∷ recording (data16 7 0 10)
+    ∷ recording (data16 7 20 10)
+    ∷ []
+
+abbrev sorted : List Call
+sorted =
+    opening (metadata 7 30)
+    ∷ opening (metadata 3 50)
+    ∷ opening (metadata 7 30)
+    ∷ recording (data16 3 40 10)
+    ∷ recording (data16 7 0 10)
+    ∷ recording (data16 7 20 10)
+    ∷ recording (data16 7 20 10)
+    ∷ []
+
+abbrev ends : List Transfer
+ends =
+    record { key = record { id = 3; width = 2; length = 50 }; runs = run 40 50 ∷ [] }
+    ∷ record { key = record { id = 7; width = 2; length = 30 }; runs = run 0 10 ∷ run 20 30 ∷ [] }
+    ∷ []
+
+takes : taken callTable [] calls ≡ accepted
+unfolding octetsOf startRefusal typeRefusal fileRefusal descriptorRefusal propertyRefusal pathRefusal entryRefusal entryOf pairAllowed pairRefusal metadataRefusal metadataOf readMetadata dataRefusal dataOf readData insert keys find runsOf add setRuns judgeFound judgeOpen openAs openKey openRead openPacket keyRefusal runsRefusal extended dataJudged recordRefusal grown recordAs recordData recordRead recordPacket taken callTable
+takes = refl
+
+sorts : sortCalls accepted ≡ sorted
+unfolding octetsOf startRefusal typeRefusal fileRefusal descriptorRefusal propertyRefusal pathRefusal entryRefusal entryOf pairAllowed pairRefusal metadataRefusal metadataOf readMetadata dataRefusal dataOf readData insert keys find runsOf add setRuns judgeFound judgeOpen openAs openKey openRead openPacket keyRefusal runsRefusal extended dataJudged recordRefusal grown recordAs recordData recordRead recordPacket openings recordings idRead offsetRead place sort sortCalls
+sorts = refl
+
+leaves : after callTable [] calls ≡ ends
+unfolding octetsOf startRefusal typeRefusal fileRefusal descriptorRefusal propertyRefusal pathRefusal entryRefusal entryOf pairAllowed pairRefusal metadataRefusal metadataOf readMetadata dataRefusal dataOf readData insert keys find runsOf add setRuns judgeFound judgeOpen openAs openKey openRead openPacket keyRefusal runsRefusal extended dataJudged recordRefusal grown recordAs recordData recordRead recordPacket after callTable
+leaves = refl
+
+takes-sorted : taken callTable [] sorted ≡ sorted
+unfolding octetsOf startRefusal typeRefusal fileRefusal descriptorRefusal propertyRefusal pathRefusal entryRefusal entryOf pairAllowed pairRefusal metadataRefusal metadataOf readMetadata dataRefusal dataOf readData insert keys find runsOf add setRuns judgeFound judgeOpen openAs openKey openRead openPacket keyRefusal runsRefusal extended dataJudged recordRefusal grown recordAs recordData recordRead recordPacket taken callTable
+takes-sorted = refl
+
+leaves-sorted : after callTable [] sorted ≡ ends
+unfolding octetsOf startRefusal typeRefusal fileRefusal descriptorRefusal propertyRefusal pathRefusal entryRefusal entryOf pairAllowed pairRefusal metadataRefusal metadataOf readMetadata dataRefusal dataOf readData insert keys find runsOf add setRuns judgeFound judgeOpen openAs openKey openRead openPacket keyRefusal runsRefusal extended dataJudged recordRefusal grown recordAs recordData recordRead recordPacket after callTable
+leaves-sorted = refl
+
+-- ---- by falling offset: a long stretch first and 65 short ones in it are all accepted, but with the long one last the 65th
+-- short one is refused
+
+unfoldable shorts : ℕ → List Call
+shorts zero = []
+shorts (suc n) = recording (data16 7 (2 * n) 1) ∷ shorts n
+
+abbrev begin : Call
+begin = opening (metadata 7 300)
+
+abbrev long : Call
+long = recording (data16 7 0 200)
+
+long-first : length (taken callTable [] (begin ∷ long ∷ shorts 65)) ≡ 67
+unfolding octetsOf startRefusal typeRefusal fileRefusal descriptorRefusal propertyRefusal pathRefusal entryRefusal entryOf pairAllowed pairRefusal metadataRefusal metadataOf readMetadata dataRefusal dataOf readData insert keys find runsOf add setRuns judgeFound judgeOpen openAs openKey openRead openPacket keyRefusal runsRefusal extended dataJudged recordRefusal grown recordAs recordData recordRead recordPacket shorts taken callTable
+long-first = refl
+
+falling : length (taken callTable [] (begin ∷ (shorts 65 ++ (long ∷ [])))) ≡ 66
+unfolding octetsOf startRefusal typeRefusal fileRefusal descriptorRefusal propertyRefusal pathRefusal entryRefusal entryOf pairAllowed pairRefusal metadataRefusal metadataOf readMetadata dataRefusal dataOf readData insert keys find runsOf add setRuns judgeFound judgeOpen openAs openKey openRead openPacket keyRefusal runsRefusal extended dataJudged recordRefusal grown recordAs recordData recordRead recordPacket shorts taken callTable
+falling = refl

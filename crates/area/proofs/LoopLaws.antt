@@ -1,0 +1,90 @@
+-- Judging an area: one transfer, one turn of the loop over the transfers, and the whole.
+-- Assumes nothing.
+use Prim.Native.Nat.{ℕ, suc, _+_, _-_, _^_, _≤_, _<_}
+use mathlib.Core.Path.{_≡_}
+use mathlib.Core.List.{List, _∷_}
+use mathlib.Core.Bool.{Bool, true, false}
+use native.Mathlib.Omega.{arith}
+use lib.ListN.{length}
+use lib.Dec.{ltb}
+use borrow.Author.Tests.{ltb-true, lt-ltb, le-ltb, le-leb, lt-leb}
+use Rattle.words.specs.Words.{wordAt}
+use Rattle.run_rows.specs.Rows.{runsFrom}
+use Rattle.run_rows.specs.Judge.{runsTest}
+use Rattle.run_rows.proofs.RowsLaws.{length-runs}
+use Rattle.run_rows.proofs.JudgeLaws.{both-true}
+use Rattle.area.specs.Layout.{transferPlaces, runPlaces, areaOctets, idField, widthField, lengthField, countField, headAt, runAt}
+use Rattle.area.specs.Places.{transferAt, transfersFrom}
+use Rattle.area.specs.Judge.{lengthTest, transferTest, fineTest, judged}
+
+-- ---- one transfer
+
+module _ (a : List ℕ) (i id : ℕ) (p : id ≡ wordAt a (headAt i idField)) where
+  pub id-not : 2 ^ 32 ≤ id → false ≡ transferTest (transferAt a i)
+  unfolding transferTest
+  id-not h = rw (← p, le-ltb id (2 ^ 32) h)
+
+  module _ (size width : ℕ) (t : Bool) (small : id < 2 ^ 32) (q : size ≡ wordAt a (headAt i lengthField)) (r : width ≡ wordAt a (headAt i widthField)) (is : t ≡ lengthTest width size) where
+    pub width-not : t ≡ false → false ≡ transferTest (transferAt a i)
+    unfolding transferTest
+    width-not f = rw (← p, ← q, ← r, lt-ltb id (2 ^ 32) small, ← is, f)
+
+    module _ (runs : ℕ) (f : t ≡ true) (g : runs ≡ wordAt a (headAt i countField)) where
+      pub runs-not : runPlaces < runs → false ≡ transferTest (transferAt a i)
+      unfolding transferTest
+      runs-not h =
+          let l : length (runsFrom a (runAt 0 i 0) (runAt 1 i 0) runs) ≡ runs = length-runs a (runAt 0 i 0) (runAt 1 i 0) runs in
+          rw (← p, ← q, ← r, ← g, lt-ltb id (2 ^ 32) small, ← is, f, l, lt-leb runs runPlaces h)
+
+      pub runs-decide : (b : Bool) → runs ≤ runPlaces → b ≡ runsTest size (runsFrom a (runAt 0 i 0) (runAt 1 i 0) runs) → b ≡ transferTest (transferAt a i)
+      unfolding transferTest
+      runs-decide b h w =
+          let l : length (runsFrom a (runAt 0 i 0) (runAt 1 i 0) runs) ≡ runs = length-runs a (runAt 0 i 0) (runAt 1 i 0) runs in
+          rw (← p, ← q, ← r, ← g, lt-ltb id (2 ^ 32) small, ← is, f, l, le-leb runs runPlaces h) w
+
+pub id-small : (a : List ℕ) (i : ℕ) → transferTest (transferAt a i) ≡ true → wordAt a (headAt i idField) < 2 ^ 32
+unfolding transferTest
+id-small a i e = ltb-true (wordAt a (headAt i idField)) (2 ^ 32) (both-true (ltb (wordAt a (headAt i idField)) (2 ^ 32)) _ e .0)
+
+-- ---- the transfers, at transfer i
+
+transfers-next : (a : List ℕ) (i n : ℕ) → i < n → transfersFrom a i (n - i) ≡ transferAt a i ∷ transfersFrom a (i + 1) (n - (i + 1))
+unfolding transfersFrom
+transfers-next a i n h =
+    let m : n - i ≡ suc (n - (i + 1)) = omega arith in
+    let p : i + 1 ≡ suc i = omega arith in
+    rw (m, p)
+
+module _ (a : List ℕ) (i n least : ℕ) (b : Bool) (inv : fineTest least (transfersFrom a i (n - i)) ≡ b) where
+  pub fine-end : n ≤ i → true ≡ b
+  unfolding fineTest transfersFrom
+  fine-end h = let m : n - i ≡ 0 = omega arith in rw m at inv
+
+  module _ (id : ℕ) (more : i < n) (p : id ≡ wordAt a (headAt i idField)) where
+    pub fine-low : id < least → false ≡ b
+    unfolding fineTest
+    fine-low h = rw (transfers-next a i n more, ← p, lt-leb least id h) at inv
+
+    module _ (t : Bool) (high : least ≤ id) (is : t ≡ transferTest (transferAt a i)) where
+      pub fine-not : t ≡ false → false ≡ b
+      unfolding fineTest
+      fine-not f = rw (transfers-next a i n more, ← is, f, ← p, le-leb least id high) at inv
+
+      pub fine-more : t ≡ true → fineTest (id + 1) (transfersFrom a (i + 1) (n - (i + 1))) ≡ b
+      unfolding fineTest
+      fine-more f = let s : id + 1 ≡ suc id = omega arith in rw s (rw (transfers-next a i n more, ← is, f, ← p, le-leb least id high) at inv)
+
+-- ---- the area
+
+pub judged-short : (a : List ℕ) → length a < areaOctets → false ≡ judged a
+unfolding judged
+judged-short a h = rw (lt-leb areaOctets (length a) h)
+
+module _ (a : List ℕ) (n : ℕ) (long : areaOctets ≤ length a) (is : n ≡ wordAt a 0) where
+  pub judged-many : transferPlaces < n → false ≡ judged a
+  unfolding judged
+  judged-many h = rw (le-leb areaOctets (length a) long, ← is, lt-leb n transferPlaces h)
+
+  pub judged-rest : (b : Bool) → n ≤ transferPlaces → b ≡ fineTest 0 (transfersFrom a 0 n) → b ≡ judged a
+  unfolding judged
+  judged-rest b h e = rw (le-leb areaOctets (length a) long, ← is, le-leb n transferPlaces h) e

@@ -1,0 +1,79 @@
+-- `area::transfer_ok` meets its contract.
+-- Assumes nothing.
+use native.Mathlib.Omega.{arith}
+use borrow.Author.Needs.{needs}
+use denote.Ref.{now}
+use Prim.Native.Nat.{_≤_}
+use mathlib.Core.Path.{refl, ap}
+use Rattle.run_rows.specs.declared.Rows.{Rows}
+use Rattle.area.specs.Layout.{runPlaces}
+use Rattle.area.proofs.PlaceLaws.{rows-fit}
+use Rattle.area.proofs.LoopLaws.{id-not, width-not, runs-not, runs-decide}
+use Rattle.area.proofs.transfer_ok.Statement.{statement}
+use Rattle.area.proofs.transfer_ok.Tie as tie
+
+head-requires : tie.Need-head-requires
+head-requires c κs = search needs
+
+returns : tie.Need-returns
+returns c = let a = c .before .before .before .args in id-not (now (a .area)) (a .i) _ (c .before .head .ensures) (omega arith)
+
+head-requires-2 : tie.Need-head-requires-2
+head-requires-2 c κs = search needs
+
+head-requires-3 : tie.Need-head-requires-3
+head-requires-3 c κs = search needs
+
+length-ok-requires : tie.Need-length-ok-requires
+length-ok-requires c κs = search needs
+
+rows-at-requires : tie.Need-rows-at-requires
+rows-at-requires c κs = search needs
+
+returns-2 : tie.Need-returns-2
+returns-2 c =
+    let p = c .before .before .before .before in
+    let w = p .before .before .before in
+    let a = w .before .before .before .args in
+    runs-not (now (a .area)) (a .i) _ (w .before .head .ensures) _ _ _ (omega arith) (p .before .before .head2 .ensures) (p .before .head3 .ensures) (p .length-ok .ensures)
+    _ (c .before .before .before .if2 .taken) (ap (λ (r : Rows). r .count) (c .before .before .rows-at .ensures)) (omega arith)
+
+runs-ok-requires : tie.Need-runs-ok-requires
+runs-ok-requires c κs =
+    let rows-at-place = c .before .before in
+    let before-place = rows-at-place .before .before .before .before .before .before .before in
+    let s = before-place .before in
+    rows-fit (now (s .args .area)) (s .args .i) _ (rows-at-place .rows-at .ensures) (s .pre .0) (s .pre .1) (omega arith)
+
+returns-3 : tie.Need-returns-3
+returns-3 c =
+    let p = c .before .before .before .before .before in
+    let w = p .before .before .before in
+    let a = w .before .before .before .args in
+    let r = c .before .before .before .rows-at .ensures in
+    let few : c .before .before .before .rows-at .result .count ≤ runPlaces = omega arith in
+    runs-decide (now (a .area)) (a .i) _ (w .before .head .ensures) _ _ _ (omega arith) (p .before .before .head2 .ensures) (p .before .head3 .ensures) (p .length-ok .ensures)
+    _ (c .before .before .before .before .if2 .taken) refl _ (omega (arith, ap (λ (r : Rows). r .count) r)) (rw r at (c .runs-ok .ensures))
+
+returns-4 : tie.Need-returns-4
+returns-4 c =
+    let p = c .before in
+    let w = p .before .before .before in
+    let a = w .before .before .before .args in
+    width-not (now (a .area)) (a .i) _ (w .before .head .ensures) _ _ _ (omega arith) (p .before .before .head2 .ensures) (p .before .head3 .ensures) (p .length-ok .ensures)
+    (c .if2 .left)
+
+pub transfer-ok-spec : {M : Type 1} → statement M
+transfer-ok-spec =
+    tie.close
+    (tie.spec
+    head-requires
+    returns
+    head-requires-2
+    head-requires-3
+    length-ok-requires
+    rows-at-requires
+    returns-2
+    runs-ok-requires
+    returns-3
+    returns-4)

@@ -1,0 +1,88 @@
+-- `area::transfers_ok` meets its contract.
+-- Assumes nothing.
+use borrow.Author.Needs.{needs}
+use native.Mathlib.Omega.{arith}
+use Prim.Native.Nat.{_-_, _≤_}
+use mathlib.Core.Path.{_≡_, sym, _∙_}
+use native.Mathlib.Nat.{sub-zero}
+use denote.Ref.{now}
+use Rattle.area.specs.Places.{transfersFrom}
+use Rattle.area.specs.Judge.{fineTest}
+use Rattle.area.proofs.LoopLaws.{id-small, fine-low, fine-not, fine-more, fine-end}
+use Rattle.area.proofs.transfers_ok.Statement.{statement}
+use Rattle.area.proofs.transfers_ok.Tie as tie
+
+abbrev Inv-loop : tie.InvT-loop
+Inv-loop area n least₀ i₀ least i = (i ≤ n) × (fineTest least (transfersFrom area i (n - i)) ≡ fineTest 0 (transfersFrom area 0 n))
+
+abbrev μ-loop : tie.MeasureT-loop
+μ-loop area n least₀ i₀ least i = n - i
+
+loop-holds : tie.Need-loop-holds Inv-loop μ-loop
+loop-holds c = (omega arith, rw sub-zero)
+
+head-requires : tie.Need-head-requires Inv-loop μ-loop
+head-requires c κs = search needs
+
+returns : tie.Need-returns Inv-loop μ-loop
+returns c =
+    let l = c .before .before .before .loop in
+    fine-low _ _ _ _ _ (l .inv .1) _ (omega arith) (c .before .head .ensures) (omega arith)
+
+transfer-ok-requires : tie.Need-transfer-ok-requires Inv-loop μ-loop
+transfer-ok-requires c κs = search needs
+
+add-least : tie.Need-add-least Inv-loop μ-loop
+add-least c =
+    let head-place = c .before .before .before in
+    let loop-place = head-place .before .before in
+    let start = loop-place .before .before in
+    let t = c .before .transfer-ok in
+    let h = head-place .head in
+    let a = start .args in
+    let l = loop-place .loop in
+    omega (arith, h .ensures, id-small (now (a .area)) (l .i) (sym (t .ensures) ∙ c .if2 .taken))
+
+add-i : tie.Need-add-i Inv-loop μ-loop
+add-i c = search needs
+
+loop-less : tie.Need-loop-less Inv-loop μ-loop
+loop-less c = search needs
+
+loop-again : tie.Need-loop-again Inv-loop μ-loop
+loop-again c =
+    let head-place = c .before .before .before in
+    let loop-place = head-place .before .before in
+    let l = loop-place .loop in
+    let t = c .before .transfer-ok in
+    let h = head-place .head in
+    (omega arith, fine-more _ _ _ _ _ (l .inv .1) _ (omega arith) (h .ensures) _ (omega arith) (t .ensures) (c .if2 .taken))
+
+returns-2 : tie.Need-returns-2 Inv-loop μ-loop
+returns-2 c =
+    let head-place = c .before .before .before in
+    let loop-place = head-place .before .before in
+    let l = loop-place .loop in
+    let t = c .before .transfer-ok in
+    let h = head-place .head in
+    fine-not _ _ _ _ _ (l .inv .1) _ (omega arith) (h .ensures) _ (omega arith) (t .ensures) (c .if2 .left)
+
+returns-3 : tie.Need-returns-3 Inv-loop μ-loop
+returns-3 c = fine-end _ _ _ _ _ (c .before .loop .inv .1) (omega arith)
+
+pub transfers-ok-spec : {M : Type 1} → statement M
+transfers-ok-spec =
+    tie.close
+    (tie.spec
+    Inv-loop
+    μ-loop
+    loop-holds
+    head-requires
+    returns
+    transfer-ok-requires
+    add-least
+    add-i
+    loop-less
+    loop-again
+    returns-2
+    returns-3)

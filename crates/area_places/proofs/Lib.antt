@@ -1,5 +1,0 @@
-pub mod PlaceLaws
-pub mod HeldLaws
-pub mod PutLaws
-pub mod ChangeLaws
-pub mod UsedLaws

@@ -1,0 +1,127 @@
+-- `area_record::ahead::try_extend` meets its contract: 16 where the runs would be too many, and else edge and completeness after a splice.
+-- Assumes nothing.
+use native.Mathlib.Omega.{arith}
+use borrow.Author.Needs.{needs}
+use denote.Ref.{now}
+use Prim.Native.Nat.{_≤_}
+use mathlib.Core.Path.{refl, ap, _∙_}
+use lib.ListN.{length}
+use Rattle.run_rows.specs.Rows.{runsIn}
+use Rattle.run_rows.proofs.RowsLaws.{length-runs}
+use Rattle.table.specs.declared.Recorded.{Recorded}
+use Rattle.table.specs.declared.Recorded.the-variants.{Refused}
+use Rattle.area.specs.Layout.{runPlaces}
+use Rattle.area.specs.Places.{rowsAt}
+use Rattle.area.specs.Operations.{OnArea}
+use Rattle.area_record.specs.Record.{runsAfter}
+use Rattle.area_record.proofs.ExtendLaws.{PlaceKnown, known, extend-over, extend-answer}
+use Rattle.area_record.proofs.AheadLaws.{reached-with}
+use Rattle.area_record.proofs.ahead.try_extend.Statement.{statement}
+use Rattle.area_record.proofs.ahead.try_extend.Tie as tie
+
+-- the place is one of the area's, and its rows lie in it
+place : (c : tie.Start) → let a = now (c .args .area) in PlaceKnown a (c .args .place) (c .pre .0) (c .pre .1) (rowsAt a (c .args .place))
+place c = known (now (c .args .area)) (c .args .place) (c .pre .0) (c .pre .1) _ refl
+
+rows-at-requires : tie.Need-rows-at-requires
+rows-at-requires c κs = let k = place (c .before) in (k .long, k .place)
+
+rows : (c : tie.After-rows-at)
+    → let s = c .before .before in PlaceKnown (now (s .args .area)) (s .args .place) (s .pre .0) (s .pre .1) (c .rows-at .result)
+rows c = let s = c .before .before in known (now (s .args .area)) (s .args .place) (s .pre .0) (s .pre .1) _ (c .rows-at .ensures)
+
+cut-to-requires : tie.Need-cut-to-requires
+cut-to-requires c κs = rows c .fit .starts-fit
+
+cut-below-requires : tie.Need-cut-below-requires
+cut-below-requires c κs = let f = rows (c .before) .fit .stops-fit in omega (arith, c .cut-to .ensures .inside)
+
+-- the cuts are two of its places
+cuts : (c : tie.After-cut-below)
+    → let j = c .before .cut-to .result in
+    let n = c .before .before .rows-at .result .count in
+    (c .cut-below .result ≤ j) × (j ≤ n) × (n ≤ runPlaces)
+cuts c = (c .cut-below .ensures .inside, c .before .cut-to .ensures .inside, rows (c .before .before) .few-runs)
+
+add-after : tie.Need-add-after
+add-after c = omega (arith, cuts c)
+
+sub-after : tie.Need-sub-after
+sub-after c = search needs
+
+add-after-2 : tie.Need-add-after-2
+add-after-2 c = omega (arith, cuts c)
+
+refuse-requires : tie.Need-refuse-requires
+refuse-requires c κs = search needs
+
+returns : tie.Need-returns
+returns c =
+    let q = c .before .before in
+    let r = q .before .before in
+    let s = r .before .before in
+    ap Refused (c .refuse .ensures)
+    ∙ ap (λ (o : OnArea Recorded). o .answer)
+    (extend-over (now (s .args .area)) (s .args .place) (s .pre .0) (s .pre .1) _ (r .rows-at .ensures) (s .args .from) (s .args .to) _ _ (s .pre .2)
+    (q .before .cut-to .ensures) (q .cut-below .ensures) (s .args .key) (omega arith))
+
+-- where there is room
+room : (c : tie.Else1)
+    → runsAfter (c .before .before .before .rows-at .result .count) (c .before .cut-below .result) (c .before .before .cut-to .result) ≤ runPlaces
+room c = omega arith
+
+joined-start-requires : tie.Need-joined-start-requires
+joined-start-requires c κs = let q = c .before in (rows (q .before .before) .fit, q .before .cut-to .ensures .inside)
+
+joined-stop-requires : tie.Need-joined-stop-requires
+joined-stop-requires c κs = joined-start-requires (c .before) κs
+
+edge-with-requires : tie.Need-edge-with-requires
+edge-with-requires c κs = let q = c .before .before .before in rows (q .before .before) .fit
+
+progress-with-requires : tie.Need-progress-with-requires
+progress-with-requires c κs = edge-with-requires (c .before) κs
+
+-- the runs before the joined one are there
+inside : (c : tie.After-cut-below)
+    → let r = c .before .before in
+    c .cut-below .result ≤ length (runsIn (now (r .before .before .args .area)) (r .rows-at .result))
+inside c =
+    let r = c .before .before in
+    let w = r .rows-at .result in
+    let f = cuts c in
+    omega (arith, length-runs (now (r .before .before .args .area)) (w .starts) (w .stops) (w .count))
+
+returns-2 : tie.Need-returns-2
+returns-2 c =
+    let v = c .before in
+    let g = v .before in
+    let h = g .before in
+    let l = h .before in
+    let e = l .before in
+    let q = e .before in
+    let r = q .before .before in
+    let s = r .before .before in
+    extend-answer (now (s .args .area)) (s .args .place) (s .pre .0) (s .pre .1) _ (r .rows-at .ensures) (s .args .from) (s .args .to) _ _ (s .pre .2)
+    (q .before .cut-to .ensures) (q .cut-below .ensures) (s .args .key) (l .joined-start .result) (h .joined-stop .result) _ (l .joined-start .ensures)
+    (h .joined-stop .ensures) (room e)
+    (reached-with (s .args .key) (runsIn (now (s .args .area)) (r .rows-at .result)) (q .cut-below .result) (q .before .cut-to .result)
+    (l .joined-start .result) (h .joined-stop .result) (g .edge-with .result) (v .progress-with .result) (inside q) (g .edge-with .ensures) (v .progress-with .ensures))
+
+pub try-extend-spec : {M : Type 1} → statement M
+try-extend-spec =
+    tie.close
+    (tie.spec
+    rows-at-requires
+    cut-to-requires
+    cut-below-requires
+    add-after
+    sub-after
+    add-after-2
+    refuse-requires
+    returns
+    joined-start-requires
+    joined-stop-requires
+    edge-with-requires
+    progress-with-requires
+    returns-2)

@@ -1,0 +1,83 @@
+-- `area_record::ahead::try_record` meets its contract: 22, the reader's refusal, and else what the packet's fields would be answered.
+-- Assumes nothing.
+use native.Mathlib.Omega.{arith}
+use borrow.Author.Needs.{needs}
+use borrow.Author.Tests.{not-true, not-false}
+use denote.Ref.{now}
+use mathlib.Core.Path.{_≡_, sym, ap, _∙_}
+use mathlib.Core.Bool.{true}
+use Rattle.packet_data.specs.Data.{dataRefusal}
+use Rattle.packet_data.specs.declared.Data.{Data}
+use Rattle.table.specs.Record.{recordData}
+use Rattle.table.specs.declared.Recorded.{Recorded}
+use Rattle.table.specs.declared.Recorded.the-variants.{Refused}
+use Rattle.area.specs.Places.{readTable}
+use Rattle.area.specs.Judge.{judged}
+use Rattle.area.specs.Operations.{OnArea}
+use Rattle.area_record.proofs.RecordLaws.{record-unheld, record-unread, record-read}
+use Rattle.area_record.proofs.ahead.try_record.Statement.{statement}
+use Rattle.area_record.proofs.ahead.try_record.Tie as tie
+
+judge-requires : tie.Need-judge-requires
+judge-requires c κs = search needs
+
+data-refusal-requires : tie.Need-data-refusal-requires
+data-refusal-requires c κs = search needs
+
+refuse-requires : tie.Need-refuse-requires
+refuse-requires c κs = search needs
+
+returns : tie.Need-returns
+returns c =
+    let j = c .before .before .before in
+    let s = j .before .before .before in
+    ap Refused (c .refuse .ensures)
+    ∙ ap (λ (o : OnArea Recorded). o .answer)
+    (record-unheld (now (s .args .area)) (now (s .args .packet)) (sym (j .judge .ensures) ∙ not-true _ (c .before .if1 .taken)))
+
+-- the area passed
+passed : (c : tie.Else1) → judged (now (c .before .before .before .before .before .args .area)) ≡ true
+passed c = sym (c .before .before .judge .ensures) ∙ not-false _ (c .if1 .left)
+
+refuse-requires-2 : tie.Need-refuse-requires-2
+refuse-requires-2 c κs = search needs
+
+returns-2 : tie.Need-returns-2
+returns-2 c =
+    let e = c .before .before in
+    let u = e .before in
+    let k = u .before .before .before in
+    let s = k .before in
+    ap Refused (c .refuse2 .ensures)
+    ∙ ap (λ (o : OnArea Recorded). o .answer)
+    (record-unread (now (s .args .area)) (passed e) (now (s .args .packet)) (u .data-refusal .result) (λ i. k .shared-slice-known .given i .fits) (u .data-refusal .ensures) (omega arith))
+
+data-fields-requires : tie.Need-data-fields-requires
+data-fields-requires c κs = search needs
+
+try-fields-requires : tie.Need-try-fields-requires
+try-fields-requires c κs = passed (c .before .before)
+
+returns-3 : tie.Need-returns-3
+returns-3 c =
+    let f = c .before in
+    let e = f .before .before in
+    let s = e .before .before .before .before .before in
+    let a = now (s .args .area) in
+    let z : dataRefusal (now (s .args .packet)) ≡ 0 = omega arith in
+    c .try-fields .ensures ∙ ap (λ (d : Data). recordData (readTable a) d .answer) (f .data-fields .ensures)
+    ∙ ap (λ (o : OnArea Recorded). o .answer) (record-read a (passed e) (now (s .args .packet)) z)
+
+pub try-record-spec : {M : Type 1} → statement M
+try-record-spec =
+    tie.close
+    (tie.spec
+    judge-requires
+    data-refusal-requires
+    refuse-requires
+    returns
+    refuse-requires-2
+    returns-2
+    data-fields-requires
+    try-fields-requires
+    returns-3)

@@ -1,0 +1,79 @@
+-- `area_status::put_holes` meets its contract: the width is one of the three.
+-- Assumes nothing.
+use Prim.Native.Nat.{ℕ}
+use mathlib.Core.Path.{_≡_, refl}
+use native.Mathlib.Omega.{arith}
+use borrow.Author.Needs.{needs}
+use Rattle.octets.specs.Numbers.{Width}
+use Rattle.octets.specs.Numbers.Width.{two, four, eight}
+use Rattle.area_status.proofs.put_holes.Statement.{statement}
+use Rattle.area_status.proofs.put_holes.Tie as tie
+
+put-pairs-requires : tie.Need-put-pairs-requires
+put-pairs-requires c κs =
+    let s = c .before .before .before .before in
+    let e : s .args .width ≡ 2 = omega arith in
+    (s .pre .1, s .pre .2, rw e at (s .pre .3))
+
+same-length : tie.Need-same-length
+same-length c = search needs
+
+returns : tie.Need-returns
+returns c =
+    let put-pairs-place = c .before .before in
+    let start = put-pairs-place .before .before .before .before .before in
+    let e : start .args .width ≡ 2 = omega arith in
+    rw e (put-pairs-place .put-pairs .ensures)
+
+put-pairs-requires-2 : tie.Need-put-pairs-requires-2
+put-pairs-requires-2 c κs =
+    let s = c .before .before .before .before .before in
+    let e : s .args .width ≡ 4 = omega arith in
+    (s .pre .1, s .pre .2, rw e at (s .pre .3))
+
+same-length-2 : tie.Need-same-length-2
+same-length-2 c = search needs
+
+returns-2 : tie.Need-returns-2
+returns-2 c =
+    let put-pairs2-place = c .before .before in
+    let start = put-pairs2-place .before .before .before .before .before .before in
+    let e : start .args .width ≡ 4 = omega arith in
+    rw e (put-pairs2-place .put-pairs2 .ensures)
+
+-- neither 2 nor 4
+last-width : (d : ℕ) → Width d → (d ≡ 2 → ⊥) → (d ≡ 4 → ⊥) → d ≡ 8
+last-width d two p q = absurd (p refl)
+last-width d four p q = absurd (q refl)
+last-width d eight p q = refl
+
+put-pairs-requires-3 : tie.Need-put-pairs-requires-3
+put-pairs-requires-3 c κs =
+    let s = c .before .before .before .before .before in
+    let e : s .args .width ≡ 8 = last-width (s .args .width) (s .pre .0) (λ z. omega arith) (λ z. omega arith) in
+    (s .pre .1, s .pre .2, rw e at (s .pre .3))
+
+same-length-3 : tie.Need-same-length-3
+same-length-3 c = search needs
+
+returns-3 : tie.Need-returns-3
+returns-3 c =
+    let put-pairs3-place = c .before .before in
+    let before-place = put-pairs3-place .before .before .before .before .before in
+    let s = before-place .before in
+    let e : s .args .width ≡ 8 = last-width (s .args .width) (s .pre .0) (λ z. omega arith) (λ z. omega arith) in
+    rw e (put-pairs3-place .put-pairs3 .ensures)
+
+pub put-holes-spec : {M : Type 1} → statement M
+put-holes-spec =
+    tie.close
+    (tie.spec
+    put-pairs-requires
+    same-length
+    returns
+    put-pairs-requires-2
+    same-length-2
+    returns-2
+    put-pairs-requires-3
+    same-length-3
+    returns-3)

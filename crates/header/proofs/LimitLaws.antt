@@ -1,0 +1,159 @@
+-- "Given exactly when", for what every packet begins with: 2, 1, 3 and 4, then 5 and 6 of METADATA and DATA; 1 for a descriptor.
+-- Assumes nothing.
+use Prim.Native.Nat.{ℕ, _+_, _<_, _≤_}
+use mathlib.Core.Path.{_≡_}
+use mathlib.Core.Bool.{Bool, not}
+use mathlib.Core.List.{List}
+use mathlib.Core.Logic.{_⊎_, _↔_, Iff·rfl, Iff·trans}
+use native.Mathlib.Omega.{arith}
+use lib.ListN.{length}
+use lib.Dec.{ltb, eqb}
+use borrow.Author.Tests.{le-ltb, eq-eqb, ne-eqb}
+use Rattle.refusals.specs.Refusals.{_▹_}
+use Rattle.refusals.proofs.TestLaws.{eqb-iff, eqb-not, ltb-iff, ltb-not, both}
+use Rattle.refusals.proofs.RefusalLaws.{given-here, given-later, after-none, when-given, when-other}
+use Rattle.refusals.proofs.LimitLaws.{either, unequal-iff, when-all, chain-all, link-all, chain-iff, first-only}
+use Rattle.header.specs.FirstWord.{markOf, typeOf, widthOf, kindOf}
+use Rattle.header.specs.Start.{wordOf, startRefusal, typeRefusal, fileRefusal}
+use Rattle.header.specs.Descriptor.{descriptorRefusal}
+use Rattle.header.proofs.StartLaws.{StartFine, start-fine, TypeFine, type-fine, type-none, FileFine, file-fine}
+
+-- ---- the first 8 octets
+
+module _ (s : List ℕ) where
+  abbrev tooLong : Bool
+  tooLong = ltb 65535 (length s)
+
+  abbrev tooShort : Bool
+  tooShort = ltb (length s) 8
+
+  abbrev otherMark : Bool
+  otherMark = not (eqb (markOf (wordOf s)) 1)
+
+  -- 2: "packet over 65,535 octets, read"
+  pub start-two-iff : (startRefusal s ≡ 2) ↔ (65535 < length s)
+  unfolding startRefusal
+  start-two-iff =
+      Iff·trans (given-here tooLong 2 _ (λ e. omega arith)
+      (link-all (λ m. m ≡ 2 → ⊥) tooShort 1 _ (λ e. omega arith) (when-other otherMark 3 2 (λ e. omega arith) (λ e. omega arith))))
+      (ltb-iff 65535 (length s))
+
+  -- 1: "packet ends inside a field", here the word or the Id
+  pub start-one-iff : (startRefusal s ≡ 1) ↔ (length s < 8)
+  unfolding startRefusal
+  start-one-iff =
+      Iff·trans (given-later tooLong 2 1 _ (λ e. omega arith) (λ e. omega arith))
+      (Iff·trans (both (ltb-not 65535 (length s))
+      (Iff·trans (given-here tooShort 1 _ (λ e. omega arith) (when-other otherMark 3 1 (λ e. omega arith) (λ e. omega arith))) (ltb-iff (length s) 8)))
+      ((λ p. p .1), (λ l. (omega arith, l))))
+
+  -- 3: "bits 0 and 1 are not 0 1"
+  pub start-three-iff : (startRefusal s ≡ 3) ↔ ((length s ≤ 65535) × ((8 ≤ length s) × (markOf (wordOf s) ≡ 1 → ⊥)))
+  unfolding startRefusal
+  start-three-iff =
+      Iff·trans (given-later tooLong 2 3 _ (λ e. omega arith) (λ e. omega arith))
+      (both (ltb-not 65535 (length s))
+      (Iff·trans (given-later tooShort 1 3 _ (λ e. omega arith) (λ e. omega arith))
+      (both (ltb-not (length s) 8) (Iff·trans (when-given otherMark 3 (λ e. omega arith)) (unequal-iff (markOf (wordOf s)) 1)))))
+
+  pub start-le : startRefusal s ≤ 3
+  unfolding startRefusal
+  start-le =
+      let P : ℕ → Type 0 = λ m. m ≤ 3 in
+      link-all P tooLong 2 _ (omega arith) (link-all P tooShort 1 _ (omega arith) (when-all P otherMark 3 (omega arith) (omega arith)))
+
+  pub start-none-iff : (startRefusal s ≡ 0) ↔ StartFine s
+  unfolding startRefusal
+  start-none-iff = (
+    start-fine s,
+    (λ f. rw (le-ltb 65535 (length s) (f .short), le-ltb (length s) 8 (f .long), eq-eqb (markOf (wordOf s)) 1 (f .mark))),
+  )
+
+-- ---- a reader that takes the type t alone
+
+module _ (t : ℕ) (s : List ℕ) where
+  abbrev otherType : Bool
+  otherType = not (eqb (typeOf (wordOf s)) t)
+
+  start-iff : (n : ℕ) → (n ≡ 0 → ⊥) → (4 ≡ n → ⊥) → (typeRefusal t s ≡ n) ↔ (startRefusal s ≡ n)
+  unfolding typeRefusal
+  start-iff n z h = first-only (startRefusal s) _ n z (when-other otherType 4 n z h)
+
+  -- 2: "packet over 65,535 octets, read"
+  pub two-iff : (typeRefusal t s ≡ 2) ↔ (65535 < length s)
+  two-iff = Iff·trans (start-iff 2 (λ e. omega arith) (λ e. omega arith)) (start-two-iff s)
+
+  -- 1: "packet ends inside a field", here the word or the Id
+  pub one-iff : (typeRefusal t s ≡ 1) ↔ (length s < 8)
+  one-iff = Iff·trans (start-iff 1 (λ e. omega arith) (λ e. omega arith)) (start-one-iff s)
+
+  -- 3: "bits 0 and 1 are not 0 1"
+  pub three-iff : (typeRefusal t s ≡ 3) ↔ ((length s ≤ 65535) × ((8 ≤ length s) × (markOf (wordOf s) ≡ 1 → ⊥)))
+  three-iff = Iff·trans (start-iff 3 (λ e. omega arith) (λ e. omega arith)) (start-three-iff s)
+
+  -- 4: type "not the one the operation takes (opening 2, recording 3)"
+  pub four-iff : (typeRefusal t s ≡ 4) ↔ (StartFine s × (typeOf (wordOf s) ≡ t → ⊥))
+  unfolding typeRefusal
+  four-iff =
+      Iff·trans (after-none (startRefusal s) _ 4 (λ e. omega arith) (λ e. omega (arith, start-le s)))
+      (both (start-none-iff s) (Iff·trans (when-given otherType 4 (λ e. omega arith)) (unequal-iff (typeOf (wordOf s)) t)))
+
+  pub type-le : typeRefusal t s ≤ 4
+  unfolding typeRefusal
+  type-le =
+      let P : ℕ → Type 0 = λ m. m ≤ 4 in
+      chain-all P (startRefusal s) _ (omega (arith, start-le s)) (when-all P otherType 4 (omega arith) (omega arith))
+
+  pub type-none-iff : (typeRefusal t s ≡ 0) ↔ TypeFine t s
+  type-none-iff = (type-fine t s, type-none t s)
+
+  -- a number that comes after these
+  pub after-type : (r n : ℕ) → 4 < n → (typeRefusal t s ▹ r ≡ n) ↔ (TypeFine t s × (r ≡ n))
+  after-type r n h =
+      Iff·trans (after-none (typeRefusal t s) r n (λ e. omega arith) (λ e. omega (arith, type-le)))
+      (both type-none-iff Iff·rfl)
+
+  -- 1 of the start, or of what comes after
+  pub one-or-after : (r : ℕ) → (typeRefusal t s ▹ r ≡ 1) ↔ ((length s < 8) ⊎ (TypeFine t s × (r ≡ 1)))
+  one-or-after r = Iff·trans (chain-iff (typeRefusal t s) r 1 (λ e. omega arith)) (either one-iff (both type-none-iff Iff·rfl))
+
+-- ---- width and kind of METADATA and DATA
+
+module _ (w : ℕ) where
+  abbrev otherKind : Bool
+  otherKind = not (eqb (kindOf w) 0)
+
+  -- 5: "width bits 11"
+  pub five-iff : (fileRefusal w ≡ 5) ↔ (widthOf w ≡ 3)
+  unfolding fileRefusal
+  five-iff =
+      Iff·trans (given-here (eqb (widthOf w) 3) 5 _ (λ e. omega arith) (when-other otherKind 6 5 (λ e. omega arith) (λ e. omega arith)))
+      (eqb-iff (widthOf w) 3)
+
+  -- 6: "kind .. bits not those of a file"
+  pub six-iff : (fileRefusal w ≡ 6) ↔ ((widthOf w ≡ 3 → ⊥) × (kindOf w ≡ 0 → ⊥))
+  unfolding fileRefusal
+  six-iff =
+      Iff·trans (given-later (eqb (widthOf w) 3) 5 6 _ (λ e. omega arith) (λ e. omega arith))
+      (both (eqb-not (widthOf w) 3) (Iff·trans (when-given otherKind 6 (λ e. omega arith)) (unequal-iff (kindOf w) 0)))
+
+  -- no other number is given
+  pub file-all : (P : ℕ → Type 0) → P 0 → P 5 → P 6 → P (fileRefusal w)
+  unfolding fileRefusal
+  file-all P z a b = link-all P (eqb (widthOf w) 3) 5 _ a (when-all P otherKind 6 z b)
+
+  pub file-none-iff : (fileRefusal w ≡ 0) ↔ FileFine w
+  unfolding fileRefusal
+  file-none-iff = (file-fine w, (λ f. rw (ne-eqb (widthOf w) 3 (omega (arith, f .narrow)), eq-eqb (kindOf w) 0 (f .kind))))
+
+  -- a number that comes after these
+  pub after-file : (r n : ℕ) → (n ≡ 0 → ⊥) → (5 ≡ n → ⊥) → (6 ≡ n → ⊥) → (fileRefusal w ▹ r ≡ n) ↔ (FileFine w × (r ≡ n))
+  after-file r n z a b =
+      Iff·trans (after-none (fileRefusal w) r n z (file-all (λ m. m ≡ n → ⊥) (λ e. z (omega arith)) a b)) (both file-none-iff Iff·rfl)
+
+-- ---- a descriptor of d octets
+
+-- 1: "packet ends inside a field"
+pub descriptor-one-iff : (d at : ℕ) (s : List ℕ) → (descriptorRefusal d at s ≡ 1) ↔ (length s < at + d)
+unfolding descriptorRefusal
+descriptor-one-iff d at s = Iff·trans (when-given (ltb (length s) (at + d)) 1 (λ e. omega arith)) (ltb-iff (length s) (at + d))

@@ -1,0 +1,45 @@
+-- `octets::read_low_eight` meets its contract: the last four octets count 2 ^ 32 times the first four. Assumes nothing.
+use Prim.Native.Nat.{_+_, _^_, _<_}
+use denote.Ref.{now}
+use lib.ListN.{take, drop}
+use Rattle.octets.specs.Numbers.{leValue, Octets}
+use Rattle.octets.proofs.LowFirstLaws.{low-part-lt, low-parts-value}
+use borrow.Author.Needs.{needs}
+use native.Mathlib.Omega.{arith}
+use Rattle.octets.proofs.read_low_eight.Statement.{statement}
+use Rattle.octets.proofs.read_low_eight.Tie as tie
+
+read-low-four-requires : tie.Need-read-low-four-requires
+read-low-four-requires c κs = search needs
+
+add-read-low-four : tie.Need-add-read-low-four
+add-read-low-four c = search needs
+
+read-low-four-requires-2 : tie.Need-read-low-four-requires-2
+read-low-four-requires-2 c κs = search needs
+
+-- each half fits 32 bits
+halves : (c : tie.After-read-low-four2) → (c .before .read-low-four .result < 2 ^ 32) × (c .read-low-four2 .result < 2 ^ 32)
+halves c =
+    let a = c .before .before .before .args in
+    let s = now (a .s) in
+    let o : Octets s = λ i. c .before .before .shared-slice-known .given i .fits in
+    let l : leValue (take 4 (drop (a .at) s)) < 2 ^ 32 = low-part-lt s (a .at) 4 o (omega arith) in
+    let h : leValue (take 4 (drop (a .at + 4) s)) < 2 ^ 32 = low-part-lt s (a .at + 4) 4 o (omega arith) in
+    (omega arith, omega arith)
+
+mul-result : tie.Need-mul-result
+mul-result c = let h = halves c in omega arith
+
+add-result : tie.Need-add-result
+add-result c = let h = halves c in omega arith
+
+returns : tie.Need-returns
+returns c =
+    let a = c .before .before .before .args in
+    omega (arith, low-parts-value (now (a .s)) (a .at) 4 4 (omega arith))
+
+pub read-low-eight-spec : {M : Type 1} → statement M
+read-low-eight-spec =
+    tie.close
+    (tie.spec read-low-four-requires add-read-low-four read-low-four-requires-2 mul-result add-result returns)

@@ -1,0 +1,34 @@
+-- The hole list of a success STATUS: its pairs, and which lists are accepted.
+-- Assumes nothing.
+use Prim.Native.Nat.{ℕ, zero, suc, _+_, _*_}
+use mathlib.Core.Bool.{Bool, true, cond, _&&_}
+use mathlib.Core.List.{List, [], _∷_}
+use lib.Dec.{ltb, leb, eqb}
+use Rattle.header.specs.Descriptor.{descriptorAt}
+use Rattle.runs.specs.declared.Hole.{Hole}
+
+-- "A hole's end ... is the first offset after what it closes."
+-- The pair of descriptors of d octets that stands at the place `at`
+abbrev pub holeAt : ℕ → ℕ → List ℕ → Hole
+holeAt d at xs = record { start = descriptorAt d at xs; end = descriptorAt d (at + d) xs }
+
+-- "holes as pairs of start and end": the n holes from the place `at` on
+abbrev pub holesOf : ℕ → ℕ → ℕ → List ℕ → List Hole
+holesOf d zero at xs = []
+holesOf d (suc n) at xs = holeAt d at xs ∷ holesOf d n (at + 2 * d) xs
+
+-- "each start is less than its end; each start is greater than the end before it", which is `last`; "none ... ends above In-Response-To"
+abbrev pub holesAfter : ℕ → ℕ → List Hole → Bool
+holesAfter last top [] = true
+holesAfter last top (h ∷ hs) = ltb last (h .start) && (ltb (h .start) (h .end) && (leb (h .end) top && holesAfter (h .end) top hs))
+
+-- "none starts below Progress", and with bit 14 clear "the first start equals Progress"
+unfoldable pub startsWell : Bool → ℕ → ℕ → Bool
+startsWell partial progress first = cond partial (leb progress first) (eqb progress first)
+
+-- the whole list. With no holes "Progress is at most In-Response-To", and with bit 14 clear it "equals In-Response-To";
+-- with holes the first follows from progress ≤ start < end ≤ In-Response-To
+unfoldable pub holesWell : Bool → ℕ → ℕ → List Hole → Bool
+holesWell partial progress top [] = startsWell partial progress top
+holesWell partial progress top (h ∷ hs) =
+    startsWell partial progress (h .start) && (ltb (h .start) (h .end) && (leb (h .end) top && holesAfter (h .end) top hs))

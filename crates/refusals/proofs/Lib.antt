@@ -1,0 +1,4 @@
+pub mod TestLaws
+pub mod RefusalLaws
+pub mod WritingLaws
+pub mod LimitLaws

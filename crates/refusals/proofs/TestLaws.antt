@@ -1,0 +1,40 @@
+-- Tests as facts, exactly: what a refusal's test says when it holds, and when it fails.
+-- Assumes nothing.
+use Prim.Native.Nat.{ℕ, _<_, _≤_}
+use mathlib.Core.Path.{_≡_, refl}
+use mathlib.Core.Bool.{Bool, true, false, not, _&&_, true≢false, false≢true}
+use mathlib.Core.Logic.{_↔_}
+use lib.Dec.{ltb, eqb}
+use borrow.Author.Tests.{ltb-true, ltb-false, eqb-true, eqb-false, lt-ltb, le-ltb, eq-eqb, ne-eqb}
+
+pub eqb-iff : (a b : ℕ) → (eqb a b ≡ true) ↔ (a ≡ b)
+eqb-iff a b = (eqb-true a b, eq-eqb a b)
+
+pub eqb-not : (a b : ℕ) → (eqb a b ≡ false) ↔ (a ≡ b → ⊥)
+eqb-not a b = (eqb-false a b, ne-eqb a b)
+
+pub ltb-iff : (a b : ℕ) → (ltb a b ≡ true) ↔ (a < b)
+ltb-iff a b = (ltb-true a b, lt-ltb a b)
+
+pub ltb-not : (a b : ℕ) → (ltb a b ≡ false) ↔ (b ≤ a)
+ltb-not a b = (ltb-false a b, le-ltb a b)
+
+pub not-iff : (t : Bool) → (not t ≡ true) ↔ (t ≡ false)
+not-iff true = ((λ e. absurd (false≢true e)), (λ e. absurd (true≢false e)))
+not-iff false = ((λ e. refl), (λ e. refl))
+
+pub not-not : (t : Bool) → (not t ≡ false) ↔ (t ≡ true)
+not-not true = ((λ e. refl), (λ e. refl))
+not-not false = ((λ e. absurd (true≢false e)), (λ e. absurd (false≢true e)))
+
+pub and-iff : (a b : Bool) → (a && b ≡ true) ↔ ((a ≡ true) × (b ≡ true))
+and-iff true b = ((λ e. (refl, e)), (λ p. p .1))
+and-iff false b = ((λ e. absurd (false≢true e)), (λ p. absurd (false≢true (p .0))))
+
+-- a test fails exactly when what it says is not so
+pub test-not : (t : Bool) (A : Type 0) → (t ≡ true) ↔ A → (t ≡ false) ↔ (A → ⊥)
+test-not true A i = ((λ e. absurd (true≢false e)), (λ n. absurd (n (i .0 refl))))
+test-not false A i = ((λ e a. false≢true (i .1 a)), (λ n. refl))
+
+pub both : {A B C D : Type 0} → A ↔ C → B ↔ D → (A × B) ↔ (C × D)
+both f g = ((λ p. (f .0 (p .0), g .0 (p .1))), (λ p. (f .1 (p .0), g .1 (p .1))))

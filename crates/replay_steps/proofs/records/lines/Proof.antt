@@ -1,0 +1,211 @@
+-- `replay_steps::records::lines` meets its contract: a return for each kind.
+-- Assumes nothing.
+use mathlib.Core.Path.{refl}
+use denote.Ref.{now}
+use borrow.Author.Tests.{ne-eqb}
+use borrow.Author.Needs.{needs}
+use Rattle.replay_steps.specs.Records.{recordLines, areaAfter}
+use Rattle.replay_steps.proofs.CaseLaws.{of-kind}
+use Rattle.replay_steps.proofs.records.lines.Statement.{statement}
+use Rattle.replay_steps.proofs.records.lines.Tie as tie
+
+fresh-requires : tie.Need-fresh-requires
+fresh-requires c κs = search needs
+
+same-length : tie.Need-same-length
+same-length c = search needs
+
+same-length-2 : tie.Need-same-length-2
+same-length-2 c = search needs
+
+returns : tie.Need-returns
+unfolding recordLines areaAfter
+returns c =
+    let fresh-place = c .before .before .before .before in
+    let if1-place = fresh-place .before .before .before in
+    let start = if1-place .before .before .before .before .before in
+    let a = start .args in
+    of-kind (a .number) (now (a .body)) (now (a .area)) (now (a .lent)) (if1-place .if1 .taken)
+    (fresh-place .fresh .ensures)
+
+open-requires : tie.Need-open-requires
+open-requires c κs = search needs
+
+same-length-3 : tie.Need-same-length-3
+same-length-3 c = search needs
+
+same-length-4 : tie.Need-same-length-4
+same-length-4 c = search needs
+
+returns-2 : tie.Need-returns-2
+unfolding recordLines areaAfter
+returns-2 c =
+    let open-place = c .before .before .before .before in
+    let if2-place = open-place .before .before .before in
+    let start = if2-place .before .before .before .before .before .before in
+    let a = start .args in
+    of-kind (a .number) (now (a .body)) (now (a .area)) (now (a .lent)) (if2-place .if2 .taken)
+    (open-place .«open» .ensures)
+
+record-requires : tie.Need-record-requires
+record-requires c κs = search needs
+
+same-length-5 : tie.Need-same-length-5
+same-length-5 c = search needs
+
+same-length-6 : tie.Need-same-length-6
+same-length-6 c = search needs
+
+returns-3 : tie.Need-returns-3
+unfolding recordLines areaAfter
+returns-3 c =
+    let record-place = c .before .before .before .before in
+    let if3-place = record-place .before .before .before in
+    let start = if3-place .before .before .before .before .before .before .before in
+    let a = start .args in
+    of-kind (a .number) (now (a .body)) (now (a .area)) (now (a .lent)) (if3-place .if3 .taken)
+    (record-place .«record» .ensures)
+
+read-requires : tie.Need-read-requires
+read-requires c κs = search needs
+
+same-length-7 : tie.Need-same-length-7
+same-length-7 c = search needs
+
+returns-4 : tie.Need-returns-4
+unfolding recordLines areaAfter
+returns-4 c =
+    let read-place = c .before .before in
+    let if4-place = read-place .before .before in
+    let start = if4-place .before .before .before .before .before .before .before .before in
+    let a = start .args in
+    of-kind (a .number) (now (a .body)) (now (a .area)) (now (a .lent)) (if4-place .if4 .taken)
+    (read-place .read .ensures, refl)
+
+status-requires : tie.Need-status-requires
+status-requires c κs = search needs
+
+same-length-8 : tie.Need-same-length-8
+same-length-8 c = search needs
+
+same-length-9 : tie.Need-same-length-9
+same-length-9 c = search needs
+
+same-length-10 : tie.Need-same-length-10
+same-length-10 c = search needs
+
+returns-5 : tie.Need-returns-5
+unfolding recordLines areaAfter
+returns-5 c =
+    let status-place = c .before .before .before .before in
+    let if5-place = status-place .before .before .before .before in
+    let start = if5-place .before .before .before .before .before .before .before .before .before in
+    let a = start .args in
+    of-kind (a .number) (now (a .body)) (now (a .area)) (now (a .lent)) (if5-place .if5 .taken)
+    (status-place .status .ensures, refl)
+
+close-requires : tie.Need-close-requires
+close-requires c κs = search needs
+
+same-length-11 : tie.Need-same-length-11
+same-length-11 c = search needs
+
+same-length-12 : tie.Need-same-length-12
+same-length-12 c = search needs
+
+returns-6 : tie.Need-returns-6
+unfolding recordLines areaAfter
+returns-6 c =
+    let close-place = c .before .before .before .before in
+    let if6-place = close-place .before .before .before in
+    let start = if6-place .before .before .before .before .before .before .before .before .before .before in
+    let a = start .args in
+    of-kind (a .number) (now (a .body)) (now (a .area)) (now (a .lent)) (if6-place .if6 .taken)
+    (close-place .close .ensures)
+
+deliver-requires : tie.Need-deliver-requires
+deliver-requires c κs = search needs
+
+same-length-13 : tie.Need-same-length-13
+same-length-13 c = search needs
+
+same-length-14 : tie.Need-same-length-14
+same-length-14 c = search needs
+
+same-length-15 : tie.Need-same-length-15
+same-length-15 c = search needs
+
+returns-7 : tie.Need-returns-7
+unfolding recordLines areaAfter
+returns-7 c =
+    let deliver-place = c .before .before .before .before .before .before in
+    let if7-place = deliver-place .before .before .before .before in
+    let start = if7-place .before .before .before .before .before .before .before .before .before .before .before in
+    let a = start .args in
+    of-kind (a .number) (now (a .body)) (now (a .area)) (now (a .lent)) (if7-place .if7 .taken)
+    (deliver-place .deliver .ensures)
+
+put-unknown-requires : tie.Need-put-unknown-requires
+put-unknown-requires c κs = search needs
+
+same-length-16 : tie.Need-same-length-16
+same-length-16 c = search needs
+
+returns-8 : tie.Need-returns-8
+unfolding recordLines areaAfter
+returns-8 c =
+    let put-unknown-place = c .before .before in
+    let if7-place = put-unknown-place .before .before in
+    let if6-place = if7-place .before in
+    let if5-place = if6-place .before in
+    let if4-place = if5-place .before in
+    let if3-place = if4-place .before in
+    let if2-place = if3-place .before in
+    let if1-place = if2-place .before in
+    let start = if1-place .before .before .before .before .before in
+    let a = start .args in
+    let n1 = ne-eqb (a .kind) 0x46 (if1-place .if1 .left) in
+    let n2 = ne-eqb (a .kind) 0x4f (if2-place .if2 .left) in
+    let n3 = ne-eqb (a .kind) 0x44 (if3-place .if3 .left) in
+    let n4 = ne-eqb (a .kind) 0x52 (if4-place .if4 .left) in
+    let n5 = ne-eqb (a .kind) 0x53 (if5-place .if5 .left) in
+    let n6 = ne-eqb (a .kind) 0x43 (if6-place .if6 .left) in
+    let n7 = ne-eqb (a .kind) 0x50 (if7-place .if7 .left) in
+    (rw (n1, n2, n3, n4, n5, n6, n7) (put-unknown-place .put-unknown .ensures), rw (n1, n2, n3, n6, n7))
+
+pub lines-spec : {M : Type 1} → statement M
+lines-spec =
+    tie.close
+    (tie.spec
+    fresh-requires
+    same-length
+    same-length-2
+    returns
+    open-requires
+    same-length-3
+    same-length-4
+    returns-2
+    record-requires
+    same-length-5
+    same-length-6
+    returns-3
+    read-requires
+    same-length-7
+    returns-4
+    status-requires
+    same-length-8
+    same-length-9
+    same-length-10
+    returns-5
+    close-requires
+    same-length-11
+    same-length-12
+    returns-6
+    deliver-requires
+    same-length-13
+    same-length-14
+    same-length-15
+    returns-7
+    put-unknown-requires
+    same-length-16
+    returns-8)

@@ -1,0 +1,22 @@
+-- The buffers that `replay` lends for one record: its body, the room of a STATUS, and the lines.
+-- Assumes nothing.
+use Prim.Native.Nat.{ℕ, _≤_}
+use mathlib.Core.List.{List}
+use lib.ListN.{length}
+
+-- one octet more than a packet may have
+abbrev pub bodyMost : ℕ
+bodyMost = 65536
+
+-- "of the room at most 65,535 octets are used"
+abbrev pub lentMost : ℕ
+lentMost = 65535
+
+-- room for the longest answer, which is a success STATUS: docs/REPLAY.md, "No line is cut"
+abbrev pub outLeast : ℕ
+outLeast = 262144
+
+pub record Room (body lent out : List ℕ) : Type 0 where
+  pub body-fits : length body ≤ bodyMost
+  pub lent-fits : length lent ≤ lentMost
+  pub out-holds : outLeast ≤ length out

@@ -1,0 +1,5 @@
+pub mod RowsLaws
+pub mod RowReads
+pub mod JudgeLaws
+pub mod LoopLaws
+pub mod CutLaws

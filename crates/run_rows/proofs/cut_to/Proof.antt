@@ -1,0 +1,64 @@
+-- `run_rows::cut_to` meets its contract. The loop's invariant: the place lies from `low` to `top`. Assumes nothing.
+use borrow.Author.Needs.{needs}
+use native.Mathlib.Omega.{arith}
+use Prim.Native.Nat.{_-_}
+use Rattle.run_rows.proofs.CutLaws.{Halves, halves-start, halves-right, halves-left, halves-end}
+use Rattle.run_rows.proofs.cut_to.Statement.{statement}
+use Rattle.run_rows.proofs.cut_to.Tie as tie
+
+abbrev Inv-loop : tie.InvT-loop
+Inv-loop buf k n b low₀ top₀ low top = Halves buf k n b low top
+
+abbrev μ-loop : tie.MeasureT-loop
+μ-loop buf k n b low₀ top₀ low top = top - low
+
+loop-holds : tie.Need-loop-holds Inv-loop μ-loop
+loop-holds c = halves-start _ _ _ _
+
+add-mid : tie.Need-add-mid Inv-loop μ-loop
+add-mid c = search needs
+
+add-word : tie.Need-add-word Inv-loop μ-loop
+add-word c = search needs
+
+word-requires : tie.Need-word-requires Inv-loop μ-loop
+word-requires c κs = search needs
+
+add-low : tie.Need-add-low Inv-loop μ-loop
+add-low c = search needs
+
+loop-less : tie.Need-loop-less Inv-loop μ-loop
+loop-less c = search needs
+
+loop-again : tie.Need-loop-again Inv-loop μ-loop
+loop-again c =
+    let l = c .before .before .before .loop in
+    halves-right _ _ _ _ _ _ _ _ (omega arith) (omega arith) (c .before .word .ensures) (l .inv) (omega arith)
+
+loop-less-2 : tie.Need-loop-less-2 Inv-loop μ-loop
+loop-less-2 c = search needs
+
+loop-again-2 : tie.Need-loop-again-2 Inv-loop μ-loop
+loop-again-2 c =
+    let l = c .before .before .before .loop in
+    halves-left _ _ _ _ _ _ _ _ (omega arith) (omega arith) (c .before .word .ensures) (l .inv) (omega arith)
+
+returns : tie.Need-returns Inv-loop μ-loop
+returns c = halves-end _ _ _ _ _ _ (omega arith) (c .before .loop .inv)
+
+pub cut-to-spec : {M : Type 1} → statement M
+cut-to-spec =
+    tie.close
+    (tie.spec
+    Inv-loop
+    μ-loop
+    loop-holds
+    add-mid
+    add-word
+    word-requires
+    add-low
+    loop-less
+    loop-again
+    loop-less-2
+    loop-again-2
+    returns)

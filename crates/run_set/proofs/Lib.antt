@@ -1,4 +1,0 @@
-pub mod PlaceLaws
-pub mod SetLaws
-pub mod InsertSteps
-pub mod HeldLaws

@@ -1,3 +1,0 @@
-pub mod FlagLaws
-pub mod PairLaws
-pub mod PacketLaws

@@ -1,0 +1,81 @@
+-- What opening and recording answer is what the table that they leave has received.
+-- Assumes nothing.
+use Prim.Native.Nat.{ℕ}
+use mathlib.Core.Path.{_≡_, ap, _∙_}
+use mathlib.Core.List.{List, []}
+use mathlib.Core.Logic.{_⊎_, ⊎-elim}
+use native.Mathlib.Omega.{arith}
+use Rattle.packet_metadata.specs.Metadata.{readMetadata}
+use Rattle.packet_metadata.specs.declared.Metadata.{Metadata}
+use Rattle.packet_metadata.specs.declared.MetadataRead.the-variants as metadata-read
+use Rattle.packet_data.specs.Data.{readData}
+use Rattle.packet_data.specs.declared.Data.{Data}
+use Rattle.packet_data.specs.declared.DataRead.the-variants as data-read
+use Rattle.transfer.specs.declared.Reached.{Reached}
+use Rattle.transfer.specs.Transfers.{Transfer, keyOf, reached}
+use Rattle.transfer.proofs.FieldLaws.{data-some}
+use Rattle.transfer.proofs.ReachedLaws.{reached-tells}
+use Rattle.table.specs.Tables.{Valid, find, runsOf}
+use Rattle.table.specs.Outcome.{Outcome}
+use Rattle.table.specs.Open.{openPacket}
+use Rattle.table.specs.Record.{grown, recordPacket}
+use Rattle.table.specs.Told.{Told}
+use Rattle.table.specs.declared.Opened.{Opened}
+use Rattle.table.specs.declared.Opened.the-variants as opened
+use Rattle.table.specs.declared.Recorded.{Recorded}
+use Rattle.table.specs.declared.Recorded.the-variants as recorded
+use Rattle.table.proofs.TableLaws.{find-add-same, runs-add-same, keys-set, runs-set-same}
+use Rattle.table.proofs.FineLaws.{runs-canonical}
+use Rattle.table.proofs.OpenLaws.{open-cases}
+use Rattle.table.proofs.RecordLaws.{record-cases, grown-canonical}
+
+-- an accepted recording tells of the packet's Id in the table after it
+pub record-told : (t : List Transfer) (packet : List ℕ) (x : Reached) → Valid t → recordPacket t packet .answer ≡ recorded.Accepted x
+    → (d : Data) × (readData packet ≡ data-read.Accepted d) × Told (recordPacket t packet .table) (d .id) x
+record-told t packet x v a =
+    record-cases
+    (λ (o : Outcome Recorded). o .answer ≡ recorded.Accepted x → (d : Data) × (readData packet ≡ data-read.Accepted d) × Told (o .table) (d .id) x)
+    t packet
+    (λ r q. absurd (let z : _≡_ {A = ℕ} 0 1 = cc in omega arith))
+    (λ d k e f j l q.
+    let is : reached k (grown t d) ≡ x = cc in (
+      d,
+      e,
+      rw (← is)
+          (record {
+            key = k;
+            found = ap (find (d .id)) (keys-set (d .id) (grown t d) t) ∙ f;
+            tells = rw (runs-set-same (d .id) (grown t d) t k f)
+                (reached-tells k (grown t d) (grown-canonical t d (data-some packet d e) (runs-canonical (d .id) t v)));
+          }),
+    ))
+    a
+
+-- and so does an opening: a transfer that is new, or that was open already
+pub open-told : (t : List Transfer) (packet : List ℕ) (x : Reached) → Valid t
+    → (openPacket t packet .answer ≡ opened.New x) ⊎ (openPacket t packet .answer ≡ opened.AlreadyOpen x)
+    → (m : Metadata) × (readMetadata packet ≡ metadata-read.Accepted m) × Told (openPacket t packet .table) (m .id) x
+open-told t packet x v a =
+    open-cases
+    (λ (o : Outcome Opened). (o .answer ≡ opened.New x) ⊎ (o .answer ≡ opened.AlreadyOpen x)
+    → (m : Metadata) × (readMetadata packet ≡ metadata-read.Accepted m) × Told (o .table) (m .id) x)
+    t packet
+    (λ r q. absurd (⊎-elim (λ p. let z : _≡_ {A = ℕ} 0 1 = cc in omega arith) (λ p. let z : _≡_ {A = ℕ} 0 1 = cc in omega arith) q))
+    (λ m e f q.
+    let is : reached (keyOf m) (runsOf t (m .id)) ≡ x = ⊎-elim (λ p. absurd (let z : _≡_ {A = ℕ} 0 1 = cc in omega arith)) (λ p. cc) q in (
+      m,
+      e,
+      rw (← is) (record { key = keyOf m; found = f; tells = reached-tells (keyOf m) (runsOf t (m .id)) (runs-canonical (m .id) t v) }),
+    ))
+    (λ m e f l q.
+    let is : reached (keyOf m) [] ≡ x = ⊎-elim (λ p. cc) (λ p. absurd (let z : _≡_ {A = ℕ} 0 1 = cc in omega arith)) q in (
+      m,
+      e,
+      rw (← is)
+          (record {
+            key = keyOf m;
+            found = find-add-same (keyOf m) t f;
+            tells = rw (runs-add-same (keyOf m) t f) (reached-tells (keyOf m) [] tt);
+          }),
+    ))
+    a

@@ -1,0 +1,57 @@
+-- What recording leaves of one transfer: the received offsets are those before and those of the packet, and the transfer is as described.
+-- Assumes nothing.
+use Prim.Native.Nat.{ℕ, _+_, _<_, _≤_}
+use mathlib.Core.Path.{_≡_}
+use mathlib.Core.Bool.{not}
+use mathlib.Core.List.{List}
+use mathlib.Core.Logic.{_⊎_, _↔_}
+use native.Mathlib.Omega.{arith}
+use lib.ListN.{length}
+use lib.Dec.{eqb}
+use borrow.Author.Tests.{ltb-false, le-ltb}
+use Rattle.refusals.specs.Refusals.{when}
+use Rattle.refusals.proofs.RefusalLaws.{first-none, rest-none, failed}
+use Rattle.packet_data.specs.declared.Data.{Data}
+use Rattle.runs.specs.Runs.{Run, Member, Canonical}
+use Rattle.runs.proofs.InsertLaws.{insert-member, insert-canonical, insert-stops}
+use Rattle.transfer.specs.declared.Key.{Key}
+use Rattle.transfer.specs.Transfers.{TransferFine}
+use Rattle.transfer.specs.Record.{stopOf, keyRefusal, extended, runsRefusal}
+
+-- "Recording DATA adds the offsets from offset to offset + payload length - 1"
+pub extended-member : (rs : List Run) (d : Data) (o : ℕ)
+    → Member (extended rs d) o ↔ (((d .offset ≤ o) × (o < d .offset + d .length)) ⊎ Member rs o)
+unfolding extended
+extended-member rs d o = insert-member (d .offset) (d .offset + d .length) rs o
+
+pub extended-canonical : (rs : List Run) (d : Data) → 0 < d .length → Canonical rs → Canonical (extended rs d)
+unfolding extended
+extended-canonical rs d p h = insert-canonical (d .offset) (d .offset + d .length) rs (omega arith) h
+
+-- where 14 is not given, the packet ends within the length
+pub key-stop : (k : Key) (d : Data) → keyRefusal k d ≡ 0 → stopOf d ≤ k .length
+unfolding keyRefusal
+key-stop k d e =
+    ltb-false (k .length) (stopOf d) (failed _ 13 (first-none _ _ (rest-none (when (not (eqb (d .width) (k .width))) 13) _ e)))
+
+-- where 16 is not given
+pub runs-few : (rs : List Run) → runsRefusal rs ≡ 0 → length rs ≤ 64
+unfolding runsRefusal
+runs-few rs e = ltb-false 64 (length rs) (failed _ 15 e)
+
+pub few-runs : (rs : List Run) → length rs ≤ 64 → runsRefusal rs ≡ 0
+unfolding runsRefusal
+few-runs rs h = rw (le-ltb 64 (length rs) h)
+
+pub extended-fine : (k : Key) (rs : List Run) (d : Data) → TransferFine (record { key = k; runs = rs }) → 0 < d .length → stopOf d ≤ k .length
+    → length (extended rs d) ≤ 64 → TransferFine (record { key = k; runs = extended rs d })
+unfolding extended
+extended-fine k rs d x payload stop few =
+    record {
+      id-fits = x .id-fits;
+      width-is = x .width-is;
+      length-fits = x .length-fits;
+      few = few;
+      canonical = extended-canonical rs d payload (x .canonical);
+      within = insert-stops (k .length) (d .offset) (stopOf d) rs stop (x .within);
+    }

@@ -1,0 +1,296 @@
+-- "A STATUS that the desk wrote reads back with its fields and holes."
+-- Assumes nothing.
+use Prim.Native.Nat.{ℕ, suc, _+_, _*_, _^_, _<_, _≤_}
+use mathlib.Core.Path.{_≡_, refl, sym, ap, _∙_}
+use mathlib.Core.Bool.{Bool, true, false, _||_}
+use mathlib.Core.List.{List, [], _∷_, _++_, append-assoc}
+use native.Mathlib.Nat.{mul-le-mul, mul-div-right, mul-mod-right}
+use native.Mathlib.Omega.{arith}
+use lib.ListN.{length, take, drop, getD}
+use lib.Seq.{take-at, drop-at, drop-drop}
+use lib.Dec.{eqb}
+use borrow.Author.Tests.{lt-ltb, le-ltb, le-leb, eq-eqb}
+use Rattle.octets.specs.Numbers.{beValue, beDigits, Width}
+use Rattle.octets.proofs.NumberLaws.{value-digits, length-digits, width-le, width-some}
+use Rattle.refusals.specs.Refusals.{refusalOf}
+use Rattle.header.specs.FirstWord.{markOf, typeOf, flagsOf, widthOf, descriptorOctets, timestampOctets, partialOf, statusOf, wordFor}
+use Rattle.header.specs.Start.{wordOf, idOf, startRefusal, typeRefusal}
+use Rattle.runs.specs.declared.Hole.{Hole}
+use Rattle.packet_status.specs.HoleList.{holesOf, holesAfter, startsWell, holesWell}
+use Rattle.packet_status.specs.Status.{holesAt, progressOf, responseOf, listOctets, holeCount, holeList, successRefusal, statusRefusal, successOf, readStatus, readHole}
+use Rattle.packet_status.specs.declared.StatusRead.the-variants.{Success}
+use Rattle.packet_status.specs.declared.HoleRead.the-variants as hole-read
+use Rattle.packet_status.proofs.AcceptedLaws.{holes-well-means}
+use Rattle.packet_status.proofs.StatusLaws.{success-none, hole-read-listed, hole-past-list}
+use Rattle.runs.specs.Holes.{edge, holes, progress, complete, HolesApart}
+use Rattle.runs.proofs.EdgeLaws.{edge-stops}
+use Rattle.runs.proofs.HoleLaws.{apart-drop, apart-take}
+use Rattle.runs.proofs.HolePlaces.{holes-few}
+use Rattle.runs.proofs.ProgressLaws.{progress-edge, holes-between, progress-no-holes, progress-first-hole}
+use Rattle.transfer.specs.Transfers.{Transfer, TransferFine}
+use Rattle.transfer.specs.WriteStatus.{holeRoom, holesSent, partialSent, statusFlags, statusFields, pairs, statusOctets, statusPacket}
+use Rattle.transfer.proofs.StatusSize.{holes-sent-count, status-octets-size}
+use Rattle.transfer.proofs.StatusPartial.{whole-sent}
+use Rattle.transfer.proofs.StatusFlags.{bit-test, flags-fit, flags-mark, flags-type, flags-flags, flags-narrow, flags-octets, flags-timestamp, flags-partial, flags-status}
+
+-- ---- the pairs
+
+-- each number of each hole is below n
+abbrev HolesBelow : ℕ → List Hole → Type 0
+HolesBelow n [] = Unit
+HolesBelow n (h ∷ hs) = (h .start < n) × (h .end < n) × HolesBelow n hs
+
+apart-below : (n k top : ℕ) (hs : List Hole) → top < n → HolesApart k top hs → HolesBelow n hs
+apart-below n k top [] l a = tt
+apart-below n k top (h ∷ hs) l a = (omega arith, omega arith, apart-below n (suc (h .end)) top hs l (a .3))
+
+-- where pairs stand, their holes are read
+pub pairs-read : (d at : ℕ) (s : List ℕ) (hs : List Hole) → HolesBelow (256 ^ d) hs → drop at s ≡ pairs d hs → holesOf d (length hs) at s ≡ hs
+unfolding pairs
+pairs-read d at s [] b e = refl
+pairs-read d at s (h ∷ hs) b f =
+    let ends = beDigits d (h .end) ++ pairs d hs in
+    let e : drop at s ≡ beDigits d (h .start) ++ ends = f ∙ append-assoc (beDigits d (h .start)) (beDigits d (h .end)) (pairs d hs) in
+    let e2 : drop (at + d) s ≡ ends =
+    sym (drop-drop d at s) ∙ ap (drop d) e ∙ drop-at (beDigits d (h .start)) ends d (length-digits d (h .start)) in
+    let two : at + 2 * d ≡ at + d + d = omega arith in
+    let e3 : drop (at + 2 * d) s ≡ pairs d hs =
+    ap (λ (n : ℕ). drop n s) two ∙ sym (drop-drop d (at + d) s) ∙ ap (drop d) e2 ∙ drop-at (beDigits d (h .end)) (pairs d hs) d (length-digits d (h .end)) in
+    let st : beValue (take d (drop at s)) ≡ h .start =
+    ap (λ (l : List ℕ). beValue (take d l)) e
+    ∙ ap beValue (take-at (beDigits d (h .start)) ends d (length-digits d (h .start))) ∙ value-digits d (h .start) (b .0) in
+    let en : beValue (take d (drop (at + d) s)) ≡ h .end =
+    ap (λ (l : List ℕ). beValue (take d l)) e2
+    ∙ ap beValue (take-at (beDigits d (h .end)) (pairs d hs) d (length-digits d (h .end))) ∙ value-digits d (h .end) (b .1) in
+    let rest = pairs-read d (at + 2 * d) s hs (b .2) e3 in
+    λ i. record { start = st i; end = en i } ∷ rest i
+
+-- ---- the list is one that the reader accepts
+
+apart-after : (last top : ℕ) (hs : List Hole) → HolesApart (suc last) top hs → holesAfter last top hs ≡ true
+apart-after last top [] a = refl
+apart-after last top (h ∷ hs) a =
+    rw (lt-ltb last (h .start) (a .0), lt-ltb (h .start) (h .end) (a .1), le-leb (h .end) top (a .2)) (apart-after (h .end) top hs (a .3))
+
+starts-well : (partial : Bool) (from first : ℕ) → from ≤ first → (partial ≡ false → from ≡ first) → startsWell partial from first ≡ true
+unfolding startsWell
+starts-well true from first l e = le-leb from first l
+starts-well false from first l e = eq-eqb from first (e refl)
+
+apart-well : (partial : Bool) (from top : ℕ) (hs : List Hole) → from ≤ top → HolesApart from top hs
+    → (partial ≡ false → hs ≡ [] → from ≡ top)
+    → (partial ≡ false → (x : Hole) (xs : List Hole) → hs ≡ x ∷ xs → from ≡ x .start)
+    → holesWell partial from top hs ≡ true
+unfolding holesWell
+apart-well partial from top [] l a n f = starts-well partial from top l (λ p. n p refl)
+apart-well partial from top (h ∷ hs) l a n f =
+    rw (
+      starts-well partial from (h .start) (a .0) (λ p. f p h hs refl),
+      lt-ltb (h .start) (h .end) (a .1),
+      le-leb (h .end) top (a .2),
+    )
+    (apart-after (h .end) top hs (a .3))
+
+-- ---- a STATUS whose numbers fit their fields
+
+octets-word : (flags id d from to : ℕ) (hs : List Hole) → flags < 2 ^ 24 → wordOf (statusOctets flags id d from to hs) ≡ wordFor 4 flags
+unfolding statusOctets statusFields
+octets-word flags id d from to hs h = value-digits 4 (wordFor 4 flags) (omega arith)
+
+module _ (id d from to : ℕ) (p u : Bool) (hs : List Hole) (w : Width d) (id-fits : id < 2 ^ 32) (from-fits : from < 256 ^ d) (to-fits : to < 256 ^ d)
+    (below : HolesBelow (256 ^ d) hs) where
+  abbrev s : List ℕ
+  s = statusOctets (statusFlags d p u) id d from to hs
+
+  word : wordOf s ≡ wordFor 4 (statusFlags d p u)
+  word = octets-word (statusFlags d p u) id d from to hs (flags-fit d p u)
+
+  ident : idOf s ≡ id
+  unfolding statusOctets statusFields
+  ident = value-digits 4 id id-fits
+
+  octets : descriptorOctets (wordOf s) ≡ d
+  octets = ap descriptorOctets word ∙ flags-octets d p u w
+
+  stamp : timestampOctets (wordOf s) ≡ 0
+  stamp = ap timestampOctets word ∙ flags-timestamp d p u
+
+  after-id : drop 8 s ≡ beDigits d from ++ (beDigits d to ++ pairs d hs)
+  unfolding statusOctets statusFields
+  after-id = append-assoc (beDigits d from) (beDigits d to) (pairs d hs)
+
+  after-from : drop (8 + d) s ≡ beDigits d to ++ pairs d hs
+  after-from = sym (drop-drop d 8 s) ∙ ap (drop d) after-id ∙ drop-at (beDigits d from) (beDigits d to ++ pairs d hs) d (length-digits d from)
+
+  after-to : drop (8 + 2 * d) s ≡ pairs d hs
+  after-to =
+      let e : 8 + 2 * d ≡ 8 + d + d = omega arith in
+      ap (λ (n : ℕ). drop n s) e ∙ sym (drop-drop d (8 + d) s) ∙ ap (drop d) after-from ∙ drop-at (beDigits d to) (pairs d hs) d (length-digits d to)
+
+  progress-is : progressOf s ≡ from
+  progress-is =
+      rw (octets, stamp, after-id)
+      (ap beValue (take-at (beDigits d from) (beDigits d to ++ pairs d hs) d (length-digits d from)) ∙ value-digits d from from-fits)
+
+  response-is : responseOf s ≡ to
+  response-is =
+      rw (octets, stamp, after-from)
+      (ap beValue (take-at (beDigits d to) (pairs d hs) d (length-digits d to)) ∙ value-digits d to to-fits)
+
+  holes-at : holesAt (wordOf s) ≡ 8 + 2 * d
+  holes-at = rw (octets, stamp)
+
+  list-octets : listOctets s ≡ 2 * d * length hs
+  list-octets = omega (arith, status-octets-size (statusFlags d p u) id d from to hs, holes-at)
+
+  count-is : holeCount s ≡ length hs
+  count-is = rw (list-octets, octets) (mul-div-right (length hs) {m = 2 * d} (omega (arith, width-some w)))
+
+  list-is : holeList s ≡ hs
+  unfolding holeList
+  list-is = rw (count-is, holes-at, octets) (pairs-read d (8 + 2 * d) s hs below after-to)
+
+  -- with a list that the reader accepts, and not too many holes
+  module _ (well : holesWell p from to hs ≡ true) (few : length hs ≤ 64) where
+    size-lt : length s ≤ 1048
+    size-lt =
+        let m : 2 * d * length hs ≤ 16 * 64 = mul-le-mul {n₁ = 2 * d} {m₁ = length hs} {n₂ = 16} {m₂ = 64} (omega (arith, width-le w)) few in
+        omega (arith, status-octets-size (statusFlags d p u) id d from to hs, width-le w)
+
+    typed : typeRefusal 4 s ≡ 0
+    unfolding typeRefusal startRefusal
+    typed =
+        rw (
+          word,
+          le-ltb 65535 (length s) (omega (arith, size-lt)),
+          le-ltb (length s) 8 (omega (arith, status-octets-size (statusFlags d p u) id d from to hs)),
+          eq-eqb (markOf (wordFor 4 (statusFlags d p u))) 1 (flags-mark d p u),
+          eq-eqb (typeOf (wordFor 4 (statusFlags d p u))) 4 (flags-type d p u),
+        )
+
+    list-well : holesWell (eqb (partialOf (wordOf s)) 1) (progressOf s) (responseOf s) (holeList s) ≡ true
+    list-well = rw (progress-is, response-is, list-is, word, flags-partial d p u, bit-test p) well
+
+    success : successRefusal s ≡ 0
+    success =
+        success-none s (record {
+          narrow = λ e. flags-narrow d p u (sym (ap widthOf word) ∙ e);
+          long = omega (arith, holes-at, status-octets-size (statusFlags d p u) id d from to hs);
+          whole = rw (list-octets, octets) (mul-mod-right (2 * d) (length hs));
+          list = holes-well-means _ _ _ _ list-well;
+        })
+
+    code : statusOf (wordOf s) ≡ 0
+    code = ap statusOf word ∙ flags-status d p u
+
+    octets-accepted : statusRefusal s ≡ 0
+    unfolding statusRefusal
+    octets-accepted = rw (typed, eq-eqb (statusOf (wordOf s)) 0 code) success
+
+    octets-read : readStatus s ≡ Success (record {
+      flags = statusFlags d p u;
+      id = id;
+      width = d;
+      timestamp = 0;
+      progress = from;
+      response = to;
+      holes = 8 + 2 * d;
+      count = length hs;
+    })
+    unfolding readStatus successOf
+    octets-read =
+        let f : flagsOf (wordOf s) ≡ statusFlags d p u = ap flagsOf word ∙ flags-flags d p u in
+        rw (octets-accepted, code, f, ident, count-is, progress-is, response-is, holes-at, octets, stamp)
+
+-- ---- the STATUS of a transfer, whatever is skipped and whatever room there is
+
+module _ (x : Transfer) (k : ℕ) (unasked : Bool) (room : ℕ) (fine : TransferFine x) where
+  abbrev d : ℕ
+  d = x .key .width
+
+  abbrev hs : List Hole
+  hs = holes (x .runs)
+
+  abbrev sent : List Hole
+  sent = holesSent d k room hs
+
+  abbrev partial : Bool
+  partial = partialSent d k room (length hs)
+
+  edge-fits : edge (x .runs) < 256 ^ d
+  edge-fits = omega (arith, edge-stops (x .key .length) (x .runs) (fine .within), fine .length-fits)
+
+  sent-apart : HolesApart (progress (x .runs)) (edge (x .runs)) sent
+  unfolding holesSent
+  sent-apart =
+      apart-take (holeRoom d room) (progress (x .runs)) (edge (x .runs)) (drop k hs)
+      (apart-drop k (progress (x .runs)) (edge (x .runs)) hs (holes-between (x .runs) (fine .canonical)))
+
+  sent-below : HolesBelow (256 ^ d) sent
+  sent-below = apart-below (256 ^ d) (progress (x .runs)) (edge (x .runs)) sent edge-fits sent-apart
+
+  -- "Reading a success STATUS accepts" the list that was written
+  pub status-holes-well : holesWell partial (progress (x .runs)) (edge (x .runs)) sent ≡ true
+  status-holes-well =
+      apart-well partial (progress (x .runs)) (edge (x .runs)) sent (progress-edge (x .runs) (fine .canonical)) sent-apart
+      (λ p e. progress-no-holes (x .runs) (fine .canonical) .0 (sym (whole-sent d k room hs p) ∙ e))
+      (λ p y ys e. sym (progress-first-hole (x .runs) y ys (fine .canonical) (sym (whole-sent d k room hs p) ∙ e)))
+
+  sent-few : length sent ≤ 64
+  sent-few = omega (arith, holes-sent-count d k room hs, holes-few (x .runs) (fine .canonical), fine .few)
+
+  progress-fits : progress (x .runs) < 256 ^ d
+  progress-fits = omega (arith, edge-fits, progress-edge (x .runs) (fine .canonical))
+
+  -- bit 15, and the packet
+  abbrev fifteen : Bool
+  fifteen = unasked || complete (x .key .length) (x .runs)
+
+  abbrev packet : List ℕ
+  packet = statusPacket (x .key) (x .runs) k unasked room
+
+  -- its first word: bit 14 where holes are left out, bit 15 where it is sent unasked or the transfer is complete
+  pub status-word : wordOf packet ≡ wordFor 4 (statusFlags d partial fifteen)
+  unfolding statusPacket
+  status-word = octets-word (statusFlags d partial fifteen) _ _ _ _ _ (flags-fit d partial fifteen)
+
+  -- the reader takes it
+  pub status-accepted : statusRefusal packet ≡ 0
+  unfolding statusPacket
+  status-accepted =
+      octets-accepted (x .key .id) d (progress (x .runs)) (edge (x .runs)) partial fifteen sent
+      (fine .width-is) (fine .id-fits) progress-fits edge-fits sent-below status-holes-well sent-few
+
+  -- its fields are those that were written
+  pub status-read : readStatus packet ≡ Success (record {
+    flags = statusFlags d partial fifteen;
+    id = x .key .id;
+    width = d;
+    timestamp = 0;
+    progress = progress (x .runs);
+    response = edge (x .runs);
+    holes = 8 + 2 * d;
+    count = length sent;
+  })
+  unfolding statusPacket
+  status-read =
+      octets-read (x .key .id) d (progress (x .runs)) (edge (x .runs)) partial fifteen sent
+      (fine .width-is) (fine .id-fits) progress-fits edge-fits sent-below status-holes-well sent-few
+
+  -- and so are its holes
+  pub status-holes-read : holeList packet ≡ sent
+  unfolding statusPacket
+  status-holes-read =
+      list-is (x .key .id) d (progress (x .runs)) (edge (x .runs)) partial fifteen sent (fine .width-is) (fine .id-fits) progress-fits edge-fits sent-below
+
+  status-code : statusOf (wordOf packet) ≡ 0
+  status-code = ap statusOf status-word ∙ flags-status d partial fifteen
+
+  -- each hole that was written is read by its index, and no other
+  pub status-hole-read : (index : ℕ) (default : Hole) → index < length sent → readHole index packet ≡ hole-read.Accepted (getD sent index default)
+  status-hole-read index default h =
+      hole-read-listed packet status-accepted status-code index default (rw status-holes-read h)
+      ∙ ap (λ (l : List Hole). hole-read.Accepted (getD l index default)) status-holes-read
+
+  pub status-hole-past : (index : ℕ) → length sent ≤ index → readHole index packet ≡ hole-read.Refused (refusalOf 19)
+  status-hole-past index h = hole-past-list packet status-accepted status-code index (rw status-holes-read h)

@@ -1,0 +1,22 @@
+-- `transfer::status::width_bits` meets its contract: by the three widths.
+-- Assumes nothing.
+use borrow.Author.Tests.{eq-eqb, ne-eqb}
+use Rattle.transfer.specs.WriteStatus.{widthBits}
+use native.Mathlib.Omega.{arith}
+use Rattle.transfer.proofs.status.width_bits.Statement.{statement}
+use Rattle.transfer.proofs.status.width_bits.Tie as tie
+
+returns : tie.Need-returns
+unfolding widthBits
+returns c = rw (eq-eqb (c .before .args .width) 2 (omega arith))
+
+returns-2 : tie.Need-returns-2
+unfolding widthBits
+returns-2 c = rw (ne-eqb (c .before .before .args .width) 2 (omega arith), eq-eqb (c .before .before .args .width) 4 (omega arith))
+
+returns-3 : tie.Need-returns-3
+unfolding widthBits
+returns-3 c = rw (ne-eqb (c .before .before .args .width) 2 (omega arith), ne-eqb (c .before .before .args .width) 4 (omega arith))
+
+pub width-bits-spec : {M : Type 1} → statement M
+width-bits-spec = tie.close (tie.spec returns returns-2 returns-3)

@@ -1,0 +1,3 @@
+pub mod Transfers
+pub mod Record
+pub mod WriteStatus

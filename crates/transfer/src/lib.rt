@@ -1,0 +1,56 @@
+// One transfer: its key, what a packet's fields are refused with, and the fields of its STATUS. The received offsets stay
+// where they are kept; specs/ says what becomes of them.
+ghost use mathlib.Core.Path.{_≡_};
+ghost use Rattle.transfer.specs.Transfers.{keyOf};
+ghost use Rattle.transfer.specs.Record.{keyRefusal};
+use packet_data::Data;
+use packet_metadata::Metadata;
+
+pub mod status;
+
+// What METADATA opens: an Id, a width (the octets of a descriptor), and the length L.
+pub struct Key {
+    pub id: u64,
+    pub width: usize,
+    pub length: u64,
+}
+
+// How far a transfer has come: its edge, and whether every octet of its length was received.
+pub struct Reached {
+    pub edge: u64,
+    pub complete: bool,
+}
+
+// The key that METADATA opens.
+pub fn key_of(m: Metadata) -> Key
+    ensures { λ r. ⌜ r ≡ keyOf m ⌝ }
+{
+    Key {
+        id: m.id,
+        width: m.width,
+        length: m.entry.size,
+    }
+}
+
+// 13, 14 and 15 for DATA of a transfer with this key; 0 for none. No sum is made that could wrap.
+pub fn key_refusal(key: Key, d: Data) -> u64
+    ensures { λ r. ⌜ r ≡ keyRefusal key d ⌝ }
+{
+    if d.width != key.width {
+        return 13;
+    }
+    let octets = d.length as u64;
+    if key.length < octets {
+        return 14;
+    }
+    if key.length - octets < d.offset {
+        return 14;
+    }
+    if d.eod != 1 {
+        return 0;
+    }
+    if d.offset + octets != key.length {
+        return 15;
+    }
+    0
+}

@@ -1,0 +1,270 @@
+/*
+ * What is done with a packet: METADATA opens a transfer, DATA is stored and recorded, STATUS is shown. The steps are
+ * those of link.c. Nothing is answered of a transfer but after save(), and nothing where that failed.
+ */
+#include "link.h"
+
+#include <errno.h>
+#include <stdio.h>
+#include <string.h>
+
+#define CODE_NOT_OPEN 0x06
+#define CODE_TOO_LARGE 0x08 /* draft 09, section 4.5: longer than the receiver supports */
+
+/* Sends a packet back, or shows what would be sent. */
+static void answer(uint64_t number, const struct peer *peer, const uint8_t *octets, size_t count)
+{
+    say_octets(number, "send", octets, count);
+    if (peer->socket >= 0 &&
+        sendto(peer->socket, octets, count, 0, (const struct sockaddr *)&peer->address, peer->address_len) < 0)
+        warn("packet %" PRIu64 ": the answer can't be sent: %s", number, strerror(errno));
+}
+
+static void send_failure(uint64_t number, const struct peer *peer, uint64_t id, uint64_t code)
+{
+    uint8_t out[8];
+    struct saratoga_written written = saratoga_write_failure(id, code, out, sizeof out);
+    if (written.number == 0)
+        answer(number, peer, out, (size_t)written.size);
+}
+
+/* REQUEST, METADATA, DATA and STATUS have an Id in octets 4 to 7. A BEACON has none; of other types nobody knows. */
+static int has_id(const uint8_t *packet, size_t packet_len)
+{
+    return packet_len >= 8 && (packet[0] & 0x3f) >= 1 && (packet[0] & 0x3f) <= 4;
+}
+
+/* A refusal, and the failure STATUS where it has a code and the packet an Id. */
+static void refuse(uint64_t number, const struct peer *peer, const uint8_t *packet, size_t packet_len, uint64_t refusal,
+                   uint64_t code)
+{
+    say(number, "refused %" PRIu64 " code=%" PRIu64, refusal, code);
+    if (refusal == SARATOGA_REFUSED_AREA)
+        die("the area in memory holds no transfer table: the program has a fault");
+    if (code == 0 || !has_id(packet, packet_len))
+        return;
+    uint64_t id = (uint64_t)packet[4] << 24 | (uint64_t)packet[5] << 16 | (uint64_t)packet[6] << 8 | packet[7];
+    send_failure(number, peer, id, code);
+}
+
+/* Step 6 for an open transfer: its STATUS, once the area on disk and its file hold what the STATUS says. */
+static void send_status(uint64_t number, const struct peer *peer, uint64_t id, int unasked)
+{
+    uint8_t out[MOST_STATUS];
+    if (!save())
+        return;
+    struct transfer *t = transfer_of(id);
+    if (t != NULL && !t->delivered && !part_is_there(t)) {
+        warn("the .part of transfer %" PRIu64 " is gone; it is closed and must begin anew", id);
+        if (!end_transfer(number, t, "lost"))
+            return;
+        t = NULL;
+    }
+    if (t == NULL) {
+        send_failure(number, peer, id, CODE_NOT_OPEN);
+        return;
+    }
+    struct saratoga_written written =
+        saratoga_write_status(area, sizeof area, id, 0, (uint64_t)unasked, out, sizeof out);
+    if (written.number == 0)
+        answer(number, peer, out, (size_t)written.size);
+}
+
+/* A transfer may be ended only once its page, if it is complete, has its name. */
+static int may_end(uint64_t number, struct transfer *t)
+{
+    return !listed(t->id).complete || t->delivered || (save() && deliver(number, t) == 1);
+}
+
+/* Ends a transfer to make room: a complete one, or by option the one heard longest ago. Gives 0 where there is none. */
+static int make_room(uint64_t number)
+{
+    struct transfer *chosen = NULL;
+    for (size_t i = 0; i < MOST_TRANSFERS; i++) {
+        struct transfer *t = &transfers[i];
+        if (t->used && listed(t->id).complete && (chosen == NULL || t->id < chosen->id))
+            chosen = t;
+    }
+    for (size_t i = 0; i < MOST_TRANSFERS && options.make_room; i++) {
+        struct transfer *t = &transfers[i];
+        if (t->used && (chosen == NULL || (!listed(chosen->id).complete && t->heard < chosen->heard)))
+            chosen = t;
+    }
+    return chosen != NULL && may_end(number, chosen) && end_transfer(number, chosen, "to-make-room");
+}
+
+/*
+ * Opens a transfer: .part and .meta are made before, and forced to disk by save() before the area. Gives NULL where
+ * they can't be: the packet then counts as lost.
+ */
+static struct transfer *open_transfer(const uint8_t *packet, size_t packet_len, const struct saratoga_packet *read,
+                                      struct saratoga_opened *opened)
+{
+    struct transfer *t;
+    if (!save()) /* no area on disk may hold the Id: a closing is saved before */
+        return NULL;
+    t = new_transfer(read->id);
+    t->meta_len = meta_text(t->meta, packet, read);
+    if (make_files(t) != 0) {
+        char name[NAME_OCTETS];
+        name_of(name, t, "part");
+        if (is_lack_of_room(errno))
+            room_is_lacking(name, errno);
+        else
+            warn("%s/%s or its .meta: can't be made: %s", options.directory, name, strerror(errno));
+        forget_files(t);
+        t->used = 0;
+        return NULL;
+    }
+    cut_point("between files and opening");
+    *opened = saratoga_open(area, sizeof area, packet, packet_len);
+    if (opened->number != 0)
+        die("opening is refused after all, with %" PRIu64 ": the program has a fault", opened->number);
+    table_changed();
+    return save() ? t : NULL;
+}
+
+/* METADATA. Where the Id is open for another file, that one is ended first: its octets and these must not mix. */
+static void take_metadata(uint64_t number, const struct peer *peer, const uint8_t *packet, size_t packet_len,
+                          const struct saratoga_packet *read)
+{
+    char text[MOST_META];
+    size_t text_len = meta_text(text, packet, read);
+    struct transfer *t = transfer_of(read->id);
+    if (read->size > options.largest) {
+        say(number, "too-large id=%" PRIu64 " length=%" PRIu64 " code=%d", read->id, read->size, CODE_TOO_LARGE);
+        send_failure(number, peer, read->id, CODE_TOO_LARGE);
+        return;
+    }
+    int is_lost = t != NULL && !t->delivered && !part_is_there(t);
+    if (is_lost)
+        warn("the .part of transfer %" PRIu64 " is gone; it is closed and must begin anew", read->id);
+    if (is_lost || (t != NULL && (t->meta_len != text_len || memcmp(t->meta, text, text_len) != 0))) {
+        const char *why = is_lost ? "lost" : "other-metadata";
+        if ((!is_lost && !may_end(number, t)) || !end_transfer(number, t, why)) {
+            say(number, "lost id=%" PRIu64, read->id);
+            return;
+        }
+    }
+    struct saratoga_opened opened = would_open(packet, packet_len);
+    if (opened.number == SARATOGA_REFUSED_TABLE_FULL && make_room(number))
+        opened = would_open(packet, packet_len);
+    if (opened.number != 0) {
+        refuse(number, peer, packet, packet_len, opened.number, opened.code);
+        return;
+    }
+    t = opened.already_open ? transfer_of(read->id) : open_transfer(packet, packet_len, read, &opened);
+    if (t == NULL) {
+        say(number, "lost id=%" PRIu64, read->id);
+        return;
+    }
+    heard(t);
+    say(number, "open id=%" PRIu64 " width=%" PRIu64 " length=%" PRIu64 " edge=%" PRIu64 " complete=%" PRIu64 " %s",
+        read->id, 8 * read->width, read->size, opened.edge, opened.complete,
+        opened.already_open ? "already-open" : "new");
+    if (opened.complete && (!save() || deliver(number, t) == 0)) /* at once complete: a file of length 0 */
+        return;
+    send_status(number, peer, read->id, 1);
+}
+
+/* Step 2. Where it can't be written the packet is as good as lost: not recorded, and asked for again. */
+static int store_payload(uint64_t number, const uint8_t *packet, const struct saratoga_packet *read)
+{
+    struct transfer *t = transfer_of(read->id);
+    if (t != NULL && write_payload(t, packet + read->payload_at, (size_t)read->payload_len, read->offset) == 0)
+        return 1;
+    char name[NAME_OCTETS] = "area";
+    int error = errno;
+    if (t != NULL)
+        name_of(name, t, "part");
+    if (is_lack_of_room(error))
+        room_is_lacking(name, error);
+    else
+        warn("packet %" PRIu64 ": not recorded, as if it had been lost: %s/%s: %s", number, options.directory, name,
+             strerror(error));
+    say(number, "lost id=%" PRIu64 " offset=%" PRIu64 " length=%" PRIu64, read->id, read->offset, read->payload_len);
+    if (t != NULL && !part_is_there(t))
+        end_transfer(number, t, "lost");
+    return 0;
+}
+
+/* DATA: steps 1 to 6. */
+static void take_data(uint64_t number, const struct peer *peer, const uint8_t *packet, size_t packet_len,
+                      const struct saratoga_packet *read)
+{
+    /* 1. Judge. The payload of a packet that is refused must not be written anywhere. */
+    int adds;
+    struct saratoga_recorded recorded = would_record(packet, packet_len, &adds);
+    if (recorded.number == SARATOGA_REFUSED_RUNS && options.repair_status) {
+        say(number, "refused %" PRIu64 " code=0", recorded.number);
+        send_status(number, peer, read->id, 1);
+        return;
+    }
+    if (recorded.number != 0) {
+        refuse(number, peer, packet, packet_len, recorded.number, recorded.code);
+        return;
+    }
+
+    /* A packet that adds nothing isn't written: a page that was reported complete is never touched again. */
+    if (adds) {
+        /* 2. Payload. */
+        if (!store_payload(number, packet, read))
+            return;
+        cut_point("between payload and recording");
+
+        /* 3. Record. The same octets on an equal area: the answer is the one above. */
+        recorded = saratoga_record(area, sizeof area, packet, packet_len);
+        if (recorded.number != 0)
+            die("recording is refused after all, with %" PRIu64 ": the program has a fault", recorded.number);
+        table_changed();
+    }
+    struct transfer *t = transfer_of(read->id);
+    heard(t);
+    say(number, "record id=%" PRIu64 " offset=%" PRIu64 " length=%" PRIu64 " edge=%" PRIu64 " complete=%" PRIu64,
+        read->id, read->offset, read->payload_len, recorded.edge, recorded.complete);
+
+    /* 4. and 5. Sync and area, before anything is said, and else now and then. */
+    int wanted = (read->flags & SARATOGA_FLAG_STATUS_WANTED) != 0;
+    if (wanted || recorded.complete ? !save() : !save_if_due())
+        return;
+
+    /* 6. Answer. */
+    int now_complete = recorded.complete && t->used && !t->delivered;
+    if (now_complete && deliver(number, t) == 0)
+        return;
+    if (wanted || now_complete)
+        send_status(number, peer, read->id, !wanted);
+}
+
+/* A success STATUS is for a sender; a receiver only shows it. */
+static void show_success(uint64_t number, const uint8_t *packet, size_t packet_len, const struct saratoga_packet *read)
+{
+    if (options.quiet)
+        return;
+    printf("%" PRIu64 " success id=%" PRIu64 " flags=%06" PRIx64 " width=%" PRIu64 " timestamp=", number, read->id,
+           read->flags, 8 * read->width);
+    for (uint64_t i = 0; i < read->timestamp_len; i++)
+        printf("%02x", packet[read->timestamp_at + i]);
+    printf(" progress=%" PRIu64 " in-response-to=%" PRIu64 " holes=", read->progress, read->in_response_to);
+    for (uint64_t i = 0; i < read->hole_count; i++) {
+        struct saratoga_hole hole = saratoga_read_hole(packet, packet_len, i);
+        printf("%s%" PRIu64 "-%" PRIu64, i > 0 ? "," : "", hole.start, hole.end);
+    }
+    putchar('\n');
+}
+
+/* A packet off the link. */
+void take_packet(uint64_t number, const struct peer *peer, const uint8_t *packet, size_t packet_len)
+{
+    struct saratoga_packet read = saratoga_read(packet, packet_len);
+    if (read.number != 0)
+        refuse(number, peer, packet, packet_len, read.number, read.code);
+    else if (read.type == SARATOGA_TYPE_METADATA)
+        take_metadata(number, peer, packet, packet_len, &read);
+    else if (read.type == SARATOGA_TYPE_DATA)
+        take_data(number, peer, packet, packet_len, &read);
+    else if (read.status != 0)
+        say(number, "failure id=%" PRIu64 " status=%" PRIu64 " flags=%06" PRIx64, read.id, read.status, read.flags);
+    else
+        show_success(number, packet, packet_len, &read);
+}

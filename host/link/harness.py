@@ -1,0 +1,80 @@
+"""What the tests of the link program share: building it, running it, and looking at what it left on disk."""
+import os
+import random
+import re
+import struct
+import subprocess
+import sys
+
+PLACE = os.path.dirname(os.path.abspath(__file__))
+ROOT = os.path.dirname(os.path.dirname(PLACE))
+sys.dont_write_bytecode = True
+sys.path.insert(0, os.path.join(ROOT, "host", "tools", "tests"))
+from packets import record  # noqa: E402
+
+ARCHIVE = os.path.join(ROOT, "target", "staticlib", "libsaratoga.a")
+SOURCES = [os.path.join(PLACE, name + ".c") for name in (
+    "link", "source", "dispatch", "table", "store", "disk", "meta", "control", "text")]
+POWERCUT = os.path.join(PLACE, "powercut.c")
+WRAPPED = ["-Wl," + ",".join(f"--wrap={name}" for name in (
+    "openat", "openat64", "pwrite", "pwrite64", "renameat", "fsync"))]
+AREA_OCTETS = 16904
+
+
+def check(holds, what):
+    if not holds:
+        raise AssertionError(what)
+
+
+def build(sources, out, *options):
+    subprocess.run([os.environ.get("CC", "cc"), "-std=c99", "-Wall", "-Wextra", "-Werror", "-pedantic", "-O1", "-g",
+                    *options, "-I" + os.path.join(ROOT, "include"), "-I" + PLACE, *sources, ARCHIVE, "-o", out], check=True)
+    return out
+
+
+def run(program, place, *options, octets=b"", **environment):
+    """Lines, messages and exit status of the program."""
+    done = subprocess.run([program, "-d", place, *options], input=octets, capture_output=True, check=False, timeout=20,
+                          env=dict(os.environ, **environment))
+    return done.stdout.decode().splitlines(), done.stderr.decode(), done.returncode
+
+
+def content(*parts):
+    with open(os.path.join(*parts), "rb") as file:
+        return file.read()
+
+
+def holds(place, name, octets):
+    """Whether a file is there and has these octets."""
+    return os.path.exists(os.path.join(place, name)) and content(place, name) == octets
+
+
+def stored(place):
+    """The area on disk as docs/AREA.md lays it out: for each Id its length and runs. None where there is none."""
+    try:
+        octets = content(place, "area")
+    except FileNotFoundError:
+        return None
+    check(len(octets) == AREA_OCTETS, f"an area of {len(octets)} octets")
+    words = struct.unpack("<2113Q", octets)
+    table = {}
+    for i in range(words[0]):
+        ident, _, length, count = words[1 + 4 * i:5 + 4 * i]
+        table[ident] = length, [(words[65 + 64 * i + j], words[1089 + 64 * i + j]) for j in range(count)]
+    return table
+
+
+def stem(place, ident):
+    """The name, without its ending, of the files of an open transfer: of those with a .meta the highest number."""
+    found = [(int(number or 1), name) for name in os.listdir(place)
+             for number in re.findall(rf"^{ident:08x}(?:\.(\d+))?\.meta$", name)]
+    return max(found)[1][:-5] if found else None
+
+
+def page(length, seed):
+    return random.Random(seed).randbytes(length)
+
+
+def records(packets):
+    """A pass of these packets."""
+    return b"".join(record(b"P", packet) for packet in packets)

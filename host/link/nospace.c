@@ -1,0 +1,78 @@
+/*
+ * For the tests of the link program: a disk that is full. The linker puts these functions in the place of openat,
+ * pwrite, renameat and fsync (--wrap). While the file named by NOSPACE holds the letter of a call (o, w, r, f), that
+ * call fails with ENOSPC; o only where a file is to be made. Letter p is a page that is to get its name, d the force to
+ * disk after that.
+ */
+#define _POSIX_C_SOURCE 200809L
+#define _FILE_OFFSET_BITS 64
+
+#include <errno.h>
+#include <fcntl.h>
+#include <stdio.h>
+#include <stdlib.h>
+#include <string.h>
+#include <unistd.h>
+
+int __real_openat(int directory, const char *name, int flags, ...);
+ssize_t __real_pwrite(int fd, const void *octets, size_t count, off_t offset);
+int __real_renameat(int directory, const char *name, int other, const char *new_name);
+int __real_fsync(int fd);
+int __wrap_openat(int directory, const char *name, int flags, ...);
+int __wrap_openat64(int directory, const char *name, int flags, ...);
+ssize_t __wrap_pwrite(int fd, const void *octets, size_t count, off_t offset);
+ssize_t __wrap_pwrite64(int fd, const void *octets, size_t count, off_t offset);
+int __wrap_renameat(int directory, const char *name, int other, const char *new_name);
+int __wrap_fsync(int fd);
+
+static int page_was_named;
+
+static int full(char call)
+{
+    char letters[16] = "";
+    FILE *file = getenv("NOSPACE") != NULL ? fopen(getenv("NOSPACE"), "r") : NULL;
+    if (file == NULL)
+        return 0;
+    letters[fread(letters, 1, sizeof letters - 1, file)] = '\0';
+    fclose(file);
+    errno = ENOSPC;
+    return strchr(letters, call) != NULL;
+}
+
+int __wrap_openat(int directory, const char *name, int flags, ...)
+{
+    if ((flags & O_CREAT) == 0)
+        return __real_openat(directory, name, flags);
+    if (faccessat(directory, name, F_OK, 0) != 0 && full('o'))
+        return -1;
+    return __real_openat(directory, name, flags, 0666);
+}
+
+int __wrap_openat64(int directory, const char *name, int flags, ...)
+{
+    return __wrap_openat(directory, name, flags);
+}
+
+ssize_t __wrap_pwrite(int fd, const void *octets, size_t count, off_t offset)
+{
+    return full('w') ? -1 : __real_pwrite(fd, octets, count, offset);
+}
+
+ssize_t __wrap_pwrite64(int fd, const void *octets, size_t count, off_t offset)
+{
+    return __wrap_pwrite(fd, octets, count, offset);
+}
+
+int __wrap_renameat(int directory, const char *name, int other, const char *new_name)
+{
+    int is_page = strstr(new_name, ".page") != NULL;
+    if (full('r') || (is_page && full('p')))
+        return -1;
+    page_was_named |= is_page;
+    return __real_renameat(directory, name, other, new_name);
+}
+
+int __wrap_fsync(int fd)
+{
+    return full('f') || (page_was_named && full('d')) ? -1 : __real_fsync(fd);
+}

@@ -1,0 +1,297 @@
+/*
+ * The transfer table: the area in memory, the area on disk, and what the program keeps of each transfer beside it.
+ *
+ * `saved` is the area as it is on disk. Where the area can't be saved because there is no room, the area in memory
+ * becomes that again: what was recorded since counts as lost.
+ */
+#include "link.h"
+
+#include <errno.h>
+#include <fcntl.h>
+#include <stdio.h>
+#include <string.h>
+#include <unistd.h>
+
+uint8_t area[SARATOGA_AREA_OCTETS];
+struct transfer transfers[MOST_TRANSFERS];
+static uint8_t saved[SARATOGA_AREA_OCTETS];
+static unsigned unsaved;           /* recordings, openings and closings in `area` that the area on disk lacks */
+
+struct transfer *transfer_of(uint64_t id)
+{
+    for (size_t i = 0; i < MOST_TRANSFERS; i++)
+        if (transfers[i].used && transfers[i].id == id)
+            return &transfers[i];
+    return NULL;
+}
+
+/* A place for a transfer that is to be opened. The table has as many places, so there is one. */
+struct transfer *new_transfer(uint64_t id)
+{
+    for (size_t i = 0; i < MOST_TRANSFERS; i++) {
+        if (!transfers[i].used) {
+            transfers[i] = (struct transfer){.used = 1, .id = id, .fd = -1};
+            return &transfers[i];
+        }
+    }
+    die("more transfers than the table holds: the program has a fault");
+    return NULL;
+}
+
+static void forget(struct transfer *t)
+{
+    forget_files(t);
+    t->used = 0;
+}
+
+void heard(struct transfer *t)
+{
+    static uint64_t last;
+    t->heard = ++last;
+}
+
+/* An open transfer by its Id; number 12 where it isn't open. */
+struct saratoga_listed listed(uint64_t id)
+{
+    struct saratoga_listed one;
+    for (uint64_t i = 0; (one = saratoga_transfer(area, sizeof area, i)).number == 0; i++)
+        if (one.id == id)
+            break;
+    return one;
+}
+
+/*
+ * What recording would answer, with the area untouched; and whether it would add anything. A recording that adds
+ * nothing leaves every octet of the area as it is, and no other does.
+ */
+struct saratoga_recorded would_record(const uint8_t *packet, size_t packet_len, int *adds)
+{
+    static uint8_t trial[SARATOGA_AREA_OCTETS];
+    memcpy(trial, area, sizeof area);
+    struct saratoga_recorded recorded = saratoga_record(trial, sizeof trial, packet, packet_len);
+    *adds = memcmp(trial, area, sizeof area) != 0;
+    return recorded;
+}
+
+/* What opening would answer, with the area untouched. */
+struct saratoga_opened would_open(const uint8_t *packet, size_t packet_len)
+{
+    static uint8_t trial[SARATOGA_AREA_OCTETS];
+    memcpy(trial, area, sizeof area);
+    return saratoga_open(trial, sizeof trial, packet, packet_len);
+}
+
+void table_changed(void)
+{
+    unsaved++;
+}
+
+static void close_in_area(uint64_t id)
+{
+    struct saratoga_done done = saratoga_close(area, sizeof area, id);
+    if (done.number != 0)
+        die("transfer %" PRIu64 " can't be closed, refusal %" PRIu64 ": the program has a fault", id, done.number);
+    table_changed();
+}
+
+/* Forgets what the program keeps of transfers that the table doesn't hold. */
+static void forget_closed(void)
+{
+    for (size_t i = 0; i < MOST_TRANSFERS; i++)
+        if (transfers[i].used && listed(transfers[i].id).number != 0)
+            forget(&transfers[i]);
+}
+
+/* A .part that is gone takes its transfer with it, before the area says that its octets are there. */
+static void close_lost(void)
+{
+    for (size_t i = 0; i < MOST_TRANSFERS; i++) {
+        struct transfer *t = &transfers[i];
+        if (t->used && t->written && !part_is_there(t)) {
+            char name[NAME_OCTETS];
+            name_of(name, t, "part");
+            warn("%s/%s: is gone; transfer %" PRIu64 " is closed and must begin anew", options.directory, name, t->id);
+            t->written = 0;
+            if (listed(t->id).number == 0)
+                close_in_area(t->id);
+        }
+    }
+}
+
+/*
+ * Steps 4 and 5: makes the area on disk the area in memory, after all payloads that it speaks of. Gives 0 where there
+ * is no room: then the area in memory is again as it is on disk, and nothing may be said of what was recorded since.
+ */
+int save(void)
+{
+    if (unsaved == 0)
+        return 1;
+    close_lost();
+    int failed = force_files() != 0; /* the names of new files too, before an area that speaks of them */
+    cut_point("between payloads and area");
+    if (failed || replace_file("area", area, sizeof area) != 0) {
+        room_is_lacking("area", errno);
+        memcpy(area, saved, sizeof area);
+        unsaved = 0;
+        forget_closed();
+        return 0;
+    }
+    memcpy(saved, area, sizeof area);
+    unsaved = 0;
+    forget_closed();
+    there_is_room();
+    cut_point("between area and answer");
+    return 1;
+}
+
+/* Now and then, where nothing is to be answered. */
+int save_if_due(void)
+{
+    return unsaved < MOST_UNSAVED || save();
+}
+
+/* Ends an open transfer. What it had is set aside. Gives 0 where the closing can't be saved: then it is still open. */
+int end_transfer(uint64_t number, struct transfer *t, const char *why)
+{
+    close_in_area(t->id);
+    if (!save())
+        return 0;
+    say(number, "close id=%" PRIu64 " %s", t->id, why);
+    set_aside(t);
+    forget(t);
+    return 1;
+}
+
+/*
+ * Reports a complete transfer. Called only once the area on disk holds it as complete, and so all its octets are on
+ * disk; the file is looked at all the same. The new name comes first: who reads the report finds the page. A cut
+ * between the two is made good at the next start, so a page is reported at least once. Gives 1 where the page is there,
+ * 0 where it has to wait for room, -1 where the file is gone: the transfer then is closed.
+ */
+int deliver(uint64_t number, struct transfer *t)
+{
+    char part[NAME_OCTETS], page[NAME_OCTETS], meta[MOST_META];
+    struct saratoga_listed one = listed(t->id);
+    if (t->delivered)
+        return 1;
+    name_of(part, t, "part");
+    name_of(page, t, "page");
+    if (!part_is_there(t) || !file_has_length(t->named ? page : part, one.length)) {
+        warn("%s/%s: isn't there with its %" PRIu64 " octets; transfer %" PRIu64 " is closed and must begin anew",
+             options.directory, part, one.length, t->id);
+        return end_transfer(number, t, "lost") ? -1 : 0;
+    }
+    if (name_page(t) != 0) {
+        if (is_lack_of_room(errno))
+            room_is_lacking(page, errno);
+        else if (!t->told)
+            warn("%s/%s: can't get its name, and stays %s: %s", options.directory, page, part, strerror(errno));
+        t->told = 1;
+        return 0;
+    }
+    cut_point("between the page's name and its report");
+    t->delivered = 1;
+    meta_for_report(meta, t);
+    report("%" PRIu64 " complete id=%" PRIu64 " length=%" PRIu64 " file=%s %s", number, t->id, one.length, page, meta);
+    return 1;
+}
+
+/* Complete transfers whose page could not be named. */
+void deliver_what_waits(void)
+{
+    for (size_t i = 0; i < MOST_TRANSFERS; i++)
+        if (transfers[i].used && !transfers[i].delivered && listed(transfers[i].id).complete && save())
+            deliver(0, &transfers[i]);
+}
+
+/* The octets of the area on disk, as many as there is room for. Gives 0 where there is no area. */
+size_t read_area(uint8_t *octets, size_t room)
+{
+    int fd = open_file("area", O_RDONLY);
+    if (fd < 0 && errno == ENOENT)
+        return 0;
+    if (fd < 0)
+        die("%s/area: can't be opened: %s", options.directory, strerror(errno));
+    size_t have = 0;
+    for (ssize_t done; have < room && (done = read(fd, octets + have, room - have)) != 0;) {
+        if (done < 0 && errno != EINTR)
+            die("%s/area: can't be read: %s", options.directory, strerror(errno));
+        have += done > 0 ? (size_t)done : 0;
+    }
+    close(fd);
+    /* The library judges the octets: any damage that makes them no table is refused with 22. */
+    if (have != SARATOGA_AREA_OCTETS || saratoga_transfer(octets, have, 0).number == SARATOGA_REFUSED_AREA)
+        die("%s/area: holds no transfer table; move it and the .part files away to begin anew", options.directory);
+    return have;
+}
+
+/* What is wrong with the files of a transfer that the area holds; NULL where nothing is. */
+static const char *fault_of(struct transfer *t, const struct saratoga_listed *one)
+{
+    char part[NAME_OCTETS], page[NAME_OCTETS];
+    if (find_files(t) != 0 || !meta_is_of(t->meta, t->meta_len, one))
+        return "its .meta isn't there, or is another's";
+    name_of(part, t, "part");
+    name_of(page, t, "page");
+    int64_t part_len = length_of(part), page_len = length_of(page);
+    if (!one->complete)
+        return part_len < 0 || (uint64_t)part_len < one->edge ? "its .part has fewer octets than were recorded" : NULL;
+    if (part_len >= 0)
+        return file_has_length(part, one->length) ? NULL : "its .part hasn't its length";
+    t->delivered = page_len < 0; /* reported, and taken away */
+    t->named = page_len >= 0;
+    return page_len < 0 || file_has_length(page, one->length) ? NULL : "its .page hasn't its length";
+}
+
+/* Ends a transfer whose files aren't what the area says. Without room it is ended in memory, and at the next start. */
+static void end_faulty(struct transfer *t, const char *fault)
+{
+    warn("transfer %" PRIu64 ": %s; it is closed and must begin anew", t->id, fault);
+    if (end_transfer(0, t, "faulty"))
+        return;
+    struct saratoga_done done = saratoga_close(saved, sizeof saved, t->id);
+    if (done.number != 0)
+        die("transfer %" PRIu64 " can't be closed, refusal %" PRIu64 ": the program has a fault", t->id, done.number);
+    memcpy(area, saved, sizeof area);
+    table_changed(); /* so that it is tried again */
+    set_aside(t);
+    forget(t);
+}
+
+/* A transfer whose page has its name already is reported again: nobody knows whether the report was read. */
+static void take_up_one(struct transfer *t, const struct saratoga_listed *one)
+{
+    say(0, "taken-up id=%" PRIu64 " width=%" PRIu64 " length=%" PRIu64 " edge=%" PRIu64 " complete=%" PRIu64, one->id,
+        8 * one->width, one->length, one->edge, one->complete);
+    if (one->complete)
+        deliver(0, t);
+}
+
+/* Takes up what an earlier run left, or begins with nothing open. */
+void take_up(void)
+{
+    static uint8_t octets[SARATOGA_AREA_OCTETS + 1];
+    if (read_area(octets, sizeof octets) == 0) {
+        if (saratoga_fresh(area, sizeof area).number != 0)
+            die("no fresh table can be made: the program has a fault");
+        memcpy(saved, area, sizeof area);
+        table_changed();
+        save();
+    } else {
+        memcpy(area, octets, sizeof area);
+        memcpy(saved, area, sizeof area);
+    }
+    struct saratoga_listed one;
+    for (uint64_t i = 0; (one = saratoga_transfer(area, sizeof area, i)).number == 0;) {
+        struct transfer *t = new_transfer(one.id);
+        const char *fault = fault_of(t, &one);
+        if (fault != NULL) {
+            end_faulty(t, fault);
+        } else {
+            take_up_one(t, &one);
+            i += listed(one.id).number == 0; /* naming its page may have ended it */
+        }
+    }
+    set_orphans_aside();
+    flush_output();
+}

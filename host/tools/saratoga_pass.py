@@ -1,0 +1,89 @@
+"""Packets of Saratoga and the records of a pass: the one place where the tools, their tests and the drivers lay them out.
+
+Widths count bits. Numbers that do not fit their field raise OverflowError: who wants them cut off says so with fit().
+"""
+import struct
+
+PORT = 7542
+MOST_OCTETS_OF_A_PACKET = 65535
+
+METADATA, DATA, STATUS = 2, 3, 4
+WIDTHS = (16, 32, 64)
+WIDTH_FLAGS = {16: 0x000000, 32: 0x400000, 64: 0x800000}
+FLAGS_WIDTH = {flags: width for width, flags in WIDTH_FLAGS.items()}  # of 11 there is none
+WIDTH_PROPERTIES = {16: 0x0000, 32: 0x0040, 64: 0x0080}
+PROPERTIES_WIDTH = {properties: width for width, properties in WIDTH_PROPERTIES.items()}
+# Bits 12 and 14; 15, which in DATA wants a STATUS and in a STATUS says that nobody asked; 16.
+TIMESTAMP, INCOMPLETE, WANTED, END_OF_DATA = 0x080000, 0x020000, 0x010000, 0x008000
+UNASKED = WANTED
+
+
+def fit(value, width):
+    """What is left of a number in so many bits."""
+    return value % (1 << width)
+
+
+def number(value, width):
+    return value.to_bytes(width // 8, "big")
+
+
+def word(kind, flags):
+    """The first four octets: bits 0 1, the type, the flags (bits 8 to 31)."""
+    return number(0x40000000 | kind << 24 | flags, 32)
+
+
+def header(kind, flags, ident):
+    """The first eight octets: the word and the Id."""
+    return word(kind, flags) + number(ident, 32)
+
+
+def metadata(ident, width, length, path=b"page611.pla", flags=0, checksum=b"", mtime=0, ctime=0, properties=0,
+             size_width=None, end=b"\0"):
+    """The length stands in as many bits as the width, or in `size_width`. `flags` and `properties` go without widths."""
+    size_width = size_width or width
+    return (header(METADATA, WIDTH_FLAGS[width] | flags, ident) + checksum
+            + struct.pack(">H", WIDTH_PROPERTIES[size_width] | properties) + number(length, size_width)
+            + struct.pack(">II", mtime, ctime) + path + end)
+
+
+def data(ident, width, offset, payload, flags=0, timestamp=b""):
+    return header(DATA, WIDTH_FLAGS[width] | flags, ident) + timestamp + number(offset, width) + payload
+
+
+def success(ident, width, progress, response, holes=(), flags=0, timestamp=b""):
+    """A hole is a pair: its first offset, and the first after it."""
+    places = [progress, response, *(place for hole in holes for place in hole)]
+    return (header(STATUS, WIDTH_FLAGS[width] | flags, ident) + timestamp
+            + b"".join(number(place, width) for place in places))
+
+
+def failure(ident, code, flags=0, rest=b""):
+    """What follows the Id of a failure STATUS is ignored."""
+    return header(STATUS, flags | code, ident) + rest
+
+
+# Records: one octet of kind, the length of the body in four, the body.
+
+
+def record(kind, body=b""):
+    return kind + struct.pack(">I", len(body)) + body
+
+
+def status_record(ident, skip=0, unasked=0, room=65535):
+    return record(b"S", struct.pack(">IQBI", ident, skip, unasked, room))
+
+
+def close_record(ident):
+    return record(b"C", struct.pack(">I", ident))
+
+
+def split(octets):
+    """The records of a pass, pairs of kind and body, and the octets of a last one that is cut short."""
+    records, at = [], 0
+    while at + 5 <= len(octets):
+        end = at + 5 + int.from_bytes(octets[at + 1:at + 5], "big")
+        if end > len(octets):
+            break
+        records.append((octets[at:at + 1], octets[at + 5:end]))
+        at = end
+    return records, octets[at:]

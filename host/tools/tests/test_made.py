@@ -1,0 +1,61 @@
+"""The passes that the repository holds are those that their makers make; and the module's own functions."""
+import os
+import subprocess
+import tempfile
+import unittest
+
+from packets import (END_OF_DATA, WANTED, close_record, data, failure, fit, header, metadata, record, split, status_record,
+                     success)
+
+ROOT = os.path.join(os.path.dirname(os.path.abspath(__file__)), "..", "..", "..")
+
+
+def content(*names):
+    with open(os.path.join(*names), "rb") as file:
+        return file.read()
+
+
+class Made(unittest.TestCase):
+    def test_page611(self):
+        with tempfile.TemporaryDirectory() as place:
+            subprocess.run([os.path.join(ROOT, "host", "tests", "make_page611"), os.path.join(place, "made")], check=True)
+            self.assertEqual(content(place, "made"), content(ROOT, "host", "passes", "page611.pass"))
+
+    def test_replay_check(self):
+        with tempfile.TemporaryDirectory() as place:
+            subprocess.run([os.path.join(ROOT, "host", "tests", "make_replay_check"), place], check=True)
+            for name in ("stdin", "stdout"):
+                self.assertEqual(content(place, name), content(ROOT, "crates", "replay", name), name)
+
+
+class Module(unittest.TestCase):
+    """Octets worked out by hand from document 01, for each sort of packet and record."""
+
+    def test_packets(self):
+        self.assertEqual(header(3, 0x810000, 7).hex(), "4381000000000007")
+        self.assertEqual(metadata(7, 16, 3000, b"p", mtime=1, ctime=2).hex(), "4200000000000007" "0000" "0bb8"
+                         "00000001" "00000002" "7000")
+        self.assertEqual(metadata(7, 32, 3, b"p", 0x11, b"abcd", size_width=64, properties=1).hex(), "4240001100000007"
+                         "61626364" "0081" "0000000000000003" "0000000000000000" "7000")
+        self.assertEqual(data(7, 64, 5, b"x", WANTED | END_OF_DATA).hex(), "4381800000000007" "0000000000000005" "78")
+        self.assertEqual(success(7, 16, 1, 9, [(1, 2), (4, 9)]).hex(), "4400000000000007" "00010009" "00010002" "00040009")
+        self.assertEqual(failure(7, 6).hex(), "4400000600000007")
+
+    def test_numbers_that_do_not_fit(self):
+        for make in (lambda: data(7, 16, 65536, b""), lambda: metadata(7, 16, 65536), lambda: success(7, 16, -1, 0)):
+            self.assertRaises(OverflowError, make)
+        self.assertEqual((fit(65537, 16), fit(-1, 16)), (1, 65535))
+
+    def test_records(self):
+        self.assertEqual(record(b"P", b"ab"), b"P\0\0\0\2ab")
+        self.assertEqual(close_record(7), b"C\0\0\0\4\0\0\0\7")
+        self.assertEqual(status_record(7).hex(), "5300000011" "00000007" "0000000000000000" "00" "0000ffff")
+        whole = record(b"F") + record(b"P", b"page")
+        for cut in range(len(whole) + 1):
+            records, rest = split(whole[:cut])
+            self.assertEqual(b"".join(record(*one) for one in records) + rest, whole[:cut])
+            self.assertEqual(len(records), (cut >= 5) + (cut >= len(whole)))
+
+
+if __name__ == "__main__":
+    unittest.main()

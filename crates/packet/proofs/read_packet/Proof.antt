@@ -5,7 +5,7 @@ use denote.Ref.{now}
 use borrow.Author.Tests.{ne-eqb}
 use Rattle.header.specs.FirstWord.{typeOf}
 use Rattle.header.specs.Start.{wordOf, startRefusal}
-use Rattle.header.proofs.StartLaws.{start-fine}
+use Rattle.header.proofs.StartLaws.{start-word}
 use Rattle.packet.specs.Read.{ofMetadata, ofData, ofStatus, readType}
 use Rattle.packet.proofs.ReadLaws.{read-refused, read-by-type}
 use borrow.Author.Needs.{needs}
@@ -25,7 +25,7 @@ returns c =
     rw (c .refuse .ensures, c .before .before .start-refusal .ensures) (read-refused s (omega arith))
 
 word-requires : tie.Need-word-requires
-word-requires c κs = start-fine (now (c .before .before .before .args .p)) (omega arith) .long
+word-requires c κs = start-word (now (c .before .before .before .args .p)) (omega arith)
 
 split-requires : tie.Need-split-requires
 split-requires c κs = search needs

@@ -21,7 +21,7 @@ unfolding statusRefusal
 returns c = let s = now (c .before .before .before .args .p) in c .before .type-refusal .ensures ∙ sym (stays (typeRefusal 4 s) _ (omega arith))
 
 word-requires : tie.Need-word-requires
-word-requires c κs = type-fine 4 (now (c .before .before .before .args .p)) (omega arith) .start .long
+word-requires c κs = omega (arith, type-fine 4 (now (c .before .before .before .args .p)) (omega arith) .long)
 
 split-requires : tie.Need-split-requires
 split-requires c κs = search needs

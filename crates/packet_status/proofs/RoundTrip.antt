@@ -67,14 +67,8 @@ module _ (id status room : ℕ) (e : failureWriteRefusal id status room ≡ 0) w
   typed : TypeFine 4 (failureOctets id status)
   typed =
       let s : status < 2 ^ 24 = omega (arith, fine) in
-      record {
-        start = record {
-          short = rw failure-length (omega arith);
-          long = rw failure-length (omega arith);
-          mark = rw word (mark-for 4 status (omega arith) s);
-        };
-        ptype = rw word (type-for 4 status (omega arith) s);
-      }
+      type-known 4 (failureOctets id status) (rw failure-length (omega arith)) (rw word (mark-for 4 status (omega arith) s))
+      (rw word (type-for 4 status (omega arith) s)) (rw failure-length (omega arith))
 
   pub failure-typed : typeRefusal 4 (failureOctets id status) ≡ 0
   failure-typed = type-none 4 _ typed

@@ -35,7 +35,7 @@ returns-2 c =
     rw (z, ne-eqb (statusOf (wordOf s)) 0 (omega arith))
 
 success-refusal-requires : tie.Need-success-refusal-requires
-success-refusal-requires c κs = type-fine 4 (now (c .before .before .before .before .before .before .before .args .p)) (omega arith) .start .long
+success-refusal-requires c κs = type-fine 4 (now (c .before .before .before .before .before .before .before .args .p)) (omega arith) .long
 
 returns-3 : tie.Need-returns-3
 unfolding statusRefusal

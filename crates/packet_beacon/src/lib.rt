@@ -130,14 +130,9 @@ pub fn beacon_refusal(p: &[u8]) -> u64
     }
     let w = header::word(p);
     let f = flags_refusal(w);
-    if f != 0 {
-        return f;
-    }
     let g = free_refusal(w);
-    if g != 0 {
-        return g;
-    }
-    header::descriptor_refusal(p, 4, free_octets(w))
+    let d = header::descriptor_refusal(p, 4, free_octets(w));
+    refusals::first(f, refusals::first(g, d))
 }
 
 // The free space of a packet that is not refused, 0 where it has none.
@@ -209,14 +204,9 @@ fn beacon_write_refusal(flags: u64, free: u64, endpoint: usize, room: usize) -> 
         return e;
     }
     let f = flags_refusal(flags);
-    if f != 0 {
-        return f;
-    }
     let g = free_refusal(flags);
-    if g != 0 {
-        return g;
-    }
-    refusals::room_refusal(endpoint_at(flags) + endpoint, room)
+    let d = refusals::room_refusal(endpoint_at(flags) + endpoint, room);
+    refusals::first(f, refusals::first(g, d))
 }
 
 // The octets of fields that are not refused, and their number.

@@ -17,6 +17,7 @@ use Rattle.table.specs.declared.Opened.the-variants as opened
 use Rattle.table.specs.declared.Recorded.{Recorded}
 use Rattle.table.specs.declared.Recorded.the-variants as recorded
 use Rattle.area.specs.Operations.{openArea, recordArea, areaStatusWritten, areaStatusBuffer}
+use Rattle.replay_beacon.specs.BeaconLine.{beaconLine}
 use Rattle.replay_lines.specs.Lines.{refusedLine, successLine, failureLine}
 use Rattle.replay_answers.specs.AnswerLines.{openingText, recordingText, sentText}
 
@@ -57,8 +58,9 @@ recordedSent n p d (recorded.Refused x) area room = failureSent n p (x .code) ro
 unfoldable pub recordedLines : ℕ → List ℕ → Data → Recorded → List ℕ → List ℕ → List ℕ
 recordedLines n p d a area room = recordingText n d a ++ recordedSent n p d a area room
 
--- "METADATA opens. DATA is recorded .. STATUS is read"
+-- "METADATA opens. DATA is recorded .. STATUS is read", and so is a BEACON, which is never answered
 unfoldable pub deliverLines : ℕ → List ℕ → Read → List ℕ → List ℕ → List ℕ
+deliverLines n p (read.Beacon b) area room = beaconLine n p b
 deliverLines n p (read.Metadata m) area room = openedLines n p m (openArea area p .answer) room
 deliverLines n p (read.Data d) area room = recordedLines n p d (recordArea area p .answer) (recordArea area p .area) room
 deliverLines n p (read.Success s) area room = successLine n p s
@@ -66,6 +68,7 @@ deliverLines n p (read.Failure f) area room = failureLine n f
 deliverLines n p (read.Refused x) area room = refusalLines n p x room
 
 unfoldable pub deliverArea : List ℕ → Read → List ℕ → List ℕ
+deliverArea p (read.Beacon b) area = area
 deliverArea p (read.Metadata m) area = openArea area p .area
 deliverArea p (read.Data d) area = recordArea area p .area
 deliverArea p (read.Success s) area = area

@@ -1,5 +1,5 @@
-// What a link program does with a packet off the dish: METADATA opens, DATA is recorded, STATUS is read, and what is to be
-// sent is a second line.
+// What a link program does with a packet off the dish: METADATA opens, DATA is recorded, STATUS and BEACON are read, and
+// what is to be sent is a second line.
 ghost use mathlib.Core.Path.{_≡_};
 ghost use Prim.Native.Nat.{_≤_};
 ghost use lib.ListN.{length};
@@ -172,6 +172,7 @@ pub fn deliver(area: &mut [u8], number: u64, p: &[u8], lent: &mut [u8], out: &mu
 {
     let r = packet::read_packet(p);
     match r {
+        Read::Beacon(b) => replay_beacon::put_beacon(out, 0, number, p, b),
         Read::Metadata(m) => open(area, number, p, m, lent, out),
         Read::Data(d) => record(area, number, p, d, lent, out),
         Read::Success(s) => replay_lines::put_success(out, 0, number, p, s),

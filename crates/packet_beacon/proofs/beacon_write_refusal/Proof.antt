@@ -1,10 +1,13 @@
--- `packet_beacon::beacon_write_refusal` meets its contract: each refusal stands where those before it are none.
+-- `packet_beacon::beacon_write_refusal` meets its contract: 21 stands, and then the flags, the free space's width and the room
+-- are judged in this order.
 -- Assumes nothing.
 use mathlib.Core.Path.{_≡_, sym, ap, _∙_}
 use Prim.Native.Nat.{ℕ, _+_}
+use Rattle.refusals.specs.Refusals.{_▹_}
 use Rattle.refusals.specs.Writing.{roomRefusal}
 use Rattle.refusals.proofs.RefusalLaws.{stays}
 use Rattle.packet_beacon.specs.Flags.{flagsRefusal, freeRefusal}
+use Rattle.packet_beacon.specs.Beacon.{endpointAt}
 use Rattle.packet_beacon.specs.WriteBeacon.{beaconExcess, beaconWriteRefusal}
 use Rattle.packet_beacon.proofs.FlagLaws.{free-le}
 use borrow.Author.Needs.{needs}
@@ -24,51 +27,40 @@ returns c =
 flags-refusal-requires : tie.Need-flags-refusal-requires
 flags-refusal-requires c κs = search needs
 
-returns-2 : tie.Need-returns-2
-unfolding beaconWriteRefusal
-returns-2 c =
-    let a = c .before .before .before .before .args in
-    let z : beaconExcess (a .flags) (a .free) ≡ 0 = omega arith in
-    rw z (c .before .flags-refusal .ensures ∙ sym (stays (flagsRefusal (a .flags)) _ (omega arith)))
-
 free-refusal-requires : tie.Need-free-refusal-requires
 free-refusal-requires c κs = search needs
-
--- the fields have no excess, and the flags are fine
-known : (c : tie.Else2)
-    → (beaconExcess (c .before .before .before .before .args .flags) (c .before .before .before .before .args .free) ≡ 0)
-    × (flagsRefusal (c .before .before .before .before .args .flags) ≡ 0)
-known c = (omega arith, omega arith)
-
-returns-3 : tie.Need-returns-3
-unfolding beaconWriteRefusal
-returns-3 c =
-    let start = c .before .before .before .before .before .before in
-    let a = start .args in
-    let k = known (c .before .before) in
-    rw (k .0, k .1) (c .before .free-refusal .ensures ∙ sym (stays (freeRefusal (a .flags)) _ (omega arith)))
 
 endpoint-at-requires : tie.Need-endpoint-at-requires
 endpoint-at-requires c κs = search needs
 
 add-room-refusal : tie.Need-add-room-refusal
 add-room-refusal c =
-    let start = c .before .before .before .before .before .before .before in
+    let start = c .before .before .before .before .before in
     omega (arith, free-le (start .args .flags))
 
 room-refusal-requires : tie.Need-room-refusal-requires
 room-refusal-requires c κs = search needs
 
-returns-4 : tie.Need-returns-4
+first-requires : tie.Need-first-requires
+first-requires c κs = search needs
+
+first-requires-2 : tie.Need-first-requires-2
+first-requires-2 c κs = search needs
+
+returns-2 : tie.Need-returns-2
 unfolding beaconWriteRefusal
-returns-4 c =
-    let else2-place = c .before .before .before .before in
-    let start = else2-place .before .before .before .before in
+returns-2 c =
+    let room-place = c .before .before in
+    let endpoint-place = room-place .before in
+    let free-place = endpoint-place .before in
+    let flags-place = free-place .before in
+    let start = flags-place .before .before .before in
     let a = start .args in
-    let k = known else2-place in
-    let z : freeRefusal (a .flags) ≡ 0 = omega arith in
-    rw (k .0, k .1, z)
-    (c .room-refusal .ensures ∙ ap (λ (n : ℕ). roomRefusal (n + a .endpoint) (a .room)) (c .before .endpoint-at .ensures))
+    let z : beaconExcess (a .flags) (a .free) ≡ 0 = omega arith in
+    let d : room-place .room-refusal .result ≡ roomRefusal (endpointAt (a .flags) + a .endpoint) (a .room) =
+        room-place .room-refusal .ensures ∙ ap (λ (n : ℕ). roomRefusal (n + a .endpoint) (a .room)) (endpoint-place .endpoint-at .ensures) in
+    rw (z, ← flags-place .flags-refusal .ensures, ← free-place .free-refusal .ensures, ← d)
+    (c .first2 .ensures ∙ ap (λ (n : ℕ). flags-place .flags-refusal .result ▹ n) (c .before .first .ensures))
 
 pub beacon-write-refusal-spec : {M : Type 1} → statement M
 beacon-write-refusal-spec =
@@ -77,10 +69,10 @@ beacon-write-refusal-spec =
     beacon-excess-requires
     returns
     flags-refusal-requires
-    returns-2
     free-refusal-requires
-    returns-3
     endpoint-at-requires
     add-room-refusal
     room-refusal-requires
-    returns-4)
+    first-requires
+    first-requires-2
+    returns-2)

@@ -110,18 +110,23 @@ pub fn descriptor(s: &[u8], at: usize, d: usize) -> u64
     octets::read_number(s, at, d)
 }
 
+// Where the first word ends, and where the Id.
+const WORD_END: usize = 4;
+
+const ID_END: usize = 8;
+
 // How many octets a packet needs, by its first word: a BEACON can be that word alone, all others have an Id.
 fn start_octets(w: u64) -> usize
     ensures { λ r. ⌜ r ≡ startOctets w ⌝ }
 {
     let h = split(w);
     if h.mark != 1 {
-        return 8;
+        return ID_END;
     }
     if h.ptype == 0 {
-        return 4;
+        return WORD_END;
     }
-    8
+    ID_END
 }
 
 // Refusals 2, 1, 3 of any packet; 0 for none.
@@ -131,7 +136,7 @@ pub fn start_refusal(p: &[u8]) -> u64
     if 65535 < p.len() {
         return 2;
     }
-    if p.len() < 4 {
+    if p.len() < WORD_END {
         return 1;
     }
     let w = word(p);

@@ -205,8 +205,8 @@ fn beacon_write_refusal(flags: u64, free: u64, endpoint: usize, room: usize) -> 
     }
     let f = flags_refusal(flags);
     let g = free_refusal(flags);
-    let d = refusals::room_refusal(endpoint_at(flags) + endpoint, room);
-    refusals::first(f, refusals::first(g, d))
+    let r = refusals::room_refusal(endpoint_at(flags) + endpoint, room);
+    refusals::first(f, refusals::first(g, r))
 }
 
 // The octets of fields that are not refused, and their number.

@@ -60,7 +60,7 @@ returns-2 c =
     let f : flags-place .flags-refusal .result ≡ flagsRefusal (wordOf s) = flags-place .flags-refusal .ensures ∙ ap flagsRefusal w in
     let g : free-place .free-refusal .result ≡ freeRefusal (wordOf s) = free-place .free-refusal .ensures ∙ ap freeRefusal w in
     let d : descriptor-place .descriptor-refusal .result ≡ descriptorRefusal (freeOctets (wordOf s)) 4 s =
-        descriptor-place .descriptor-refusal .ensures ∙ ap (λ (n : ℕ). descriptorRefusal n 4 s) (free-octets-place .free-octets .ensures ∙ ap freeOctets w) in
+    descriptor-place .descriptor-refusal .ensures ∙ ap (λ (n : ℕ). descriptorRefusal n 4 s) (free-octets-place .free-octets .ensures ∙ ap freeOctets w) in
     rw (z, ← f, ← g, ← d) (c .first2 .ensures ∙ ap (λ (n : ℕ). flags-place .flags-refusal .result ▹ n) (c .before .first .ensures))
 
 pub beacon-refusal-spec : {M : Type 1} → statement M

@@ -58,7 +58,7 @@ returns-2 c =
     let a = start .args in
     let z : beaconExcess (a .flags) (a .free) ≡ 0 = omega arith in
     let d : room-place .room-refusal .result ≡ roomRefusal (endpointAt (a .flags) + a .endpoint) (a .room) =
-        room-place .room-refusal .ensures ∙ ap (λ (n : ℕ). roomRefusal (n + a .endpoint) (a .room)) (endpoint-place .endpoint-at .ensures) in
+    room-place .room-refusal .ensures ∙ ap (λ (n : ℕ). roomRefusal (n + a .endpoint) (a .room)) (endpoint-place .endpoint-at .ensures) in
     rw (z, ← flags-place .flags-refusal .ensures, ← free-place .free-refusal .ensures, ← d)
     (c .first2 .ensures ∙ ap (λ (n : ℕ). flags-place .flags-refusal .result ▹ n) (c .before .first .ensures))
 

@@ -1,6 +1,6 @@
 -- The flags of BEACON are the same in a first word, in its flags, and in a word made from flags; the width of the free space.
 -- Assumes nothing.
-use Prim.Native.Nat.{ℕ, _*_, _^_, _<_, _≤_}
+use Prim.Native.Nat.{ℕ, zero, suc, _*_, _^_, _<_, _≤_}
 use mathlib.Core.Path.{_≡_, refl, ap}
 use mathlib.Core.Bool.{Bool, true, false, cond}
 use native.Mathlib.Nat.{pow-le-pow-right}
@@ -11,7 +11,7 @@ use Rattle.octets.specs.Numbers.{Width}
 use Rattle.octets.proofs.NumberLaws.{width-of}
 use Rattle.refusals.proofs.RefusalLaws.{failed}
 use Rattle.header.specs.FirstWord.{bits, flagsOf, wordFor}
-use Rattle.packet_beacon.specs.Flags.{sendingPair, receivingPair, freePresent, freeOctets, lastOctet, flagsRefusal, freeRefusal}
+use Rattle.packet_beacon.specs.Flags.{sendingPair, receivingPair, freePresent, freeOctets, lastOctet, willingnessOf, pairOf, flagsRefusal, freeRefusal}
 
 pub free-le : (w : ℕ) → freeOctets w ≤ 16
 free-le w = go (eqb (freePresent w) 1)
@@ -34,6 +34,14 @@ free-width w e n = go (eqb (freePresent w) 1) (eqb-false _ _ (failed _ 4 e)) n
         narrow : (bits 32 w 18 19 ≡ 3 → ⊥) → bits 32 w 18 19 < 3
         narrow m = omega arith
     go false h z = absurd (z refl)
+
+-- the state that is told of a pairing has that very pairing, but for 0 1, which is refused
+pub pair-again : (p : ℕ) → p < 4 → (p ≡ 1 → ⊥) → pairOf (willingnessOf p) ≡ p
+pair-again zero h n = refl
+pair-again (suc zero) h n = absurd (n refl)
+pair-again (suc (suc zero)) h n = refl
+pair-again (suc (suc (suc zero))) h n = refl
+pair-again (suc (suc (suc (suc p)))) h n = absurd (omega arith)
 
 -- the refusals of two words with equal flags
 module _ (a b : ℕ) where

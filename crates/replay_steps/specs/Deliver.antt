@@ -5,7 +5,8 @@ use mathlib.Core.Bool.{false, cond}
 use mathlib.Core.List.{List, [], _++_}
 use lib.Dec.{eqb, ltb}
 use lib.ListN.{length}
-use Rattle.header.specs.Start.{idOf}
+use Rattle.header.specs.FirstWord.{typeOf}
+use Rattle.header.specs.Start.{wordOf, idOf}
 use Rattle.refusals.specs.declared.Refusal.{Refusal}
 use Rattle.packet.specs.declared.Read.{Read}
 use Rattle.packet.specs.declared.Read.the-variants as read
@@ -21,13 +22,14 @@ use Rattle.replay_beacon.specs.BeaconLine.{beaconLine}
 use Rattle.replay_lines.specs.Lines.{refusedLine, successLine, failureLine}
 use Rattle.replay_answers.specs.AnswerLines.{openingText, recordingText, sentText}
 
--- "A packet that is refused with a code other than 0 and has an Id (8 octets at least) gets a failure STATUS with that Id
--- and code". The writer would refuse code 0 too (21); that there is nothing to send for it is said here, where the rule is
+-- "A packet that is refused with a code other than 0 and has an Id (8 octets at least, and no BEACON) gets a failure STATUS
+-- with that Id and code". The writer would refuse code 0 too (21); that there is nothing to send for it is said here, where the rule is
 unfoldable pub failureSent : ℕ → List ℕ → ℕ → List ℕ → List ℕ
 failureSent n p code room =
     cond (eqb code 0) []
     (cond (ltb (length p) 8) []
-    (sentText n (failureWritten (idOf p) code room) (failureBuffer (idOf p) code room)))
+    (cond (eqb (typeOf (wordOf p)) 0) []
+    (sentText n (failureWritten (idOf p) code room) (failureBuffer (idOf p) code room))))
 
 -- "What is to be sent is a second line"
 unfoldable pub refusalLines : ℕ → List ℕ → Refusal → List ℕ → List ℕ

@@ -35,6 +35,10 @@ fn put_failure_sent(
     if p.len() < 8 {
         return at;
     }
+    let h = header::split(header::word(p));
+    if h.ptype == 0 {
+        return at;
+    }
     let w = packet_status::write_failure(lent, header::id(p), code);
     put_sent(out, at, number, w, lent)
 }

@@ -31,7 +31,10 @@ static long read_body(FILE *file, uint64_t length, uint8_t *packet)
     return (long)kept;
 }
 
-/* Packets from the P records of a pass. Other kinds are for replay; those that hold a packet are told, not taken. */
+/*
+ * Packets from the P records of a pass. Other kinds are for replay: O and D, which would change the table there, are told.
+ * Times (W) are passed over; who copies this keeps the number running, so that a line's number is its record's place.
+ */
 void from_pass(const char *name)
 {
     static uint8_t packet[MOST_PACKET + 1];

@@ -5,6 +5,7 @@ import re
 import subprocess
 import sys
 import tempfile
+import time
 import unittest
 import xml.etree.ElementTree as tree
 
@@ -148,7 +149,8 @@ class Drawn(unittest.TestCase):
         linked = ("1 open id=7 width=16 length=1 edge=0 complete=0 new\n"
                   "2 record id=7 offset=0 length=1 edge=1 complete=1\n"
                   "2 complete id=7 length=1 file=00000007.page mtime=0 ctime=0 checksum= path=plant/page611.pla\n"
-                  "3 lost id=7 offset=0 length=1\n4 too-large id=8 length=9 code=3\n5 close id=7 to-make-room\n")
+                  "3 lost id=7 offset=0 length=1\n4 too-large id=8 length=9 code=8\n4 too-many id=9 code=3\n"
+                  "4 of-another-sender id=7 code=6\n5 close id=7 to-make-room\n")
         self.assertIn("Transfer 7, plant/page611.pla: 1 octet, width 16", texts(drawing(linked)))
         long = record(b"P", metadata(7, 16, 3000, b"a" * 500 + b"z" * 500))
         svg = drawing("1 open id=7 width=16 length=3000 edge=0 complete=0 new\n", passed=long)
@@ -228,6 +230,14 @@ class Drawn(unittest.TestCase):
             self.assertIn(f"page{ident} {ident}", told)
         self.assertEqual(told.count("NOT complete: 50.0% of 10"), 50)
         self.assertEqual(len(boxes(svg, passplot.NEW)), 100)
+
+    def test_very_many_transfers_in_a_moment(self):
+        """In processor time, which other programs don't change; with a look at all others for each it took 20 seconds."""
+        lines = "".join(f"{2 * at + 1} open id=7 width=16 length=9 edge=0 complete=0 new\n{2 * at + 2} fresh\n"
+                        for at in range(12000))
+        begun = time.process_time()
+        self.assertIn("opened again (12000)", drawing(lines))
+        self.assertLess(time.process_time() - begun, 10)
 
     def test_times(self):
         times = {record: 1700000000 * 10**9 + record * 10**9 for record in range(1, 9) if record != 4}

@@ -105,6 +105,16 @@ class Whole(unittest.TestCase):
                 self.assertEqual(file.read(), PASS)
 
 
+    def test_the_capture_is_not_written_over(self):
+        with tempfile.TemporaryDirectory() as place:
+            name, octets = os.path.join(place, "capture"), pcap([ethernet(ipv4(udp(b"one")))])
+            with open(name, "wb") as file:
+                file.write(octets)
+            self.assertEqual(run_program(b"", "-o", name, name),
+                             (b"", f"pcap2pass: {name}: is the capture, which would be lost\n", 2))
+            with open(name, "rb") as file:
+                self.assertEqual(file.read(), octets)
+
     def test_the_program_s_messages_and_status(self):
         self.assertEqual(run_program(b"GIF89a"), (b"", "pcap2pass: broken file: neither pcap nor pcapng: the first "
                                                        "four octets are 47494638\n", 1))

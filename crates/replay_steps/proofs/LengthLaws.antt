@@ -40,7 +40,7 @@ use Rattle.replay_lines.proofs.LengthLaws.{plain-most}
 use Rattle.replay_answers.specs.AnswerLines.{freshText, closeText, sentText}
 use Rattle.replay_answers.proofs.LengthLaws.{shortMost, refused-short, fresh-most, close-text-most, opening-most, recording-most, status-text-most, sent-most}
 use Rattle.replay_steps.specs.Deliver.{failureSent, refusalLines, openedCode, openedLines, wantedSent, recordedSent, recordedLines}
-use Rattle.replay_steps.specs.Records.{numberAt, badLine, freshLines, closeLines, writtenLine, statusLines}
+use Rattle.replay_steps.specs.Records.{numberAt, badLine, freshLines, closeLines, writtenLine, statusLines, timeLines}
 
 -- a line of words and numbers, and the octets of a buffer of m
 abbrev pub sentMost : ℕ → ℕ
@@ -168,4 +168,12 @@ close-lines-most n body area = go (eqb (length body) 4)
 
     go : (b : Bool) → AtMost (cond b (closeText n id (closeArea area id .answer)) (badLine n)) shortMost
     go true = close-text-most n id (closeArea area id .answer)
+    go false = at-most (plain-most n w-bad) (omega arith)
+
+pub time-lines-most : (n : ℕ) (body : List ℕ) → AtMost (timeLines n body) shortMost
+unfolding timeLines
+time-lines-most n body = go (eqb (length body) 8)
+  where
+    go : (b : Bool) → AtMost (cond b [] (badLine n)) shortMost
+    go true = at-most (words []) (omega arith)
     go false = at-most (plain-most n w-bad) (omega arith)

@@ -54,7 +54,7 @@ extern "C" {
 /*
  * Masks on `flags`, which is bits 8 to 31 of the packet as a 24-bit number: bit b is 1 << (31 - b).
  */
-#define SARATOGA_WIDTH_MASK UINT64_C(0xC00000) /* bits 8 and 9: the descriptor width; both set is refused with 5 */
+#define SARATOGA_WIDTH_MASK UINT64_C(0xC00000) /* bits 8 and 9 but of BEACON: the descriptor width; 11 is refused with 5 */
 #define SARATOGA_WIDTH_16 UINT64_C(0x000000)
 #define SARATOGA_WIDTH_32 UINT64_C(0x400000)
 #define SARATOGA_WIDTH_64 UINT64_C(0x800000)
@@ -236,7 +236,8 @@ struct saratoga_hole {
 
 /*
  * A packet that was read. Places (`..._at`) count octets from the packet's start. A field that the packet's type
- * lacks is 0. A failure STATUS has only `type`, `flags`, `id` and `status`.
+ * lacks is 0. A failure STATUS has only `type`, `flags`, `id` and `status`. Look at `number` before `type`: that is 0 of a
+ * BEACON and of a refusal.
  */
 struct saratoga_packet {
     uint64_t number, code;

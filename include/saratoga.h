@@ -308,9 +308,9 @@ struct saratoga_packet saratoga_read(const uint8_t *packet, size_t packet_len);
 struct saratoga_hole saratoga_read_hole(const uint8_t *packet, size_t packet_len, uint64_t index);
 
 /*
- * Writes BEACON into `out`; octets after the packet stay. `flags` is bits 8 to 31 as a 24-bit number, as the masks for BEACON
- * above make them; the type is set here. `free_space` is in KiB, so a program divides its free octets by 1,024 and drops the
- * rest; what the width can't hold is told as the width's largest number. Where bit 17 is clear it must be 0. `endpoint` may
+ * Writes BEACON into `out`; octets after the packet stay. `flags` is bits 8 to 31 as a 24-bit number, put together from the
+ * masks for BEACON above; the type is set here. `free_space` is in KiB: a program divides its free octets by 1,024, drops
+ * the rest, and gives the width's largest number where there is more. Where bit 17 is clear it must be 0. `endpoint` may
  * hold any octets, and may have none. The size is 4 octets, the free space's and the endpoint's.
  *
  * Order of refusals: 21 (flags over 24 bits, free space over its width, free space not 0 where bit 17 is clear), 26,

@@ -64,8 +64,10 @@ pub fn put_beacon(out: &mut [u8], at: usize, number: u64, p: &[u8], b: Beacon) -
     requires { ⌜ at ≤ length (now out) ⌝ }
     ensures { λ r. ⌜ Added (now (out .entry)) at (beaconLine number (now (p .entry)) b) (now (out .exit)) r ⌝ }
 {
+    let send = b.send;
+    let receive = b.receive;
     let a = put_flags(out, at, number, b);
-    let c = put_states(out, a, b.send, b.receive);
+    let c = put_states(out, a, send, receive);
     let d = put_free(out, c, b.width, b.free);
     let e = put_octets(out, d, b" endpoint=", part(p, b.start, b.length));
     text::push(out, e, 10)

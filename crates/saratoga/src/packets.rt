@@ -169,12 +169,14 @@ fn state_number(w: Willingness) -> u64
 fn beacon_part(b: Beacon) -> BeaconPart
     ensures { λ r. ⌜ r ≡ beaconPacket b .beacon ⌝ }
 {
+    let send = b.send;
+    let receive = b.receive;
     BeaconPart {
         largest_width: b.largest,
         bundles: b.bundles,
         streams: b.streams,
-        send: state_number(b.send),
-        receive: state_number(b.receive),
+        send: state_number(send),
+        receive: state_number(receive),
         free_width: b.width,
         free_space: b.free,
         endpoint: Part {
@@ -397,14 +399,14 @@ pub extern "C" fn saratoga_read_hole(packet: &[u8], index: u64) -> HoleAnswer
 #[no_mangle]
 pub extern "C" fn saratoga_write_beacon(
     flags: u64,
-    free_space: u64,
+    free: u64,
     endpoint: &[u8],
     out: &mut [u8],
 ) -> WrittenAnswer
-    ensures { λ r. ⌜ (r ≡ writtenAnswer (beaconWritten flags free_space (now (endpoint .entry)) (now (out .entry))))
-        × (now (out .exit) ≡ beaconBuffer flags free_space (now (endpoint .entry)) (now (out .entry))) ⌝ }
+    ensures { λ r. ⌜ (r ≡ writtenAnswer (beaconWritten flags free (now (endpoint .entry)) (now (out .entry))))
+        × (now (out .exit) ≡ beaconBuffer flags free (now (endpoint .entry)) (now (out .entry))) ⌝ }
 {
-    written_answer(packet_beacon::write_beacon(out, flags, free_space, endpoint))
+    written_answer(packet_beacon::write_beacon(out, flags, free, endpoint))
 }
 
 #[no_mangle]

@@ -12,9 +12,9 @@
  * Apart from that, any octets and any numbers may be passed.
  *
  * After a refusal whose `code` isn't 0, the failure STATUS goes out by saratoga_write_failure with that code and the Id
- * in octets 4 to 7 of the packet that was refused, the highest octet first. They are there: a refusal of a packet has a
- * code only where the first 8 octets were found. After refusal 4 they need not be an Id, as a BEACON has none: answer
- * METADATA, DATA and STATUS alone.
+ * in octets 4 to 7 of the packet that was refused, the highest octet first. Answer METADATA, DATA and STATUS alone (first
+ * octet 0x42, 0x43 or 0x44): their refusals have a code only where the first 8 octets were found. A BEACON (0x40) has no
+ * Id, may have four octets only, and is never answered; of other types the octets need not be an Id.
  *
  * The library is for x86-64. It uses no heap and holds no state; each call needs less than 2,000 octets of stack
  * (docs/AREA.md has them by function).
@@ -46,6 +46,7 @@ extern "C" {
 #define SARATOGA_FAILURE_OCTETS 8     /* of a failure STATUS */
 
 /* Packet types. */
+#define SARATOGA_TYPE_BEACON 0
 #define SARATOGA_TYPE_METADATA 2
 #define SARATOGA_TYPE_DATA 3
 #define SARATOGA_TYPE_STATUS 4
@@ -53,7 +54,7 @@ extern "C" {
 /*
  * Masks on `flags`, which is bits 8 to 31 of the packet as a 24-bit number: bit b is 1 << (31 - b).
  */
-#define SARATOGA_WIDTH_MASK UINT64_C(0xC00000) /* bits 8 and 9: the descriptor width; both set is refused with 5 */
+#define SARATOGA_WIDTH_MASK UINT64_C(0xC00000) /* bits 8 and 9 but of BEACON: the descriptor width; 11 is refused with 5 */
 #define SARATOGA_WIDTH_16 UINT64_C(0x000000)
 #define SARATOGA_WIDTH_32 UINT64_C(0x400000)
 #define SARATOGA_WIDTH_64 UINT64_C(0x800000)
@@ -66,6 +67,37 @@ extern "C" {
 #define SARATOGA_FLAG_UNASKED UINT64_C(0x010000)       /* bit 15 of STATUS: it was sent unasked */
 #define SARATOGA_FLAG_STATUS_WANTED UINT64_C(0x010000) /* bit 15 of DATA: the sender wants a STATUS */
 #define SARATOGA_FLAG_END_OF_DATA UINT64_C(0x008000)   /* bit 16 of DATA: it holds the last octet */
+
+/*
+ * The flags of BEACON, to be put together with |: one of each group, and the single flags that hold. Bits 20 to 23 have
+ * no use and are kept as read; bits 24 to 31 must be 0 (26).
+ */
+#define SARATOGA_LARGEST_MASK UINT64_C(0xC00000) /* bits 8 and 9: the widest descriptors that the node supports */
+#define SARATOGA_LARGEST_16 UINT64_C(0x000000)
+#define SARATOGA_LARGEST_32 UINT64_C(0x400000)
+#define SARATOGA_LARGEST_64 UINT64_C(0x800000)
+#define SARATOGA_LARGEST_128 UINT64_C(0xC00000)
+#define SARATOGA_FLAG_BUNDLES UINT64_C(0x200000) /* bit 10: the node also takes bundles */
+#define SARATOGA_FLAG_STREAMS UINT64_C(0x100000) /* bit 11: the node supports streams */
+#define SARATOGA_SEND_MASK UINT64_C(0x0C0000)    /* bits 12 and 13: sending files; 0 1 is refused with 26 */
+#define SARATOGA_SEND_CANNOT UINT64_C(0x000000)
+#define SARATOGA_SEND_NOT_NOW UINT64_C(0x080000)
+#define SARATOGA_SEND_WILLING UINT64_C(0x0C0000)
+#define SARATOGA_RECEIVE_MASK UINT64_C(0x030000) /* bits 14 and 15: receiving files; 0 1 is refused with 26 */
+#define SARATOGA_RECEIVE_CANNOT UINT64_C(0x000000)
+#define SARATOGA_RECEIVE_NOT_NOW UINT64_C(0x020000)
+#define SARATOGA_RECEIVE_WILLING UINT64_C(0x030000)
+#define SARATOGA_FLAG_UDP_LITE UINT64_C(0x008000)   /* bit 16: the node takes DATA over UDP-Lite too */
+#define SARATOGA_FREE_SPACE_MASK UINT64_C(0x007000) /* bit 17: free space is given; then bits 18 and 19: its width */
+#define SARATOGA_FREE_SPACE_NONE UINT64_C(0x000000)
+#define SARATOGA_FREE_SPACE_16 UINT64_C(0x004000)
+#define SARATOGA_FREE_SPACE_32 UINT64_C(0x005000)
+#define SARATOGA_FREE_SPACE_64 UINT64_C(0x006000) /* 0x007000, 128 bits, is refused with 5 */
+
+/* Willingness to send and to receive, as BEACON is read. */
+#define SARATOGA_CANNOT 0  /* it can't at all */
+#define SARATOGA_NOT_NOW 1 /* it can, but not now */
+#define SARATOGA_WILLING 2 /* it can and will */
 
 /*
  * The checksum of METADATA, in bits 24 to 31 of `flags`: its type (bits 28 to 31) with its length in 32-bit words (bits 24
@@ -108,8 +140,8 @@ extern "C" {
 #define SARATOGA_REFUSED_TRUNCATED 1     /* 0x00: packet ends inside a field, or in a path of fewer than 1,024 octets */
 #define SARATOGA_REFUSED_TOO_LONG 2      /* 0x00: packet over 65,535 octets, read or to be written */
 #define SARATOGA_REFUSED_VERSION 3       /* 0x00: bits 0 and 1 are not 0 1 */
-#define SARATOGA_REFUSED_TYPE 4          /* 0x0A: type not 2, 3 or 4, or not the one that the function takes */
-#define SARATOGA_REFUSED_WIDTH 5         /* 0x09: width bits 11 */
+#define SARATOGA_REFUSED_TYPE 4          /* 0x0A: type not 0, 2, 3 or 4, or not the one that the function takes */
+#define SARATOGA_REFUSED_WIDTH 5         /* 0x09: width bits 11, of descriptors or of the free space */
 #define SARATOGA_REFUSED_KIND 6          /* 0x01: kind or property bits not those of a file */
 #define SARATOGA_REFUSED_CHECKSUM 7      /* 0x01: pair of checksum type and length not allowed */
 #define SARATOGA_REFUSED_PATH 8          /* 0x01: path empty, over 1,023 octets, or followed by octets */
@@ -127,6 +159,7 @@ extern "C" {
 #define SARATOGA_REFUSED_BUFFER 20       /* 0x00: buffer too small, or the area to be made fresh */
 #define SARATOGA_REFUSED_FIELD 21        /* 0x00: a field to be written exceeds its bits, or failure code 0 */
 #define SARATOGA_REFUSED_AREA 22         /* 0x00: area too short, or its used words hold no transfer table */
+#define SARATOGA_REFUSED_BEACON 26       /* 0x00: BEACON with a pairing 0 1, or a last flags octet that isn't 0 */
 
 /* A refusal in plain words; 0 is "accepted". Any number has a text. */
 static inline const char *saratoga_refusal_text(uint64_t number)
@@ -155,6 +188,10 @@ static inline const char *saratoga_refusal_text(uint64_t number)
         "buffer or area too small",
         "field too large to be written",
         "area holds no transfer table",
+        "unknown refusal",
+        "unknown refusal",
+        "unknown refusal",
+        "flags of BEACON not allowed",
     };
     return number < sizeof texts / sizeof texts[0] ? texts[number] : "unknown refusal";
 }
@@ -199,14 +236,15 @@ struct saratoga_hole {
 
 /*
  * A packet that was read. Places (`..._at`) count octets from the packet's start. A field that the packet's type
- * lacks is 0. A failure STATUS has only `type`, `flags`, `id` and `status`.
+ * lacks is 0. A failure STATUS has only `type`, `flags`, `id` and `status`. Look at `number` before `type`: that is 0 of a
+ * BEACON and of a refusal.
  */
 struct saratoga_packet {
     uint64_t number, code;
     uint64_t type;  /* one of SARATOGA_TYPE_... */
     uint64_t flags; /* bits 8 to 31, as a 24-bit number, all as read */
-    uint64_t id;
-    uint64_t width; /* octets of the packet's own descriptors: 2, 4 or 8; 0 for a failure STATUS */
+    uint64_t id;    /* 0 for a BEACON, which has none */
+    uint64_t width; /* octets of the packet's own descriptors: 2, 4 or 8; 0 for a failure STATUS and a BEACON */
 
     /* DATA and success STATUS */
     uint64_t timestamp_at, timestamp_len; /* place 8; length 16 where bit 12 is set, else 0 */
@@ -226,11 +264,21 @@ struct saratoga_packet {
     uint64_t status;                   /* bits 24 to 31: 0 for a success STATUS, else the failure code */
     uint64_t progress, in_response_to; /* each the first offset after what it closes */
     uint64_t holes_at, hole_count;     /* right after In-Response-To, also where there are none */
+
+    /* BEACON */
+    uint64_t largest_width;             /* octets of the widest descriptors that the node supports: 2, 4, 8 or 16 */
+    uint64_t bundles, streams;          /* 1 where the node supports them, else 0 */
+    uint64_t send, receive;             /* each SARATOGA_CANNOT, SARATOGA_NOT_NOW or SARATOGA_WILLING */
+    uint64_t free_width;                /* octets of the free space: 2, 4 or 8; 0 where none is given */
+    uint64_t free_space;                /* in KiB (1,024 octets each), rounded down; the width's largest: more than that */
+    uint64_t endpoint_at, endpoint_len; /* who it is: any octets, to the packet's end; may be none */
 };
 
 /*
- * Reads a packet: METADATA, DATA or STATUS, of a file, with descriptors of 16, 32 or 64 bits.
+ * Reads a packet: BEACON; or METADATA, DATA or STATUS, of a file, with descriptors of 16, 32 or 64 bits.
  *
+ * BEACON: four octets are a whole one, with nothing in it but flags. Where bit 17 is clear there is no free space, and
+ * bits 18 and 19 are neither tested nor lost.
  * METADATA: the pairs of checksum type (bits 28 to 31) and length in 32-bit words (bits 24 to 27) that are taken are
  * 0 with 0, 1 with 1, 2 with 4, 3 with 5, and 4 to 15 with 1 to 15. The path is 1 to 1,023 octets; one zero octet
  * after it ends the packet. The size may stand in another width than the packet's own, but must fit that too.
@@ -239,7 +287,9 @@ struct saratoga_packet {
  * its end and greater than the end before it, none below Progress or above In-Response-To. With bit 14 clear the
  * first hole starts at Progress, and where there is none Progress is In-Response-To.
  *
- * Order of refusals: 2, 1 (first 8 octets), 3, 4; a failure STATUS is then accepted; then
+ * Order of refusals: 2, 1 (first 8 octets; first 4 where the first octet is 0x40, a BEACON's), 3, 4; a failure STATUS is
+ * then accepted; then
+ * BEACON:   26, and where bit 17 is set 5, 1 (free space).
  * METADATA: 5, 6 (kind), 7, 1 (checksum, properties), 6 (property bits 6, 7, 10), 5 (the size's own width),
  *           1 (size, times), 1 or 8 (path), 9.
  * DATA:     5, 6, 1 (timestamp, offset), 10.
@@ -256,6 +306,18 @@ struct saratoga_packet saratoga_read(const uint8_t *packet, size_t packet_len);
  * the number of holes).
  */
 struct saratoga_hole saratoga_read_hole(const uint8_t *packet, size_t packet_len, uint64_t index);
+
+/*
+ * Writes BEACON into `out`; octets after the packet stay. `flags` is bits 8 to 31 as a 24-bit number, put together from the
+ * masks for BEACON above; the type is set here. `free_space` is in KiB: a program divides its free octets by 1,024, drops
+ * the rest, and gives the width's largest number where there is more. Where bit 17 is clear it must be 0. `endpoint` may
+ * hold any octets, and may have none. The size is 4 octets, the free space's and the endpoint's.
+ *
+ * Order of refusals: 21 (flags over 24 bits, free space over its width, free space not 0 where bit 17 is clear), 26,
+ * 5 (bits 17, 18 and 19 set), 2, 20.
+ */
+struct saratoga_written saratoga_write_beacon(uint64_t flags, uint64_t free_space, const uint8_t *endpoint,
+                                              size_t endpoint_len, uint8_t *out, size_t out_len);
 
 /*
  * Writes METADATA into `out`; octets after the packet stay. `flags` is bits 8 to 31 as a 24-bit number: the caller

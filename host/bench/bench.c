@@ -49,7 +49,7 @@ static struct bench_case *cases[CASES_MOST];
 static size_t case_count;
 static uint8_t status_room[ROOM];
 static unsigned long compared;
-static uint8_t refusals_seen[23];
+static uint8_t refusals_seen[27];
 
 /* Numbers that look random; the same in each run. */
 static uint64_t random_state = 611;
@@ -143,6 +143,14 @@ static size_t data_packet(uint8_t *p, uint64_t flags, uint64_t id, uint64_t offs
     put(p + at, offset, width < 8 ? width : 8);
     memset(p + at + width, 0xC3, payload);
     return at + width + payload;
+}
+
+/* Any flags but the last octet's, which are mostly 0, and an endpoint; a free space takes its first octets. */
+static size_t beacon_packet(uint8_t *p, size_t endpoint)
+{
+    put(p, UINT64_C(0x40000000) | (random_number() & 0xFFFF00) | (below(20) ? 0 : below(256)), 4);
+    memset(p + 4, 0xE7, endpoint);
+    return 4 + endpoint;
 }
 
 /* The size stands in 64 bits. */
@@ -277,7 +285,7 @@ static void compare_damaged(const struct tables *t, const uint8_t *packet, size_
     compared += 3;
 }
 
-/* A packet for one of 18 Ids, of which each has a width and a length of its own; some are wrong. */
+/* A packet for one of 18 Ids, of which each has a width and a length of its own; or a BEACON. Some are wrong. */
 static size_t random_packet(uint8_t *p, enum operation operation)
 {
     static const size_t widths[3] = {2, 4, 8};
@@ -286,7 +294,9 @@ static size_t random_packet(uint8_t *p, enum operation operation)
     size_t size;
     if (below(40) == 0)
         flags = width_flags(widths[below(3)]);
-    if (operation == OPEN) {
+    if (below(30) == 0) {
+        size = beacon_packet(p, below(20));
+    } else if (operation == OPEN) {
         flags |= below(8) ? 0 : pairs[below(8)];
         size = metadata_packet(p, flags, id, below(30) ? length : (uint64_t)1 << below(64),
                                below(20) ? 1 + below(40) : 1000 + below(40));
@@ -745,7 +755,7 @@ int main(int argc, char **argv)
     compared = 0;
     compare_random(calls);
     printf(" and %lu random ones: ours, (A), (B) and (C) agree\nrefusals among them:", compared);
-    for (i = 1; i < 23; i++)
+    for (i = 1; i < 27; i++)
         if (refusals_seen[i])
             printf(" %d", i);
     printf("\n\n");

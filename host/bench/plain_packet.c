@@ -8,6 +8,26 @@ static struct saratoga_packet refused_packet(unsigned number)
     return a;
 }
 
+static struct saratoga_packet beacon_packet(const uint8_t *packet, size_t packet_len, uint64_t word)
+{
+    static const uint8_t states[4] = {SARATOGA_CANNOT, 0, SARATOGA_NOT_NOW, SARATOGA_WILLING};
+    struct plain_beacon b;
+    unsigned refused = read_beacon(packet, packet_len, word, &b);
+    if (refused)
+        return refused_packet(refused);
+    return (struct saratoga_packet){.type = SARATOGA_TYPE_BEACON,
+                                    .flags = b.flags,
+                                    .largest_width = (uint64_t)2 << (word >> 22 & 3),
+                                    .bundles = word >> 21 & 1,
+                                    .streams = word >> 20 & 1,
+                                    .send = states[word >> 18 & 3],
+                                    .receive = states[word >> 16 & 3],
+                                    .free_width = b.free_width,
+                                    .free_space = b.free_space,
+                                    .endpoint_at = b.endpoint_at,
+                                    .endpoint_len = b.endpoint};
+}
+
 static struct saratoga_packet data_packet(const uint8_t *packet, size_t packet_len)
 {
     struct plain_data d;
@@ -76,6 +96,8 @@ struct saratoga_packet plain_read(const uint8_t *packet, size_t packet_len)
     if (refused)
         return refused_packet(refused);
     switch (word >> 24 & 63) {
+    case SARATOGA_TYPE_BEACON:
+        return beacon_packet(packet, packet_len, word);
     case SARATOGA_TYPE_METADATA:
         return metadata_packet(packet, packet_len);
     case SARATOGA_TYPE_DATA:

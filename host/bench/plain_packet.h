@@ -9,6 +9,11 @@
 
 #include "saratoga.h"
 
+struct plain_beacon {
+    uint64_t flags, free_space;
+    size_t free_width, endpoint_at, endpoint;
+};
+
 struct plain_data {
     uint64_t flags, id, offset;
     size_t width, timestamp, payload_at, payload;
@@ -26,7 +31,7 @@ struct plain_status {
 
 static inline uint64_t code_of(unsigned number)
 {
-    static const uint8_t codes[23] = {0, 0, 0, 0, 10, 9, 1, 1, 1, 9, 1, 0, 6, 9, 9, 1, 3, 3, 9, 0, 0, 0, 0};
+    static const uint8_t codes[27] = {0, 0, 0, 0, 10, 9, 1, 1, 1, 9, 1, 0, 6, 9, 9, 1, 3, 3, 9};
     return codes[number];
 }
 
@@ -95,15 +100,36 @@ static inline int fits(uint64_t number, size_t width)
     return width == 8 || number >> (8 * width) == 0;
 }
 
-/* Refusals 2, 1 and 3, and the first word. */
+/* Refusals 2, 1 and 3, and the first word. A BEACON needs four octets, all else eight. */
 static inline unsigned read_start(const uint8_t *p, size_t len, uint64_t *word)
 {
     if (len > 65535)
         return 2;
-    if (len < 8)
+    if (len < 8 && (len < 4 || p[0] != 0x40))
         return 1;
     *word = number32(p);
     return *word >> 30 != 1 ? 3 : 0;
+}
+
+/* A BEACON, whose first word was read. */
+static inline unsigned read_beacon(const uint8_t *p, size_t len, uint64_t word, struct plain_beacon *b)
+{
+    if ((word >> 18 & 3) == 1 || (word >> 16 & 3) == 1 || (word & 255) != 0)
+        return 26;
+    b->flags = word & 0xFFFFFF;
+    b->free_width = 0;
+    b->free_space = 0;
+    if (word >> 14 & 1) {
+        b->free_width = (size_t)2 << (word >> 12 & 3);
+        if (b->free_width == 16)
+            return 5;
+        if (len < 4 + b->free_width)
+            return 1;
+        b->free_space = number_at(p + 4, b->free_width);
+    }
+    b->endpoint_at = 4 + b->free_width;
+    b->endpoint = len - b->endpoint_at;
+    return 0;
 }
 
 static inline unsigned read_data(const uint8_t *p, size_t len, struct plain_data *d)

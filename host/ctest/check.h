@@ -58,6 +58,65 @@ static inline void same_written(const char *what, struct saratoga_written got, s
     SAME(size);
 }
 
+static inline void same_packet(const char *what, struct saratoga_packet got, struct saratoga_packet want)
+{
+    SAME(number);
+    SAME(code);
+    SAME(type);
+    SAME(flags);
+    SAME(id);
+    SAME(width);
+    SAME(timestamp_at);
+    SAME(timestamp_len);
+    SAME(checksum_at);
+    SAME(checksum_len);
+    SAME(properties);
+    SAME(size);
+    SAME(mtime);
+    SAME(ctime);
+    SAME(path_at);
+    SAME(path_len);
+    SAME(offset);
+    SAME(payload_at);
+    SAME(payload_len);
+    SAME(status);
+    SAME(progress);
+    SAME(in_response_to);
+    SAME(holes_at);
+    SAME(hole_count);
+    SAME(largest_width);
+    SAME(bundles);
+    SAME(streams);
+    SAME(send);
+    SAME(receive);
+    SAME(free_width);
+    SAME(free_space);
+    SAME(endpoint_at);
+    SAME(endpoint_len);
+}
+
+static inline void same_hole(const char *what, struct saratoga_hole got, struct saratoga_hole want)
+{
+    SAME(number);
+    SAME(code);
+    SAME(start);
+    SAME(end);
+}
+
+/* Reads a packet; every field of the answer, and the packet afterwards. */
+static inline void read_as(const char *what, const uint8_t *packet, size_t len, struct saratoga_packet want)
+{
+    uint8_t *lent = lend(packet, len);
+    same_packet(what, saratoga_read(lent, len), want);
+    same_octets(what, lent, packet, len);
+    free(lent);
+}
+
+static inline void read_refused(const char *what, const uint8_t *packet, size_t len, uint64_t number, uint64_t code)
+{
+    read_as(what, packet, len, (struct saratoga_packet){.number = number, .code = code});
+}
+
 /* A buffer of `len` octets 0xA5 must hold the packet of `size` octets and its old octets after that. */
 static inline void buffer_holds(const char *what, const uint8_t *out, size_t len, const uint8_t *packet, size_t size)
 {

@@ -1,57 +1,9 @@
 /*
- * Calls each function of saratoga.h that reads or writes packets from C, on packets laid out by hand from the papers.
+ * Calls each function of saratoga.h that reads or writes METADATA, DATA and STATUS from C, on packets laid out by hand from
+ * the papers; beacon.c does the same for BEACON.
  * Checks every field of the answers and every octet of the lent buffers, and ends with status 1 where one is wrong.
  */
 #include "check.h"
-
-static void same_packet(const char *what, struct saratoga_packet got, struct saratoga_packet want)
-{
-    SAME(number);
-    SAME(code);
-    SAME(type);
-    SAME(flags);
-    SAME(id);
-    SAME(width);
-    SAME(timestamp_at);
-    SAME(timestamp_len);
-    SAME(checksum_at);
-    SAME(checksum_len);
-    SAME(properties);
-    SAME(size);
-    SAME(mtime);
-    SAME(ctime);
-    SAME(path_at);
-    SAME(path_len);
-    SAME(offset);
-    SAME(payload_at);
-    SAME(payload_len);
-    SAME(status);
-    SAME(progress);
-    SAME(in_response_to);
-    SAME(holes_at);
-    SAME(hole_count);
-}
-
-static void same_hole(const char *what, struct saratoga_hole got, struct saratoga_hole want)
-{
-    SAME(number);
-    SAME(code);
-    SAME(start);
-    SAME(end);
-}
-
-static void read_as(const char *what, const uint8_t *packet, size_t len, struct saratoga_packet want)
-{
-    uint8_t *lent = lend(packet, len);
-    same_packet(what, saratoga_read(lent, len), want);
-    same_octets(what, lent, packet, len);
-    free(lent);
-}
-
-static void read_refused(const char *what, const uint8_t *packet, size_t len, uint64_t number, uint64_t code)
-{
-    read_as(what, packet, len, (struct saratoga_packet){.number = number, .code = code});
-}
 
 static void hole_as(const char *what, const uint8_t *packet, size_t len, uint64_t index, struct saratoga_hole want)
 {
@@ -350,6 +302,9 @@ static void header_alone(void)
     uint64_t longest = SARATOGA_WIDTH_64 | 0xFF, properties = SARATOGA_PROPERTIES_WIDTH_64;
     char version[16];
     texts_as("refusals", saratoga_refusal_text, SARATOGA_REFUSED_AREA, "accepted", "unknown refusal");
+    if (strcmp(saratoga_refusal_text(SARATOGA_REFUSED_BEACON), "flags of BEACON not allowed") != 0 ||
+        strcmp(saratoga_refusal_text(SARATOGA_REFUSED_BEACON + 1), "unknown refusal") != 0)
+        fail("texts", "number", 0, SARATOGA_REFUSED_BEACON);
     texts_as("codes", saratoga_code_text, SARATOGA_CODE_UNEXPECTED, "no error", "unknown status code");
     if (strcmp(saratoga_refusal_text(SARATOGA_REFUSED_NOT_OPEN), "Id not open") != 0 ||
         strcmp(saratoga_code_text(SARATOGA_CODE_UNKNOWN_ID), "unknown Id") != 0)

@@ -62,6 +62,7 @@ static void use_full(void) { memcpy(area, full, AREA); }
 static void for_metadata(void) { make_metadata(15); }
 static void for_data(void) { make_data(10, 0, PAYLOAD); }
 static void for_status(void) { size = saratoga_write_status(full, AREA, 10, 0, 1, packet, sizeof packet).size; }
+static void for_beacon(void) { size = saratoga_write_beacon(0x0F6000, 1, path, PATH, packet, sizeof packet).size; }
 static void for_failure(void) { size = saratoga_write_failure(10, 6, packet, sizeof packet).size; }
 static void for_nothing(void) { size = 0; }
 static void with_15_open(void) { use_full(); saratoga_close(area, AREA, 160); make_metadata(5); }
@@ -89,6 +90,7 @@ static void write_metadata(void)
     saratoga_write_metadata(0x800042, 7, checksum, 16, 0x0080, 1, 0, 0, path, PATH, out, sizeof out);
 }
 static void write_data(void) { saratoga_write_data(0x880000, 7, timestamp, 16, 1, payload, 1000, out, sizeof out); }
+static void write_beacon(void) { saratoga_write_beacon(0x0F6000, 1, path, PATH, out, sizeof out); }
 static void write_failure(void) { saratoga_write_failure(7, 1, out, sizeof out); }
 static void fresh(void) { saratoga_fresh(area, AREA); }
 static void open_transfer(void) { saratoga_open(area, AREA, packet, size); }
@@ -113,9 +115,11 @@ static const struct way {
     {"saratoga_read", for_data, read_packet},
     {"saratoga_read", for_status, read_packet},
     {"saratoga_read", for_failure, read_packet},
+    {"saratoga_read", for_beacon, read_packet},
     {"saratoga_read", for_nothing, read_packet},
     {"saratoga_read_hole", for_status, read_hole},
     {"saratoga_read_hole", for_data, read_hole},
+    {"saratoga_write_beacon", for_nothing, write_beacon},
     {"saratoga_write_metadata", for_nothing, write_metadata},
     {"saratoga_write_data", for_nothing, write_data},
     {"saratoga_write_failure", for_nothing, write_failure},

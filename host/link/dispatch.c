@@ -1,6 +1,6 @@
 /*
- * What is done with a packet: METADATA opens a transfer, DATA is stored and recorded, STATUS is shown. The steps are
- * those of link.c. Nothing is answered of a transfer but after save(), and nothing where that failed.
+ * What is done with a packet: METADATA opens a transfer, DATA is stored and recorded, STATUS is shown, a BEACON is heard.
+ * The steps are those of link.c. Nothing is answered of a transfer but after save(), and nothing where that failed.
  */
 #include "link.h"
 
@@ -325,6 +325,8 @@ void take_packet(uint64_t number, const struct peer *peer, const uint8_t *packet
         take_metadata(number, peer, packet, packet_len, &read);
     else if (read.type == SARATOGA_TYPE_DATA)
         take_data(number, peer, packet, packet_len, &read);
+    else if (read.type == SARATOGA_TYPE_BEACON)
+        hear_beacon(number, peer, packet, &read);
     else if (read.status != 0)
         say(number, "failure id=%" PRIu64 " status=%" PRIu64 " flags=%06" PRIx64, read.id, read.status, read.flags);
     else

@@ -62,7 +62,8 @@ static const char help[] =
     "         an Id and a newline written to close close a transfer. Names never come from paths in packets.\n"
     "Output:  one line for each packet, its number first, as replay prints them, and N complete id=31 length=5\n"
     "         file=0000001f.page mtime=.. ctime=.. checksum=.. path=.. once the page is on disk. After a restart\n"
-    "         complete pages are reported again.\n"
+    "         complete pages are reported again. Of a BEACON N on-air send=willing receive=not-now free=KIB\n"
+    "         largest-width=64 endpoint=\"dish 3\" when its endpoint is first heard, and when it changes.\n"
     "Status:  0, 1 where something can't be read or written (lines of output too), 2 for a wrong option.\n";
 
 static void stop(int signal_number)
@@ -213,6 +214,7 @@ int main(int count, char **arguments)
     } else {
         die("%s: another link program writes there", options.directory);
     }
+    count_beacons();
     flush_output();
     return output_was_lost();
 }

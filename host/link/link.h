@@ -8,6 +8,7 @@
  *     store.c     files of a transfer: .part, .page, .aside and .meta
  *     disk.c      plain files: written, forced to disk, replaced; and where there is no room
  *     meta.c      METADATA as text
+ *     onair.c     who is on the air: BEACONs
  *     control.c   what an operator asks of a program that runs
  *     text.c      lines and messages, and octets of packets made fit to be printed
  */
@@ -81,6 +82,7 @@ void report(const char *form, ...);
 void flush_output(void);
 int output_was_lost(void);
 size_t escape(char *out, size_t room, const uint8_t *octets, size_t count);
+size_t quote(char *out, size_t room, const uint8_t *octets, size_t count);
 int id_of_text(const char *text, uint64_t *id);
 
 /* meta.c */
@@ -142,6 +144,10 @@ void take_up(void);
 /* dispatch.c */
 extern uint64_t unsent;            /* answers that could not be sent */
 void take_packet(uint64_t number, const struct peer *peer, const uint8_t *packet, size_t packet_len);
+
+/* onair.c */
+void hear_beacon(uint64_t number, const struct peer *peer, const uint8_t *packet, const struct saratoga_packet *read);
+void count_beacons(void);
 
 /* control.c */
 void hear_operator(void);

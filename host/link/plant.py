@@ -12,7 +12,8 @@ import threading
 import time
 
 from harness import PLACE, SOURCES, WRAPPED, build, check, content, page, records, run, stored
-from packets import END_OF_DATA, WANTED, data, metadata, record, success, time_record, word
+from packets import (BUNDLES, END_OF_DATA, STREAMS, WANTED, beacon, data, metadata, record, success, time_record,
+                     word)
 
 NOSPACE = os.path.join(PLACE, "nospace.c")
 
@@ -532,7 +533,86 @@ def stopped(program, place):
         check(stored(here)[7] == (100, [(0, 40)]), stored(here))
 
 
-# 10. Links, short pages, long lengths, and the command line.
+# 10. Who is on the air.
+
+
+def on_air(program, place):
+    """BEACONs of a pass: what is told, and what isn't."""
+    def line(number, send, receive, free, endpoint, largest=64):
+        return f'{number} on-air send={send} receive={receive} free={free} largest-width={largest} endpoint={endpoint}'
+
+    told_once = beacon(b"dish 3", 64, "willing", "not-now", 7)
+    packets = [told_once, told_once,
+               beacon(b"dish 3", 32, "willing", "not-now", 7, 64, STREAMS | BUNDLES),  # neither willingness nor free space
+               beacon(b"dish 3", 64, "willing", "willing", 7), beacon(b"dish 3", 64, "not-now", "willing", 7),
+               beacon(b"dish 3", 64, "not-now", "willing", 8), beacon(b"dish 3", 64, "not-now", "willing"),
+               beacon(b"dish 3", 64, "not-now", "willing", 0), beacon(b""), beacon(b""), beacon(b"dish", 128),
+               told_once, bytes.fromhex("40040000"), bytes.fromhex("40007000") + b"Id?!", bytes.fromhex("400000")]
+    lines, told, status = run(program, place, "-", octets=records(packets))
+    check((told, status) == ("", 0), told)
+    check(lines == [line(1, "willing", "not-now", 7, '"dish 3"'), line(4, "willing", "willing", 7, '"dish 3"'),
+                    line(5, "not-now", "willing", 7, '"dish 3"'), line(6, "not-now", "willing", 8, '"dish 3"'),
+                    line(7, "not-now", "willing", "", '"dish 3"'), line(8, "not-now", "willing", 0, '"dish 3"'),
+                    line(9, "cannot", "cannot", "", '""'), line(11, "cannot", "cannot", "", '"dish"', 128),
+                    line(12, "willing", "not-now", 7, '"dish 3"'), "13 refused 26 code=0", "14 refused 5 code=9",
+                    "15 refused 1 code=0"], lines)
+    check(run(program, place, "-q", "-", octets=records(packets)) == ([], "", 0), "--quiet")
+
+    # No octet of an endpoint commands a terminal, and different endpoints are different texts.
+    evil = b"\x1b]0;x\x07 \"%s%n\\\x00\x7f\x80\xff\r\n1 complete id=7"
+    lines, told, status = run(program, place, "-", octets=records([beacon(evil), beacon(b"x" * 255), beacon(b"\xff" * 65531)]))
+    check((told, status) == ("", 0) and harmless(lines) and len(lines) == 3, (lines, told))
+    check(lines[0] == line(1, "cannot", "cannot", "", r'"\x1b]0;x\x07 \x22%s%n\x5c\x00\x7f\x80\xff\x0d\x0a1 complete id=7"'),
+          lines[0])
+    check(lines[1].endswith('endpoint="' + "x" * 255 + '"'), lines[1])
+    check(lines[2].endswith('"' + r"\xff" * 255 + '" endpoint-length=65531') and len(lines[2]) < 1200, lines[2])
+    every = [beacon(bytes([octet])) for octet in range(256)]
+    lines = [told for at in range(0, 256, 64) for told in run(program, place, "-", octets=records(every[at:at + 64]))[0]]
+    check(harmless(lines) and len({text.split(" endpoint=")[1] for text in lines}) == 256, lines)
+
+    # A page goes on between them.
+    text = page(20, 61)
+    packets = [metadata(7, 16, 20), told_once, data(7, 16, 0, text[:9]), beacon(b"x"), data(7, 16, 9, text[9:])]
+    lines, told, status = run(program, place, "-", octets=records(packets))
+    check(any(" complete id=7 length=20 " in text for text in lines) and content(place, "00000007.page") == text, lines)
+
+
+def too_many_on_air(program, place):
+    """Endpoints without end, and one that never keeps still: what is printed stays small, and others are still heard."""
+    many = [beacon(b"dish %d" % number) for number in range(64)]
+    lines, told, status = run(program, place, "-", octets=records(many + [beacon(b"other %d" % n) for n in range(900)] + many))
+    check(len(lines) == 64 and status == 0, lines[64:])
+    check(told == "saratoga-link: more than 64 endpoints are on the air; of the others only the number of BEACONs is told, at "
+          "the end\nsaratoga-link: 900 BEACONs of further endpoints were heard\n", told)
+
+    link = Link(program, place)
+    for number in range(300):
+        link.socket.sendto(beacon(b"restless", free=number), ("127.0.0.1", link.port))
+        time.sleep(0.001)  # so that none is lost
+    check(link.send(beacon(b"calm", 64, "willing")) is None, "a BEACON is answered")
+    link.wait(lambda: any("calm" in line for line in link.lines))
+    check(len([line for line in link.lines if "restless" in line]) < 20, link.lines)
+    time.sleep(1.1)
+    link.send(beacon(b"restless", free=299))
+    link.wait(lambda: any("free=299 " in line and "restless" in line for line in link.lines))
+    check(link.end() == 0 and len(link.told) == 1 and "changes too often" in link.told[0], link.told)
+
+    # One that was silent gives up its place.
+    short = build(SOURCES, program + "-short", "-DSILENT=2")
+    link = Link(short, place)
+    for packet in many:
+        link.socket.sendto(packet, ("127.0.0.1", link.port))
+        time.sleep(0.001)
+    link.wait(lambda: len(link.lines) == 65)
+    link.send(beacon(b"too early"))
+    time.sleep(3.1)
+    link.send(beacon(b"late"))
+    link.wait(lambda: any('"late"' in line for line in link.lines))
+    check(link.end() == 0 and not any("too early" in line for line in link.lines), link.lines)
+    check("1 BEACONs of further endpoints" in link.told[-1], link.told)
+
+
+# 11. Links, short pages, long lengths, and the command line.
 
 
 def traps(program, place):
@@ -606,8 +686,8 @@ def all_of_it(program, place):
     """Runs everything; `place` gives a new directory for a name."""
     full = build([*SOURCES, NOSPACE], program + "-full", *WRAPPED, "-Wl,--wrap=sendto")
     tests = [(test, program) for test in (used_again, never_overwritten, taken_away, full_table, operator, who_is_heard,
-                                          two_senders, kept, what_is_known, runs, answers, many_holes, limits, stopped, traps,
-                                          command_line)]
+                                          two_senders, kept, what_is_known, runs, answers, many_holes, on_air, too_many_on_air,
+                                          limits, stopped, traps, command_line)]
     for test, tested in tests + [(no_room, full), (no_room_for_a_name, full), (unsendable, full)]:
         one_of_it(test, tested, place(test.__name__))
 

@@ -1,6 +1,6 @@
 /*
  * Lines, messages, and octets of packets made fit to be printed. No octet of a packet reaches a terminal or a file's
- * text but by escape(), and none is ever a format.
+ * text but by escape() and quote(), and none is ever a format.
  */
 #include "link.h"
 
@@ -106,16 +106,16 @@ void report(const char *form, ...)
 }
 
 /*
- * Octets as text without blanks: what is no printable character of ASCII, a blank or a backslash is \xNN, so different
- * octets are different texts. Gives the length; what has no room (four octets for each, and one) is left out.
+ * Octets as text: what is no printable character of ASCII, a backslash or `apart` is \xNN, so different octets are
+ * different texts. Gives the length; what has no room (four octets for each, and one) is left out.
  */
-size_t escape(char *out, size_t room, const uint8_t *octets, size_t count)
+static size_t escape_but(char apart, char *out, size_t room, const uint8_t *octets, size_t count)
 {
     static const char digits[] = "0123456789abcdef";
     size_t length = 0;
     for (size_t i = 0; i < count && length + 5 <= room; i++) {
         uint8_t octet = octets[i];
-        if (octet > 0x20 && octet < 0x7f && octet != '\\') {
+        if (octet >= 0x20 && octet < 0x7f && octet != '\\' && octet != (uint8_t)apart) {
             out[length++] = (char)octet;
         } else {
             out[length++] = '\\';
@@ -124,6 +124,22 @@ size_t escape(char *out, size_t room, const uint8_t *octets, size_t count)
             out[length++] = digits[octet & 15];
         }
     }
+    out[length] = '\0';
+    return length;
+}
+
+/* Octets as text without blanks. */
+size_t escape(char *out, size_t room, const uint8_t *octets, size_t count)
+{
+    return escape_but(' ', out, room, octets, count);
+}
+
+/* Octets as text in quotation marks, with blanks and no quotation mark within. Room: four octets for each, and three. */
+size_t quote(char *out, size_t room, const uint8_t *octets, size_t count)
+{
+    size_t length = 1 + escape_but('"', out + 1, room - 2, octets, count);
+    out[0] = '"';
+    out[length++] = '"';
     out[length] = '\0';
     return length;
 }

@@ -7,7 +7,7 @@ import struct
 PORT = 7542
 MOST_OCTETS_OF_A_PACKET = 65535
 
-METADATA, DATA, STATUS = 2, 3, 4
+BEACON, METADATA, DATA, STATUS = 0, 2, 3, 4
 WIDTHS = (16, 32, 64)
 WIDTH_FLAGS = {16: 0x000000, 32: 0x400000, 64: 0x800000}
 FLAGS_WIDTH = {flags: width for width, flags in WIDTH_FLAGS.items()}  # of 11 there is none
@@ -16,6 +16,12 @@ PROPERTIES_WIDTH = {properties: width for width, properties in WIDTH_PROPERTIES.
 # Bits 12 and 14; 15, which in DATA wants a STATUS and in a STATUS says that nobody asked; 16.
 TIMESTAMP, INCOMPLETE, WANTED, END_OF_DATA = 0x080000, 0x020000, 0x010000, 0x008000
 UNASKED = WANTED
+# BEACON: bits 8 and 9 by the largest width; 10, 11 and 16; 12 and 13, 14 and 15 by name; 17, and with it 18 and 19 by width.
+LARGEST_FLAGS = {16: 0x000000, 32: 0x400000, 64: 0x800000, 128: 0xC00000}
+BUNDLES, STREAMS, UDP_LITE, FREE = 0x200000, 0x100000, 0x008000, 0x004000
+SEND_FLAGS = {"cannot": 0x000000, "not-now": 0x080000, "willing": 0x0C0000}
+RECEIVE_FLAGS = {"cannot": 0x000000, "not-now": 0x020000, "willing": 0x030000}
+FREE_FLAGS = {16: 0x004000, 32: 0x005000, 64: 0x006000}
 
 
 def fit(value, width):
@@ -35,6 +41,14 @@ def word(kind, flags):
 def header(kind, flags, ident):
     """The first eight octets: the word and the Id."""
     return word(kind, flags) + number(ident, 32)
+
+
+def beacon(endpoint=b"", largest=64, send="cannot", receive="cannot", free=None, free_width=32, flags=0):
+    """`free` counts KiB; None gives none. `flags` go without what the other fields make."""
+    own = LARGEST_FLAGS[largest] | SEND_FLAGS[send] | RECEIVE_FLAGS[receive]
+    if free is None:
+        return word(BEACON, own | flags) + endpoint
+    return word(BEACON, own | FREE_FLAGS[free_width] | flags) + number(free, free_width) + endpoint
 
 
 def metadata(ident, width, length, path=b"page611.pla", flags=0, checksum=b"", mtime=0, ctime=0, properties=0,

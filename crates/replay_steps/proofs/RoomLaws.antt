@@ -9,6 +9,7 @@ use lib.Dec.{eqb}
 use lib.ListN.{length, take}
 use Rattle.octets.specs.Numbers.{Octets}
 use Rattle.packet.specs.Read.{readPacket}
+use Rattle.packet_beacon.specs.Beacon.{beaconOf}
 use Rattle.packet_data.specs.Data.{dataOf, readData}
 use Rattle.packet_metadata.specs.Metadata.{metadataOf, readMetadata}
 use Rattle.packet_status.specs.Status.{failureOf}
@@ -17,6 +18,7 @@ use Rattle.text.specs.Added.{Added}
 use Rattle.text.proofs.AddedLaws.{added-whole}
 use Rattle.text.proofs.LengthLaws.{AtMost, at-most}
 use Rattle.replay_fields.specs.LineWords.{w-cut}
+use Rattle.replay_beacon.proofs.LengthLaws.{beacon-most}
 use Rattle.replay_lines.specs.Lines.{unknownLine}
 use Rattle.replay_lines.proofs.LengthLaws.{plain-most, unknown-most, failure-most}
 use Rattle.replay_answers.specs.AnswerLines.{openText, recordText, readText}
@@ -32,6 +34,7 @@ module _ (n : ℕ) (body area room : List ℕ) (o : Octets body) (b : AtMost bod
   unfolding deliverLines
   deliver-most =
       read-cases (λ x. AtMost (deliverLines n body x area room) outLeast) body
+      (at-most (beacon-most n (beaconOf body) b) (omega arith))
       (at-most (opened-lines-most r n body (metadataOf body) (openArea area body .answer)) (omega arith))
       (at-most (recorded-lines-most r n body (dataOf body) (recordArea area body .answer) (recordArea area body .area)) (omega arith))
       (at-most (success-line-most n o b) (omega arith))

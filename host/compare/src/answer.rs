@@ -1,5 +1,6 @@
 //! The answers as include/saratoga.h lays them out. On refusal all but `number` and `code` is 0.
 
+use paper::layout::Willingness;
 use paper::read;
 use paper::refusal::Refusal;
 use paper::table;
@@ -51,6 +52,15 @@ pub struct Packet {
     pub in_response_to: u64,
     pub holes_at: u64,
     pub hole_count: u64,
+    pub largest_width: u64,
+    pub bundles: u64,
+    pub streams: u64,
+    pub send: u64,
+    pub receive: u64,
+    pub free_width: u64,
+    pub free_space: u64,
+    pub endpoint_at: u64,
+    pub endpoint_len: u64,
 }
 
 /// `struct saratoga_done`
@@ -166,11 +176,40 @@ impl From<Result<read::Hole, Refusal>> for Hole {
 impl From<Result<read::Packet, Refusal>> for Packet {
     fn from(answer: Result<read::Packet, Refusal>) -> Packet {
         match answer {
+            Ok(read::Packet::Beacon(packet)) => packet.into(),
             Ok(read::Packet::Metadata(packet)) => packet.into(),
             Ok(read::Packet::Data(packet)) => packet.into(),
             Ok(read::Packet::Success(packet)) => packet.into(),
             Ok(read::Packet::Failure(packet)) => packet.into(),
             Err(refusal) => Packet { number: refusal.number(), code: refusal.code(), ..Packet::default() },
+        }
+    }
+}
+
+/// `SARATOGA_CANNOT`, `SARATOGA_NOT_NOW`, `SARATOGA_WILLING`
+fn willingness(state: Willingness) -> u64 {
+    match state {
+        Willingness::Cannot => 0,
+        Willingness::NotNow => 1,
+        Willingness::Willing => 2,
+    }
+}
+
+impl From<read::Beacon> for Packet {
+    fn from(packet: read::Beacon) -> Packet {
+        Packet {
+            kind: 0,
+            flags: packet.flags,
+            largest_width: packet.largest_width as u64,
+            bundles: packet.bundles.into(),
+            streams: packet.streams.into(),
+            send: willingness(packet.send),
+            receive: willingness(packet.receive),
+            free_width: packet.free_space.map_or(0, |free| free.width as u64),
+            free_space: packet.free_space.map_or(0, |free| free.kib),
+            endpoint_at: packet.endpoint.start as u64,
+            endpoint_len: packet.endpoint.len() as u64,
+            ..Packet::default()
         }
     }
 }

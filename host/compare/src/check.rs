@@ -3,7 +3,7 @@
 use std::fmt::Debug;
 use std::time::Instant;
 
-use paper::write::{DataFields, MetadataFields};
+use paper::write::{BeaconFields, DataFields, MetadataFields};
 
 use crate::answer::{Hole, Packet, Written};
 use crate::codec::{Codec, Paper};
@@ -80,7 +80,25 @@ impl<'a> Check<'a> {
         Ok(got)
     }
 
-    /// `saratoga_write_metadata` into a buffer of `out_len` octets, this one call; with the octets written.
+    /// `saratoga_write_beacon` into a buffer of `out_len` octets, this one call; with the octets written.
+    pub fn write_beacon_once(&mut self, fields: &BeaconFields, out_len: usize) -> Result<(Written, Vec<u8>), Stop> {
+        self.count()?;
+        let endpoint = Lent::copy(fields.endpoint, &mut self.rng);
+        let endpoint_before = endpoint.clone();
+        let mut out = Lent::random(out_len, &mut self.rng);
+        let mut want_out = out.clone();
+        let lent = BeaconFields { endpoint: endpoint.octets(), ..*fields };
+        let got = self.codec.write_beacon(&lent, out.octets_mut());
+        let want = Paper.write_beacon(fields, want_out.octets_mut());
+        let context = || describe_beacon(fields, out_len);
+        same_answer(Function::WriteBeacon, &got, &want, context)?;
+        same_octets(Function::WriteBeacon, "out", &out, &want_out, context)?;
+        same_octets(Function::WriteBeacon, "endpoint", &endpoint, &endpoint_before, context)?;
+        self.tally.add(Function::WriteBeacon, got.number);
+        Ok((got, out.octets()[..got.size as usize].to_vec()))
+    }
+
+    /// `saratoga_write_metadata`, the same way.
     pub fn write_metadata_once(&mut self, fields: &MetadataFields, out_len: usize) -> Result<(Written, Vec<u8>), Stop> {
         self.count()?;
         let checksum = Lent::copy(fields.checksum, &mut self.rng);
@@ -178,6 +196,16 @@ pub fn hex(octets: &[u8]) -> String {
 
 pub fn describe_packet(packet: &[u8]) -> String {
     format!("  packet of {} octets: {}", packet.len(), hex(packet))
+}
+
+fn describe_beacon(f: &BeaconFields, out_len: usize) -> String {
+    format!(
+        "  flags {:#x}, free space {:#x}, buffer of {out_len} octets\n  endpoint of {} octets: {}",
+        f.flags,
+        f.free_space,
+        f.endpoint.len(),
+        hex(f.endpoint)
+    )
 }
 
 fn describe_metadata(f: &MetadataFields, out_len: usize) -> String {

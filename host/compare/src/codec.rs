@@ -1,12 +1,13 @@
-//! What is compared first: the five functions of include/saratoga.h that read and write packets, here over slices.
+//! What is compared first: the six functions of include/saratoga.h that read and write packets, here over slices.
 
-use paper::write::{DataFields, MetadataFields};
+use paper::write::{BeaconFields, DataFields, MetadataFields};
 
 use crate::answer::{Hole, Packet, Written};
 
 pub trait Codec {
     fn read(&self, packet: &[u8]) -> Packet;
     fn read_hole(&self, packet: &[u8], index: u64) -> Hole;
+    fn write_beacon(&self, fields: &BeaconFields, out: &mut [u8]) -> Written;
     fn write_metadata(&self, fields: &MetadataFields, out: &mut [u8]) -> Written;
     fn write_data(&self, fields: &DataFields, out: &mut [u8]) -> Written;
     fn write_failure(&self, id: u64, status: u64, out: &mut [u8]) -> Written;
@@ -22,6 +23,10 @@ impl Codec for Paper {
 
     fn read_hole(&self, packet: &[u8], index: u64) -> Hole {
         paper::read::read_hole(packet, index).into()
+    }
+
+    fn write_beacon(&self, fields: &BeaconFields, out: &mut [u8]) -> Written {
+        paper::write::write_beacon(fields, out).into()
     }
 
     fn write_metadata(&self, fields: &MetadataFields, out: &mut [u8]) -> Written {

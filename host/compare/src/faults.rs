@@ -7,16 +7,17 @@ use crate::rng::Rng;
 /// The refusal's number, and what spoils the packet.
 pub type Fault<T> = (u64, fn(&mut T, &mut Rng));
 
-fn version(start: &mut Start, rng: &mut Rng) {
-    start.first = (start.first & 0x3F) | rng.pick(&[0x00, 0x80, 0xC0]);
+fn version(first: &mut u8, rng: &mut Rng) {
+    *first = (*first & 0x3F) | rng.pick(&[0x00, 0x80, 0xC0]);
 }
 
-fn other_type(start: &mut Start, rng: &mut Rng) {
+/// A type that no operation takes.
+fn other_type(first: &mut u8, rng: &mut Rng) {
     let kind = match rng.below(3) {
-        0 => rng.below(2),
+        0 => 1,
         _ => rng.between(5, 63),
     };
-    start.first = (start.first & 0xC0) | kind as u8;
+    *first = (*first & 0xC0) | kind as u8;
 }
 
 fn refused_width(start: &mut Start) {
@@ -40,6 +41,32 @@ pub fn path_at(packet: &Metadata) -> usize {
     8 + packet.checksum.len() + 2 + entry_width(packet.properties) + 8
 }
 
+/// Another version or type needs eight octets to be told.
+fn eight_octets(packet: &mut Beacon) {
+    packet.endpoint.resize(packet.endpoint.len().max(8), 7);
+}
+
+pub const BEACON: &[Fault<Beacon>] = &[
+    (26, |p, rng| p.flags = with_pairs(p.flags, NO_PAIRING, rng.pick(&PAIRINGS))),
+    (26, |p, rng| p.flags = with_pairs(p.flags, rng.pick(&PAIRINGS), NO_PAIRING)),
+    (26, |p, rng| p.flags |= rng.between(1, 255) as u32),
+    (5, |p, _| p.flags = with_free(p.flags, 3)),
+    (1, |p, rng| p.ending = cut(rng, 0, 3)),
+    (1, |p, rng| {
+        p.flags = with_free(p.flags, rng.below(3) as u32);
+        p.ending = cut(rng, 4, 4 + free_width(p.flags) - 1);
+    }),
+    (3, |p, rng| {
+        version(&mut p.first, rng);
+        eight_octets(p);
+    }),
+    (4, |p, rng| {
+        other_type(&mut p.first, rng);
+        eight_octets(p);
+    }),
+    (2, |p, rng| p.ending = too_long(rng)),
+];
+
 pub const METADATA: &[Fault<Metadata>] = &[
     (9, |p, rng| {
         // The entry is wider than the packet's own width.
@@ -49,8 +76,8 @@ pub const METADATA: &[Fault<Metadata>] = &[
         let (own, entry) = (last(width(p.start.flags)), last(entry_width(p.properties)));
         p.size = rng.pick(&[own + 1, entry]);
     }),
-    (3, |p, rng| version(&mut p.start, rng)),
-    (4, |p, rng| other_type(&mut p.start, rng)),
+    (3, |p, rng| version(&mut p.start.first, rng)),
+    (4, |p, rng| other_type(&mut p.start.first, rng)),
     (5, |p, _| refused_width(&mut p.start)),
     (6, |p, rng| other_kind(&mut p.start, rng)),
     (7, |p, rng| {
@@ -90,8 +117,8 @@ pub const METADATA: &[Fault<Metadata>] = &[
 ];
 
 pub const DATA: &[Fault<Data>] = &[
-    (3, |p, rng| version(&mut p.start, rng)),
-    (4, |p, rng| other_type(&mut p.start, rng)),
+    (3, |p, rng| version(&mut p.start.first, rng)),
+    (4, |p, rng| other_type(&mut p.start.first, rng)),
     (5, |p, _| refused_width(&mut p.start)),
     (6, |p, rng| other_kind(&mut p.start, rng)),
     (10, |p, _| p.payload.clear()),
@@ -105,8 +132,8 @@ pub const STATUS: &[Fault<Status>] = &[
         let (_, fault) = rng.pick(HOLES);
         fault(p, rng)
     }),
-    (3, |p, rng| version(&mut p.start, rng)),
-    (4, |p, rng| other_type(&mut p.start, rng)),
+    (3, |p, rng| version(&mut p.start.first, rng)),
+    (4, |p, rng| other_type(&mut p.start.first, rng)),
     (5, |p, _| refused_width(&mut p.start)),
     (1, |p, rng| p.ending = cut(rng, 0, 7)),
     (1, |p, rng| p.ending = cut(rng, 8, 8 + p.timestamp.len() + 2 * width(p.start.flags) - 1)),

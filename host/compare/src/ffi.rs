@@ -3,7 +3,7 @@
 
 use std::ptr::NonNull;
 
-use paper::write::{DataFields, MetadataFields};
+use paper::write::{BeaconFields, DataFields, MetadataFields};
 
 use crate::answer::{Hole, Packet, Written};
 use crate::codec::Codec;
@@ -15,6 +15,14 @@ use crate::{
 extern "C" {
     fn saratoga_read(packet: *const u8, packet_len: usize) -> Packet;
     fn saratoga_read_hole(packet: *const u8, packet_len: usize, index: u64) -> Hole;
+    fn saratoga_write_beacon(
+        flags: u64,
+        free_space: u64,
+        endpoint: *const u8,
+        endpoint_len: usize,
+        out: *mut u8,
+        out_len: usize,
+    ) -> Written;
     fn saratoga_write_metadata(
         flags: u64,
         id: u64,
@@ -89,6 +97,11 @@ impl Codec for Archive {
 
     fn read_hole(&self, packet: &[u8], index: u64) -> Hole {
         unsafe { saratoga_read_hole(start(packet), packet.len(), index) }
+    }
+
+    fn write_beacon(&self, fields: &BeaconFields, out: &mut [u8]) -> Written {
+        let BeaconFields { flags, free_space, endpoint } = *fields;
+        unsafe { saratoga_write_beacon(flags, free_space, start(endpoint), endpoint.len(), start_mut(out), out.len()) }
     }
 
     fn write_metadata(&self, fields: &MetadataFields, out: &mut [u8]) -> Written {

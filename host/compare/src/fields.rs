@@ -1,6 +1,6 @@
-//! Fields to be written: made valid, and open to be spoiled, with the faults of the two writers.
+//! Fields to be written: made valid, and open to be spoiled, with the faults of each writer.
 
-use paper::write::{DataFields, MetadataFields};
+use paper::write::{BeaconFields, DataFields, MetadataFields};
 
 use crate::faults::Fault;
 use crate::packets::*;
@@ -30,6 +30,14 @@ impl Room {
 }
 
 #[derive(Clone)]
+pub struct BeaconArgs {
+    pub flags: u64,
+    pub free_space: u64,
+    pub endpoint: Vec<u8>,
+    pub room: Room,
+}
+
+#[derive(Clone)]
 pub struct MetadataArgs {
     pub flags: u64,
     pub id: u64,
@@ -50,6 +58,40 @@ pub struct DataArgs {
     pub offset: u64,
     pub payload: Vec<u8>,
     pub room: Room,
+}
+
+impl BeaconArgs {
+    pub fn valid(rng: &mut Rng) -> BeaconArgs {
+        let packet = Beacon::valid(rng);
+        BeaconArgs {
+            flags: u64::from(packet.flags),
+            free_space: packet.free_space,
+            endpoint: packet.endpoint,
+            room: Room::Exact,
+        }
+    }
+
+    pub fn fields(&self) -> BeaconFields<'_> {
+        BeaconFields { flags: self.flags, free_space: self.free_space, endpoint: &self.endpoint }
+    }
+
+    pub fn out_len(&self) -> usize {
+        self.room.octets(4 + free_width(self.flags as u32) + self.endpoint.len())
+    }
+
+    /// These pairs of sending and receiving.
+    pub fn set_pairs(&mut self, send: u32, receive: u32) {
+        self.flags = reset(self.flags, u64::from(SEND | RECEIVE), u64::from(with_pairs(0, send, receive)));
+    }
+
+    /// Free space of width bits `code`, or none.
+    pub fn set_free(&mut self, code: Option<u32>) {
+        let mask = u64::from(FREE | FREE_WIDTH);
+        self.flags = match code {
+            Some(code) => reset(self.flags, mask, u64::from(with_free(0, code))),
+            None => reset(self.flags, u64::from(FREE), 0),
+        };
+    }
 }
 
 impl MetadataArgs {
@@ -151,6 +193,28 @@ fn overflow(number: &mut u64, bits: u32, rng: &mut Rng) {
         _ => *number = rng.too_large(bits),
     }
 }
+
+pub const BEACON: &[Fault<BeaconArgs>] = &[
+    (21, |f, rng| {
+        f.set_free(Some(rng.below(2) as u32));
+        f.free_space = rng.too_large(8 * free_width(f.flags as u32) as u32);
+    }),
+    (21, |f, rng| {
+        f.set_free(None);
+        f.free_space = rng.pick(&[1, 1, 7, 1 << 16, u64::MAX]);
+    }),
+    (26, |f, rng| f.set_pairs(NO_PAIRING, rng.pick(&PAIRINGS))),
+    (26, |f, rng| f.set_pairs(rng.pick(&PAIRINGS), NO_PAIRING)),
+    (26, |f, rng| f.flags |= rng.between(1, 255)),
+    (5, |f, _| f.set_free(Some(3))),
+    (2, |f, rng| {
+        let room = 65_535 - 4 - free_width(f.flags as u32);
+        let len = rng.pick(&[room + 1, room + 1, room + 2, 70_000]);
+        f.endpoint = rng.octets(len);
+    }),
+    (20, |f, rng| f.room = rng.pick(&[Room::Less(1), Room::Less(4), Room::Nothing])),
+    (21, |f, rng| overflow(&mut f.flags, 24, rng)),
+];
 
 pub const METADATA: &[Fault<MetadataArgs>] = &[
     (9, |f, rng| {

@@ -9,6 +9,10 @@ use crate::rng::Rng;
 /// All of it.
 pub fn run(check: &mut Check) -> Step {
     first_words(check)?;
+    short_packets(check)?;
+    beacon_flags(check)?;
+    beacon_free_space(check)?;
+    beacon_endpoints(check)?;
     metadata_pairs(check)?;
     metadata_properties(check)?;
     metadata_sizes(check)?;
@@ -18,6 +22,7 @@ pub fn run(check: &mut Check) -> Step {
     full_hole_lists(check)?;
     failure(check)?;
     truncated(check)?;
+    combined(check, faults::BEACON, Beacon::valid, Beacon::octets)?;
     combined(check, faults::METADATA, Metadata::valid, Metadata::octets)?;
     combined(check, faults::DATA, Data::valid, Data::octets)?;
     combined(check, faults::STATUS, Status::valid, Status::octets)?;
@@ -52,12 +57,13 @@ fn first_words(check: &mut Check) -> Step {
     for round in 0..8 {
         for place in 0..4 {
             for value in 0..=255 {
-                for kind in 0..3 {
+                for kind in 0..4 {
                     let rng = &mut check.rng;
                     let mut packet = match kind {
                         0 => Metadata::valid(rng).octets(rng),
                         1 => Data::valid(rng).octets(rng),
-                        _ => Status::valid(rng).octets(rng),
+                        2 => Status::valid(rng).octets(rng),
+                        _ => Beacon::valid(rng).octets(rng),
                     };
                     packet[place] = value;
                     check.read(&packet)?;
@@ -66,6 +72,97 @@ fn first_words(check: &mut Check) -> Step {
                     }
                 }
             }
+        }
+    }
+    Ok(())
+}
+
+/// Lengths 0 to 12 at every first octet: all zeros after it, and the flags of a BEACON.
+fn short_packets(check: &mut Check) -> Step {
+    for first in 0..=255 {
+        for len in 0..=12 {
+            for round in 0..4 {
+                let mut packet = match round {
+                    0 => vec![0; 12],
+                    _ => Beacon::valid(&mut check.rng).octets(&mut check.rng),
+                };
+                packet.resize(12, 0);
+                packet[0] = first;
+                check.read(&packet[..len])?;
+                check.read_hole(&packet[..len], 0)?;
+            }
+        }
+    }
+    Ok(())
+}
+
+/// Every 16 pairings with all bits 8 to 11 and 16 to 19, of a whole BEACON and of four octets; and each last flags octet.
+fn beacon_flags(check: &mut Check) -> Step {
+    for bits in 0..=0xFFF {
+        let rng = &mut check.rng;
+        let flags = bits << (31 - 19) | (rng.below(16) as u32) << (31 - 23);
+        let mut packet = Beacon { flags, ..Beacon::valid(rng) };
+        packet.endpoint.truncate(20);
+        let octets = packet.octets(rng);
+        check.read(&octets)?;
+        check.read(&octets[..4])?;
+    }
+    for last in 0..=255 {
+        for (send, receive) in (0..16).map(|pairs| (pairs / 4, pairs % 4)) {
+            let rng = &mut check.rng;
+            let mut packet = Beacon::valid(rng);
+            packet.flags = with_pairs(packet.flags, send, receive) | last;
+            packet.endpoint.truncate(20);
+            let octets = packet.octets(rng);
+            let named = PAIRINGS.contains(&send) && PAIRINGS.contains(&receive) && last == 0;
+            match named {
+                true => drop(check.read_valid(&octets)?),
+                false => check.read_refused(&octets, 26)?,
+            }
+        }
+    }
+    Ok(())
+}
+
+/// Each width of free space: numbers at its ends, the packet cut at every place in it, and none at all.
+fn beacon_free_space(check: &mut Check) -> Step {
+    for code in [Some(0), Some(1), Some(2), Some(3), None] {
+        for free_space in [0, 1, 0xFFFE, 0xFFFF, 0x1_0000, 0xFFFF_FFFF, 0x1_0000_0000, u64::MAX - 1, u64::MAX] {
+            for len in [0, 1, 2, 3, 4, 8, 16, 300] {
+                let rng = &mut check.rng;
+                let mut packet = Beacon { free_space, endpoint: rng.octets(len), ..Beacon::valid(rng) };
+                packet.flags = match code {
+                    Some(code) => with_free(packet.flags, code),
+                    None => packet.flags & !FREE,
+                };
+                let octets = packet.octets(rng);
+                for cut in (0..octets.len().min(24)).chain([octets.len()]) {
+                    check.read(&octets[..cut])?;
+                }
+            }
+        }
+    }
+    Ok(())
+}
+
+/// Endpoints up to the largest packet and past it, with each width of free space.
+fn beacon_endpoints(check: &mut Check) -> Step {
+    for code in [Some(0), Some(1), Some(2), Some(3), None] {
+        for total in [20, 21, 1_000, 65_533, 65_534, 65_535, 65_536, 65_537, 131_080] {
+            let rng = &mut check.rng;
+            let mut packet = Beacon::valid(rng);
+            packet.flags = match code {
+                Some(code) => with_free(packet.flags, code),
+                None => packet.flags & !FREE,
+            };
+            packet.endpoint = rng.octets(total - 4 - free_width(packet.flags));
+            let octets = packet.octets(rng);
+            match (total > 65_535, code) {
+                (true, _) => check.read_refused(&octets, 2)?,
+                (false, Some(3)) => check.read_refused(&octets, 5)?,
+                _ => drop(check.read_valid(&octets)?),
+            }
+            check.read_hole(&octets, 0)?;
         }
     }
     Ok(())
@@ -287,7 +384,9 @@ fn truncated(check: &mut Check) -> Step {
         if status.holes.len() > 20 {
             status = Status::with_holes(rng, status.start, 20);
         }
-        for packet in [metadata.octets(rng), data.octets(rng), status.octets(rng)] {
+        let mut beacon = Beacon::valid(rng);
+        beacon.endpoint.truncate(40);
+        for packet in [metadata.octets(rng), data.octets(rng), status.octets(rng), beacon.octets(rng)] {
             for len in 0..=packet.len() {
                 check.read(&packet[..len])?;
                 check.read_hole(&packet[..len], 0)?;

@@ -2,12 +2,15 @@
 
 use crate::check::{require, Check, Step};
 use crate::faults::Fault;
-use crate::fields::{self, DataArgs, MetadataArgs, ROOMS};
+use crate::fields::{self, BeaconArgs, DataArgs, MetadataArgs, ROOMS};
 use crate::packets::*;
 use crate::rng::Rng;
 
 /// All of it.
 pub fn run(check: &mut Check) -> Step {
+    beacon_flags(check)?;
+    beacon_numbers(check)?;
+    beacon_lengths(check)?;
     metadata_pairs(check)?;
     metadata_numbers(check)?;
     metadata_sizes(check)?;
@@ -16,8 +19,13 @@ pub fn run(check: &mut Check) -> Step {
     data_numbers(check)?;
     data_lengths(check)?;
     failure(check)?;
+    combined(check, fields::BEACON, BeaconArgs::valid, beacon)?;
     combined(check, fields::METADATA, MetadataArgs::valid, metadata)?;
     combined(check, fields::DATA, DataArgs::valid, data)
+}
+
+fn beacon(check: &mut Check, args: &BeaconArgs) -> Result<u64, crate::check::Stop> {
+    Ok(check.write_beacon(&args.fields(), args.out_len())?.number)
 }
 
 fn metadata(check: &mut Check, args: &MetadataArgs) -> Result<u64, crate::check::Stop> {
@@ -26,6 +34,13 @@ fn metadata(check: &mut Check, args: &MetadataArgs) -> Result<u64, crate::check:
 
 fn data(check: &mut Check, args: &DataArgs) -> Result<u64, crate::check::Stop> {
     Ok(check.write_data(&args.fields(), args.out_len())?.number)
+}
+
+fn beacon_in_all_rooms(check: &mut Check, args: &BeaconArgs) -> Step {
+    for room in ROOMS {
+        beacon(check, &BeaconArgs { room, ..args.clone() })?;
+    }
+    Ok(())
 }
 
 fn metadata_in_all_rooms(check: &mut Check, args: &MetadataArgs) -> Step {
@@ -46,6 +61,71 @@ fn data_in_all_rooms(check: &mut Check, args: &DataArgs) -> Step {
 fn around(bits: u32) -> [u64; 7] {
     let over = 1u64 << bits;
     [0, 1, over - 2, over - 1, over, over + 1, u64::MAX]
+}
+
+/// Every value of bits 8 to 19, every last flags octet with all 16 pairings, in all rooms now and then.
+fn beacon_flags(check: &mut Check) -> Step {
+    for bits in 0..=0xFFF {
+        let mut args = BeaconArgs { flags: bits << (31 - 19), ..BeaconArgs::valid(&mut check.rng) };
+        args.endpoint.truncate(20);
+        args.free_space = match free_width(args.flags as u32) {
+            0 => 0,
+            octets => check.rng.number(8 * octets.min(8) as u32),
+        };
+        beacon(check, &args)?;
+        if bits % 16 == 0 {
+            beacon_in_all_rooms(check, &args)?;
+        }
+    }
+    for last in 0..=255 {
+        for (send, receive) in (0..16).map(|pairs| (pairs / 4, pairs % 4)) {
+            let mut args = BeaconArgs::valid(&mut check.rng);
+            args.set_pairs(send, receive);
+            args.flags |= last;
+            args.endpoint.truncate(20);
+            beacon(check, &args)?;
+        }
+    }
+    Ok(())
+}
+
+/// Flags around 24 bits, and free space around the last number of each width, and where there is none.
+fn beacon_numbers(check: &mut Check) -> Step {
+    for value in around(24) {
+        let args = BeaconArgs { flags: value, ..BeaconArgs::valid(&mut check.rng) };
+        beacon(check, &args)?;
+    }
+    for code in [Some(0), Some(1), Some(2), Some(3), None] {
+        for free_space in [around(16), around(32), around(63), [u64::MAX - 1; 7]].concat() {
+            let mut args = BeaconArgs { free_space, ..BeaconArgs::valid(&mut check.rng) };
+            args.set_free(code);
+            beacon(check, &args)?;
+        }
+    }
+    for bit in 0..64 {
+        let args = BeaconArgs::valid(&mut check.rng);
+        beacon(check, &BeaconArgs { flags: args.flags ^ (1 << bit), ..args.clone() })?;
+        beacon(check, &BeaconArgs { free_space: args.free_space ^ (1 << bit), ..args })?;
+    }
+    Ok(())
+}
+
+/// No endpoint, short ones, and packets around 65,535 octets, in all rooms, with each width of free space.
+fn beacon_lengths(check: &mut Check) -> Step {
+    for code in [Some(0), Some(1), Some(2), Some(3), None] {
+        let mut args = BeaconArgs { free_space: 0, ..BeaconArgs::valid(&mut check.rng) };
+        args.set_free(code);
+        let taken = 4 + free_width(args.flags as u32);
+        for len in [0, 1, 2, 3, 17, 300] {
+            args.endpoint = check.rng.octets(len);
+            beacon_in_all_rooms(check, &args)?;
+        }
+        for total in [65_534, 65_535, 65_536, 65_537, 131_080] {
+            args.endpoint = check.rng.octets(total - taken);
+            beacon_in_all_rooms(check, &args)?;
+        }
+    }
+    Ok(())
 }
 
 /// Every pair of checksum type and words at every pair of widths; checksums of other lengths.

@@ -21,6 +21,18 @@ pub struct Start {
 }
 
 #[derive(Clone)]
+pub struct Beacon {
+    /// Bits 0 to 7: the version and the type.
+    pub first: u8,
+    /// Bits 8 to 31.
+    pub flags: u32,
+    /// Written in as many octets as the flags say, so in none where they say none.
+    pub free_space: u64,
+    pub endpoint: Vec<u8>,
+    pub ending: Ending,
+}
+
+#[derive(Clone)]
 pub struct Metadata {
     pub start: Start,
     pub checksum: Vec<u8>,
@@ -62,6 +74,33 @@ pub const WIDTH: u32 = 3 << (31 - 9);
 pub const ENTRY_WIDTH: u16 = 3 << (15 - 9);
 /// Property bits 6, 7 and 10.
 pub const NOT_A_FILE: [u16; 3] = [1 << (15 - 6), 1 << (15 - 7), 1 << (15 - 10)];
+
+/// BEACON: the two bits of sending, of receiving, the bit of the free space, and the two of its width.
+pub const SEND: u32 = 3 << (31 - 13);
+pub const RECEIVE: u32 = 3 << (31 - 15);
+pub const FREE: u32 = 1 << (31 - 17);
+pub const FREE_WIDTH: u32 = 3 << (31 - 19);
+/// The pairings with a name, and the one without.
+pub const PAIRINGS: [u32; 3] = [0b00, 0b10, 0b11];
+pub const NO_PAIRING: u32 = 0b01;
+
+/// `flags` with these pairs of sending and receiving.
+pub fn with_pairs(flags: u32, send: u32, receive: u32) -> u32 {
+    (flags & !SEND & !RECEIVE) | send << (31 - 13) | receive << (31 - 15)
+}
+
+/// `flags` with free space of width bits `code`.
+pub fn with_free(flags: u32, code: u32) -> u32 {
+    (flags & !FREE_WIDTH) | FREE | code << (31 - 19)
+}
+
+/// Octets of the free space.
+pub fn free_width(flags: u32) -> usize {
+    match flags & FREE {
+        0 => 0,
+        _ => 2 << ((flags & FREE_WIDTH) >> (31 - 19)),
+    }
+}
 
 /// `flags` with width bits `code`: 0, 1, 2 or the refused 3.
 pub fn with_width(flags: u32, code: u32) -> u32 {
@@ -147,6 +186,35 @@ fn start(rng: &mut Rng, kind: u8, low: u32) -> Start {
     let flags = rng.any() as u32 & 0x00FF_FF00 & !KIND | low;
     let code = rng.below(3) as u32;
     Start { first: 0x40 | kind, flags: with_width(flags, code), id: rng.number(32) as u32 }
+}
+
+impl Beacon {
+    pub fn valid(rng: &mut Rng) -> Beacon {
+        let any = rng.any() as u32 & 0x00FF_FF00;
+        let mut flags = with_pairs(any, rng.pick(&PAIRINGS), rng.pick(&PAIRINGS));
+        if flags & FREE != 0 {
+            flags = with_free(flags, rng.below(3) as u32);
+        }
+        let free_space = match free_width(flags) {
+            0 => 0,
+            octets => rng.number(8 * octets as u32),
+        };
+        let len = match rng.below(200) {
+            0 => 65_535 - 4 - free_width(flags) - rng.place(0, 2),
+            1 => rng.place(0, 9_000),
+            2..=60 => 0,
+            _ => rng.place(1, 60),
+        };
+        Beacon { first: 0x40, flags, free_space, endpoint: rng.octets(len), ending: Ending::Whole }
+    }
+
+    pub fn octets(&self, rng: &mut Rng) -> Vec<u8> {
+        let mut octets = vec![self.first];
+        put(&mut octets, u64::from(self.flags), 3);
+        put(&mut octets, self.free_space, free_width(self.flags));
+        octets.extend(&self.endpoint);
+        end(octets, self.ending, rng)
+    }
 }
 
 impl Metadata {

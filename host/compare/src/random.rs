@@ -3,13 +3,13 @@
 use crate::answer::Packet;
 use crate::check::{Check, Step};
 use crate::faults::{self, Fault};
-use crate::fields::{self, DataArgs, MetadataArgs, Room};
+use crate::fields::{self, BeaconArgs, DataArgs, MetadataArgs, Room};
 use crate::packets::*;
 use crate::rng::Rng;
 
 /// One case, of some calls.
 pub fn case(check: &mut Check) -> Step {
-    match check.rng.below(60) {
+    match check.rng.below(64) {
         0..=11 => {
             let packet = valid_packet(&mut check.rng);
             let read = check.read_valid(&packet)?;
@@ -36,15 +36,17 @@ pub fn case(check: &mut Check) -> Step {
         }
         43..=50 => metadata(check),
         51..=58 => data(check),
+        59..=62 => beacon(check),
         _ => failure(check),
     }
 }
 
 pub fn valid_packet(rng: &mut Rng) -> Vec<u8> {
-    match rng.below(10) {
+    match rng.below(12) {
         0..=2 => Metadata::valid(rng).octets(rng),
         3..=5 => Data::valid(rng).octets(rng),
-        6 => Status::failure(rng),
+        6 | 7 => Beacon::valid(rng).octets(rng),
+        8 => Status::failure(rng),
         _ => Status::valid(rng).octets(rng),
     }
 }
@@ -89,7 +91,7 @@ pub fn flip(packet: &mut [u8], rng: &mut Rng) {
         let last = match rng.below(3) {
             0 => packet.len() - 1,
             1 => packet.len().min(40) - 1,
-            _ => 7,
+            _ => packet.len().min(8) - 1,
         };
         let at = rng.place(0, last);
         packet[at] ^= 1 << rng.below(8);
@@ -119,7 +121,7 @@ pub fn spoil<T>(item: &mut T, faults: &[Fault<T>], rng: &mut Rng) {
 }
 
 pub fn spoiled_packet(rng: &mut Rng) -> Vec<u8> {
-    match rng.below(4) {
+    match rng.below(5) {
         0 => {
             let mut packet = Metadata::valid(rng);
             spoil(&mut packet, faults::METADATA, rng);
@@ -133,6 +135,11 @@ pub fn spoiled_packet(rng: &mut Rng) -> Vec<u8> {
         2 => {
             let mut packet = Status::valid(rng);
             spoil(&mut packet, faults::STATUS, rng);
+            packet.octets(rng)
+        }
+        3 => {
+            let mut packet = Beacon::valid(rng);
+            spoil(&mut packet, faults::BEACON, rng);
             packet.octets(rng)
         }
         _ => {
@@ -151,9 +158,8 @@ pub fn senseless_packet(rng: &mut Rng) -> Vec<u8> {
     };
     let mut packet = rng.octets(len);
     let flags = [rng.any() as u8, rng.any() as u8, 0, 0];
-    for (octet, value) in
-        packet.iter_mut().zip([0x42 + rng.below(3) as u8, rng.pick(&flags) & 0xCF, 0, rng.pick(&flags)])
-    {
+    let first = rng.pick(&[0x40, 0x42, 0x43, 0x44]);
+    for (octet, value) in packet.iter_mut().zip([first, rng.pick(&flags) & 0xCF, 0, rng.pick(&flags)]) {
         if !rng.one_in(8) {
             *octet = value;
         }
@@ -170,6 +176,22 @@ fn room(rng: &mut Rng) -> Room {
         4 => Room::More(rng.place(1, 100)),
         _ => Room::Exact,
     }
+}
+
+fn beacon(check: &mut Check) -> Step {
+    let rng = &mut check.rng;
+    let mut args = BeaconArgs::valid(rng);
+    args.room = room(rng);
+    match rng.below(8) {
+        0..=2 => {}
+        3..=6 => spoil(&mut args, fields::BEACON, rng),
+        _ => {
+            args.flags = rng.number(64);
+            args.free_space = rng.number(64);
+        }
+    }
+    check.write_beacon(&args.fields(), args.out_len())?;
+    Ok(())
 }
 
 fn metadata(check: &mut Check) -> Step {

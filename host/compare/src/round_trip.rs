@@ -1,19 +1,21 @@
 //! "Writing what was read gives the same octets for METADATA and DATA; reading what was written gives the same
-//! fields." Both are tried with the answers of the codec under test alone.
+//! fields." And of BEACON: "Round trip and the writer's refusals are as for DATA". Both are tried with the answers of the
+//! codec under test alone.
 
 use std::ops::Range;
 
-use paper::write::{DataFields, MetadataFields};
+use paper::write::{BeaconFields, DataFields, MetadataFields};
 
 use crate::answer::{Packet, Written};
 use crate::check::{describe_packet, hex, require, Check, Step, Stop};
 
 impl Check<'_> {
-    /// `saratoga_read`; METADATA and DATA that it accepts are then written again.
+    /// `saratoga_read`; BEACON, METADATA and DATA that it accepts are then written again.
     pub fn read(&mut self, packet: &[u8]) -> Result<Packet, Stop> {
         let got = self.read_once(packet)?;
         let extra = self.rng.pick(&[0, 0, 1, 9]);
         let written = match (got.number, got.kind) {
+            (0, 0) => self.write_beacon_once(&beacon_fields(packet, &got), packet.len() + extra)?.1,
             (0, 2) => self.write_metadata_once(&metadata_fields(packet, &got), packet.len() + extra)?.1,
             (0, 3) => self.write_data_once(&data_fields(packet, &got), packet.len() + extra)?.1,
             _ => return Ok(got),
@@ -53,6 +55,20 @@ impl Check<'_> {
             }
         }
         Ok(())
+    }
+
+    /// `saratoga_write_beacon`; what it accepts is then read.
+    pub fn write_beacon(&mut self, fields: &BeaconFields, out_len: usize) -> Result<Written, Stop> {
+        let (got, written) = self.write_beacon_once(fields, out_len)?;
+        if got.number == 0 {
+            let read = self.read_once(&written)?;
+            let same = read.number == 0 && {
+                let again = beacon_fields(&written, &read);
+                (again.flags, again.free_space, again.endpoint) == (fields.flags, fields.free_space, fields.endpoint)
+            };
+            require(same, || format!("what was written reads otherwise\n  {read:?}\n{}", describe_packet(&written)))?;
+        }
+        Ok(got)
     }
 
     /// `saratoga_write_metadata`; what it accepts is then read.
@@ -103,6 +119,15 @@ impl Check<'_> {
 
 fn part(at: u64, len: u64) -> Range<usize> {
     at as usize..(at + len) as usize
+}
+
+/// What the BEACON writer takes, from a packet that was read.
+fn beacon_fields<'a>(packet: &'a [u8], read: &Packet) -> BeaconFields<'a> {
+    BeaconFields {
+        flags: read.flags,
+        free_space: read.free_space,
+        endpoint: &packet[part(read.endpoint_at, read.endpoint_len)],
+    }
 }
 
 /// What the METADATA writer takes, from a packet that was read.

@@ -8,6 +8,7 @@ use std::ops::Range;
 pub enum Function {
     Read,
     ReadHole,
+    WriteBeacon,
     WriteMetadata,
     WriteData,
     WriteFailure,
@@ -22,14 +23,17 @@ pub enum Function {
     TransferHole,
 }
 
-const COLUMNS: usize = 14;
-/// 0, accepted, to 22.
-const ROWS: usize = 23;
+const COLUMNS: usize = 15;
+/// 0, accepted, to 26.
+const ROWS: usize = 27;
+/// The numbers of a refusal; 23 to 25 are none.
+const NUMBERS: [usize; 23] = [1, 2, 3, 4, 5, 6, 7, 8, 9, 10, 11, 12, 13, 14, 15, 16, 17, 18, 19, 20, 21, 22, 26];
 
 /// Each with its heading in the table.
 const NAMES: [(&str, &str); COLUMNS] = [
     ("saratoga_read", "read"),
     ("saratoga_read_hole", "read_hole"),
+    ("saratoga_write_beacon", "beacon"),
     ("saratoga_write_metadata", "metadata"),
     ("saratoga_write_data", "data"),
     ("saratoga_write_failure", "failure"),
@@ -52,8 +56,9 @@ impl Function {
 
 /// The numbers that each function can answer. A METADATA packet to be written never gets over 65,535 octets.
 const CAN_OCCUR: [&[usize]; COLUMNS] = [
-    &[0, 1, 2, 3, 4, 5, 6, 7, 8, 9, 10, 11],
+    &[0, 1, 2, 3, 4, 5, 6, 7, 8, 9, 10, 11, 26],
     &[0, 1, 2, 3, 4, 5, 11, 19],
+    &[0, 2, 5, 20, 21, 26],
     &[0, 1, 5, 6, 7, 8, 9, 20, 21],
     &[0, 1, 2, 5, 6, 10, 20, 21],
     &[0, 20, 21],
@@ -69,7 +74,7 @@ const CAN_OCCUR: [&[usize]; COLUMNS] = [
 ];
 
 /// The functions of each comparison: those on packets, then those on areas.
-const PARTS: [Range<usize>; 2] = [0..5, 5..COLUMNS];
+const PARTS: [Range<usize>; 2] = [0..6, 6..COLUMNS];
 
 #[derive(Clone, Default)]
 pub struct Tally {
@@ -102,9 +107,10 @@ impl Tally {
         missing
     }
 
-    /// The numbers 1 to 22 that no function answered.
+    /// The numbers that no function answered.
     pub fn never(&self) -> Vec<String> {
-        (1..ROWS).filter(|&number| self.counts[number] == [0; COLUMNS]).map(|number| number.to_string()).collect()
+        let never = NUMBERS.iter().filter(|&&number| self.counts[number] == [0; COLUMNS]);
+        never.map(|number| number.to_string()).collect()
     }
 }
 

@@ -1,6 +1,6 @@
 //! Codecs that are wrong in one way each, made of the paper's answers. The comparison must find every one of them.
 
-use paper::write::{DataFields, MetadataFields};
+use paper::write::{BeaconFields, DataFields, MetadataFields};
 
 use crate::answer::{Hole, Packet, Written};
 use crate::codec::{Codec, Paper};
@@ -52,9 +52,55 @@ pub enum Wrong {
     OctetAfter,
     /// A buffer that is too small is written to.
     BufferTouched,
+
+    // BEACON.
+    /// The pairing 0 1 is "not now".
+    PairingTaken,
+    /// The last flags octet is not looked at.
+    LastFlagsTaken,
+    /// 5 before 26.
+    FreeWidthBeforeFlags,
+    /// Sending and receiving are swapped.
+    Swapped,
+    /// Willingness is the two bits as a number.
+    PairAsNumber,
+    /// Free space is read where bit 17 is clear.
+    FreeAlwaysRead,
+    /// Free space is told in octets.
+    FreeInOctets,
+    /// Bits 18 and 19 are tested where bit 17 is clear.
+    FreeWidthTested,
+    /// Bits 18 and 19 are lost where bit 17 is clear.
+    FreeWidthLost,
+    /// The largest width 128 is refused.
+    LargestRefused,
+    /// A BEACON of four octets is refused.
+    FourRefused,
+    /// A BEACON of four to seven octets is refused.
+    SevenRefused,
+    /// Three octets are a BEACON.
+    ThreeTaken,
+    /// A packet of four octets that begins otherwise is judged on.
+    FourOfAnyTaken,
+    /// A BEACON of four octets is 1 where a hole is asked for.
+    HoleOfBeaconCut,
+    /// A BEACON is given an Id.
+    BeaconWithId,
+    /// The endpoint ends at a zero octet.
+    EndpointClosed,
+    /// The writer takes free space that isn't 0 where bit 17 is clear, and leaves it out.
+    FreeLeftOut,
+    /// The writer loses bit 16.
+    BitSixteenLost,
+    /// The writer gives 5 before 26.
+    WriterWidthFirst,
+    /// The writer gives 26 before 21.
+    WriterFlagsFirst,
+    /// The writer refuses an empty endpoint.
+    NoEndpointRefused,
 }
 
-pub const ALL: [Wrong; 22] = [
+pub const ALL: [Wrong; 44] = [
     Wrong::TypeBeforeVersion,
     Wrong::KindBeforeWidth,
     Wrong::SizeBeforePath,
@@ -77,6 +123,28 @@ pub const ALL: [Wrong; 22] = [
     Wrong::LastOctet,
     Wrong::OctetAfter,
     Wrong::BufferTouched,
+    Wrong::PairingTaken,
+    Wrong::LastFlagsTaken,
+    Wrong::FreeWidthBeforeFlags,
+    Wrong::Swapped,
+    Wrong::PairAsNumber,
+    Wrong::FreeAlwaysRead,
+    Wrong::FreeInOctets,
+    Wrong::FreeWidthTested,
+    Wrong::FreeWidthLost,
+    Wrong::LargestRefused,
+    Wrong::FourRefused,
+    Wrong::SevenRefused,
+    Wrong::ThreeTaken,
+    Wrong::FourOfAnyTaken,
+    Wrong::HoleOfBeaconCut,
+    Wrong::BeaconWithId,
+    Wrong::EndpointClosed,
+    Wrong::FreeLeftOut,
+    Wrong::BitSixteenLost,
+    Wrong::WriterWidthFirst,
+    Wrong::WriterFlagsFirst,
+    Wrong::NoEndpointRefused,
 ];
 
 fn refused(number: u64, code: u64) -> Packet {
@@ -119,10 +187,13 @@ impl Codec for Wrong {
         let wrong = |applies: bool, answer: Packet| if applies { answer } else { right };
         match self {
             Wrong::TypeBeforeVersion => {
-                wrong(right.number == 3 && !(2..=4).contains(&(packet[0] & 0x3F)), refused(4, 0x0A))
+                wrong(right.number == 3 && ![0, 2, 3, 4].contains(&(packet[0] & 0x3F)), refused(4, 0x0A))
             }
             Wrong::KindBeforeWidth => wrong(
-                right.number == 5 && width_refused(packet[1]) && packet[0] != 0x44 && packet[1] & 0x30 != 0,
+                right.number == 5
+                    && width_refused(packet[1])
+                    && [0x42, 0x43].contains(&packet[0])
+                    && packet[1] & 0x30 != 0,
                 refused(6, 0x01),
             ),
             Wrong::SizeBeforePath if packet.first() == Some(&0x42) && matches!(right.number, 1 | 8) => {
@@ -151,6 +222,10 @@ impl Codec for Wrong {
             Wrong::PayloadPlace => wrong(right.payload_at != 0, Packet { payload_at: right.payload_at + 1, ..right }),
             Wrong::OtherCode => wrong(right.number == 10, refused(10, 0)),
             Wrong::RefusalWithField => wrong(right.number == 11, Packet { kind: 4, ..right }),
+            _ if packet.first() == Some(&0x40) => self.read_beacon(packet, right),
+            Wrong::FourOfAnyTaken => {
+                wrong(right.number == 1 && (4..8).contains(&packet.len()) && packet[0] >> 6 != 1, refused(3, 0))
+            }
             _ => right,
         }
     }
@@ -160,7 +235,31 @@ impl Codec for Wrong {
         match self {
             Wrong::HoleEndInside if right.number == 0 => Hole { end: right.end - 1, ..right },
             Wrong::IndexWraps => Paper.read_hole(packet, index % (1 << 60)),
+            Wrong::HoleOfBeaconCut if right.number == 4 && packet.len() < 8 => Hole { number: 1, ..Hole::default() },
             _ => right,
+        }
+    }
+
+    fn write_beacon(&self, fields: &BeaconFields, out: &mut [u8]) -> Written {
+        let before = out.to_vec();
+        let right = Paper.write_beacon(fields, out);
+        let refused = |number, code| Written { number, code, size: 0 };
+        let free_refused = fields.flags & 0x7000 == 0x7000;
+        match self {
+            Wrong::FreeLeftOut if right.number == 21 && fields.flags & 0x4000 == 0 => {
+                Paper.write_beacon(&BeaconFields { free_space: 0, ..*fields }, out)
+            }
+            Wrong::BitSixteenLost if right.number == 0 => {
+                out[2] &= 0x7F;
+                right
+            }
+            Wrong::WriterWidthFirst if right.number == 26 && free_refused => refused(5, 0x09),
+            Wrong::WriterFlagsFirst if right.number == 21 && fields.flags & 0xFF != 0 => refused(26, 0),
+            Wrong::NoEndpointRefused if right.number == 0 && fields.endpoint.is_empty() => {
+                out.copy_from_slice(&before);
+                refused(1, 0)
+            }
+            _ => self.spoil(right, out),
         }
     }
 
@@ -200,6 +299,55 @@ impl Codec for Wrong {
 }
 
 impl Wrong {
+    /// The wrong readers of packets that begin with a BEACON's first octet.
+    fn read_beacon(self, packet: &[u8], right: Packet) -> Packet {
+        let wrong = |applies: bool, answer: Packet| if applies { answer } else { right };
+        let with = |at: usize, octet: u8| {
+            let mut other = packet.to_vec();
+            other[at] = octet;
+            Paper.read(&other)
+        };
+        let taken = right.number == 0;
+        match self {
+            Wrong::PairingTaken if right.number == 26 => {
+                let pairs = |bits: u8, pair: u8| if packet[1] & 3 * bits == bits { 2 * bits } else { packet[1] & pair };
+                let read = with(1, packet[1] & 0xF0 | pairs(4, 12) | pairs(1, 3));
+                wrong(read.number == 0, Packet { flags: u64::from(packet[1]) << 16 | read.flags & 0xFFFF, ..read })
+            }
+            Wrong::LastFlagsTaken if right.number == 26 => {
+                let read = with(3, 0);
+                wrong(read.number == 0, Packet { flags: read.flags | u64::from(packet[3]), ..read })
+            }
+            Wrong::FreeWidthBeforeFlags => wrong(right.number == 26 && packet[2] & 0x70 == 0x70, refused(5, 0x09)),
+            Wrong::Swapped => Packet { send: right.receive, receive: right.send, ..right },
+            Wrong::PairAsNumber => {
+                let pair = |state: u64| state + u64::from(state > 0);
+                Packet { send: pair(right.send), receive: pair(right.receive), ..right }
+            }
+            Wrong::FreeAlwaysRead if taken && right.free_width == 0 => {
+                let read = with(2, packet[2] | 0x40);
+                Packet { flags: right.flags, ..read }
+            }
+            Wrong::FreeInOctets => Packet { free_space: right.free_space.wrapping_mul(1_024), ..right },
+            Wrong::FreeWidthTested => wrong(taken && packet[2] & 0x30 == 0x30, refused(5, 0x09)),
+            Wrong::FreeWidthLost if right.free_width == 0 => Packet { flags: right.flags & !0x3000, ..right },
+            Wrong::LargestRefused => wrong(taken && width_refused(packet[1]), refused(5, 0x09)),
+            Wrong::FourRefused => wrong(taken && packet.len() == 4, refused(1, 0)),
+            Wrong::SevenRefused => wrong(packet.len() < 8, refused(1, 0)),
+            Wrong::ThreeTaken if packet.len() == 3 => Paper.read(&[packet, &[0]].concat()),
+            Wrong::BeaconWithId if taken && packet.len() >= 8 => {
+                let id = u32::from_be_bytes([packet[4], packet[5], packet[6], packet[7]]);
+                Packet { id: id.into(), ..right }
+            }
+            Wrong::EndpointClosed if taken => {
+                let endpoint = &packet[right.endpoint_at as usize..];
+                let len = endpoint.iter().position(|&octet| octet == 0).unwrap_or(endpoint.len());
+                Packet { endpoint_len: len as u64, ..right }
+            }
+            _ => right,
+        }
+    }
+
     /// The wrong writers that differ in octets alone.
     fn spoil(self, right: Written, out: &mut [u8]) -> Written {
         let size = right.size as usize;

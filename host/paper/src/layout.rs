@@ -1,4 +1,5 @@
 //! "Packet layouts": where the bits lie in the first word and in the properties of a directory entry, and the limits.
+//! The bits of BEACON are section 4.1's.
 
 /// "A packet has at most 65,535 octets."
 pub const MAX_PACKET: usize = 65_535;
@@ -7,7 +8,8 @@ pub const MAX_PATH: usize = 1_023;
 /// "16 octets of timestamp if bit 12 is set"
 pub const TIMESTAMP_OCTETS: usize = 16;
 
-/// "the type: METADATA 2, DATA 3, STATUS 4"
+/// "BEACON (type 0)" of document 02, and document 01's "the type: METADATA 2, DATA 3, STATUS 4".
+pub const BEACON: u64 = 0;
 pub const METADATA: u64 = 2;
 pub const DATA: u64 = 3;
 pub const STATUS: u64 = 4;
@@ -128,6 +130,71 @@ pub fn list_incomplete(word: u64) -> bool {
 /// STATUS: "bits 24 to 31 are the status code".
 pub fn status_code(word: u64) -> u64 {
     word_bits(word, 24, 31)
+}
+
+/// Octets that every packet has: the first word and the Id. "in every operation a packet of type 0 that begins 0 1 needs
+/// four octets, not eight"
+pub fn needed_octets(packet: &[u8]) -> usize {
+    match packet.first() {
+        Some(0b01_000000) => 4,
+        _ => 8,
+    }
+}
+
+/// BEACON: the widest descriptors that the node supports, in octets: bits 8 and 9. "All four largest widths are taken."
+pub fn largest_width(word: u64) -> usize {
+    descriptor_octets(word_bits(word, 8, 9))
+}
+
+/// BEACON: bit 10.
+pub fn bundles(word: u64) -> bool {
+    word_bits(word, 10, 10) == 1
+}
+
+/// BEACON: bit 11.
+pub fn streams(word: u64) -> bool {
+    word_bits(word, 11, 11) == 1
+}
+
+/// BEACON: "each of the two is one of three named states (cannot, can but not now, can and will)".
+#[derive(Clone, Copy, Debug, PartialEq, Eq)]
+pub enum Willingness {
+    Cannot,
+    NotNow,
+    Willing,
+}
+
+/// A pair of capability and willingness; none where it is "the fourth pairing, 0 1".
+fn willingness(pair: u64) -> Option<Willingness> {
+    match pair {
+        0b00 => Some(Willingness::Cannot),
+        0b10 => Some(Willingness::NotNow),
+        0b11 => Some(Willingness::Willing),
+        _ => None,
+    }
+}
+
+/// BEACON: bits 12 and 13, sending.
+pub fn send(word: u64) -> Option<Willingness> {
+    willingness(word_bits(word, 12, 13))
+}
+
+/// BEACON: bits 14 and 15, receiving.
+pub fn receive(word: u64) -> Option<Willingness> {
+    willingness(word_bits(word, 14, 15))
+}
+
+/// BEACON: bits 24 to 31, "a last flags octet that isn't 0".
+pub fn last_flags_octet(word: u64) -> u64 {
+    word_bits(word, 24, 31)
+}
+
+/// BEACON: octets of the free space, by bits 18 and 19. Where bit 17 is clear there is none: a field of no octets.
+pub fn free_octets(word: u64) -> usize {
+    match word_bits(word, 17, 17) {
+        1 => descriptor_octets(word_bits(word, 18, 19)),
+        _ => 0,
+    }
 }
 
 /// The flags of a success STATUS that is written: "All other flags are 0, apart from the width."

@@ -1,5 +1,6 @@
 //! A second codec and a second receiver for Saratoga, written from the papers alone and for plainness, not speed. The
-//! archive is compared with them. Words in quotes are document 01's; "section" is the Saratoga draft, version 09.
+//! archive is compared with them. Words in quotes are those of documents 01 and 02; "section" is the Saratoga draft,
+//! version 09.
 
 #![forbid(unsafe_code)]
 

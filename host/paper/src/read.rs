@@ -1,4 +1,4 @@
-//! Reading METADATA, DATA and STATUS. Fields are taken from left to right, so that the order of the refusals is the
+//! Reading BEACON, METADATA, DATA and STATUS. Fields are taken from left to right, so that the order of the refusals is the
 //! order of the lines.
 
 use std::ops::Range;
@@ -9,17 +9,42 @@ use crate::refusal::Refusal;
 /// A packet that was accepted. Parts of it are ranges of places in it.
 #[derive(Clone, Debug, PartialEq, Eq)]
 pub enum Packet {
+    Beacon(Beacon),
     Metadata(Metadata),
     Data(Data),
     Success(Success),
     Failure(Failure),
 }
 
-/// What every packet has. "Bits 8 to 31 are kept as read, so a reader loses none".
+/// What every packet but BEACON has. "Bits 8 to 31 are kept as read, so a reader loses none".
 #[derive(Clone, Copy, Debug, PartialEq, Eq)]
 pub struct Header {
     pub flags: u64,
     pub id: u64,
+}
+
+/// "The flags become named fields"; "flags without a name are kept as read". A BEACON has no Id.
+#[derive(Clone, Debug, PartialEq, Eq)]
+pub struct Beacon {
+    pub flags: u64,
+    /// Octets of a descriptor.
+    pub largest_width: usize,
+    pub bundles: bool,
+    pub streams: bool,
+    pub send: Willingness,
+    pub receive: Willingness,
+    /// "the optional free space"
+    pub free_space: Option<FreeSpace>,
+    /// "The endpoint identifier is the rest of the packet and may hold any octets."
+    pub endpoint: Range<usize>,
+}
+
+#[derive(Clone, Copy, Debug, PartialEq, Eq)]
+pub struct FreeSpace {
+    /// Octets of the field.
+    pub width: usize,
+    /// Section 4.1: "in KILOBYTES (KiB, multiples of 1024 octets)", "rounded down to the nearest KiB".
+    pub kib: u64,
 }
 
 #[derive(Clone, Debug, PartialEq, Eq)]
@@ -72,9 +97,9 @@ pub struct Failure {
     pub status: u64,
 }
 
-/// Plain reading: every one of the three types is taken.
+/// Plain reading: every one of the four types is taken.
 pub fn read(packet: &[u8]) -> Result<Packet, Refusal> {
-    read_types(packet, &[METADATA, DATA, STATUS])
+    read_types(packet, &[BEACON, METADATA, DATA, STATUS])
 }
 
 /// Hole `index` of a success STATUS: the reader's refusals with 4 for any other type, then 11 for a failure STATUS,
@@ -95,10 +120,11 @@ pub fn read_types(packet: &[u8], taken: &[u64]) -> Result<Packet, Refusal> {
     if packet.len() > MAX_PACKET {
         return Err(Refusal::TooLong);
     }
+    if packet.len() < needed_octets(packet) {
+        return Err(Refusal::Truncated);
+    }
     let mut fields = Fields { packet, at: 0 };
-    // "Every packet begins with a 32-bit word and a 32-bit Id."
     let word = fields.number(4)?;
-    let id = fields.number(4)?;
     // "Bits 0 and 1 are 0 1. Bits 2 to 7 are the type".
     if word_bits(word, 0, 1) != 0b01 {
         return Err(Refusal::Version);
@@ -107,6 +133,11 @@ pub fn read_types(packet: &[u8], taken: &[u64]) -> Result<Packet, Refusal> {
     if !taken.contains(&kind) {
         return Err(Refusal::Type);
     }
+    if kind == BEACON {
+        return beacon(word, fields).map(Packet::Beacon);
+    }
+    // "Every packet begins with a 32-bit word and a 32-bit Id."
+    let id = fields.number(4)?;
     let header = Header { flags: word_bits(word, 8, 31), id };
     match kind {
         METADATA => metadata(word, header, fields).map(Packet::Metadata),
@@ -116,6 +147,37 @@ pub fn read_types(packet: &[u8], taken: &[u64]) -> Result<Packet, Refusal> {
         STATUS => success(word, header, fields).map(Packet::Success),
         _ => Err(Refusal::Type),
     }
+}
+
+/// The first word, the free space if bit 17 is set, then the endpoint to the end. The order: 26, "both next after 4; then,
+/// where free space is present, 5 and 1 for it".
+fn beacon(word: u64, mut fields: Fields) -> Result<Beacon, Refusal> {
+    let (Some(send), Some(receive), 0) = (send(word), receive(word), last_flags_octet(word)) else {
+        return Err(Refusal::Beacon);
+    };
+    let free_space = free_space(free_octets(word), &mut fields)?;
+    Ok(Beacon {
+        flags: word_bits(word, 8, 31),
+        largest_width: largest_width(word),
+        bundles: bundles(word),
+        streams: streams(word),
+        send,
+        receive,
+        free_space,
+        endpoint: fields.rest(),
+    })
+}
+
+/// The free space, of so many octets: 5, then 1.
+fn free_space(width: usize, fields: &mut Fields) -> Result<Option<FreeSpace>, Refusal> {
+    if width == 0 {
+        return Ok(None);
+    }
+    if width == REFUSED_WIDTH {
+        return Err(Refusal::Width);
+    }
+    let kib = fields.number(width)?;
+    Ok(Some(FreeSpace { width, kib }))
 }
 
 /// "After the Id: the checksum, then a directory entry to the packet's end." The order: 5, 6, 7, "1 for checksum and

@@ -1,4 +1,5 @@
-//! "The numbers of a refusal": every refusal, with "the status code to send (0: nothing to send)".
+//! "The numbers of a refusal": every refusal, with "the status code to send (0: nothing to send)". From 26 on they are
+//! document 02's.
 
 /// One row of the table. The value of each is its number.
 #[derive(Clone, Copy, Debug, PartialEq, Eq)]
@@ -9,7 +10,7 @@ pub enum Refusal {
     TooLong = 2,
     /// "bits 0 and 1 are not 0 1"
     Version = 3,
-    /// "type not 2, 3 or 4, or not the one the operation takes"
+    /// "type not 2, 3 or 4, or not the one the operation takes"; "In plain reading refusal 4 no longer covers type 0"
     Type = 4,
     /// "width bits 11"
     Width = 5,
@@ -47,6 +48,8 @@ pub enum Refusal {
     Field = 21,
     /// "a lent desk area is no image of a desk as described"
     Area = 22,
+    /// "The fourth pairing, 0 1, is refused with 26 (code 0), and so is a last flags octet that isn't 0"
+    Beacon = 26,
 }
 
 impl Refusal {
@@ -80,6 +83,7 @@ impl Refusal {
             Refusal::Buffer => 0,
             Refusal::Field => 0,
             Refusal::Area => 0,
+            Refusal::Beacon => 0,
         }
     }
 }

@@ -1,8 +1,16 @@
-//! Writing METADATA, DATA and failure STATUS: "they refuse what the reader would, with the same number in the same
+//! Writing BEACON, METADATA, DATA and failure STATUS: "they refuse what the reader would, with the same number in the same
 //! order, but 21 before all and 2 then 20 last". A packet is first made whole aside, then copied into the buffer.
 
 use crate::layout::*;
 use crate::refusal::Refusal;
+
+/// What the BEACON writer takes: "bits 8 to 31" as `flags`, and the free space in KiB.
+#[derive(Clone, Copy, Debug)]
+pub struct BeaconFields<'a> {
+    pub flags: u64,
+    pub free_space: u64,
+    pub endpoint: &'a [u8],
+}
 
 /// What the METADATA writer takes: "bits 8 to 31" as `flags`, and the path without its closing zero octet.
 #[derive(Clone, Copy, Debug)]
@@ -25,6 +33,26 @@ pub struct DataFields<'a> {
     pub timestamp: &'a [u8],
     pub offset: u64,
     pub payload: &'a [u8],
+}
+
+/// Writes BEACON and answers its size: "the writer's refusals are as for DATA". The order: 21, 26, 5, 2, 20.
+pub fn write_beacon(fields: &BeaconFields, out: &mut [u8]) -> Result<usize, Refusal> {
+    // "a field to be written exceeds its bits": a free space that isn't there has no bits, and holds only 0.
+    let width = free_octets(fields.flags);
+    if exceeds(fields.flags, 24) || u128::from(fields.free_space) > largest(width) {
+        return Err(Refusal::Field);
+    }
+    if send(fields.flags).is_none() || receive(fields.flags).is_none() || last_flags_octet(fields.flags) != 0 {
+        return Err(Refusal::Beacon);
+    }
+    if width == REFUSED_WIDTH {
+        return Err(Refusal::Width);
+    }
+
+    let mut packet = first_word(BEACON, fields.flags);
+    push(&mut packet, fields.free_space, width);
+    packet.extend_from_slice(fields.endpoint);
+    copy_out(&packet, out)
 }
 
 /// Writes METADATA and answers its size. The order: 21, 5, 6, 7, 1 (checksum), 6 and 5 (properties), 8, 9, 2, 20.
@@ -123,11 +151,17 @@ fn exceeds(value: u64, bits: u32) -> bool {
     value >= 1 << bits
 }
 
-/// The first word, of bits 0 1, the type and bits 8 to 31, and the Id.
-pub(crate) fn first_octets(kind: u64, flags: u64, id: u64) -> Vec<u8> {
+/// The first word, of bits 0 1, the type and bits 8 to 31.
+fn first_word(kind: u64, flags: u64) -> Vec<u8> {
     let mut packet = Vec::new();
     push(&mut packet, (0b01 << 6) + kind, 1);
     push(&mut packet, flags, 3);
+    packet
+}
+
+/// The first word and the Id.
+pub(crate) fn first_octets(kind: u64, flags: u64, id: u64) -> Vec<u8> {
+    let mut packet = first_word(kind, flags);
     push(&mut packet, id, 4);
     packet
 }

@@ -1,6 +1,6 @@
 //! What each record does to the table, and its lines, still without the record's number.
 
-use paper::layout::{status_wanted, word_bits, DATA, MAX_PACKET, METADATA};
+use paper::layout::{status_wanted, word_bits, BEACON, DATA, MAX_PACKET, METADATA};
 use paper::read::{read, read_types, Packet};
 use paper::refusal::Refusal;
 use paper::table::Table;
@@ -107,10 +107,15 @@ fn time(body: Option<&[u8]>) -> Vec<String> {
     }
 }
 
+/// The type of a packet, "Bits 2 to 7".
+fn kind(packet: &[u8]) -> Option<u64> {
+    packet.first().map(|&first| word_bits(u64::from(first) << 24, 2, 7))
+}
+
 /// `P`: what a link program does with a packet. METADATA opens, DATA records, all else is read, so that a type that is
-/// none of the three is refused with 4 at its place in the order of reading.
+/// none of the four is refused with 4 at its place in the order of reading.
 fn off_the_dish(table: &mut Table, packet: &[u8]) -> Vec<String> {
-    let line = match packet.first().map(|&first| word_bits(u64::from(first) << 24, 2, 7)) {
+    let line = match kind(packet) {
         Some(METADATA) => open(table, packet),
         Some(DATA) => recording(table, packet),
         _ => plain_reading(packet),
@@ -133,8 +138,11 @@ fn wanted(table: &Table, packet: &[u8]) -> Option<Vec<u8>> {
     }
 }
 
-/// The failure STATUS to send for a packet that was refused with a code, if it has an Id.
+/// The failure STATUS to send for a packet that was refused with a code, if it has an Id: a BEACON has none.
 fn failure(packet: &[u8], refusal: Refusal) -> Option<Vec<u8>> {
+    if kind(packet) == Some(BEACON) {
+        return None;
+    }
     let id = u32::from_be_bytes(packet.get(4..8)?.try_into().expect("4 octets"));
     let mut out = vec![0; 8];
     // "(0: nothing to send)": the writer refuses code 0.

@@ -1,6 +1,7 @@
 //! How answers are printed: numbers in decimal, octets in lowercase hex, a width in bits.
 
-use paper::read::{Data, Failure, Header, Metadata, Packet, Success};
+use paper::layout::Willingness;
+use paper::read::{Beacon, Data, Failure, Header, Metadata, Packet, Success};
 use paper::refusal::Refusal;
 use paper::table::{Opened, State};
 
@@ -30,10 +31,34 @@ fn state(state: State) -> String {
 /// What reading the octets of `packet` gave.
 pub fn packet(packet: &[u8], read: &Packet) -> String {
     match read {
+        Packet::Beacon(beacon) => self::beacon(packet, beacon),
         Packet::Metadata(metadata) => self::metadata(packet, metadata),
         Packet::Data(data) => self::data(packet, data),
         Packet::Success(success) => self::success(packet, success),
         Packet::Failure(failure) => self::failure(failure),
+    }
+}
+
+/// `free-width` and `free` are empty where no free space is given.
+fn beacon(packet: &[u8], beacon: &Beacon) -> String {
+    let Beacon { flags, free_space, .. } = beacon;
+    let largest = bits(beacon.largest_width);
+    let (bundles, streams) = (u8::from(beacon.bundles), u8::from(beacon.streams));
+    let (send, receive) = (willingness(beacon.send), willingness(beacon.receive));
+    let free_width = free_space.map_or(String::new(), |free| bits(free.width).to_string());
+    let free = free_space.map_or(String::new(), |free| free.kib.to_string());
+    let endpoint = hex(&packet[beacon.endpoint.clone()]);
+    format!(
+        "beacon flags={flags:06x} largest-width={largest} bundles={bundles} streams={streams} send={send} \
+         receive={receive} free-width={free_width} free={free} endpoint={endpoint}"
+    )
+}
+
+fn willingness(state: Willingness) -> &'static str {
+    match state {
+        Willingness::Cannot => "cannot",
+        Willingness::NotNow => "not-now",
+        Willingness::Willing => "willing",
     }
 }
 

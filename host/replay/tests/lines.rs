@@ -213,8 +213,8 @@ fn packets_off_the_dish() {
         ('P', hex("4401000a 00000007"), &["failure id=7 status=10 flags=01000a"]),
         ('P', hex("44000000 00000007 0000 0001"), &["refused 11 code=0"]),
         ('P', hex("44c00000 fedcba98 0000 0001"), &["refused 5 code=9", "send 44000009fedcba98"]),
-        // BEACON and a type without a name; too short for an Id; another version.
-        ('P', hex("40000000 00000102"), &["refused 4 code=10", "send 4400000a00000102"]),
+        // REQUEST and a type without a name; too short for an Id; another version.
+        ('P', hex("41000000 00000102"), &["refused 4 code=10", "send 4400000a00000102"]),
         ('P', hex("7fffffff 00000000 33"), &["refused 4 code=10", "send 4400000a00000000"]),
         ('P', hex("42000000 000007"), &["refused 1 code=0"]),
         ('P', hex("40"), &["refused 1 code=0"]),
@@ -224,6 +224,63 @@ fn packets_off_the_dish() {
         ('P', hex("42000000 00000007 00"), &["refused 1 code=0"]),
         ('P', hex("42000001 00000007 00"), &["refused 7 code=1", "send 4400000100000007"]),
     ]);
+}
+
+/// BEACON, of plain reading and off the dish: the line is the same, and nothing is sent, also where it is refused.
+#[test]
+fn beacons() {
+    let page = ["open id=7 width=16 length=3000 edge=0 complete=0 new"];
+    let beacons: [(&str, &str); 14] = [
+        (
+            "409e5000 00100000 64697368",
+            "beacon flags=9e5000 largest-width=64 bundles=0 streams=1 send=willing receive=not-now free-width=32 \
+             free=1048576 endpoint=64697368",
+        ),
+        (
+            "40000000",
+            "beacon flags=000000 largest-width=16 bundles=0 streams=0 send=cannot receive=cannot free-width= free= \
+             endpoint=",
+        ),
+        (
+            "40eb3f00 00",
+            "beacon flags=eb3f00 largest-width=128 bundles=1 streams=0 send=not-now receive=willing free-width= free= \
+             endpoint=00",
+        ),
+        (
+            "40404000 ffff 1b0a",
+            "beacon flags=404000 largest-width=32 bundles=0 streams=0 send=cannot receive=cannot free-width=16 \
+             free=65535 endpoint=1b0a",
+        ),
+        (
+            "40006000 ffffffffffffffff",
+            "beacon flags=006000 largest-width=16 bundles=0 streams=0 send=cannot receive=cannot free-width=64 \
+             free=18446744073709551615 endpoint=",
+        ),
+        ("400000", "refused 1 code=0"),
+        ("40", "refused 1 code=0"),
+        ("40040000 00000007", "refused 26 code=0"),
+        ("40010000 00000007", "refused 26 code=0"),
+        ("40007001 00000007", "refused 26 code=0"),
+        ("40007000 00000007 00", "refused 5 code=9"),
+        ("40007000", "refused 5 code=9"),
+        ("40006000 00000000000000", "refused 1 code=0"),
+        ("80000000 00000007", "refused 3 code=0"),
+    ];
+    for (packet, line) in beacons {
+        check_octets(&[
+            ('O', hex(PAGE), &page),
+            ('R', hex(packet), &[line]),
+            ('P', hex(packet), &[line]),
+            ('D', data(0, 0, 1_000), &["record id=7 offset=0 length=1000 edge=1000 complete=0"]),
+        ]);
+    }
+    let longest = [hex("40000000"), vec![0xab; 65_531]].concat();
+    let line = format!(
+        "beacon flags=000000 largest-width=16 bundles=0 streams=0 send=cannot receive=cannot free-width= free= \
+         endpoint={}",
+        "ab".repeat(65_531)
+    );
+    check_octets(&[('R', longest.clone(), &[&line]), ('P', longest, &[&line])]);
 }
 
 #[test]
@@ -250,6 +307,11 @@ fn an_operation_takes_its_own_type() {
         ('D', hex(PAGE), &["refused 4 code=10"]),
         ('D', hex("44000006 00000007"), &["refused 4 code=10"]),
         ('R', hex("41000000 00000007"), &["refused 4 code=10"]),
+        ('O', hex("40000000"), &["refused 4 code=10"]),
+        ('D', hex("40000000"), &["refused 4 code=10"]),
+        ('D', hex("40050000 000000"), &["refused 4 code=10"]),
+        ('O', hex("400000"), &["refused 1 code=0"]),
+        ('O', hex("41000000 000000"), &["refused 1 code=0"]),
         ('D', data(ASKED, 0, 1), &["refused 12 code=6"]),
     ]);
 }

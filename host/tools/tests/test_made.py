@@ -4,8 +4,8 @@ import subprocess
 import tempfile
 import unittest
 
-from packets import (END_OF_DATA, WANTED, close_record, data, failure, fit, header, metadata, record, split, status_record,
-                     success, time_of, time_record)
+from packets import (END_OF_DATA, STREAMS, WANTED, beacon, close_record, data, failure, fit, header, metadata, record, split,
+                     status_record, success, time_of, time_record)
 
 ROOT = os.path.join(os.path.dirname(os.path.abspath(__file__)), "..", "..", "..")
 
@@ -29,7 +29,7 @@ class Made(unittest.TestCase):
 
 
 class Module(unittest.TestCase):
-    """Octets worked out by hand from document 01, for each sort of packet and record."""
+    """Octets worked out by hand from document 01 and section 4.1 of the draft, for each sort of packet and record."""
 
     def test_packets(self):
         self.assertEqual(header(3, 0x810000, 7).hex(), "4381000000000007")
@@ -40,9 +40,16 @@ class Module(unittest.TestCase):
         self.assertEqual(data(7, 64, 5, b"x", WANTED | END_OF_DATA).hex(), "4381800000000007" "0000000000000005" "78")
         self.assertEqual(success(7, 16, 1, 9, [(1, 2), (4, 9)]).hex(), "4400000000000007" "00010009" "00010002" "00040009")
         self.assertEqual(failure(7, 6).hex(), "4400000600000007")
+        self.assertEqual(beacon(b"dish", 64, "willing", "not-now", 2**20, flags=STREAMS).hex(), "409e5000" "00100000"
+                         "64697368")
+        self.assertEqual(beacon(largest=128, send="not-now", receive="willing", free=1, free_width=64).hex(), "40cb6000"
+                         "0000000000000001")
+        self.assertEqual((beacon(largest=16).hex(), beacon(b"x", 32, free=65535, free_width=16).hex()),
+                         ("40000000", "40404000" "ffff" "78"))
 
     def test_numbers_that_do_not_fit(self):
-        for make in (lambda: data(7, 16, 65536, b""), lambda: metadata(7, 16, 65536), lambda: success(7, 16, -1, 0)):
+        for make in (lambda: data(7, 16, 65536, b""), lambda: metadata(7, 16, 65536), lambda: success(7, 16, -1, 0),
+                     lambda: beacon(free=65536, free_width=16)):
             self.assertRaises(OverflowError, make)
         self.assertEqual((fit(65537, 16), fit(-1, 16)), (1, 65535))
 

@@ -30,7 +30,8 @@ EVERY_LINE = """\
 12 send 4400000600000007
 13 unknown kind 58
 14 bad length
-15 cut short
+15 beacon flags=000000 largest-width=16 bundles=0 streams=0 send=cannot receive=cannot free-width= free= endpoint=
+16 cut short
 """
 
 LATE = """\
@@ -71,7 +72,7 @@ def tips(svg):
 class Drawn(unittest.TestCase):
     def test_every_line_of_replay_is_taken(self):
         svg = drawing(EVERY_LINE)
-        self.assertIn("15 records; 1 transfer, 0 complete; 1 refused (14); the pass is cut short", texts(svg))
+        self.assertIn("16 records; 1 transfer, 0 complete; 1 refused (14); the pass is cut short", texts(svg))
         self.assertIn("NOT complete: 1,000 of 3,000 octets received, nothing from 1,000 on", texts(svg))
         self.assertIn("closed", texts(svg))
 
@@ -88,6 +89,19 @@ class Drawn(unittest.TestCase):
                     "hole 1,000 to 2,000, from record 3", "record 4: 0 to 1,000 again", "record 5: 1,000 to 2,000",
                     "complete at record 5", "record 3: STATUS", "record 8: refused with 12"):
             self.assertIn(tip, tips(svg))
+
+    def test_a_beacon_is_no_transfer(self):
+        """Of a BEACON nothing is drawn: the picture is the one with any other record in its place that adds nothing."""
+        beacons = ("beacon flags=9e5000 largest-width=64 bundles=0 streams=1 send=willing receive=not-now free-width=32 "
+                   "free=1048576 endpoint=64697368",
+                   'on-air send=willing receive=not-now free= largest-width=64 endpoint="dish 3 id=7 complete=1"')
+        passed_over = drawing(LATE.replace("6 open id=9", "6 failure id=7 status=6 flags=000006\n7 open id=9")
+                              .replace("7 record", "8 record").replace("8 refused", "9 refused"))
+        for beacon in beacons:
+            svg = drawing(LATE.replace("6 open id=9", f"6 {beacon}\n7 open id=9")
+                          .replace("7 record", "8 record").replace("8 refused", "9 refused"))
+            self.assertEqual(svg, passed_over)
+        self.assertIn("No transfer was opened in this pass.", texts(drawing(f"1 {beacons[0]}\n2 {beacons[1]}\n")))
 
     def test_no_length_and_nothing_at_all(self):
         self.assertIn("complete at record 1", texts(drawing("1 open id=9 width=16 length=0 edge=0 complete=1 new\n")))

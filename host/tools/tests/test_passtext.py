@@ -6,8 +6,8 @@ import sys
 import unittest
 
 import loading
-from packets import (END_OF_DATA, INCOMPLETE, TIMESTAMP, WANTED, data, failure, metadata, page_packets, record, success,
-                     time_record)
+from packets import (END_OF_DATA, INCOMPLETE, TIMESTAMP, WANTED, beacon, data, failure, metadata, page_packets, record,
+                     success, time_record)
 
 passtext = loading.tool("passtext")
 
@@ -57,6 +57,22 @@ class Forms(unittest.TestCase):
         ("time at=2023-11-14T22:13:20.000005000Z", time_record(1700000000000005000)),
         ("time at=2554-07-21T23:34:33.709551615Z", time_record(2**64 - 1)),
         ("packet W 00", record(b"W", b"\0")),
+        ("read beacon largest-width=64 send=willing receive=not-now free-width=32 free=1048576 endpoint=dish%203",
+         record(b"R", bytes.fromhex("408e5000" "00100000") + b"dish 3")),
+        ("link beacon largest-width=16 send=cannot receive=cannot endpoint=", record(b"P", bytes.fromhex("40000000"))),
+        ("link beacon largest-width=128 send=not-now receive=willing free-width=64 free=18446744073709551615 "
+         "endpoint=%00%1b bundles streams udp-lite",
+         record(b"P", bytes.fromhex("40fbe000" "ffffffffffffffff" "001b"))),
+        # Bits 18 to 23 without 17, and a last flags octet.
+        ("read beacon largest-width=32 send=cannot receive=cannot endpoint=p flags=403f00",
+         record(b"R", bytes.fromhex("40403f00") + b"p")),
+        ("read beacon largest-width=16 send=cannot receive=cannot free-width=16 free=0 endpoint= flags=004f01",
+         record(b"R", bytes.fromhex("40004f01" "0000"))),
+        # A pairing 0 1, a free space of 128 bits, one that is cut, and a BEACON that no table takes.
+        ("packet R 40040000", record(b"R", bytes.fromhex("40040000"))),
+        ("packet R 40007000" + 16 * "00", record(b"R", bytes.fromhex("40007000") + bytes(16))),
+        ("packet R 4000400000", record(b"R", bytes.fromhex("4000400000"))),
+        ("packet O 40000000", record(b"O", bytes.fromhex("40000000"))),
         ("packet O " + data(7, 16, 0, b"x").hex(), record(b"O", data(7, 16, 0, b"x"))),
         ("packet D 42", record(b"D", b"\x42")),
         ("packet P", record(b"P")),
@@ -89,6 +105,9 @@ class Forms(unittest.TestCase):
                          + record(b"D", data(1, 16, 0, b"\1\2\1\2\1"))
                          + record(b"S", struct.pack(">IQBI", 1, 0, 0, 65535)))
         self.assertEqual(pass_of("open path=p length=3 width=16 id=7"), record(b"O", metadata(7, 16, 3, b"p")))
+        self.assertEqual(pass_of("read beacon endpoint=p flags=8e5000 free=7", "link beacon flags=040000 endpoint="),
+                         record(b"R", beacon(b"p", send="willing", receive="not-now", free=7))
+                         + record(b"P", bytes.fromhex("40040000")))
 
 
 class RoundTrip(unittest.TestCase):
@@ -98,7 +117,8 @@ class RoundTrip(unittest.TestCase):
 
     def test_damaged_packets_of_each_kind(self):
         chance = random.Random(611)
-        packets = page_packets() + [metadata(7, 64, 5, b"p", 0x11, b"abcd"), data(7, 32, 9, b"x", TIMESTAMP, bytes(16))]
+        packets = page_packets() + [metadata(7, 64, 5, b"p", 0x11, b"abcd"), data(7, 32, 9, b"x", TIMESTAMP, bytes(16)),
+                                    beacon(b"dish"), beacon(b"dish", 128, "willing", "not-now", 9, 64), beacon(free=1)]
         for _ in range(20000):
             packet = bytearray(chance.choice(packets)[:chance.choice((8, 12, 40, 2000))])
             for _ in range(chance.randrange(3)):
@@ -146,7 +166,26 @@ class Errors(unittest.TestCase):
                    "flags=000000 lack bits that the other fields set: 008000")
         self.wrong("data id=7 width=16 offset=0 payload=0", "payload=0 is no sequence of pairs of hexadecimal digits")
         self.wrong("data id=7 width=16 offset=0", "data needs length= and fill=, or payload=")
-        self.wrong("read", "read is followed by one of metadata, data, success, failure")
+        self.wrong("read", "read is followed by one of metadata, data, success, failure, beacon")
+        self.wrong("read beacon largest-width=64 send=maybe receive=cannot endpoint=",
+                   "send=maybe is not cannot, not-now or willing")
+        self.wrong("read beacon largest-width=8 send=cannot receive=cannot endpoint=",
+                   "largest-width=8 is not 16, 32, 64 or 128")
+        self.wrong("read beacon largest-width=64 send=cannot endpoint=", "read beacon needs receive=")
+        self.wrong("read beacon largest-width=64 send=cannot receive=cannot", "read beacon needs endpoint=")
+        self.wrong("read beacon largest-width=64 send=cannot receive=cannot free=1 endpoint=", "free= needs free-width=")
+        self.wrong("read beacon largest-width=64 send=cannot receive=cannot free-width=32 endpoint=",
+                   "read beacon needs free=")
+        self.wrong("read beacon largest-width=64 send=cannot receive=cannot free-width=128 free=1 endpoint=",
+                   "free-width=128 is not 16, 32 or 64")
+        self.wrong("read beacon flags=007000 free=1 endpoint=",
+                   "flags with a free space of width bits 11: write the packet with packet")
+        self.wrong("read beacon flags=8e0000 send=cannot endpoint=",
+                   "flags=8e0000 are not those that the other fields make: 820000")
+        self.wrong("read beacon flags=000000 streams endpoint=",
+                   "flags=000000 are not those that the other fields make: 100000")
+        self.wrong("link beacon flags=000000 endpoint=%x", "a % in an endpoint is followed by two hexadecimal digits; "
+                                                           "%25 is the % itself")
         self.wrong("read success id=7 width=16 progress=0 in-response-to=9 holes=3",
                    "holes=3: a hole is START-END")
         self.wrong("packet PP 00", "PP is no kind: one character, or two hexadecimal digits")

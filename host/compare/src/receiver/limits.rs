@@ -6,7 +6,7 @@ use paper::table::{Table, Transfer};
 
 use crate::check::{require, Check, Step};
 use crate::faults;
-use crate::packets::{last, Ending};
+use crate::packets::{last, Beacon, Ending};
 use crate::receiver::files::{opening, recording, File};
 use crate::receiver::held::{fill_unused, Held};
 use crate::receiver::pass::empty;
@@ -22,6 +22,7 @@ pub fn run(check: &mut Check) -> Step {
     ends_of_numbers(check)?;
     statuses(check)?;
     packet_faults(check)?;
+    short_packets(check)?;
     opening_order(check)?;
     recording_order(check)
 }
@@ -236,6 +237,33 @@ fn packet_faults(check: &mut Check) -> Step {
             check.try_record(&held, &packet)?;
             let got = check.record(&mut held, &packet)?.number;
             require(got == number, || format!("recording: refusal {number} is expected, not {got}"))?;
+        }
+    }
+    Ok(())
+}
+
+/// Lengths 0 to 12 at every first octet, a BEACON's among them: all zeros after it, and the flags of a BEACON. A whole
+/// BEACON is refused with 4.
+fn short_packets(check: &mut Check) -> Step {
+    let mut held = Held::holding(one(9, 4, 300, &[(3, 5)]), &mut check.rng);
+    for first in 0..=255 {
+        for len in 0..=12 {
+            for flags in [false, true] {
+                let mut packet = match flags {
+                    false => vec![0; 12],
+                    true => Beacon::valid(&mut check.rng).octets(&mut check.rng),
+                };
+                packet.resize(12, 0);
+                packet[0] = first;
+                let packet = &packet[..len];
+                let opened = check.open(&mut held, packet)?.number;
+                check.try_record(&held, packet)?;
+                let recorded = check.record(&mut held, packet)?.number;
+                let number = if len < 4 { 1 } else { 4 };
+                require(first != 0x40 || (opened, recorded) == (number, number), || {
+                    format!("a BEACON of {len} octets: refusal {number} is expected, not {opened} and {recorded}")
+                })?;
+            }
         }
     }
     Ok(())

@@ -61,6 +61,10 @@ wrong! {
     RunsBeforeEndOfData,
     /// 12 before 4 for METADATA.
     IdBeforeType,
+    /// A BEACON of four to seven octets is 1.
+    RecordedBeaconCut,
+    /// A packet of four to seven octets that is no BEACON is judged on.
+    RecordedFourOfAny,
 
     // Opening.
     /// A 17th Id is opened.
@@ -81,6 +85,10 @@ wrong! {
     EmptyNotComplete,
     /// The width is the directory entry's.
     EntryWidth,
+    /// A BEACON of four to seven octets is 1.
+    OpenedBeaconCut,
+    /// A BEACON with flags that reading refuses is 26.
+    OpenedBeaconRead,
 
     // Closing and listing.
     /// The Id is taken modulo 2^32.

@@ -69,6 +69,8 @@ impl Receiver for Wrong {
                 return again(open)
             }
             (EmptyNotComplete, None) if right.number == 0 && read.size == 0 => return Opened { complete: 0, ..right },
+            (OpenedBeaconCut, _) if right.number == 4 && packet.len() < 8 => return refused(1, 0),
+            (OpenedBeaconRead, _) if right.number == 4 && read.number == 26 => return refused(26, 0),
             (EntryWidth, None) if right.number == 0 => {
                 change_entry(area, read.id, |entry| entry.width = 2 << (read.properties >> 6 & 3));
             }
@@ -100,6 +102,10 @@ impl Receiver for Wrong {
             }
             (IdBeforeType, _) if right.number == 4 && read.kind == 2 && !table.transfers.contains_key(&read.id) => {
                 refused(12, 0x06)
+            }
+            (RecordedBeaconCut, _) if right.number == 4 && packet.len() < 8 => refused(1, 0),
+            (RecordedFourOfAny, _) if right.number == 1 && (4..8).contains(&packet.len()) && packet[0] >> 6 != 1 => {
+                refused(3, 0)
             }
             (_, Some(transfer)) => return self.record_to(area, &before, packet, transfer, right),
             _ => return right,

@@ -46,6 +46,14 @@ fn read_short(s: &[u8], at: usize, d: usize) -> u64
     v
 }
 
+// The number that the two octets from `at` on stand for.
+pub fn read_two(s: &[u8], at: usize) -> u64
+    requires { ⌜ at + 2 ≤ length (now s) ⌝ }
+    ensures { λ r. ⌜ r ≡ beValue (take 2 (drop at (now (s .entry)))) ⌝ }
+{
+    (s[at] as u64) * 256 + s[at + 1] as u64
+}
+
 // The number of four octets, the highest first.
 fn join_four(a: u8, b: u8, c: u8, d: u8) -> u64
     ensures { λ r. ⌜ r ≡ a * 16777216 + b * 65536 + c * 256 + d ⌝ }

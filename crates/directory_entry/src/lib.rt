@@ -108,13 +108,13 @@ pub fn entry_refusal(e: &[u8], d: usize) -> u64
         return f;
     }
     let k = size_octets(x);
-    let h = header::descriptor_refusal(e, 2, k);
-    if h != 0 {
-        return h;
-    }
     let at = 10 + k;
+    let size = header::descriptor_refusal(e, 2, k);
+    if size != 0 {
+        return size;
+    }
     if e.len() < at {
-        return 1;
+        return 1; // inside the times
     }
     let g = path_refusal(&e[at..]);
     if g != 0 {

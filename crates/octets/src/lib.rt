@@ -51,7 +51,7 @@ pub fn read_two(s: &[u8], at: usize) -> u64
     requires { ⌜ at + 2 ≤ length (now s) ⌝ }
     ensures { λ r. ⌜ r ≡ beValue (take 2 (drop at (now (s .entry)))) ⌝ }
 {
-    (s[at] as u64) * 256 + s[at + 1] as u64
+    join_four(0, 0, s[at], s[at + 1])
 }
 
 // The number of four octets, the highest first.

@@ -49,6 +49,9 @@ known c =
     let k : c .size-octets .result ≡ sizeOctets (propertiesOf (now (start .args .e))) = c .size-octets .ensures ∙ ap (λ (x : ℕ). sizeOctets x) (read-two-place .read-two .ensures) in
     (k, omega (arith, size-le (propertiesOf (now (start .args .e)))), omega (arith, property (c .before .before)))
 
+add-at : tie.Need-add-at
+add-at c = omega (arith, known c)
+
 descriptor-refusal-requires : tie.Need-descriptor-refusal-requires
 descriptor-refusal-requires c κs = (rw (known c .0) (size-width _), omega (arith, known c))
 
@@ -70,9 +73,6 @@ returns-3 c =
 -- the size is all there, and its upper octets are zero
 there : (c : tie.Else3) → let e = now (c .before .before .before .before .before .before .before .before .args .e) in descriptorRefusal (sizeOctets (propertiesOf e)) 2 e ≡ 0
 there c = omega (arith, judged (c .before))
-
-add-at : tie.Need-add-at
-add-at c = omega (arith, known (c .before .before))
 
 returns-4 : tie.Need-returns-4
 unfolding entryRefusal
@@ -183,9 +183,9 @@ entry-refusal-spec =
     property-refusal-requires
     returns-2
     size-octets-requires
+    add-at
     descriptor-refusal-requires
     returns-3
-    add-at
     returns-4
     sub-path-refusal
     part-path-refusal-start

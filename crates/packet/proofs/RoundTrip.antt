@@ -1,7 +1,7 @@
 -- "Writing what was read gives the same octets for METADATA and DATA; reading what was written gives the same fields":
 -- in the terms of the public operations, for every octet list and every list of fields.
 -- Assumes nothing.
-use Prim.Native.Nat.{ℕ, zero, suc, _+_, _≤_}
+use Prim.Native.Nat.{ℕ, zero, suc, _+_, _^_, _<_, _≤_}
 use mathlib.Core.Path.{_≡_, refl, ap, _∙_}
 use mathlib.Core.List.{List}
 use native.Mathlib.Omega.{arith}
@@ -35,8 +35,8 @@ written-size : (n size m : ℕ) → writtenOf n size ≡ Size m → (n ≡ 0) ×
 written-size zero size m e = (refl, cc)
 written-size (suc n) size m e = absurd (let z : _≡_ {A = ℕ} 0 1 = cc in omega arith)
 
--- DATA, written and read
-module _ (flags id : ℕ) (timestamp : List ℕ) (offset : ℕ) (payload old : List ℕ) (n : ℕ)
+-- DATA, written and read; an offset is handed over as a number of 64 bits
+module _ (flags id : ℕ) (timestamp : List ℕ) (offset : ℕ) (payload old : List ℕ) (n : ℕ) (held : offset < 2 ^ 64)
     (ok : dataWritten flags id timestamp offset payload old ≡ Size n) where
   accepted : (dataRefused flags id timestamp offset payload old ≡ 0) × (payloadAt flags + length payload ≡ n)
   unfolding dataWritten
@@ -47,7 +47,7 @@ module _ (flags id : ℕ) (timestamp : List ℕ) (offset : ℕ) (payload old : L
   data-packet-written =
       rw (accepted .0)
       (take-put n (dataOctets flags id timestamp offset payload) old
-      (data-trip.data-octets-length flags id timestamp offset payload (length old) (accepted .0) ∙ accepted .1))
+      (data-trip.data-octets-length flags id timestamp offset payload (length old) held (accepted .0) ∙ accepted .1))
 
   pub data-reads-back : readPacket (take n (dataBuffer flags id timestamp offset payload old)) ≡ read.Data (record {
     flags = flags;
@@ -62,14 +62,14 @@ module _ (flags id : ℕ) (timestamp : List ℕ) (offset : ℕ) (payload old : L
   })
   data-reads-back =
       let s = dataOctets flags id timestamp offset payload in
-      let g = data-given s _ (data-trip.data-read-written flags id timestamp offset payload (length old) (accepted .0)) in
+      let g = data-given s _ (data-trip.data-read-written flags id timestamp offset payload (length old) held (accepted .0)) in
       rw data-packet-written (data-taken s (g .0) ∙ ap read.Data (g .1))
 
   pub payload-reads-back : payloadOf (take n (dataBuffer flags id timestamp offset payload old)) ≡ payload
-  payload-reads-back = rw data-packet-written (data-trip.payload-read-written flags id timestamp offset payload (length old) (accepted .0))
+  payload-reads-back = rw data-packet-written (data-trip.payload-read-written flags id timestamp offset payload (length old) held (accepted .0))
 
   pub timestamp-reads-back : take (timestampOctets flags) (drop 8 (take n (dataBuffer flags id timestamp offset payload old))) ≡ timestamp
-  timestamp-reads-back = rw data-packet-written (data-trip.timestamp-read-written flags id timestamp offset payload (length old) (accepted .0))
+  timestamp-reads-back = rw data-packet-written (data-trip.timestamp-read-written flags id timestamp offset payload (length old) held (accepted .0))
 
 -- DATA, read and written
 module _ (s : List ℕ) (os : Octets s) (d : Data) (ok : readPacket s ≡ read.Data d) (old : List ℕ) (room : length s ≤ length old) where
@@ -84,8 +84,8 @@ module _ (s : List ℕ) (os : Octets s) (d : Data) (ok : readPacket s ≡ read.D
       rw (← none .1, none .0)
       (data-trip.data-written-read s os (none .0) old room, data-trip.data-buffer-read s os (none .0) old room)
 
--- METADATA, written and read
-module _ (flags id : ℕ) (checksum : List ℕ) (properties size mtime ctime : ℕ) (path old : List ℕ) (n : ℕ)
+-- METADATA, written and read; so is a size
+module _ (flags id : ℕ) (checksum : List ℕ) (properties size mtime ctime : ℕ) (path old : List ℕ) (n : ℕ) (held : size < 2 ^ 64)
     (ok : metadataWritten flags id checksum properties size mtime ctime path old ≡ Size n) where
   fine : (metadataWriteRefusal flags id checksum properties size mtime ctime path (length old) ≡ 0)
       × (metadataSize flags properties (length path) ≡ n)
@@ -98,7 +98,7 @@ module _ (flags id : ℕ) (checksum : List ℕ) (properties size mtime ctime : �
   metadata-packet-written =
       rw (fine .0)
       (take-put n (metadataOctets flags id checksum properties size mtime ctime path) old
-      (metadata.metadata-octets-length flags id checksum properties size mtime ctime path (length old) (fine .0) ∙ fine .1))
+      (metadata.metadata-octets-length flags id checksum properties size mtime ctime path (length old) held (fine .0) ∙ fine .1))
 
   pub metadata-reads-back : readPacket (take n (metadataBuffer flags id checksum properties size mtime ctime path old)) ≡ read.Metadata (record {
     flags = flags;
@@ -111,18 +111,18 @@ module _ (flags id : ℕ) (checksum : List ℕ) (properties size mtime ctime : �
   unfolding readType metadataRefusal
   metadata-reads-back =
       let s = metadataOctets flags id checksum properties size mtime ctime path in
-      let r = metadata.metadata-read-written flags id checksum properties size mtime ctime path (length old) (fine .0) in
+      let r = metadata.metadata-read-written flags id checksum properties size mtime ctime path (length old) held (fine .0) in
       rw metadata-packet-written
       (read-typed 2 s (first-none _ _ (metadata-given s _ r .0)) ∙ ap ofMetadata r)
 
   pub checksum-reads-back : take (length checksum) (drop 8 (take n (metadataBuffer flags id checksum properties size mtime ctime path old))) ≡ checksum
   checksum-reads-back =
-      rw metadata-packet-written (metadata.checksum-read-written flags id checksum properties size mtime ctime path (length old) (fine .0))
+      rw metadata-packet-written (metadata.checksum-read-written flags id checksum properties size mtime ctime path (length old) held (fine .0))
 
   pub path-reads-back :
       take (length path) (drop (entryAt flags + pathAt properties) (take n (metadataBuffer flags id checksum properties size mtime ctime path old))) ≡ path
   path-reads-back =
-      rw metadata-packet-written (metadata.path-read-written flags id checksum properties size mtime ctime path (length old) (fine .0))
+      rw metadata-packet-written (metadata.path-read-written flags id checksum properties size mtime ctime path (length old) held (fine .0))
 
 -- METADATA, read and written; checksum and path are the octets at their places
 module _ (s : List ℕ) (os : Octets s) (m : Metadata) (ok : readPacket s ≡ read.Metadata m) (old : List ℕ) (room : length s ≤ length old) where

@@ -3,6 +3,9 @@
 
 #![deny(unsafe_code)]
 
+#[macro_use]
+mod wrong_list;
+
 mod answer;
 mod check;
 mod codec;
@@ -12,6 +15,7 @@ mod ffi;
 mod fields;
 mod lent;
 mod limits;
+mod limits_width;
 mod limits_write;
 mod packets;
 mod random;
@@ -23,6 +27,7 @@ mod tally;
 #[cfg(test)]
 mod tests;
 mod wrong;
+mod wrong_width;
 
 use std::process::ExitCode;
 use std::time::{Duration, Instant, SystemTime, UNIX_EPOCH};

@@ -1,18 +1,5 @@
 //! Receivers that are wrong in one way each: the comparison must find every one of them.
 
-/// Names each once: the enum, and the list of all.
-macro_rules! wrong {
-    ($($(#[$what:meta])* $name:ident,)*) => {
-        /// What is wrong.
-        #[derive(Clone, Copy, Debug, PartialEq, Eq)]
-        pub enum Wrong {
-            $($(#[$what])* $name,)*
-        }
-
-        pub const ALL: &[Wrong] = &[$(Wrong::$name,)*];
-    };
-}
-
 wrong! {
     // "How a page gets spoiled", and "Proofs that would be worth nothing".
     /// The packet's octets are added to those received before: repeats count twice.

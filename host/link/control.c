@@ -86,13 +86,7 @@ void list_transfers(void)
 static int is_open_on_disk(uint64_t id)
 {
     static uint8_t octets[SARATOGA_AREA_OCTETS + 1];
-    struct saratoga_listed one;
-    if (read_area(octets, sizeof octets) == 0)
-        return 0;
-    for (uint64_t i = 0; (one = saratoga_transfer(octets, SARATOGA_AREA_OCTETS, i)).number == 0; i++)
-        if (one.id == id)
-            return 1;
-    return 0;
+    return read_area(octets, sizeof octets) != 0 && saratoga_find(octets, SARATOGA_AREA_OCTETS, id).number == 0;
 }
 
 /* Asks the program that runs in the directory to close a transfer, and waits until it has. */

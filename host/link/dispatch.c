@@ -8,16 +8,26 @@
 #include <stdio.h>
 #include <string.h>
 
-#define CODE_NOT_OPEN 0x06
-#define CODE_TOO_LARGE 0x08 /* draft 09, section 4.5: longer than the receiver supports */
+uint64_t unsent;
 
-/* Sends a packet back, or shows what would be sent. */
+/* The number that so many octets of a packet stand for. */
+static uint64_t value_of(const uint8_t *octets, uint64_t count)
+{
+    uint64_t value = 0;
+    for (uint64_t i = 0; i < count; i++)
+        value = value << 8 | octets[i];
+    return value;
+}
+
+/* Sends a packet back, or shows what would be sent. A sender may have an address that nothing can be sent to. */
 static void answer(uint64_t number, const struct peer *peer, const uint8_t *octets, size_t count)
 {
     say_octets(number, "send", octets, count);
     if (peer->socket >= 0 &&
-        sendto(peer->socket, octets, count, 0, (const struct sockaddr *)&peer->address, peer->address_len) < 0)
-        warn("packet %" PRIu64 ": the answer can't be sent: %s", number, strerror(errno));
+        sendto(peer->socket, octets, count, 0, (const struct sockaddr *)&peer->address, peer->address_len) < 0 &&
+        unsent++ == 0)
+        warn("packet %" PRIu64 ": the answer can't be sent: %s; of more only the number is told, at the end", number,
+             strerror(errno));
 }
 
 static void send_failure(uint64_t number, const struct peer *peer, uint64_t id, uint64_t code)
@@ -43,14 +53,13 @@ static void refuse(uint64_t number, const struct peer *peer, const uint8_t *pack
         die("the area in memory holds no transfer table: the program has a fault");
     if (code == 0 || !has_id(packet, packet_len))
         return;
-    uint64_t id = (uint64_t)packet[4] << 24 | (uint64_t)packet[5] << 16 | (uint64_t)packet[6] << 8 | packet[7];
-    send_failure(number, peer, id, code);
+    send_failure(number, peer, value_of(packet + 4, 4), code);
 }
 
 /* Step 6 for an open transfer: its STATUS, once the area on disk and its file hold what the STATUS says. */
 static void send_status(uint64_t number, const struct peer *peer, uint64_t id, int unasked)
 {
-    uint8_t out[MOST_STATUS];
+    uint8_t out[SARATOGA_STATUS_OCTETS];
     if (!save())
         return;
     struct transfer *t = transfer_of(id);
@@ -61,13 +70,34 @@ static void send_status(uint64_t number, const struct peer *peer, uint64_t id, i
         t = NULL;
     }
     if (t == NULL) {
-        send_failure(number, peer, id, CODE_NOT_OPEN);
+        send_failure(number, peer, id, SARATOGA_CODE_UNKNOWN_ID);
         return;
     }
     struct saratoga_written written =
         saratoga_write_status(area, sizeof area, id, 0, (uint64_t)unasked, out, sizeof out);
     if (written.number == 0)
         answer(number, peer, out, (size_t)written.size);
+}
+
+/*
+ * An Id belongs to the sender whose METADATA came last, or who sends first after a restart. DATA of another sender isn't
+ * taken: two that use one Id would else mix their files.
+ */
+static int is_of_another(const struct transfer *t, const struct peer *peer)
+{
+    uint8_t sender[16];
+    if (t == NULL || !t->has_sender || peer->socket < 0)
+        return 0;
+    address_octets(sender, &peer->address);
+    return memcmp(sender, t->sender, sizeof sender) != 0;
+}
+
+static void hear(struct transfer *t, const struct peer *peer)
+{
+    heard(t);
+    t->has_sender = peer->socket >= 0;
+    if (t->has_sender)
+        address_octets(t->sender, &peer->address);
 }
 
 /* A transfer may be ended only once its page, if it is complete, has its name. */
@@ -80,12 +110,12 @@ static int may_end(uint64_t number, struct transfer *t)
 static int make_room(uint64_t number)
 {
     struct transfer *chosen = NULL;
-    for (size_t i = 0; i < MOST_TRANSFERS; i++) {
+    for (size_t i = 0; i < SARATOGA_TRANSFERS; i++) {
         struct transfer *t = &transfers[i];
         if (t->used && listed(t->id).complete && (chosen == NULL || t->id < chosen->id))
             chosen = t;
     }
-    for (size_t i = 0; i < MOST_TRANSFERS && options.make_room; i++) {
+    for (size_t i = 0; i < SARATOGA_TRANSFERS && options.make_room; i++) {
         struct transfer *t = &transfers[i];
         if (t->used && (chosen == NULL || (!listed(chosen->id).complete && t->heard < chosen->heard)))
             chosen = t;
@@ -124,6 +154,22 @@ static struct transfer *open_transfer(const uint8_t *packet, size_t packet_len, 
     return save() ? t : NULL;
 }
 
+/* Whether METADATA is over a limit that the operator set. That is said and answered, and nothing else happens. */
+static int is_over_a_limit(uint64_t number, const struct peer *peer, const struct saratoga_packet *read, int makes_files)
+{
+    uint64_t code = 0;
+    if (read->size > options.largest) {
+        code = SARATOGA_CODE_TOO_LONG;
+        say(number, "too-large id=%" PRIu64 " length=%" PRIu64 " code=%" PRIu64, read->id, read->size, code);
+    } else if (makes_files && !may_keep_more()) {
+        code = SARATOGA_CODE_RECEIVER_RESOURCES;
+        say(number, "too-many id=%" PRIu64 " code=%" PRIu64, read->id, code);
+    }
+    if (code != 0)
+        send_failure(number, peer, read->id, code);
+    return code != 0;
+}
+
 /* METADATA. Where the Id is open for another file, that one is ended first: its octets and these must not mix. */
 static void take_metadata(uint64_t number, const struct peer *peer, const uint8_t *packet, size_t packet_len,
                           const struct saratoga_packet *read)
@@ -131,15 +177,13 @@ static void take_metadata(uint64_t number, const struct peer *peer, const uint8_
     char text[MOST_META];
     size_t text_len = meta_text(text, packet, read);
     struct transfer *t = transfer_of(read->id);
-    if (read->size > options.largest) {
-        say(number, "too-large id=%" PRIu64 " length=%" PRIu64 " code=%d", read->id, read->size, CODE_TOO_LARGE);
-        send_failure(number, peer, read->id, CODE_TOO_LARGE);
-        return;
-    }
     int is_lost = t != NULL && !t->delivered && !part_is_there(t);
+    int is_other = t != NULL && (t->meta_len != text_len || memcmp(t->meta, text, text_len) != 0);
+    if (is_over_a_limit(number, peer, read, t == NULL || is_lost || is_other))
+        return;
     if (is_lost)
         warn("the .part of transfer %" PRIu64 " is gone; it is closed and must begin anew", read->id);
-    if (is_lost || (t != NULL && (t->meta_len != text_len || memcmp(t->meta, text, text_len) != 0))) {
+    if (is_lost || is_other) {
         const char *why = is_lost ? "lost" : "other-metadata";
         if ((!is_lost && !may_end(number, t)) || !end_transfer(number, t, why)) {
             say(number, "lost id=%" PRIu64, read->id);
@@ -158,7 +202,7 @@ static void take_metadata(uint64_t number, const struct peer *peer, const uint8_
         say(number, "lost id=%" PRIu64, read->id);
         return;
     }
-    heard(t);
+    hear(t, peer);
     say(number, "open id=%" PRIu64 " width=%" PRIu64 " length=%" PRIu64 " edge=%" PRIu64 " complete=%" PRIu64 " %s",
         read->id, 8 * read->width, read->size, opened.edge, opened.complete,
         opened.already_open ? "already-open" : "new");
@@ -188,22 +232,37 @@ static int store_payload(uint64_t number, const uint8_t *packet, const struct sa
     return 0;
 }
 
+/*
+ * Step 1. What is refused is answered, and gives 0: its payload must not be written anywhere. Else: what recording will
+ * answer, and whether it adds anything.
+ */
+static int judge(uint64_t number, const struct peer *peer, const uint8_t *packet, size_t packet_len,
+                 const struct saratoga_packet *read, struct saratoga_recorded *recorded, int *adds)
+{
+    if (is_of_another(transfer_of(read->id), peer)) {
+        say(number, "of-another-sender id=%" PRIu64 " code=%d", read->id, SARATOGA_CODE_UNKNOWN_ID);
+        send_failure(number, peer, read->id, SARATOGA_CODE_UNKNOWN_ID);
+        return 0;
+    }
+    *recorded = would_record(packet, packet_len, adds);
+    if (recorded->number == SARATOGA_REFUSED_RUNS && options.repair_status) {
+        say(number, "refused %" PRIu64 " code=0", recorded->number);
+        send_status(number, peer, read->id, 1);
+    } else if (recorded->number != 0) {
+        refuse(number, peer, packet, packet_len, recorded->number, recorded->code);
+    }
+    return recorded->number == 0;
+}
+
 /* DATA: steps 1 to 6. */
 static void take_data(uint64_t number, const struct peer *peer, const uint8_t *packet, size_t packet_len,
                       const struct saratoga_packet *read)
 {
-    /* 1. Judge. The payload of a packet that is refused must not be written anywhere. */
+    /* 1. Judge. */
+    struct saratoga_recorded recorded;
     int adds;
-    struct saratoga_recorded recorded = would_record(packet, packet_len, &adds);
-    if (recorded.number == SARATOGA_REFUSED_RUNS && options.repair_status) {
-        say(number, "refused %" PRIu64 " code=0", recorded.number);
-        send_status(number, peer, read->id, 1);
+    if (!judge(number, peer, packet, packet_len, read, &recorded, &adds))
         return;
-    }
-    if (recorded.number != 0) {
-        refuse(number, peer, packet, packet_len, recorded.number, recorded.code);
-        return;
-    }
 
     /* A packet that adds nothing isn't written: a page that was reported complete is never touched again. */
     if (adds) {
@@ -219,7 +278,7 @@ static void take_data(uint64_t number, const struct peer *peer, const uint8_t *p
         table_changed();
     }
     struct transfer *t = transfer_of(read->id);
-    heard(t);
+    hear(t, peer);
     say(number, "record id=%" PRIu64 " offset=%" PRIu64 " length=%" PRIu64 " edge=%" PRIu64 " complete=%" PRIu64,
         read->id, read->offset, read->payload_len, recorded.edge, recorded.complete);
 
@@ -236,9 +295,13 @@ static void take_data(uint64_t number, const struct peer *peer, const uint8_t *p
         send_status(number, peer, read->id, !wanted);
 }
 
-/* A success STATUS is for a sender; a receiver only shows it. */
-static void show_success(uint64_t number, const uint8_t *packet, size_t packet_len, const struct saratoga_packet *read)
+/*
+ * A success STATUS is for a sender; a receiver only shows it. It may have thousands of holes, and saratoga_read_hole judges
+ * all of them at each call: so they are read where they stand, in one pass.
+ */
+static void show_success(uint64_t number, const uint8_t *packet, const struct saratoga_packet *read)
 {
+    const uint8_t *hole = packet + read->holes_at;
     if (options.quiet)
         return;
     printf("%" PRIu64 " success id=%" PRIu64 " flags=%06" PRIx64 " width=%" PRIu64 " timestamp=", number, read->id,
@@ -246,10 +309,9 @@ static void show_success(uint64_t number, const uint8_t *packet, size_t packet_l
     for (uint64_t i = 0; i < read->timestamp_len; i++)
         printf("%02x", packet[read->timestamp_at + i]);
     printf(" progress=%" PRIu64 " in-response-to=%" PRIu64 " holes=", read->progress, read->in_response_to);
-    for (uint64_t i = 0; i < read->hole_count; i++) {
-        struct saratoga_hole hole = saratoga_read_hole(packet, packet_len, i);
-        printf("%s%" PRIu64 "-%" PRIu64, i > 0 ? "," : "", hole.start, hole.end);
-    }
+    for (uint64_t i = 0; i < read->hole_count; i++, hole += 2 * read->width)
+        printf("%s%" PRIu64 "-%" PRIu64, i > 0 ? "," : "", value_of(hole, read->width),
+               value_of(hole + read->width, read->width));
     putchar('\n');
 }
 
@@ -268,5 +330,5 @@ void take_packet(uint64_t number, const struct peer *peer, const uint8_t *packet
     else if (read.status != 0)
         say(number, "failure id=%" PRIu64 " status=%" PRIu64 " flags=%06" PRIx64, read.id, read.status, read.flags);
     else
-        show_success(number, packet, packet_len, &read);
+        show_success(number, packet, &read);
 }

@@ -27,7 +27,7 @@
 #include <stdlib.h>
 #include <string.h>
 
-struct options options = {.directory = ".", .force = 1, .largest = UINT64_C(1) << 30};
+struct options options = {.directory = ".", .force = 1, .largest = UINT64_C(1) << 30, .most_kept = 10000};
 volatile sig_atomic_t stopped;
 
 static const char help[] =
@@ -46,6 +46,7 @@ static const char help[] =
     "      --any-peer       hear every sender; --udp needs this or --peer\n"
     "      --idle SECONDS   end after so long without a packet\n"
     "      --largest OCTETS largest file that is taken (else 1073741824)\n"
+    "      --most-kept N    transfers whose files may be in DIR (else 10000); then none is opened until some are taken away\n"
     "      --make-room      where 16 transfers are open and none is complete, end the one heard longest ago\n"
     "      --repair-status  where a packet would need a 65th run, answer STATUS with the lowest holes, not failure 3\n"
     "      --no-fsync       don't force writes to disk: faster, safe against a crash but not against a power cut\n"
@@ -119,8 +120,8 @@ static int take_switch(const char *name)
 
 static int takes_value(const char *name)
 {
-    static const char *const names[] = {"-d",     "--directory", "--udp",    "--address",
-                                        "--peer", "--idle",      "--largest", "--close"};
+    static const char *const names[] = {"-d",     "--directory", "--udp",       "--address", "--peer",
+                                        "--idle", "--largest",   "--most-kept", "--close"};
     for (size_t i = 0; i < sizeof names / sizeof names[0]; i++)
         if (strcmp(name, names[i]) == 0)
             return 1;
@@ -141,6 +142,8 @@ static void take_value(const char *name, const char *value)
         idle = (long)number_of(value, name, 1000000);
     } else if (strcmp(name, "--largest") == 0) {
         options.largest = number_of(value, name, UINT64_MAX);
+    } else if (strcmp(name, "--most-kept") == 0) {
+        options.most_kept = number_of(value, name, UINT64_MAX);
     } else if (strcmp(name, "--close") == 0) {
         if (!id_of_text(value, &id_to_close))
             wrong_usage("--close takes an Id, as 31, id=31, 0x1f or 0000001f.part, not ", value);

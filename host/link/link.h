@@ -27,9 +27,6 @@
 
 #include "saratoga.h"
 
-#define MOST_TRANSFERS 16
-#define MOST_PACKET 65535          /* octets of a packet */
-#define MOST_STATUS 1048           /* octets of a STATUS with 64 holes at 64 bits */
 #define MOST_UNSAVED 64            /* recordings made before the area is saved, where nothing is to be answered */
 #define MOST_META 4608             /* octets of METADATA as text: a path of 1,023 octets, four for each, and the rest */
 #define MOST_PEERS 32
@@ -44,6 +41,7 @@ struct options {
     int make_room;                 /* a full table: the transfer heard longest ago goes */
     int repair_status;             /* refusal 16 is answered with the STATUS of the transfer */
     uint64_t largest;              /* octets of the largest file that is taken */
+    uint64_t most_kept;            /* transfers whose files may be in the directory */
     int any_peer;
     unsigned peer_count;
     uint8_t peers[MOST_PEERS][16]; /* IPv6 addresses; IPv4 as ::ffff:a.b.c.d */
@@ -62,6 +60,8 @@ struct transfer {
     int delivered;                 /* and was reported, or taken away */
     int told;                      /* that its page can't get its name */
     uint64_t heard;                /* when a packet of it last came; greater is later */
+    int has_sender;                /* known which; not after a restart, nor of a pass */
+    uint8_t sender[16];            /* the address that its packets come from */
     size_t meta_len;
     char meta[MOST_META];          /* what its .meta file holds */
 };
@@ -112,6 +112,7 @@ void there_is_room(void);
 /* store.c */
 int id_of_name(const char *name, uint64_t *id);
 void name_of(char name[NAME_OCTETS], const struct transfer *t, const char *suffix);
+int may_keep_more(void);
 int make_files(struct transfer *t);
 int find_files(struct transfer *t);
 int write_payload(struct transfer *t, const uint8_t *octets, size_t count, uint64_t offset);
@@ -124,7 +125,7 @@ void forget_files(struct transfer *t);
 
 /* table.c */
 extern uint8_t area[SARATOGA_AREA_OCTETS];
-extern struct transfer transfers[MOST_TRANSFERS];
+extern struct transfer transfers[SARATOGA_TRANSFERS];
 struct transfer *transfer_of(uint64_t id);
 struct transfer *new_transfer(uint64_t id);
 void heard(struct transfer *t);
@@ -141,6 +142,7 @@ size_t read_area(uint8_t *octets, size_t room);
 void take_up(void);
 
 /* dispatch.c */
+extern uint64_t unsent;            /* answers that could not be sent */
 void take_packet(uint64_t number, const struct peer *peer, const uint8_t *packet, size_t packet_len);
 
 /* onair.c */
@@ -158,6 +160,7 @@ int tick_is_due(void);
 void from_pass(const char *name);
 void from_socket(const char *host, const char *port, long idle);
 int name_peer(const char *text);
+void address_octets(uint8_t out[16], const struct sockaddr_storage *address);
 
 /*
  * Tests build the program with LINK_CUT_POINTS, to end it between two writes, or inside one, at the place whose number

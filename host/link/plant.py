@@ -12,7 +12,8 @@ import threading
 import time
 
 from harness import PLACE, SOURCES, WRAPPED, build, check, content, page, records, run, stored
-from packets import BUNDLES, END_OF_DATA, STREAMS, WANTED, beacon, data, metadata, record, word
+from packets import (BUNDLES, END_OF_DATA, STREAMS, WANTED, beacon, data, metadata, record, success, time_record,
+                     word)
 
 NOSPACE = os.path.join(PLACE, "nospace.c")
 
@@ -261,6 +262,68 @@ def who_is_heard(program, place):
         check(heard or "3 packets of senders that --peer doesn't name were dropped" in link.told[-1], link.told)
 
 
+def kept(program, place):
+    """A sender that opens one transfer after the other can't fill a directory without end."""
+    text = page(20, 34)
+    for ident in range(0x10000, 0x10000 + 9998):
+        open(os.path.join(place, f"{ident:08x}.meta"), "wb").close()
+    packets = [metadata(7, 16, 20), metadata(8, 16, 20), data(7, 16, 0, text[:5]), metadata(9, 16, 20),
+               metadata(7, 16, 20, b"other"), metadata(10, 16, 0), metadata(7, 16, 20), data(7, 16, 5, text[5:])]
+    lines, told, status = run(program, place, "-", octets=records(packets))
+    check(status == 0, told)
+    check([line for line in lines if "too-many" in line] ==
+          ["4 too-many id=9 code=3", "5 too-many id=7 code=3", "6 too-many id=10 code=3"], lines)
+    check("4 send 4400000300000009" in lines and "7 open id=7 width=16 length=20 edge=5 complete=0 already-open" in lines,
+          lines)
+    # What was open goes on, and nothing was ended for what isn't taken.
+    check(content(place, "00000007.page") == text and not any(name.endswith(".aside") for name in os.listdir(place)), lines)
+    check(not any(name.startswith(("00000009", "0000000a", "00000007.2")) for name in os.listdir(place)), "files are made")
+    check(told.count("has the files of 10000 transfers; no new one is opened") == 1 and told.count("\n") == 1, told)
+    # Room is made by hand, or by the option.
+    os.remove(os.path.join(place, "00010000.meta"))
+    lines, told, status = run(program, place, "-", octets=records([metadata(9, 16, 20), metadata(10, 16, 20)]))
+    check("1 open id=9 width=16 length=20 edge=0 complete=0 new" in lines and "2 too-many id=10 code=3" in lines, lines)
+    lines, told, status = run(program, place, "--most-kept=10001", "-", octets=records([metadata(10, 16, 20)]))
+    check("1 open id=10 width=16 length=20 edge=0 complete=0 new" in lines and told == "", (lines, told))
+
+
+def two_senders(program, place):
+    """Two senders that use one Id: no page is a mixture of their files."""
+    texts = page(100, 36), page(100, 37)
+    link = Link(program, place, peer=("--peer", "127.0.0.1", "--peer", "127.0.0.2"))
+    other = socket.socket(socket.AF_INET, socket.SOCK_DGRAM)
+    other.bind(("127.0.0.2", 0))
+    other.settimeout(0.25)
+
+    def sent(which, packet):
+        sender = (link.socket, other)[which]
+        sender.sendto(packet, ("127.0.0.1", link.port))
+        try:
+            return sender.recv(65535)
+        except socket.timeout:
+            return None
+
+    def opening(which):
+        return metadata(7, 16, 100, b"ab"[which:which + 1])
+
+    def half(which, start):
+        return data(7, 16, start, texts[which][start:start + 50], WANTED)
+
+    sent(0, opening(0)), sent(0, half(0, 0))
+    sent(1, opening(1))
+    check(sent(0, half(0, 50)) == bytes.fromhex("4400000600000007"), "DATA of another sender is taken")
+    sent(1, half(1, 0))
+    check(sent(0, half(0, 50)) == bytes.fromhex("4400000600000007"), "DATA of another sender is taken")
+    check(is_complete(sent(1, half(1, 50)), 100) and content(place, "00000007.2.page") == texts[1], link.lines)
+    check(content(place, "00000007.aside") == texts[0][:50], "what the first had")
+    link.wait(lambda: "6 of-another-sender id=7 code=6" in link.lines)
+    # The first begins anew, also from another place: METADATA tells whose the Id is.
+    sent(1, opening(0)), sent(0, opening(0)), sent(0, half(0, 0))
+    check(is_complete(sent(0, half(0, 50)), 100) and content(place, "00000007.3.page") == texts[0], link.lines)
+    other.close()
+    check(link.end() == 0, link.told)
+
+
 # 5. What is known of a page.
 
 
@@ -330,6 +393,35 @@ def answers(program, place):
         check(link.send(word(kind, 0) + b"evil" * 5) is None, f"type {kind} is answered")
     check(link.send(word(1, 0) + b"evil" * 5) == b"\x44\0\0\x0aevil", "REQUEST has an Id")
     check(link.end() == 0, link.told)
+
+
+def unsendable(program, place):
+    """`program` is built with nospace.c. A sender to whom nothing can be sent doesn't fill the log."""
+    marker = os.path.join(os.path.dirname(place), "nospace")
+    link = Link(program, place, NOSPACE=marker)
+    with open(marker, "w", encoding="ascii") as file:
+        file.write("s")
+    check([link.send(metadata(ident, 16, 9)) for ident in range(5)] == [None] * 5, "answered")
+    os.remove(marker)
+    check(link.send(metadata(0, 16, 9)) is not None, "not answered")
+    check(link.end() == 0, link.told)
+    check([line for line in link.told if "sent" in line] == [
+        "saratoga-link: packet 1: the answer can't be sent: Invalid argument; of more only the number is told, at the end",
+        "saratoga-link: 5 answers could not be sent"], link.told)
+
+
+def many_holes(program, place):
+    """A STATUS with as many holes as a packet can have costs no more than others: they are walked in one pass."""
+    holes = [(3 * at, 3 * at + 1) for at in range(8000)]
+    packet = success(7, 32, 0, 24000, holes)
+    shown = ",".join(f"{start}-{stop}" for start, stop in holes)
+    lines, told, status = run(program, place, "-", octets=records([packet] * 400))
+    check(status == 0 and len(lines) == 400, told)
+    check(lines[-1] == "400 success id=7 flags=400000 width=32 timestamp= progress=0 in-response-to=24000 holes=" + shown,
+          lines[-1][:200])
+    for width in (16, 64):
+        lines, told, status = run(program, place, "-", octets=records([success(7, width, 1, 9, [(1, 2), (3, 2**16 - 1)][:1])]))
+        check(lines[-1].endswith("holes=1-2"), lines)
 
 
 # 9. No room.
@@ -416,6 +508,29 @@ def limits(program, place):
     os.close(writing)
     check(done.returncode == 1 and done.stderr.count(b"standard output can't be written") == 1, done)
     check(content(place, "00000008.page") == text, "a reader that ends, ends the program")
+
+
+def stopped(program, place):
+    """A signal while the program waits for more of a pass: what came is kept, and that is no error."""
+    text = page(100, 35)
+    for rest in (b"", record(b"P", b"x" * 50)[:3], record(b"P", b"x" * 50)[:-20]):
+        here = os.path.join(place, str(len(rest)))
+        os.mkdir(here)
+        process = subprocess.Popen([program, "-d", here, "-q", "-"], stdin=subprocess.PIPE, stdout=subprocess.PIPE,
+                                   stderr=subprocess.PIPE)
+        Link.started.append(process)
+        process.stdin.write(records([metadata(7, 16, 100), data(7, 16, 0, text[:40])]) + rest)
+        process.stdin.flush()
+        part = os.path.join(here, "00000007.part")
+        Link.wait(lambda: os.path.exists(part) and os.path.getsize(part) == 40)
+        time.sleep(0.2)
+        process.send_signal(signal.SIGTERM)
+        status = process.wait(timeout=10)
+        told = process.stderr.read().decode()
+        for stream in (process.stdin, process.stdout, process.stderr):
+            stream.close()
+        check((status, told) == (0, ""), (status, told))
+        check(stored(here)[7] == (100, [(0, 40)]), stored(here))
 
 
 # 10. Who is on the air.
@@ -551,6 +666,12 @@ def command_line(program, place):
     passed = record(b"O", metadata(1, 16, 4)) + record(b"D", data(1, 16, 0, b"x")) + record(b"F") + record(b"S")
     got = run(program, place, "-q", "-", octets=passed)
     check("2 records of kinds O and D were passed over" in got[1] and got[2] == 0, got)
+    # Times are passed over in silence, and count: the numbers are those of replay.
+    passed = time_record(2**64 - 1) + record(b"P", metadata(1, 16, 4)) + record(b"W", b"P") + time_record(5)
+    passed += record(b"P", data(1, 16, 0, b"1234"))
+    lines, told, status = run(program, place, "-", octets=passed)
+    check((told, status) == ("", 0) and [line.split(" ")[0] for line in lines if not line.startswith("0 ")] ==
+          ["2", "2", "5", "5", "5"], (lines, told))
     # Forms of options.
     check(run(program, place, "--udp=0", "--any-peer", "--idle=1")[2] == 0, "--idle=1")
     check("more than one pass" in run(program, place, "-q", "--", "-", "x")[1], "--")
@@ -563,16 +684,20 @@ def command_line(program, place):
 
 def all_of_it(program, place):
     """Runs everything; `place` gives a new directory for a name."""
-    full = build([*SOURCES, NOSPACE], program + "-full", *WRAPPED)
+    full = build([*SOURCES, NOSPACE], program + "-full", *WRAPPED, "-Wl,--wrap=sendto")
     tests = [(test, program) for test in (used_again, never_overwritten, taken_away, full_table, operator, who_is_heard,
-                                          what_is_known, runs, answers, on_air, too_many_on_air, limits, traps,
-                                          command_line)]
-    for test, tested in tests + [(no_room, full), (no_room_for_a_name, full)]:
-        try:
-            test(tested, place(test.__name__))
-        except AssertionError as reason:
-            raise AssertionError(f"{test.__name__}: {reason}") from reason
-        finally:
-            for process in Link.started:  # a test that failed leaves none behind
-                if process.poll() is None:
-                    process.kill()
+                                          two_senders, kept, what_is_known, runs, answers, many_holes, on_air, too_many_on_air,
+                                          limits, stopped, traps, command_line)]
+    for test, tested in tests + [(no_room, full), (no_room_for_a_name, full), (unsendable, full)]:
+        one_of_it(test, tested, place(test.__name__))
+
+
+def one_of_it(test, program, place):
+    try:
+        test(program, place)
+    except AssertionError as reason:
+        raise AssertionError(f"{test.__name__}: {reason}") from reason
+    finally:
+        for process in Link.started:  # a test that failed leaves none behind
+            if process.poll() is None:
+                process.kill()

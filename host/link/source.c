@@ -22,7 +22,7 @@ static void tick(void)
 static long read_body(FILE *file, uint64_t length, uint8_t *packet)
 {
     /* Of a packet that is too long one octet too many is kept, so that the library refuses it; the rest is dropped. */
-    size_t kept = length > MOST_PACKET ? MOST_PACKET + 1 : (size_t)length;
+    size_t kept = length > SARATOGA_PACKET_OCTETS ? SARATOGA_PACKET_OCTETS + 1 : (size_t)length;
     if (fread(packet, 1, kept, file) != kept)
         return -1;
     for (uint64_t left = length - kept; left > 0; left--)
@@ -31,10 +31,13 @@ static long read_body(FILE *file, uint64_t length, uint8_t *packet)
     return (long)kept;
 }
 
-/* Packets from the P records of a pass. Other kinds are for replay; those that hold a packet are told, not taken. */
+/*
+ * Packets from the P records of a pass. Other kinds are for replay: O and D, which would change the table there, are told.
+ * Times (W) are passed over; who copies this keeps the number running, so that a line's number is its record's place.
+ */
 void from_pass(const char *name)
 {
-    static uint8_t packet[MOST_PACKET + 1];
+    static uint8_t packet[SARATOGA_PACKET_OCTETS + 1];
     struct peer nobody = {.socket = -1};
     uint64_t passed_over = 0;
     FILE *file = strcmp(name, "-") == 0 ? stdin : fopen(name, "rb");
@@ -43,12 +46,14 @@ void from_pass(const char *name)
     for (uint64_t number = 1; !stopped; number++) {
         uint8_t head[5];
         size_t got = fread(head, 1, sizeof head, file);
-        if (got == 0)
+        if (got == 0 || stopped)
             break;
         uint64_t length = 0;
         for (size_t i = 1; i < sizeof head; i++)
             length = length << 8 | head[i];
         long kept = got == sizeof head ? read_body(file, length, packet) : -1;
+        if (kept < 0 && stopped) /* a signal ended the wait for the rest */
+            break;
         if (kept < 0) {
             int error = ferror(file) ? errno : 0;
             save();
@@ -62,7 +67,7 @@ void from_pass(const char *name)
         if (tick_is_due())
             tick();
     }
-    if (ferror(file))
+    if (ferror(file) && !stopped)
         die("%s: can't be read: %s", name, strerror(errno));
     if (passed_over > 0)
         warn("%s: %" PRIu64 " records of kinds O and D were passed over; only P is a packet off the link", name,
@@ -72,7 +77,7 @@ void from_pass(const char *name)
 }
 
 /* An address as 16 octets: those of IPv6, or ::ffff:a.b.c.d. */
-static void address_octets(uint8_t out[16], const struct sockaddr_storage *address)
+void address_octets(uint8_t out[16], const struct sockaddr_storage *address)
 {
     static const uint8_t mapped[12] = {[10] = 0xff, [11] = 0xff};
     if (address->ss_family == AF_INET6) {
@@ -145,7 +150,7 @@ static struct peer listen_on(const char *host, const char *port)
 /* Packets from a UDP socket, until a signal, or `idle` seconds without a packet (0: for ever). */
 void from_socket(const char *host, const char *port, long idle)
 {
-    static uint8_t packet[MOST_PACKET + 1];
+    static uint8_t packet[SARATOGA_PACKET_OCTETS + 1];
     struct peer peer = listen_on(host, port);
     uint64_t unheard = 0;
     long waited = 0;
@@ -187,5 +192,7 @@ void from_socket(const char *host, const char *port, long idle)
     }
     if (unheard > 0)
         warn("%" PRIu64 " packets of senders that --peer doesn't name were dropped", unheard);
+    if (unsent > 0)
+        warn("%" PRIu64 " answers could not be sent", unsent);
     close(peer.socket);
 }

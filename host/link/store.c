@@ -77,10 +77,31 @@ static unsigned highest(uint64_t id, const char *suffix)
     return most;
 }
 
+/* Whether files of one more transfer may be made. Each has a .meta. Where not, it is told once, until there may be. */
+int may_keep_more(void)
+{
+    static int told;
+    DIR *list = list_directory();
+    uint64_t kept = 0;
+    for (struct dirent *entry; (entry = readdir(list)) != NULL;) {
+        uint64_t id;
+        unsigned generation;
+        const char *suffix = parse_name(entry->d_name, &id, &generation);
+        kept += suffix != NULL && strcmp(suffix, "meta") == 0;
+    }
+    closedir(list);
+    int may = kept < options.most_kept;
+    if (!may && !told)
+        warn("%s: has the files of %" PRIu64 " transfers; no new one is opened until some are taken away, with their .meta",
+             options.directory, kept);
+    told = !may;
+    return may;
+}
+
 /* Forces to disk what was written to .part files, and the names of new files. Gives -1 where there is no room. */
 int force_files(void)
 {
-    for (size_t i = 0; i < MOST_TRANSFERS; i++) {
+    for (size_t i = 0; i < SARATOGA_TRANSFERS; i++) {
         struct transfer *t = &transfers[i];
         if (t->used && t->written) {
             char name[NAME_OCTETS];

@@ -13,13 +13,13 @@
 #include <unistd.h>
 
 uint8_t area[SARATOGA_AREA_OCTETS];
-struct transfer transfers[MOST_TRANSFERS];
+struct transfer transfers[SARATOGA_TRANSFERS];
 static uint8_t saved[SARATOGA_AREA_OCTETS];
 static unsigned unsaved;           /* recordings, openings and closings in `area` that the area on disk lacks */
 
 struct transfer *transfer_of(uint64_t id)
 {
-    for (size_t i = 0; i < MOST_TRANSFERS; i++)
+    for (size_t i = 0; i < SARATOGA_TRANSFERS; i++)
         if (transfers[i].used && transfers[i].id == id)
             return &transfers[i];
     return NULL;
@@ -28,7 +28,7 @@ struct transfer *transfer_of(uint64_t id)
 /* A place for a transfer that is to be opened. The table has as many places, so there is one. */
 struct transfer *new_transfer(uint64_t id)
 {
-    for (size_t i = 0; i < MOST_TRANSFERS; i++) {
+    for (size_t i = 0; i < SARATOGA_TRANSFERS; i++) {
         if (!transfers[i].used) {
             transfers[i] = (struct transfer){.used = 1, .id = id, .fd = -1};
             return &transfers[i];
@@ -53,16 +53,16 @@ void heard(struct transfer *t)
 /* An open transfer by its Id; number 12 where it isn't open. */
 struct saratoga_listed listed(uint64_t id)
 {
-    struct saratoga_listed one;
-    for (uint64_t i = 0; (one = saratoga_transfer(area, sizeof area, i)).number == 0; i++)
-        if (one.id == id)
-            break;
-    return one;
+    return saratoga_find(area, sizeof area, id);
 }
 
 /*
  * What recording would answer, with the area untouched; and whether it would add anything. A recording that adds
  * nothing leaves every octet of the area as it is, and no other does.
+ *
+ * A program that needs the answer alone asks saratoga_try_record, and copies nothing. That doesn't tell whether anything
+ * is added, and to look through the holes (saratoga_transfer_hole, which judges the area at each call) takes longer than
+ * the copy.
  */
 struct saratoga_recorded would_record(const uint8_t *packet, size_t packet_len, int *adds)
 {
@@ -97,7 +97,7 @@ static void close_in_area(uint64_t id)
 /* Forgets what the program keeps of transfers that the table doesn't hold. */
 static void forget_closed(void)
 {
-    for (size_t i = 0; i < MOST_TRANSFERS; i++)
+    for (size_t i = 0; i < SARATOGA_TRANSFERS; i++)
         if (transfers[i].used && listed(transfers[i].id).number != 0)
             forget(&transfers[i]);
 }
@@ -105,7 +105,7 @@ static void forget_closed(void)
 /* A .part that is gone takes its transfer with it, before the area says that its octets are there. */
 static void close_lost(void)
 {
-    for (size_t i = 0; i < MOST_TRANSFERS; i++) {
+    for (size_t i = 0; i < SARATOGA_TRANSFERS; i++) {
         struct transfer *t = &transfers[i];
         if (t->used && t->written && !part_is_there(t)) {
             char name[NAME_OCTETS];
@@ -199,7 +199,7 @@ int deliver(uint64_t number, struct transfer *t)
 /* Complete transfers whose page could not be named. */
 void deliver_what_waits(void)
 {
-    for (size_t i = 0; i < MOST_TRANSFERS; i++)
+    for (size_t i = 0; i < SARATOGA_TRANSFERS; i++)
         if (transfers[i].used && !transfers[i].delivered && listed(transfers[i].id).complete && save())
             deliver(0, &transfers[i]);
 }

@@ -510,10 +510,10 @@ def loopback(program, place, address, seconds, options):
             f"{sender.failures} of them failures, and {receiver.kills} kills")
 
 
-# Programs that write in another order, which the tests must find.
+# Programs that write in another order, or take an option and don't do what it says, which the tests must find.
 
 
-ENDED, CUT, REPLACED = "ended", "power cut", "ended while a file is replaced"  # which test finds it
+ENDED, CUT, REPLACED = "ended", "power cut", "ended while a file is replaced"  # which test finds it, or one of plant.py
 
 WRONG = {
     "records and saves before the payload is written": (
@@ -548,6 +548,20 @@ WRONG = {
     "sets a file aside before its transfer is closed on disk": (
         REPLACED, "    close_in_area(t->id);\n    if (!save())", "    set_aside(t);\n    close_in_area(t->id);\n    if (!save())"),
     "writes a file over what another had": (REPLACED, "length_of(part) == 0 && !is_there(page) && !is_there(aside)", "1"),
+    "makes no room, whatever --make-room says": (
+        plant.full_table, "i < SARATOGA_TRANSFERS && options.make_room", "i < SARATOGA_TRANSFERS && 0"),
+    "makes room by the Id, and not by who was heard longest ago": (
+        plant.full_table, "t->heard < chosen->heard", "t->id < chosen->id"),
+    "closes nothing that an operator asks it to": (
+        plant.operator, "        close_transfer(id);\n    else\n", "        ;\n    else\n"),
+    "hears every sender, whatever --peer says": (
+        plant.who_is_heard, "    if (options.any_peer)\n        return 1;", "    return 1;"),
+    "takes DATA of any sender for an Id": (plant.two_senders, "memcmp(sender, t->sender, sizeof sender) != 0", "0"),
+    "keeps the files of any number of transfers": (plant.kept, "kept < options.most_kept", "1"),
+    "ends a transfer for one that isn't taken": (
+        plant.kept, "t == NULL || is_lost || is_other))\n        return;", "t == NULL))\n        return;"),
+    "answers failure 3 whatever --repair-status says": (plant.runs, "&& options.repair_status) {", "&& 0) {"),
+    "takes a file of any length": (plant.command_line, "read->size > options.largest", "0"),
 }
 
 
@@ -569,6 +583,8 @@ def wrong_programs(place):
         try:
             if test == ENDED:
                 cut_everywhere(build(paths, here + ".out", "-DLINK_CUT_POINTS", "-Wno-error"), here)
+            elif callable(test):
+                plant.one_of_it(test, build(paths, here + ".out", "-Wno-error"), here)
             elif test == REPLACED:
                 cut_everywhere(build(paths, here + ".out", "-DLINK_CUT_POINTS", "-Wno-error"), here,
                                plant.two_files_of_one_id)
@@ -612,7 +628,7 @@ def main():
             power_cuts(power, program, fresh("power-replaced"), plant.two_files_of_one_id))
         print(f"link: power cut at each of {calls} calls, whatever of the rest is on disk nothing promised is missing")
         wrong_programs(fresh("wrong"))
-        print(f"link: {len(WRONG)} programs with another order of writes are found")
+        print(f"link: {len(WRONG)} programs with another order of writes, or an option that does nothing, are found")
         print("link: " + loopback(program, fresh("four"), "127.0.0.1", seconds, ()))
         try:
             socket.socket(socket.AF_INET6, socket.SOCK_DGRAM).bind(("::1", 0))

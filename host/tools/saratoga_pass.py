@@ -91,6 +91,16 @@ def close_record(ident):
     return record(b"C", struct.pack(">I", ident))
 
 
+def time_record(nanoseconds):
+    """The time of the record after it, since the start of 1970."""
+    return record(b"W", struct.pack(">Q", nanoseconds))
+
+
+def time_of(kind, body):
+    """The nanoseconds that a record gives the next; None where it is no time."""
+    return int.from_bytes(body, "big") if kind == b"W" and len(body) == 8 else None
+
+
 def split(octets):
     """The records of a pass, pairs of kind and body, and the octets of a last one that is cut short."""
     records, at = [], 0

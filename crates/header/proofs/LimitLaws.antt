@@ -14,18 +14,18 @@ use Rattle.refusals.proofs.TestLaws.{eqb-iff, eqb-not, ltb-iff, ltb-not, both}
 use Rattle.refusals.proofs.RefusalLaws.{given-here, given-later, after-none, when-given, when-other}
 use Rattle.refusals.proofs.LimitLaws.{either, unequal-iff, when-all, chain-all, link-all, chain-iff, first-only}
 use Rattle.header.specs.FirstWord.{markOf, typeOf, widthOf, kindOf}
-use Rattle.header.specs.Start.{wordOf, startRefusal, typeRefusal, fileRefusal}
+use Rattle.header.specs.Start.{wordOf, startOctets, startRefusal, typeRefusal, fileRefusal}
 use Rattle.header.specs.Descriptor.{descriptorRefusal}
-use Rattle.header.proofs.StartLaws.{StartFine, start-fine, TypeFine, type-fine, type-none, FileFine, file-fine}
+use Rattle.header.proofs.StartLaws.{start-between, start-octets, StartFine, start-fine, TypeFine, type-fine, type-none, FileFine, file-fine}
 
--- ---- the first 8 octets
+-- ---- the first 8 octets, of BEACON the first 4
 
 module _ (s : List ℕ) where
   abbrev tooLong : Bool
   tooLong = ltb 65535 (length s)
 
   abbrev tooShort : Bool
-  tooShort = ltb (length s) 8
+  tooShort = ltb (length s) (startOctets (wordOf s))
 
   abbrev otherMark : Bool
   otherMark = not (eqb (markOf (wordOf s)) 1)
@@ -39,13 +39,17 @@ module _ (s : List ℕ) where
       (ltb-iff 65535 (length s))
 
   -- 1: "packet ends inside a field", here the word or the Id
-  pub start-one-iff : (startRefusal s ≡ 1) ↔ (length s < 8)
+  pub start-one-iff : (startRefusal s ≡ 1) ↔ (length s < startOctets (wordOf s))
   unfolding startRefusal
   start-one-iff =
       Iff·trans (given-later tooLong 2 1 _ (λ e. omega arith) (λ e. omega arith))
       (Iff·trans (both (ltb-not 65535 (length s))
-      (Iff·trans (given-here tooShort 1 _ (λ e. omega arith) (when-other otherMark 3 1 (λ e. omega arith) (λ e. omega arith))) (ltb-iff (length s) 8)))
-      ((λ p. p .1), (λ l. (omega arith, l))))
+      (Iff·trans (given-here tooShort 1 _ (λ e. omega arith) (when-other otherMark 3 1 (λ e. omega arith) (λ e. omega arith))) (ltb-iff (length s) (startOctets (wordOf s)))))
+      ((λ p. p .1), (λ l. (omega (arith, start-between (wordOf s)), l))))
+
+  -- a packet that begins otherwise needs eight octets, whatever its type
+  eight : (markOf (wordOf s) ≡ 1 → ⊥) → startOctets (wordOf s) ≡ 8
+  eight n = rw (ne-eqb (markOf (wordOf s)) 1 n)
 
   -- 3: "bits 0 and 1 are not 0 1"
   pub start-three-iff : (startRefusal s ≡ 3) ↔ ((length s ≤ 65535) × ((8 ≤ length s) × (markOf (wordOf s) ≡ 1 → ⊥)))
@@ -54,7 +58,8 @@ module _ (s : List ℕ) where
       Iff·trans (given-later tooLong 2 3 _ (λ e. omega arith) (λ e. omega arith))
       (both (ltb-not 65535 (length s))
       (Iff·trans (given-later tooShort 1 3 _ (λ e. omega arith) (λ e. omega arith))
-      (both (ltb-not (length s) 8) (Iff·trans (when-given otherMark 3 (λ e. omega arith)) (unequal-iff (markOf (wordOf s)) 1)))))
+      (Iff·trans (both (ltb-not (length s) (startOctets (wordOf s))) (Iff·trans (when-given otherMark 3 (λ e. omega arith)) (unequal-iff (markOf (wordOf s)) 1)))
+      ((λ p. (rw (eight (p .1)) at (p .0), p .1)), (λ p. (rw (eight (p .1)) (p .0), p .1))))))
 
   pub start-le : startRefusal s ≤ 3
   unfolding startRefusal
@@ -66,7 +71,7 @@ module _ (s : List ℕ) where
   unfolding startRefusal
   start-none-iff = (
     start-fine s,
-    (λ f. rw (le-ltb 65535 (length s) (f .short), le-ltb (length s) 8 (f .long), eq-eqb (markOf (wordOf s)) 1 (f .mark))),
+    (λ f. rw (le-ltb 65535 (length s) (f .short), le-ltb (length s) (startOctets (wordOf s)) (rw (start-octets (wordOf s) (f .mark)) (f .long)), eq-eqb (markOf (wordOf s)) 1 (f .mark))),
   )
 
 -- ---- a reader that takes the type t alone
@@ -84,7 +89,7 @@ module _ (t : ℕ) (s : List ℕ) where
   two-iff = Iff·trans (start-iff 2 (λ e. omega arith) (λ e. omega arith)) (start-two-iff s)
 
   -- 1: "packet ends inside a field", here the word or the Id
-  pub one-iff : (typeRefusal t s ≡ 1) ↔ (length s < 8)
+  pub one-iff : (typeRefusal t s ≡ 1) ↔ (length s < startOctets (wordOf s))
   one-iff = Iff·trans (start-iff 1 (λ e. omega arith) (λ e. omega arith)) (start-one-iff s)
 
   -- 3: "bits 0 and 1 are not 0 1"
@@ -114,7 +119,7 @@ module _ (t : ℕ) (s : List ℕ) where
       (both type-none-iff Iff·rfl)
 
   -- 1 of the start, or of what comes after
-  pub one-or-after : (r : ℕ) → (typeRefusal t s ▹ r ≡ 1) ↔ ((length s < 8) ⊎ (TypeFine t s × (r ≡ 1)))
+  pub one-or-after : (r : ℕ) → (typeRefusal t s ▹ r ≡ 1) ↔ ((length s < startOctets (wordOf s)) ⊎ (TypeFine t s × (r ≡ 1)))
   one-or-after r = Iff·trans (chain-iff (typeRefusal t s) r 1 (λ e. omega arith)) (either one-iff (both type-none-iff Iff·rfl))
 
 -- ---- width and kind of METADATA and DATA

@@ -4,7 +4,7 @@ ghost use Prim.Native.Nat.{_+_, _*_, _<_, _≤_, _^_};
 ghost use lib.ListN.{length};
 ghost use Rattle.octets.specs.Numbers.{Width};
 ghost use Rattle.header.specs.FirstWord.{Splits, descriptorOctets, timestampOctets, wordFor};
-ghost use Rattle.header.specs.Start.{wordOf, idOf, startRefusal, typeRefusal, fileRefusal};
+ghost use Rattle.header.specs.Start.{wordOf, idOf, startOctets, startRefusal, typeRefusal, fileRefusal};
 ghost use Rattle.header.specs.Descriptor.{descriptorAt, descriptorRefusal};
 
 // The fields of a packet's first word. What some of them mean depends on the packet's type.
@@ -53,7 +53,7 @@ pub fn join(ptype: u64, flags: u64) -> u64
 
 // The first word of a packet.
 pub fn word(p: &[u8]) -> u64
-    requires { ⌜ 8 ≤ length (now p) ⌝ }
+    requires { ⌜ 4 ≤ length (now p) ⌝ }
     ensures { λ r. ⌜ r ≡ wordOf (now (p .entry)) ⌝ }
 {
     octets::read_number(p, 0, 4)
@@ -110,6 +110,25 @@ pub fn descriptor(s: &[u8], at: usize, d: usize) -> u64
     octets::read_number(s, at, d)
 }
 
+// Where the first word ends, and where the Id.
+const WORD_END: usize = 4;
+
+const ID_END: usize = 8;
+
+// How many octets a packet needs, by its first word: a BEACON can be that word alone, all others have an Id.
+fn start_octets(w: u64) -> usize
+    ensures { λ r. ⌜ r ≡ startOctets w ⌝ }
+{
+    let h = split(w);
+    if h.mark != 1 {
+        return ID_END;
+    }
+    if h.ptype == 0 {
+        return WORD_END;
+    }
+    ID_END
+}
+
 // Refusals 2, 1, 3 of any packet; 0 for none.
 pub fn start_refusal(p: &[u8]) -> u64
     ensures { λ r. ⌜ r ≡ startRefusal (now (p .entry)) ⌝ }
@@ -117,10 +136,14 @@ pub fn start_refusal(p: &[u8]) -> u64
     if 65535 < p.len() {
         return 2;
     }
-    if p.len() < 8 {
+    if p.len() < WORD_END {
         return 1;
     }
-    let h = split(word(p));
+    let w = word(p);
+    if p.len() < start_octets(w) {
+        return 1;
+    }
+    let h = split(w);
     if h.mark != 1 {
         return 3;
     }

@@ -1,4 +1,5 @@
--- "Writing what was read gives the same octets for METADATA and DATA; reading what was written gives the same fields":
+-- "Writing what was read gives the same octets for METADATA and DATA; reading what was written gives the same fields", and of
+-- BEACON "Round trip .. as for DATA":
 -- in the terms of the public operations, for every octet list and every list of fields.
 -- Assumes nothing.
 use Prim.Native.Nat.{ℕ, zero, suc, _+_, _≤_}
@@ -14,6 +15,12 @@ use Rattle.refusals.specs.Writing.{writtenOf}
 use Rattle.refusals.specs.declared.Written.the-variants.{Size}
 use Rattle.refusals.proofs.RefusalLaws.{first-none}
 use Rattle.directory_entry.specs.Properties.{pathAt}
+use Rattle.packet_beacon.specs.Flags.{bundlesOf, streamsOf, sendingPair, receivingPair, freeOctets, willingnessOf}
+use Rattle.packet_beacon.specs.Beacon.{endpointAt, beaconRefusal, beaconOf}
+use Rattle.packet_beacon.specs.WriteBeacon.{beaconRefused, beaconOctets, beaconWritten, beaconBuffer}
+use Rattle.packet_beacon.specs.declared.Beacon.{Beacon}
+use Rattle.packet_beacon.proofs.BeaconLaws.{beacon-given}
+use Rattle.packet_beacon.proofs.RoundTrip as beacon-trip
 use Rattle.packet_metadata.specs.Metadata.{entryAt, metadataRefusal, metadataOf}
 use Rattle.packet_metadata.specs.WriteMetadata.{metadataSize, metadataWriteRefusal, metadataOctets, metadataWritten, metadataBuffer}
 use Rattle.packet_metadata.specs.declared.Metadata.{Metadata}
@@ -26,14 +33,60 @@ use Rattle.packet_data.proofs.DataLaws.{data-given}
 use Rattle.packet_data.proofs.RoundTrip as data-trip
 use Rattle.packet_status.specs.WriteFailure.{failureWriteRefusal, failureOctets, failureWritten, failureBuffer}
 use Rattle.packet_status.proofs.RoundTrip as status
-use Rattle.packet.specs.Read.{ofMetadata, ofStatus, readType, readPacket}
+use Rattle.packet.specs.Read.{ofBeacon, ofMetadata, ofStatus, readType, readPacket}
 use Rattle.packet.specs.declared.Read.the-variants as read
-use Rattle.packet.proofs.CaseLaws.{read-typed, data-taken, packet-metadata, packet-data}
+use Rattle.packet.proofs.CaseLaws.{read-typed, data-taken, packet-beacon, packet-metadata, packet-data}
 
 -- a writer that answers a size refused nothing, and left the packet at the start of the buffer
 written-size : (n size m : ℕ) → writtenOf n size ≡ Size m → (n ≡ 0) × (size ≡ m)
 written-size zero size m e = (refl, cc)
 written-size (suc n) size m e = absurd (let z : _≡_ {A = ℕ} 0 1 = cc in omega arith)
+
+-- BEACON, written and read
+module _ (flags free : ℕ) (endpoint old : List ℕ) (n : ℕ) (ok : beaconWritten flags free endpoint old ≡ Size n) where
+  taken : (beaconRefused flags free endpoint old ≡ 0) × (endpointAt flags + length endpoint ≡ n)
+  unfolding beaconWritten
+  taken = written-size _ _ n ok
+
+  pub beacon-packet-written : take n (beaconBuffer flags free endpoint old) ≡ beaconOctets flags free endpoint
+  unfolding beaconBuffer
+  beacon-packet-written =
+      rw (taken .0)
+      (take-put n (beaconOctets flags free endpoint) old (beacon-trip.beacon-octets-length flags free endpoint (length old) (taken .0) ∙ taken .1))
+
+  pub beacon-reads-back : readPacket (take n (beaconBuffer flags free endpoint old)) ≡ read.Beacon (record {
+    flags = flags;
+    largest = descriptorOctets flags;
+    bundles = bundlesOf flags;
+    streams = streamsOf flags;
+    send = willingnessOf (sendingPair flags);
+    receive = willingnessOf (receivingPair flags);
+    width = freeOctets flags;
+    free = free;
+    start = endpointAt flags;
+    length = length endpoint;
+  })
+  unfolding readType beaconRefusal
+  beacon-reads-back =
+      let s = beaconOctets flags free endpoint in
+      let r = beacon-trip.beacon-read-written flags free endpoint (length old) (taken .0) in
+      rw beacon-packet-written (read-typed 0 s (first-none _ _ (beacon-given s _ r .0)) ∙ ap ofBeacon r)
+
+  pub endpoint-reads-back : drop (endpointAt flags) (take n (beaconBuffer flags free endpoint old)) ≡ endpoint
+  endpoint-reads-back = rw beacon-packet-written (beacon-trip.endpoint-read-written flags free endpoint (length old) (taken .0))
+
+-- BEACON, read and written; the endpoint is the octets at its place
+module _ (s : List ℕ) (os : Octets s) (b : Beacon) (ok : readPacket s ≡ read.Beacon b) (old : List ℕ) (room : length s ≤ length old) where
+  nought : (beaconRefusal s ≡ 0) × (beaconOf s ≡ b)
+  nought = beacon-given s b (packet-beacon s b ok)
+
+  pub beacon-writes-back :
+      (beaconWritten (b .flags) (b .free) (drop (b .start) s) old ≡ Size (length s))
+      × (beaconBuffer (b .flags) (b .free) (drop (b .start) s) old ≡ put 0 s old)
+  unfolding beaconOf
+  beacon-writes-back =
+      rw (← nought .1)
+      (beacon-trip.beacon-written-read s os (nought .0) old room, beacon-trip.beacon-buffer-read s os (nought .0) old room)
 
 -- DATA, written and read
 module _ (flags id : ℕ) (timestamp : List ℕ) (offset : ℕ) (payload old : List ℕ) (n : ℕ)

@@ -1,4 +1,4 @@
--- A packet of any type, read: "It reads METADATA, DATA and STATUS".
+-- A packet of any type, read: "It reads METADATA, DATA and STATUS", and BEACON from request One on.
 -- Assumes nothing.
 use Prim.Native.Nat.{ℕ}
 use mathlib.Core.Bool.{cond}
@@ -7,6 +7,9 @@ use lib.Dec.{eqb}
 use Rattle.refusals.specs.Refusals.{refusalOf, answered}
 use Rattle.header.specs.FirstWord.{typeOf}
 use Rattle.header.specs.Start.{wordOf, startRefusal}
+use Rattle.packet_beacon.specs.Beacon.{readBeacon}
+use Rattle.packet_beacon.specs.declared.BeaconRead.{BeaconRead}
+use Rattle.packet_beacon.specs.declared.BeaconRead.the-variants as beacon-read
 use Rattle.packet_metadata.specs.Metadata.{readMetadata}
 use Rattle.packet_metadata.specs.declared.MetadataRead.{MetadataRead}
 use Rattle.packet_metadata.specs.declared.MetadataRead.the-variants as metadata-read
@@ -17,9 +20,13 @@ use Rattle.packet_status.specs.Status.{readStatus}
 use Rattle.packet_status.specs.declared.StatusRead.{StatusRead}
 use Rattle.packet_status.specs.declared.StatusRead.the-variants as status-read
 use Rattle.packet.specs.declared.Read.{Read}
-use Rattle.packet.specs.declared.Read.the-variants.{Metadata, Data, Success, Failure, Refused}
+use Rattle.packet.specs.declared.Read.the-variants.{Beacon, Metadata, Data, Success, Failure, Refused}
 
 -- what the reader of each type answers, as a case of Read
+abbrev pub ofBeacon : BeaconRead → Read
+ofBeacon (beacon-read.Accepted b) = Beacon b
+ofBeacon (beacon-read.Refused r) = Refused r
+
 abbrev pub ofMetadata : MetadataRead → Read
 ofMetadata (metadata-read.Accepted m) = Metadata m
 ofMetadata (metadata-read.Refused r) = Refused r
@@ -33,13 +40,14 @@ ofStatus (status-read.Success s) = Success s
 ofStatus (status-read.Failure f) = Failure f
 ofStatus (status-read.Refused r) = Refused r
 
--- "METADATA 2, DATA 3, STATUS 4"; 4: "type not 2, 3 or 4"
+-- "BEACON (type 0)", "METADATA 2, DATA 3, STATUS 4"; 4: "type not 2, 3 or 4", and "in plain reading refusal 4 no longer covers type 0"
 unfoldable pub readType : ℕ → List ℕ → Read
 readType t s =
-    cond (eqb t 2) (ofMetadata (readMetadata s))
+    cond (eqb t 0) (ofBeacon (readBeacon s))
+    (cond (eqb t 2) (ofMetadata (readMetadata s))
     (cond (eqb t 3) (ofData (readData s))
-    (cond (eqb t 4) (ofStatus (readStatus s)) (Refused (refusalOf 4))))
+    (cond (eqb t 4) (ofStatus (readStatus s)) (Refused (refusalOf 4)))))
 
--- "Order in reading: 2, 1 (first 8 octets), 3, 4"
+-- "Order in reading: 2, 1 (first 8 octets), 3, 4"; of BEACON the first 4
 unfoldable pub readPacket : List ℕ → Read
 readPacket s = answered Refused (startRefusal s) (readType (typeOf (wordOf s)) s)

@@ -1,6 +1,8 @@
 // Reading a packet of any type.
 ghost use mathlib.Core.Path.{_≡_};
-ghost use Rattle.packet.specs.Read.{ofMetadata, ofData, ofStatus, readPacket};
+ghost use Rattle.packet.specs.Read.{ofBeacon, ofMetadata, ofData, ofStatus, readPacket};
+use packet_beacon::Beacon;
+use packet_beacon::BeaconRead;
 use packet_data::Data;
 use packet_data::DataRead;
 use packet_metadata::Metadata;
@@ -12,11 +14,21 @@ use refusals::Refusal;
 
 // What a packet holds, by its type, or why it is refused.
 pub enum Read {
+    Beacon(Beacon),
     Metadata(Metadata),
     Data(Data),
     Success(SuccessStatus),
     Failure(FailureStatus),
     Refused(Refusal),
+}
+
+fn of_beacon(a: BeaconRead) -> Read
+    ensures { λ r. ⌜ r ≡ ofBeacon a ⌝ }
+{
+    match a {
+        BeaconRead::Accepted(b) => Read::Beacon(b),
+        BeaconRead::Refused(r) => Read::Refused(r),
+    }
 }
 
 fn of_metadata(a: MetadataRead) -> Read
@@ -47,7 +59,7 @@ fn of_status(a: StatusRead) -> Read
     }
 }
 
-// Reads a packet of any of the three types.
+// Reads a packet of any of the four types. BEACON comes most seldom, so that its type is tested last.
 pub fn read_packet(p: &[u8]) -> Read
     ensures { λ r. ⌜ r ≡ readPacket (now (p .entry)) ⌝ }
 {
@@ -64,6 +76,9 @@ pub fn read_packet(p: &[u8]) -> Read
     }
     if h.ptype == 4 {
         return of_status(packet_status::read_status(p));
+    }
+    if h.ptype == 0 {
+        return of_beacon(packet_beacon::read_beacon(p));
     }
     Read::Refused(refusals::refuse(4))
 }

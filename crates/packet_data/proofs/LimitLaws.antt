@@ -15,7 +15,7 @@ use Rattle.refusals.proofs.TestLaws.{eqb-iff, eqb-not, ltb-iff, ltb-not, both}
 use Rattle.refusals.proofs.RefusalLaws.{given-here, given-later, after-none, when-given, when-other}
 use Rattle.refusals.proofs.LimitLaws as chains
 use Rattle.header.specs.FirstWord.{widthOf, kindOf, descriptorOctets, timestampOctets}
-use Rattle.header.specs.Start.{wordOf, typeRefusal, fileRefusal}
+use Rattle.header.specs.Start.{wordOf, startOctets, typeRefusal, fileRefusal}
 use Rattle.header.specs.Descriptor.{descriptorRefusal}
 use Rattle.header.proofs.StartLaws.{TypeFine, FileFine}
 use Rattle.header.proofs.LimitLaws as header
@@ -68,7 +68,7 @@ module _ (s : List ℕ) where
       (header.six-iff w)))
 
   -- 1: "packet ends inside a field": the word or the Id, or then the timestamp or the offset
-  pub one-iff : (dataRefusal s ≡ 1) ↔ ((length s < 8) ⊎ (TypeFine 3 s × (FileFine w × (length s < payloadAt w))))
+  pub one-iff : (dataRefusal s ≡ 1) ↔ ((length s < startOctets w) ⊎ (TypeFine 3 s × (FileFine w × (length s < payloadAt w))))
   unfolding dataRefusal
   one-iff =
       Iff·trans (header.one-or-after 3 s _)

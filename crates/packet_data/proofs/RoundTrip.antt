@@ -12,11 +12,12 @@ use Rattle.octets.specs.Put.{put}
 use Rattle.octets.proofs.PutLaws.{refold}
 use Rattle.octets.proofs.NumberLaws.{value-digits, length-digits, part-digits, part-lt}
 use Rattle.header.specs.FirstWord.{flagsOf, descriptorOctets, timestampOctets, wantedOf, eodOf, markOf, typeOf, wordFor}
-use Rattle.header.specs.Start.{wordOf, idOf, startRefusal, typeRefusal}
+use Rattle.header.specs.Start.{wordOf, idOf}
 use Rattle.refusals.specs.Writing.{roomRefusal}
 use Rattle.refusals.specs.declared.Written.the-variants.{Size}
 use Rattle.header.specs.Descriptor.{descriptorAt}
 use Rattle.header.proofs.DescriptorLaws.{descriptor-none}
+use Rattle.header.proofs.StartLaws.{type-known, type-none}
 use Rattle.header.proofs.FirstWordLaws.{mark-for, type-for, flags-for, octets-for, timestamp-for, file-for, octets-flags, timestamp-flags, file-flags, flags-lt, word-again}
 use Rattle.packet_data.specs.Data.{offsetAt, offsetOf, payloadAt, dataRefusal, dataOf, readData, payloadOf}
 use Rattle.packet_data.specs.WriteData.{dataExcess, dataWriteRefusal, dataOctets, dataWritten, dataBuffer}
@@ -71,20 +72,20 @@ module _ (f i : ℕ) (t : List ℕ) (o : ℕ) (p : List ℕ) (room : ℕ) (ok : 
   payload-at = rw (octets-for 3 f (omega arith) flags-fit) (omega (arith, timestamp-for 3 f (omega arith) flags-fit))
 
   accepted : dataRefusal (dataOctets f i t o p) ≡ 0
-  unfolding dataRefusal typeRefusal startRefusal
+  unfolding dataRefusal
   accepted =
       let n = payloadAt f + length p in
+      let mark : markOf (wordOf (dataOctets f i t o p)) ≡ 1 = rw word (mark-for 3 f (omega arith) flags-fit) in
+      let ptype : typeOf (wordOf (dataOctets f i t o p)) ≡ 3 = rw word (type-for 3 f (omega arith) flags-fit) in
+      let size = data-octets-length in
       rw (
+        type-none 3 (dataOctets f i t o p) (type-known 3 (dataOctets f i t o p) (omega (arith, fine .short)) mark ptype (omega arith)),
         word,
         descriptor-none (descriptorOctets (wordFor 3 f)) (offsetAt (wordFor 3 f)) (dataOctets f i t o p) (omega (arith, payload-at, data-octets-length)),
         data-octets-length,
         file-for 3 f (omega arith) flags-fit,
         payload-at,
         fine .file,
-        le-ltb 65535 n (fine .short),
-        le-ltb n 8 (omega arith),
-        eq-eqb (markOf (wordFor 3 f)) 1 (mark-for 3 f (omega arith) flags-fit),
-        eq-eqb (typeOf (wordFor 3 f)) 3 (type-for 3 f (omega arith) flags-fit),
         ne-eqb n (payloadAt f) (omega (arith, fine .some)),
       )
 
@@ -138,7 +139,7 @@ module _ (s : List ℕ) (os : Octets s) (ok : dataRefusal s ≡ 0) where
   same-octets : dataOctets (flagsOf w) (idOf s) timestampRead offsetRead payloadRead ≡ s
   unfolding dataOctets
   same-octets =
-      let l : 8 ≤ length s = read .head .start .long in
+      let l : 8 ≤ length s = read .head .long in
       let m : payloadAt w < length s = read .more in
       let again = word-again w 3 (part-lt s 0 4 os (omega arith)) (read .head .start .mark) (read .head .ptype) in
       rejoin s (beDigits 4 (wordFor 3 (flagsOf w))) (beDigits 4 (idOf s)) (beDigits (descriptorOctets (flagsOf w)) offsetRead)
@@ -155,7 +156,7 @@ module _ (s : List ℕ) (os : Octets s) (ok : dataRefusal s ≡ 0) where
   not-excess : dataExcess (flagsOf w) (idOf s) (timestampOctets w) offsetRead ≡ 0
   unfolding dataExcess
   not-excess =
-      let l : 8 ≤ length s = read .head .start .long in
+      let l : 8 ≤ length s = read .head .long in
       let m : payloadAt w < length s = read .more in
       rw (
         octets-flags,

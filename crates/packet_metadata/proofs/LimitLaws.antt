@@ -16,7 +16,7 @@ use Rattle.refusals.proofs.TestLaws.{ltb-iff, ltb-not, not-iff, not-not, test-n
 use Rattle.refusals.proofs.RefusalLaws.{given-later, after-none, when-given}
 use Rattle.refusals.proofs.LimitLaws as chains
 use Rattle.header.specs.FirstWord.{widthOf, kindOf, descriptorOctets, sumType, sumWords}
-use Rattle.header.specs.Start.{wordOf, typeRefusal, fileRefusal}
+use Rattle.header.specs.Start.{wordOf, startOctets, typeRefusal, fileRefusal}
 use Rattle.header.proofs.StartLaws.{TypeFine, FileFine}
 use Rattle.header.proofs.LimitLaws as header
 use Rattle.directory_entry.specs.Properties.{pathAt}
@@ -182,7 +182,7 @@ module _ (s : List ℕ) where
 
   -- 1: "packet ends inside a field .. or a path has no zero octet in fewer than 1,024 octets"
   pub one-iff : (metadataRefusal s ≡ 1)
-      ↔ ((length s < 8) ⊎ (TypeFine 2 s × (FileFine word × (PairAllowed word × ((length s < entryAt word) ⊎ entry.EntryEnds own entryPart)))))
+      ↔ ((length s < startOctets word) ⊎ (TypeFine 2 s × (FileFine word × (PairAllowed word × ((length s < entryAt word) ⊎ entry.EntryEnds own entryPart)))))
   unfolding metadataRefusal
   one-iff =
       Iff·trans (header.one-or-after 2 s _)

@@ -12,9 +12,10 @@ use Rattle.octets.specs.Put.{put}
 use Rattle.octets.proofs.PutLaws.{refold}
 use Rattle.octets.proofs.NumberLaws.{value-digits, part-digits, part-lt, octets-drop}
 use Rattle.header.specs.FirstWord.{markOf, typeOf, flagsOf, descriptorOctets, wordFor}
-use Rattle.header.specs.Start.{wordOf, idOf, startRefusal, typeRefusal, fileRefusal}
+use Rattle.header.specs.Start.{wordOf, idOf, fileRefusal}
 use Rattle.refusals.specs.Writing.{roomRefusal}
 use Rattle.refusals.specs.declared.Written.the-variants.{Size}
+use Rattle.header.proofs.StartLaws.{type-known, type-none}
 use Rattle.header.proofs.FirstWordLaws.{mark-for, type-for, flags-for, octets-for, file-for, octets-flags, file-flags, flags-lt, word-again}
 use Rattle.directory_entry.specs.Properties.{pathAt}
 use Rattle.directory_entry.specs.Entry.{propertiesOf, entryOf}
@@ -67,19 +68,19 @@ module _ (flags id : ℕ) (checksum : List ℕ) (properties size mtime ctime : �
   path-read-written = rw (← drop-drop (pathAt properties) (entryAt flags) s, entry-is) (path-written (descriptorOctets flags) properties size mtime ctime path (fine .excess) (fine .entry))
 
   taken : metadataRefusal s ≡ 0
-  unfolding metadataRefusal typeRefusal startRefusal
+  unfolding metadataRefusal
   taken =
       let n = metadataSize flags properties (length path) in
+      let mark : markOf (wordOf s) ≡ 1 = rw word-is (mark-for 2 flags (omega arith) small) in
+      let ptype : typeOf (wordOf s) ≡ 2 = rw word-is (type-for 2 flags (omega arith) small) in
+      let long = metadata-octets-length in
       rw (
+        type-none 2 s (type-known 2 s (omega (arith, fine .short)) mark ptype (omega arith)),
         word-is,
         metadata-octets-length,
         checksum-for 2 flags small,
         octets-for 2 flags (omega arith) small,
         entry-is,
-        le-ltb 65535 n (fine .short),
-        le-ltb n 8 (omega arith),
-        eq-eqb (markOf (wordFor 2 flags)) 1 (mark-for 2 flags (omega arith) small),
-        eq-eqb (typeOf (wordFor 2 flags)) 2 (type-for 2 flags (omega arith) small),
         file-for 2 flags (omega arith) small,
         fine .file,
         pair-for 2 flags small,
@@ -163,7 +164,7 @@ module _ (s : List ℕ) (o : Octets s) (ok : metadataRefusal s ≡ 0) where
   unfolding metadataOctets metadataOf
   metadata-written-read =
       let t = known .start in
-      let l = t .start .long in
+      let l = t .long in
       join s (beDigits 4 (wordFor 2 (flagsOf w))) (beDigits 4 (idOf s)) _ (checksumOctets w)
       (ap (beDigits 4) (word-again w 2 (part-lt s 0 4 o (omega arith)) (t .start .mark) (t .ptype)) ∙ part-digits s 0 4 o (omega arith))
       (part-digits s 4 4 o (omega arith))
@@ -197,7 +198,7 @@ module _ (s : List ℕ) (o : Octets s) (ok : metadataRefusal s ≡ 0) where
         checksum-flags w,
         octets-flags w,
         lt-ltb (flagsOf w) (2 ^ 24) (flags-lt w),
-        lt-ltb (idOf s) (2 ^ 32) (part-lt s 4 4 o (known .start .start .long)),
+        lt-ltb (idOf s) (2 ^ 32) (part-lt s 4 4 o (known .start .long)),
         le-ltb n n (omega arith),
         entry-fits (descriptorOctets w) (entryAt w) rest rest-octets (known .entry),
         f,

@@ -16,7 +16,7 @@ use Rattle.refusals.proofs.TestLaws.{eqb-iff, eqb-not, ltb-iff, ltb-not, not-if
 use Rattle.refusals.proofs.RefusalLaws.{given-here, given-later, when-given, when-other}
 use Rattle.refusals.proofs.LimitLaws as chains
 use Rattle.header.specs.FirstWord.{widthOf, descriptorOctets, partialOf, statusOf}
-use Rattle.header.specs.Start.{wordOf, typeRefusal}
+use Rattle.header.specs.Start.{wordOf, startOctets, typeRefusal}
 use Rattle.header.specs.Descriptor.{descriptorRefusal}
 use Rattle.header.proofs.StartLaws.{TypeFine}
 use Rattle.header.proofs.LimitLaws as header
@@ -112,7 +112,7 @@ module _ (s : List ℕ) where
       (eqb-iff (widthOf w) 3))
 
   -- 1: "packet ends inside a field (not in the hole list: 11)": the word or the Id, or then timestamp, Progress or In-Response-To
-  pub one-iff : (statusRefusal s ≡ 1) ↔ ((length s < 8) ⊎ (TypeFine 4 s × ((statusOf w ≡ 0) × ((widthOf w ≡ 3 → ⊥) × (length s < holesAt w)))))
+  pub one-iff : (statusRefusal s ≡ 1) ↔ ((length s < startOctets w) ⊎ (TypeFine 4 s × ((statusOf w ≡ 0) × ((widthOf w ≡ 3 → ⊥) × (length s < holesAt w)))))
   unfolding statusRefusal successRefusal
   one-iff =
       Iff·trans (header.one-or-after 4 s _)

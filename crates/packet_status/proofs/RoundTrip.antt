@@ -13,7 +13,7 @@ use Rattle.octets.proofs.NumberLaws.{value-digits}
 use Rattle.header.specs.FirstWord.{statusOf, wordFor}
 use Rattle.header.specs.Start.{wordOf, idOf, typeRefusal}
 use Rattle.header.proofs.FirstWordLaws.{mark-for, type-for, flags-for}
-use Rattle.header.proofs.StartLaws.{TypeFine, type-fine, type-none}
+use Rattle.header.proofs.StartLaws.{type-known, TypeFine, type-fine, type-none}
 use Rattle.packet_status.specs.Status.{statusRefusal, failureOf, readStatus}
 use Rattle.packet_status.specs.WriteFailure.{failureWriteRefusal, failureOctets, failureBuffer}
 use Rattle.packet_status.specs.declared.StatusRead.the-variants.{Failure}
@@ -37,18 +37,15 @@ eight-id s h =
 
 eight-fine : (s : List ℕ) → TypeFine 4 s → TypeFine 4 (take 8 s)
 eight-fine s f =
-    let l : length (take 8 s) ≡ 8 = length-take-le 8 s (f .start .long) in
-    record {
-      start = record { short = omega arith; long = omega arith; mark = rw eight-word (f .start .mark) };
-      ptype = rw eight-word (f .ptype);
-    }
+    let l : length (take 8 s) ≡ 8 = length-take-le 8 s (f .long) in
+    type-known 4 (take 8 s) (omega arith) (rw eight-word (f .start .mark)) (rw eight-word (f .ptype)) (omega arith)
 
 pub failure-first-eight : (s : List ℕ) → typeRefusal 4 s ≡ 0 → (statusOf (wordOf s) ≡ 0 → ⊥) → readStatus (take 8 s) ≡ readStatus s
 unfolding failureOf
 failure-first-eight s e n =
     let f = type-fine 4 s e in
     failure-ignores-rest (take 8 s) (type-none 4 (take 8 s) (eight-fine s f)) (rw eight-word n)
-    ∙ rw (eight-word, eight-id s (f .start .long)) (sym (failure-ignores-rest s e n))
+    ∙ rw (eight-word, eight-id s (f .long)) (sym (failure-ignores-rest s e n))
 
 -- what was written
 module _ (id status room : ℕ) (e : failureWriteRefusal id status room ≡ 0) where
@@ -70,14 +67,8 @@ module _ (id status room : ℕ) (e : failureWriteRefusal id status room ≡ 0) w
   typed : TypeFine 4 (failureOctets id status)
   typed =
       let s : status < 2 ^ 24 = omega (arith, fine) in
-      record {
-        start = record {
-          short = rw failure-length (omega arith);
-          long = rw failure-length (omega arith);
-          mark = rw word (mark-for 4 status (omega arith) s);
-        };
-        ptype = rw word (type-for 4 status (omega arith) s);
-      }
+      type-known 4 (failureOctets id status) (rw failure-length (omega arith)) (rw word (mark-for 4 status (omega arith) s))
+      (rw word (type-for 4 status (omega arith) s)) (rw failure-length (omega arith))
 
   pub failure-typed : typeRefusal 4 (failureOctets id status) ≡ 0
   failure-typed = type-none 4 _ typed

@@ -16,7 +16,7 @@ use Rattle.header.specs.Start.{wordOf, typeRefusal}
 use Rattle.refusals.proofs.RefusalLaws.{first-none, rest-none, failed}
 use Rattle.header.specs.Descriptor.{descriptorRefusal}
 use Rattle.header.proofs.DescriptorLaws.{descriptor-there, descriptor-none}
-use Rattle.header.proofs.StartLaws.{StartFine, TypeFine, type-fine, narrow-octets}
+use Rattle.header.proofs.StartLaws.{TypeFine, type-fine, narrow-octets}
 use Rattle.packet_status.specs.Status.{progressAt, responseAt, holesAt, progressOf, responseOf, listOctets, holeCount, holeList, listRefusal, successRefusal, statusRefusal, holeRefusal, indexedHole, readHole, failureOf, acceptedStatus}
 use Rattle.runs.specs.declared.Hole.{Hole}
 use Rattle.packet_status.specs.declared.HoleRead.the-variants as hole-read
@@ -82,7 +82,7 @@ status-fine s e =
 
 -- one hole with refusal 0: the STATUS is a success, and its list has the index
 pub record HoleFine (index : ℕ) (s : List ℕ) : Type 0 where
-  pub start : StartFine s
+  pub typed : TypeFine 4 s
   pub fine : SuccessFine s
   pub below : index < holeCount s
 
@@ -93,7 +93,7 @@ hole-fine index s e =
     let r = rest-none (statusRefusal s) _ e in
     let z = eqb-true _ _ (not-false _ (failed (not (eqb (statusOf (wordOf s)) 0)) 10 (first-none _ _ r))) in
     record {
-      start = f .typed .start;
+      typed = f .typed;
       fine = success-fine s (f .success z);
       below = ltb-true _ _ (not-false _ (failed _ 18 (rest-none (when (not (eqb (statusOf (wordOf s)) 0)) 11) _ r)));
     }

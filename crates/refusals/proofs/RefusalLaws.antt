@@ -132,7 +132,10 @@ no-code n a4 a5 a6 a7 a8 a9 a10 a12 a13 a14 a15 a16 a17 a18 =
                                               (λ e. refl),
                                               (
                                                 (λ e. refl),
-                                                tt,
+                                                (
+                                                  (λ e. refl),
+                                                  tt,
+                                                ),
                                               ),
                                             ),
                                           ),

@@ -1,6 +1,6 @@
 // The refusals: their numbers, the status code of each, and what a writer answers. Not only packets are refused, so this knows of none.
 ghost use mathlib.Core.Path.{_≡_};
-ghost use Rattle.refusals.specs.Refusals.{codeOf, refusalOf};
+ghost use Rattle.refusals.specs.Refusals.{_▹_, codeOf, refusalOf};
 ghost use Rattle.refusals.specs.Writing.{roomRefusal};
 
 // A refusal: its number, and the status code to send (0: nothing to send).
@@ -13,6 +13,16 @@ pub struct Refusal {
 pub enum Written {
     Size(usize),
     Refused(Refusal),
+}
+
+// The first refusal, and where that is none, the second.
+pub fn first(m: u64, n: u64) -> u64
+    ensures { λ r. ⌜ r ≡ m ▹ n ⌝ }
+{
+    if m != 0 {
+        return m;
+    }
+    n
 }
 
 // The status code to send for a refusal.

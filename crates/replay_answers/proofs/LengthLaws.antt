@@ -10,6 +10,7 @@ use Rattle.refusals.specs.declared.Written.the-variants as written
 use Rattle.header.specs.Start.{wordOf}
 use Rattle.header.proofs.FirstWordLaws.{timestamp-le}
 use Rattle.packet.specs.Read.{readPacket}
+use Rattle.packet_beacon.specs.Beacon.{beaconOf}
 use Rattle.packet_data.specs.Data.{dataOf}
 use Rattle.packet_data.specs.declared.Data.{Data}
 use Rattle.packet_data.specs.declared.DataRead.{DataRead}
@@ -30,6 +31,7 @@ use Rattle.text.proofs.LengthLaws.{AtMost, words, at-most, part-most}
 use Rattle.replay_fields.specs.LineWords.{w-already, w-fresh, w-new, w-send, w-written}
 use Rattle.replay_lines.specs.Lines.{refusedLine, successLine}
 use Rattle.replay_lines.proofs.LengthLaws.{plain-most, refused-most, close-most, openedMost, opened-most, record-most, failure-most, octets-most, metadataMost, metadata-most, data-most}
+use Rattle.replay_beacon.proofs.LengthLaws.{beacon-most}
 use Rattle.replay_lines.proofs.HoleLengthLaws.{successMost, success-most}
 use Rattle.replay_answers.specs.AnswerLines.{freshText, closeText, openingText, openText, recordingText, recordText, readText, statusText, sentText}
 use Rattle.replay_answers.proofs.CaseLaws.{read-cases}
@@ -102,6 +104,7 @@ pub read-most : (n : ℕ) (p : List ℕ) {k : ℕ} → Octets p → AtMost p k �
 unfolding readText metadataOf dataOf
 read-most n p {k} o h =
     read-cases (λ r. AtMost (readText n p r) (readMost k)) p
+    (at-most (beacon-most n (beaconOf p) h) (omega arith))
     (at-most (metadata-most n (metadataOf p) h) (omega (arith, checksum-le (wordOf p))))
     (at-most (data-most n p (dataOf p)) (omega (arith, timestamp-le (wordOf p))))
     (at-most (success-line-most n o h) (omega arith))

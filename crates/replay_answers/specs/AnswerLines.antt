@@ -20,6 +20,7 @@ use Rattle.table.specs.declared.Opened.{Opened}
 use Rattle.table.specs.declared.Opened.the-variants as opened
 use Rattle.table.specs.declared.Recorded.{Recorded}
 use Rattle.table.specs.declared.Recorded.the-variants as recorded
+use Rattle.replay_beacon.specs.BeaconLine.{beaconLine}
 use Rattle.replay_lines.specs.Lines.{plainLine, refusedLine, closeLine, octetsLine, openedLine, recordLine, metadataLine, dataLine, successLine, failureLine}
 use Rattle.replay_fields.specs.LineWords.{w-already, w-fresh, w-new, w-send, w-written}
 
@@ -53,8 +54,9 @@ unfoldable pub recordText : ℕ → DataRead → Recorded → List ℕ
 recordText n (data-read.Accepted d) a = recordingText n d a
 recordText n (data-read.Refused x) a = refusedLine n x
 
--- "`metadata`, `data`", "`success`, `failure`": what the packet p was read as
+-- "`beacon`", "`metadata`, `data`", "`success`, `failure`": what the packet p was read as
 unfoldable pub readText : ℕ → List ℕ → Read → List ℕ
+readText n p (read.Beacon b) = beaconLine n p b
 readText n p (read.Metadata m) = metadataLine n p m
 readText n p (read.Data d) = dataLine n p d
 readText n p (read.Success s) = successLine n p s

@@ -89,6 +89,7 @@ pub fn put_read(out: &mut [u8], at: usize, number: u64, p: &[u8], a: Read) -> us
     ensures { λ r. ⌜ Added (now (out .entry)) at (readText number (now (p .entry)) a) (now (out .exit)) r ⌝ }
 {
     match a {
+        Read::Beacon(b) => replay_beacon::put_beacon(out, at, number, p, b),
         Read::Metadata(m) => replay_lines::put_metadata(out, at, number, p, m),
         Read::Data(d) => replay_lines::put_data(out, at, number, p, d),
         Read::Success(s) => replay_lines::put_success(out, at, number, p, s),

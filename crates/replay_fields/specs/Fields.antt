@@ -22,9 +22,9 @@ octetsField name s = name ++ hexOf s
 abbrev pub numberField : List ℕ → ℕ → ℕ → List ℕ
 numberField name d v = name ++ hexOf (beDigits d v)
 
--- the bits of a descriptor, by its octets: 2, 4 or 8
+-- the bits of a descriptor, by its octets: 2, 4, 8 or 16
 abbrev pub bitsOf : ℕ → ℕ
-bitsOf d = cond (eqb d 2) 16 (cond (eqb d 4) 32 64)
+bitsOf d = cond (eqb d 2) 16 (cond (eqb d 4) 32 (cond (eqb d 8) 64 128))
 
 abbrev pub flagOf : Bool → ℕ
 flagOf b = cond b 1 0

@@ -150,3 +150,51 @@ w-bad = 32 ∷ 98 ∷ 97 ∷ 100 ∷ 32 ∷ 108 ∷ 101 ∷ 110 ∷ 103 ∷ 116 
 -- " cut short\n"
 abbrev pub w-cut : List ℕ
 w-cut = 32 ∷ 99 ∷ 117 ∷ 116 ∷ 32 ∷ 115 ∷ 104 ∷ 111 ∷ 114 ∷ 116 ∷ 10 ∷ []
+
+-- " beacon flags="
+abbrev pub w-beacon : List ℕ
+w-beacon = 32 ∷ 98 ∷ 101 ∷ 97 ∷ 99 ∷ 111 ∷ 110 ∷ 32 ∷ 102 ∷ 108 ∷ 97 ∷ 103 ∷ 115 ∷ 61 ∷ []
+
+-- " largest-width="
+abbrev pub w-largest : List ℕ
+w-largest = 32 ∷ 108 ∷ 97 ∷ 114 ∷ 103 ∷ 101 ∷ 115 ∷ 116 ∷ 45 ∷ 119 ∷ 105 ∷ 100 ∷ 116 ∷ 104 ∷ 61 ∷ []
+
+-- " bundles="
+abbrev pub w-bundles : List ℕ
+w-bundles = 32 ∷ 98 ∷ 117 ∷ 110 ∷ 100 ∷ 108 ∷ 101 ∷ 115 ∷ 61 ∷ []
+
+-- " streams="
+abbrev pub w-streams : List ℕ
+w-streams = 32 ∷ 115 ∷ 116 ∷ 114 ∷ 101 ∷ 97 ∷ 109 ∷ 115 ∷ 61 ∷ []
+
+-- " send="
+abbrev pub w-sending : List ℕ
+w-sending = 32 ∷ 115 ∷ 101 ∷ 110 ∷ 100 ∷ 61 ∷ []
+
+-- " receive="
+abbrev pub w-receiving : List ℕ
+w-receiving = 32 ∷ 114 ∷ 101 ∷ 99 ∷ 101 ∷ 105 ∷ 118 ∷ 101 ∷ 61 ∷ []
+
+-- "cannot"
+abbrev pub w-cannot : List ℕ
+w-cannot = 99 ∷ 97 ∷ 110 ∷ 110 ∷ 111 ∷ 116 ∷ []
+
+-- "not-now"
+abbrev pub w-not-now : List ℕ
+w-not-now = 110 ∷ 111 ∷ 116 ∷ 45 ∷ 110 ∷ 111 ∷ 119 ∷ []
+
+-- "willing"
+abbrev pub w-willing : List ℕ
+w-willing = 119 ∷ 105 ∷ 108 ∷ 108 ∷ 105 ∷ 110 ∷ 103 ∷ []
+
+-- " free-width="
+abbrev pub w-free-width : List ℕ
+w-free-width = 32 ∷ 102 ∷ 114 ∷ 101 ∷ 101 ∷ 45 ∷ 119 ∷ 105 ∷ 100 ∷ 116 ∷ 104 ∷ 61 ∷ []
+
+-- " free="
+abbrev pub w-free : List ℕ
+w-free = 32 ∷ 102 ∷ 114 ∷ 101 ∷ 101 ∷ 61 ∷ []
+
+-- " endpoint="
+abbrev pub w-endpoint : List ℕ
+w-endpoint = 32 ∷ 101 ∷ 110 ∷ 100 ∷ 112 ∷ 111 ∷ 105 ∷ 110 ∷ 116 ∷ 61 ∷ []

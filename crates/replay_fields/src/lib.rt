@@ -43,7 +43,10 @@ pub fn bits_of(width: usize) -> u64
     if width == 4 {
         return 32;
     }
-    64
+    if width == 8 {
+        return 64;
+    }
+    128
 }
 
 // 1 for yes and 0 for no.

@@ -32,7 +32,7 @@ use Rattle.text.specs.Hex.{hexOf}
 use Rattle.replay_lines.specs.Lines.{plainLine, refusedLine, octetsLine, unknownLine, openedLine}
 use Rattle.replay_answers.specs.AnswerLines.{openingText, openText, recordingText, statusText, sentText}
 use Rattle.replay_steps.specs.Deliver.{failureSent, refusalLines, recordedSent, recordedLines, deliverLines}
-use Rattle.replay_steps.specs.Records.{bodyLength, closeLines, writtenLine, statusLines, recordLines}
+use Rattle.replay_steps.specs.Records.{bodyLength, closeLines, writtenLine, statusLines, timeLines, recordLines, areaAfter}
 
 -- a packet of 8 octets, of type 1, with the Id 7
 abbrev request : List ℕ
@@ -57,6 +57,15 @@ pub bad-length : recordLines 13 0x43 [] [] []
     ≡ 49 ∷ 51 ∷ 32 ∷ 98 ∷ 97 ∷ 100 ∷ 32 ∷ 108 ∷ 101 ∷ 110 ∷ 103 ∷ 116 ∷ 104 ∷ 10 ∷ []
 unfolding recordLines closeLines plainLine decimalOf decimalOnto
 bad-length = refl
+
+-- a time of eight octets: no line, and no octet of any area is changed
+pub no-line : (area room : List ℕ) → recordLines 3 0x57 (24 ∷ 167 ∷ 0 ∷ 1 ∷ 2 ∷ 3 ∷ 4 ∷ 5 ∷ []) area room ≡ []
+unfolding recordLines timeLines
+no-line area room = refl
+
+pub area-kept : (body area : List ℕ) → areaAfter 0x57 body area ≡ area
+unfolding areaAfter
+area-kept body area = refl
 
 -- "1 refused 4 code=10", "1 send 4400000a00000007"
 pub refused-sent : recordLines 1 0x50 request [] (replicate 8 0)

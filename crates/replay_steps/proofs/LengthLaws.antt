@@ -12,7 +12,8 @@ use lib.ListN.{length, take, getD}
 use Rattle.octets.specs.Numbers.{Octets}
 use Rattle.octets.proofs.NumberLaws.{width-some}
 use Rattle.octets.proofs.PutLaws.{length-put}
-use Rattle.header.specs.Start.{idOf}
+use Rattle.header.specs.FirstWord.{typeOf}
+use Rattle.header.specs.Start.{wordOf, idOf}
 use Rattle.refusals.specs.Writing.{bufferAfter}
 use Rattle.refusals.specs.declared.Refusal.{Refusal}
 use Rattle.packet_data.specs.declared.Data.{Data}
@@ -39,7 +40,7 @@ use Rattle.replay_lines.proofs.LengthLaws.{plain-most}
 use Rattle.replay_answers.specs.AnswerLines.{freshText, closeText, sentText}
 use Rattle.replay_answers.proofs.LengthLaws.{shortMost, refused-short, fresh-most, close-text-most, opening-most, recording-most, status-text-most, sent-most}
 use Rattle.replay_steps.specs.Deliver.{failureSent, refusalLines, openedCode, openedLines, wantedSent, recordedSent, recordedLines}
-use Rattle.replay_steps.specs.Records.{numberAt, badLine, freshLines, closeLines, writtenLine, statusLines}
+use Rattle.replay_steps.specs.Records.{numberAt, badLine, freshLines, closeLines, writtenLine, statusLines, timeLines}
 
 -- a line of words and numbers, and the octets of a buffer of m
 abbrev pub sentMost : ℕ → ℕ
@@ -89,15 +90,16 @@ module _ {room : List ℕ} {m : ℕ} (h : AtMost room m) where
 
   failure-sent-most : (n : ℕ) (p : List ℕ) (code : ℕ) → AtMost (failureSent n p code room) (sentMost m)
   unfolding failureSent
-  failure-sent-most n p code = go (eqb code 0) (ltb (length p) 8)
+  failure-sent-most n p code = go (eqb code 0) (ltb (length p) 8) (eqb (typeOf (wordOf p)) 0)
     where
       sent : List ℕ
       sent = sentText n (failureWritten (idOf p) code room) (failureBuffer (idOf p) code room)
 
-      go : (a b : Bool) → AtMost (cond a [] (cond b [] sent)) (sentMost m)
-      go true b = nothing
-      go false true = nothing
-      go false false = sent-most n _ (failure-buffer-most (idOf p) code)
+      go : (a b c : Bool) → AtMost (cond a [] (cond b [] (cond c [] sent))) (sentMost m)
+      go true b c = nothing
+      go false true c = nothing
+      go false false true = nothing
+      go false false false = sent-most n _ (failure-buffer-most (idOf p) code)
 
   wanted-sent-most : (n : ℕ) (area : List ℕ) (d : Data) → AtMost (wantedSent n area d room) (sentMost m)
   unfolding wantedSent
@@ -166,4 +168,12 @@ close-lines-most n body area = go (eqb (length body) 4)
 
     go : (b : Bool) → AtMost (cond b (closeText n id (closeArea area id .answer)) (badLine n)) shortMost
     go true = close-text-most n id (closeArea area id .answer)
+    go false = at-most (plain-most n w-bad) (omega arith)
+
+pub time-lines-most : (n : ℕ) (body : List ℕ) → AtMost (timeLines n body) shortMost
+unfolding timeLines
+time-lines-most n body = go (eqb (length body) 8)
+  where
+    go : (b : Bool) → AtMost (cond b [] (badLine n)) shortMost
+    go true = at-most (words []) (omega arith)
     go false = at-most (plain-most n w-bad) (omega arith)

@@ -9,6 +9,7 @@ use lib.Dec.{eqb}
 use lib.ListN.{length, take}
 use Rattle.octets.specs.Numbers.{Octets}
 use Rattle.packet.specs.Read.{readPacket}
+use Rattle.packet_beacon.specs.Beacon.{beaconOf}
 use Rattle.packet_data.specs.Data.{dataOf, readData}
 use Rattle.packet_metadata.specs.Metadata.{metadataOf, readMetadata}
 use Rattle.packet_status.specs.Status.{failureOf}
@@ -17,6 +18,7 @@ use Rattle.text.specs.Added.{Added}
 use Rattle.text.proofs.AddedLaws.{added-whole}
 use Rattle.text.proofs.LengthLaws.{AtMost, at-most}
 use Rattle.replay_fields.specs.LineWords.{w-cut}
+use Rattle.replay_beacon.proofs.LengthLaws.{beacon-most}
 use Rattle.replay_lines.specs.Lines.{unknownLine}
 use Rattle.replay_lines.proofs.LengthLaws.{plain-most, unknown-most, failure-most}
 use Rattle.replay_answers.specs.AnswerLines.{openText, recordText, readText}
@@ -24,14 +26,15 @@ use Rattle.replay_answers.proofs.CaseLaws.{read-cases}
 use Rattle.replay_answers.proofs.LengthLaws.{open-most, record-text-most, read-most, success-line-most}
 use Rattle.replay_steps.specs.Deliver.{deliverLines}
 use Rattle.replay_steps.specs.Room.{bodyMost, lentMost, outLeast, Room}
-use Rattle.replay_steps.specs.Records.{cutLine, freshLines, closeLines, statusLines, recordLines}
-use Rattle.replay_steps.proofs.LengthLaws.{refusal-lines-most, opened-lines-most, recorded-lines-most, status-lines-most, fresh-lines-most, close-lines-most}
+use Rattle.replay_steps.specs.Records.{cutLine, freshLines, closeLines, statusLines, timeLines, recordLines}
+use Rattle.replay_steps.proofs.LengthLaws.{refusal-lines-most, opened-lines-most, recorded-lines-most, status-lines-most, fresh-lines-most, close-lines-most, time-lines-most}
 
 module _ (n : ℕ) (body area room : List ℕ) (o : Octets body) (b : AtMost body bodyMost) (r : AtMost room lentMost) where
   deliver-most : AtMost (deliverLines n body (readPacket body) area room) outLeast
   unfolding deliverLines
   deliver-most =
       read-cases (λ x. AtMost (deliverLines n body x area room) outLeast) body
+      (at-most (beacon-most n (beaconOf body) b) (omega arith))
       (at-most (opened-lines-most r n body (metadataOf body) (openArea area body .answer)) (omega arith))
       (at-most (recorded-lines-most r n body (dataOf body) (recordArea area body .answer) (recordArea area body .area)) (omega arith))
       (at-most (success-line-most n o b) (omega arith))
@@ -40,9 +43,9 @@ module _ (n : ℕ) (body area room : List ℕ) (o : Octets body) (b : AtMost bod
 
   kind-most : (kind : ℕ) → AtMost (recordLines n kind body area room) outLeast
   unfolding recordLines
-  kind-most kind = go (eqb kind 0x46) (eqb kind 0x4f) (eqb kind 0x44) (eqb kind 0x52) (eqb kind 0x53) (eqb kind 0x43) (eqb kind 0x50)
+  kind-most kind = go (eqb kind 0x46) (eqb kind 0x4f) (eqb kind 0x44) (eqb kind 0x52) (eqb kind 0x53) (eqb kind 0x43) (eqb kind 0x50) (eqb kind 0x57)
     where
-      go : (f o d q s c p : Bool) → AtMost
+      go : (f o d q s c p w : Bool) → AtMost
           (cond f (freshLines n body area)
           (cond o (openText n (readMetadata body) (openArea area body .answer))
           (cond d (recordText n (readData body) (recordArea area body .answer))
@@ -50,15 +53,17 @@ module _ (n : ℕ) (body area room : List ℕ) (o : Octets body) (b : AtMost bod
           (cond s (statusLines n body area room)
           (cond c (closeLines n body area)
           (cond p (deliverLines n body (readPacket body) area room)
-          (unknownLine n kind)))))))) outLeast
-      go true o d q s c p = at-most (fresh-lines-most n body area) (omega arith)
-      go false true d q s c p = at-most (open-most n (readMetadata body) (openArea area body .answer)) (omega arith)
-      go false false true q s c p = at-most (record-text-most n (readData body) (recordArea area body .answer)) (omega arith)
-      go false false false true s c p = at-most (read-most n body o b) (omega arith)
-      go false false false false true c p = at-most (status-lines-most r n body area) (omega arith)
-      go false false false false false true p = at-most (close-lines-most n body area) (omega arith)
-      go false false false false false false true = deliver-most
-      go false false false false false false false = at-most (unknown-most n kind) (omega arith)
+          (cond w (timeLines n body)
+          (unknownLine n kind))))))))) outLeast
+      go true o d q s c p w = at-most (fresh-lines-most n body area) (omega arith)
+      go false true d q s c p w = at-most (open-most n (readMetadata body) (openArea area body .answer)) (omega arith)
+      go false false true q s c p w = at-most (record-text-most n (readData body) (recordArea area body .answer)) (omega arith)
+      go false false false true s c p w = at-most (read-most n body o b) (omega arith)
+      go false false false false true c p w = at-most (status-lines-most r n body area) (omega arith)
+      go false false false false false true p w = at-most (close-lines-most n body area) (omega arith)
+      go false false false false false false true w = deliver-most
+      go false false false false false false false true = at-most (time-lines-most n body) (omega arith)
+      go false false false false false false false false = at-most (unknown-most n kind) (omega arith)
 
 -- the lines of a record of any number and kind, over any area, fit
 pub record-lines-fit : (n kind : ℕ) (body area room : List ℕ) → Octets body → length body ≤ bodyMost → length room ≤ lentMost

@@ -5,7 +5,8 @@ use mathlib.Core.Bool.{false, cond}
 use mathlib.Core.List.{List, [], _++_}
 use lib.Dec.{eqb, ltb}
 use lib.ListN.{length}
-use Rattle.header.specs.Start.{idOf}
+use Rattle.header.specs.FirstWord.{typeOf}
+use Rattle.header.specs.Start.{wordOf, idOf}
 use Rattle.refusals.specs.declared.Refusal.{Refusal}
 use Rattle.packet.specs.declared.Read.{Read}
 use Rattle.packet.specs.declared.Read.the-variants as read
@@ -17,16 +18,18 @@ use Rattle.table.specs.declared.Opened.the-variants as opened
 use Rattle.table.specs.declared.Recorded.{Recorded}
 use Rattle.table.specs.declared.Recorded.the-variants as recorded
 use Rattle.area.specs.Operations.{openArea, recordArea, areaStatusWritten, areaStatusBuffer}
+use Rattle.replay_beacon.specs.BeaconLine.{beaconLine}
 use Rattle.replay_lines.specs.Lines.{refusedLine, successLine, failureLine}
 use Rattle.replay_answers.specs.AnswerLines.{openingText, recordingText, sentText}
 
--- "A packet that is refused with a code other than 0 and has an Id (8 octets at least) gets a failure STATUS with that Id
--- and code". The writer would refuse code 0 too (21); that there is nothing to send for it is said here, where the rule is
+-- "A packet that is refused with a code other than 0 and has an Id (8 octets at least, and no BEACON) gets a failure STATUS
+-- with that Id and code". The writer would refuse code 0 too (21); that there is nothing to send for it is said here, where the rule is
 unfoldable pub failureSent : ℕ → List ℕ → ℕ → List ℕ → List ℕ
 failureSent n p code room =
     cond (eqb code 0) []
     (cond (ltb (length p) 8) []
-    (sentText n (failureWritten (idOf p) code room) (failureBuffer (idOf p) code room)))
+    (cond (eqb (typeOf (wordOf p)) 0) []
+    (sentText n (failureWritten (idOf p) code room) (failureBuffer (idOf p) code room))))
 
 -- "What is to be sent is a second line"
 unfoldable pub refusalLines : ℕ → List ℕ → Refusal → List ℕ → List ℕ
@@ -57,8 +60,9 @@ recordedSent n p d (recorded.Refused x) area room = failureSent n p (x .code) ro
 unfoldable pub recordedLines : ℕ → List ℕ → Data → Recorded → List ℕ → List ℕ → List ℕ
 recordedLines n p d a area room = recordingText n d a ++ recordedSent n p d a area room
 
--- "METADATA opens. DATA is recorded .. STATUS is read"
+-- "METADATA opens. DATA is recorded .. STATUS is read", and so is a BEACON, which is never answered
 unfoldable pub deliverLines : ℕ → List ℕ → Read → List ℕ → List ℕ → List ℕ
+deliverLines n p (read.Beacon b) area room = beaconLine n p b
 deliverLines n p (read.Metadata m) area room = openedLines n p m (openArea area p .answer) room
 deliverLines n p (read.Data d) area room = recordedLines n p d (recordArea area p .answer) (recordArea area p .area) room
 deliverLines n p (read.Success s) area room = successLine n p s
@@ -66,6 +70,7 @@ deliverLines n p (read.Failure f) area room = failureLine n f
 deliverLines n p (read.Refused x) area room = refusalLines n p x room
 
 unfoldable pub deliverArea : List ℕ → Read → List ℕ → List ℕ
+deliverArea p (read.Beacon b) area = area
 deliverArea p (read.Metadata m) area = openArea area p .area
 deliverArea p (read.Data d) area = recordArea area p .area
 deliverArea p (read.Success s) area = area

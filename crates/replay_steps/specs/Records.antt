@@ -2,7 +2,7 @@
 -- Assumes nothing.
 use Prim.Native.Nat.{ℕ, min}
 use mathlib.Core.Bool.{Bool, not, cond}
-use mathlib.Core.List.{List}
+use mathlib.Core.List.{List, []}
 use lib.Dec.{eqb, ltb}
 use lib.ListN.{length, take, drop, getD}
 use Rattle.octets.specs.Numbers.{beValue}
@@ -27,7 +27,7 @@ bodyLength head = cond (ltb (length head) 5) 0 (numberAt 1 4 head)
 abbrev pub cutLine : ℕ → List ℕ
 cutLine n = plainLine n w-cut
 
--- "A body of `F`, `S` or `C` with another length is answered `bad length`"
+-- "A body of `F`, `S`, `C` or `W` with another length is answered `bad length`"
 abbrev pub badLine : ℕ → List ℕ
 badLine n = plainLine n w-bad
 
@@ -59,7 +59,11 @@ statusLines n body area room =
     (writtenLine n area (numberAt 0 4 body) (numberAt 4 8 body) (not (eqb (getD body 12 0) 0)) (take (min (numberAt 13 4 body) (length room)) room))
     (badLine n)
 
--- the lines of a record, by its kind: `F` 46, `O` 4f, `D` 44, `R` 52, `S` 53, `C` 43, `P` 50 (hex)
+-- `W`, body: "nanoseconds since the start of 1970, 8 octets"; "the time of the record after it: no line, and nothing is done"
+unfoldable pub timeLines : ℕ → List ℕ → List ℕ
+timeLines n body = cond (eqb (length body) 8) [] (badLine n)
+
+-- the lines of a record, by its kind: `F` 46, `O` 4f, `D` 44, `R` 52, `S` 53, `C` 43, `P` 50, `W` 57 (hex)
 unfoldable pub recordLines : ℕ → ℕ → List ℕ → List ℕ → List ℕ → List ℕ
 recordLines n kind body area room =
     cond (eqb kind 0x46) (freshLines n body area)
@@ -69,9 +73,10 @@ recordLines n kind body area room =
     (cond (eqb kind 0x53) (statusLines n body area room)
     (cond (eqb kind 0x43) (closeLines n body area)
     (cond (eqb kind 0x50) (deliverLines n body (readPacket body) area room)
-    (unknownLine n kind)))))))
+    (cond (eqb kind 0x57) (timeLines n body)
+    (unknownLine n kind))))))))
 
--- the area after it: `R`, `S` and a kind that there is not leave it
+-- the area after it: `R`, `S`, `W` and a kind that there is not leave it
 unfoldable pub areaAfter : ℕ → List ℕ → List ℕ → List ℕ
 areaAfter kind body area =
     cond (eqb kind 0x46) (freshAfter body area)

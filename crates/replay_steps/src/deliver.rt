@@ -1,5 +1,5 @@
-// What a link program does with a packet off the dish: METADATA opens, DATA is recorded, STATUS is read, and what is to be
-// sent is a second line.
+// What a link program does with a packet off the dish: METADATA opens, DATA is recorded, STATUS and BEACON are read, and
+// what is to be sent is a second line.
 ghost use mathlib.Core.Path.{_≡_};
 ghost use Prim.Native.Nat.{_≤_};
 ghost use lib.ListN.{length};
@@ -33,6 +33,10 @@ fn put_failure_sent(
         return at;
     }
     if p.len() < 8 {
+        return at;
+    }
+    let h = header::split(header::word(p));
+    if h.ptype == 0 {
         return at;
     }
     let w = packet_status::write_failure(lent, header::id(p), code);
@@ -172,6 +176,7 @@ pub fn deliver(area: &mut [u8], number: u64, p: &[u8], lent: &mut [u8], out: &mu
 {
     let r = packet::read_packet(p);
     match r {
+        Read::Beacon(b) => replay_beacon::put_beacon(out, 0, number, p, b),
         Read::Metadata(m) => open(area, number, p, m, lent, out),
         Read::Data(d) => record(area, number, p, d, lent, out),
         Read::Success(s) => replay_lines::put_success(out, 0, number, p, s),

@@ -8,7 +8,7 @@ ghost use Rattle.packet_data.specs.Data.{readData};
 ghost use Rattle.packet_metadata.specs.Metadata.{readMetadata};
 ghost use Rattle.text.specs.Added.{Added};
 ghost use Rattle.replay_answers.specs.AnswerLines.{openText, recordText, readText};
-ghost use Rattle.replay_steps.specs.Records.{bodyLength, cutLine, badLine, freshLines, freshAfter, closeLines, closeAfter, writtenLine, statusLines, recordLines, areaAfter};
+ghost use Rattle.replay_steps.specs.Records.{bodyLength, cutLine, badLine, freshLines, freshAfter, closeLines, closeAfter, writtenLine, statusLines, timeLines, recordLines, areaAfter};
 ghost use Rattle.replay_steps.specs.Room.{Room};
 use crate::deliver::deliver;
 use replay_answers::put_close;
@@ -134,6 +134,16 @@ fn close(area: &mut [u8], number: u64, body: &[u8], out: &mut [u8]) -> usize
     put_close(out, 0, number, id, a)
 }
 
+// `W`: the time of the record after it, of which nothing is said.
+fn time(number: u64, body: &[u8], out: &mut [u8]) -> usize
+    ensures { λ r. ⌜ Added (now (out .entry)) 0 (timeLines number (now (body .entry))) (now (out .exit)) r ⌝ }
+{
+    if body.len() != 8 {
+        return bad_length(number, out);
+    }
+    0
+}
+
 // The lines of one record, as far as `out` has room. `lent` is the buffer that STATUS is written into.
 fn lines(
     area: &mut [u8],
@@ -166,6 +176,9 @@ fn lines(
     }
     if kind == b'P' {
         return deliver(area, number, body, lent, out);
+    }
+    if kind == b'W' {
+        return time(number, body, out);
     }
     replay_lines::put_unknown(out, 0, number, kind as u64)
 }

@@ -1,7 +1,11 @@
 -- What C gets of a packet that was read: "a definition gives this paper's number and values for each case".
 -- A field that the packet's type lacks is 0. Places count octets from the packet's start.
 -- Assumes nothing.
+use Prim.Native.Nat.{ℕ}
 use Rattle.refusals.specs.declared.Refusal.{Refusal}
+use Rattle.packet_beacon.specs.declared.Beacon.{Beacon}
+use Rattle.packet_beacon.specs.declared.Willingness.{Willingness}
+use Rattle.packet_beacon.specs.declared.Willingness.the-variants.{Cannot, NotNow, Willing}
 use Rattle.packet_metadata.specs.declared.Metadata.{Metadata}
 use Rattle.packet_data.specs.declared.Data.{Data}
 use Rattle.packet_status.specs.declared.SuccessStatus.{SuccessStatus}
@@ -12,6 +16,7 @@ use Rattle.saratoga.specs.declared.packets.Part.{Part}
 use Rattle.saratoga.specs.declared.packets.MetadataPart.{MetadataPart}
 use Rattle.saratoga.specs.declared.packets.DataPart.{DataPart}
 use Rattle.saratoga.specs.declared.packets.StatusPart.{StatusPart}
+use Rattle.saratoga.specs.declared.packets.BeaconPart.{BeaconPart}
 use Rattle.saratoga.specs.declared.packets.PacketAnswer.{PacketAnswer}
 
 -- the parts that a packet of another type lacks
@@ -26,6 +31,51 @@ noData = record { offset = 0; payload = noPart }
 
 abbrev pub noStatus : StatusPart
 noStatus = record { status = 0; progress = 0; «in_response_to» = 0; «holes_at» = 0; «hole_count» = 0 }
+
+abbrev pub noBeacon : BeaconPart
+noBeacon =
+    record {
+      «largest_width» = 0;
+      bundles = 0;
+      streams = 0;
+      send = 0;
+      receive = 0;
+      «free_width» = 0;
+      «free_space» = 0;
+      endpoint = noPart;
+    }
+
+-- the number of each of the "three named states (cannot, can but not now, can and will)"
+abbrev pub stateNumber : Willingness → ℕ
+stateNumber Cannot = 0
+stateNumber NotNow = 1
+stateNumber Willing = 2
+
+-- what C gets for BEACON, which has neither Id nor width of its own
+abbrev pub beaconPacket : Beacon → PacketAnswer
+beaconPacket b =
+    record {
+      number = 0;
+      code = 0;
+      ptype = 0;
+      flags = b .flags;
+      id = 0;
+      width = 0;
+      timestamp = noPart;
+      metadata = noMetadata;
+      «data» = noData;
+      status = noStatus;
+      beacon = record {
+        «largest_width» = b .largest;
+        bundles = b .bundles;
+        streams = b .streams;
+        send = stateNumber (b .send);
+        receive = stateNumber (b .receive);
+        «free_width» = b .width;
+        «free_space» = b .free;
+        endpoint = record { at = b .start; len = b .length };
+      };
+    }
 
 -- what C gets for METADATA
 abbrev pub metadataPacket : Metadata → PacketAnswer
@@ -48,6 +98,7 @@ metadataPacket m =
       };
       «data» = noData;
       status = noStatus;
+      beacon = noBeacon;
     }
 
 -- what C gets for DATA
@@ -64,6 +115,7 @@ dataPacket d =
       metadata = noMetadata;
       «data» = record { offset = d .offset; payload = record { at = d .start; len = d .length } };
       status = noStatus;
+      beacon = noBeacon;
     }
 
 -- what C gets for a success STATUS
@@ -86,6 +138,7 @@ successPacket s =
         «holes_at» = s .holes;
         «hole_count» = s .count;
       };
+      beacon = noBeacon;
     }
 
 -- what C gets for a failure STATUS
@@ -102,6 +155,7 @@ failurePacket f =
       metadata = noMetadata;
       «data» = noData;
       status = record { status = f .status; progress = 0; «in_response_to» = 0; «holes_at» = 0; «hole_count» = 0 };
+      beacon = noBeacon;
     }
 
 -- what C gets for a refusal: "its other results are 0 or empty"
@@ -118,10 +172,12 @@ refusedPacket r =
       metadata = noMetadata;
       «data» = noData;
       status = noStatus;
+      beacon = noBeacon;
     }
 
 -- by the case of the answer
 abbrev pub packetAnswer : Read → PacketAnswer
+packetAnswer (read.Beacon b) = beaconPacket b
 packetAnswer (read.Metadata m) = metadataPacket m
 packetAnswer (read.Data d) = dataPacket d
 packetAnswer (read.Success s) = successPacket s

@@ -1,13 +1,16 @@
-// Packets: reading any of them, one hole of a STATUS, and writing METADATA, DATA and failure STATUS.
+// Packets: reading any of them, one hole of a STATUS, and writing BEACON, METADATA, DATA and failure STATUS.
 ghost use mathlib.Core.Path.{_≡_};
 ghost use Rattle.packet.specs.Read.{readPacket};
+ghost use Rattle.packet_beacon.specs.WriteBeacon.{beaconWritten, beaconBuffer};
 ghost use Rattle.packet_data.specs.WriteData.{dataWritten, dataBuffer};
 ghost use Rattle.packet_metadata.specs.WriteMetadata.{metadataWritten, metadataBuffer};
 ghost use Rattle.packet_status.specs.Status.{readHole};
 ghost use Rattle.packet_status.specs.WriteFailure.{failureWritten, failureBuffer};
-ghost use Rattle.saratoga.specs.PacketAnswers.{noPart, noMetadata, noData, noStatus, metadataPacket, dataPacket, successPacket, failurePacket, refusedPacket, packetAnswer};
+ghost use Rattle.saratoga.specs.PacketAnswers.{noPart, noMetadata, noData, noStatus, noBeacon, stateNumber, beaconPacket, metadataPacket, dataPacket, successPacket, failurePacket, refusedPacket, packetAnswer};
 ghost use Rattle.saratoga.specs.Answers.{holeAnswer, writtenAnswer};
 use packet::Read;
+use packet_beacon::Beacon;
+use packet_beacon::Willingness;
 use packet_data::Data;
 use packet_metadata::Metadata;
 use packet_status::FailureStatus;
@@ -51,6 +54,19 @@ pub struct StatusPart {
     pub hole_count: usize,
 }
 
+// What BEACON alone has.
+#[repr(C)]
+pub struct BeaconPart {
+    pub largest_width: usize,
+    pub bundles: u64,
+    pub streams: u64,
+    pub send: u64,
+    pub receive: u64,
+    pub free_width: usize,
+    pub free_space: u64,
+    pub endpoint: Part,
+}
+
 // struct saratoga_packet, part by part; `ptype` is its field `type`. Parts of 64-bit fields lie in memory as the fields do.
 #[repr(C)]
 pub struct PacketAnswer {
@@ -64,6 +80,7 @@ pub struct PacketAnswer {
     pub metadata: MetadataPart,
     pub data: DataPart,
     pub status: StatusPart,
+    pub beacon: BeaconPart,
 }
 
 // struct saratoga_hole.
@@ -123,6 +140,70 @@ fn no_status() -> StatusPart
     }
 }
 
+fn no_beacon() -> BeaconPart
+    ensures { λ r. ⌜ r ≡ noBeacon ⌝ }
+{
+    BeaconPart {
+        largest_width: 0,
+        bundles: 0,
+        streams: 0,
+        send: 0,
+        receive: 0,
+        free_width: 0,
+        free_space: 0,
+        endpoint: no_part(),
+    }
+}
+
+// The number of a state.
+fn state_number(w: Willingness) -> u64
+    ensures { λ r. ⌜ r ≡ stateNumber w ⌝ }
+{
+    match w {
+        Willingness::Cannot => 0,
+        Willingness::NotNow => 1,
+        Willingness::Willing => 2,
+    }
+}
+
+fn beacon_part(b: Beacon) -> BeaconPart
+    ensures { λ r. ⌜ r ≡ beaconPacket b .beacon ⌝ }
+{
+    let send = b.send;
+    let receive = b.receive;
+    BeaconPart {
+        largest_width: b.largest,
+        bundles: b.bundles,
+        streams: b.streams,
+        send: state_number(send),
+        receive: state_number(receive),
+        free_width: b.width,
+        free_space: b.free,
+        endpoint: Part {
+            at: b.start,
+            len: b.length,
+        },
+    }
+}
+
+fn beacon_packet(b: Beacon) -> PacketAnswer
+    ensures { λ r. ⌜ r ≡ beaconPacket b ⌝ }
+{
+    PacketAnswer {
+        number: 0,
+        code: 0,
+        ptype: 0,
+        flags: b.flags,
+        id: 0,
+        width: 0,
+        timestamp: no_part(),
+        metadata: no_metadata(),
+        data: no_data(),
+        status: no_status(),
+        beacon: beacon_part(b),
+    }
+}
+
 fn metadata_packet(m: Metadata) -> PacketAnswer
     ensures { λ r. ⌜ r ≡ metadataPacket m ⌝ }
 {
@@ -150,6 +231,7 @@ fn metadata_packet(m: Metadata) -> PacketAnswer
         },
         data: no_data(),
         status: no_status(),
+        beacon: no_beacon(),
     }
 }
 
@@ -176,6 +258,7 @@ fn data_packet(d: Data) -> PacketAnswer
             },
         },
         status: no_status(),
+        beacon: no_beacon(),
     }
 }
 
@@ -202,6 +285,7 @@ fn success_packet(s: SuccessStatus) -> PacketAnswer
             holes_at: s.holes,
             hole_count: s.count,
         },
+        beacon: no_beacon(),
     }
 }
 
@@ -225,6 +309,7 @@ fn failure_packet(f: FailureStatus) -> PacketAnswer
             holes_at: 0,
             hole_count: 0,
         },
+        beacon: no_beacon(),
     }
 }
 
@@ -242,6 +327,7 @@ fn refused_packet(refusal: Refusal) -> PacketAnswer
         metadata: no_metadata(),
         data: no_data(),
         status: no_status(),
+        beacon: no_beacon(),
     }
 }
 
@@ -284,7 +370,7 @@ pub fn hole_answer(a: HoleRead) -> HoleAnswer
 }
 
 // DATA comes most often and is answered first, without the enum. Each case has its own `return`: where they met in one
-// place, the compiler would bring 24 fields there over the stack.
+// place, the compiler would bring 33 fields there over the stack.
 #[no_mangle]
 pub extern "C" fn saratoga_read(packet: &[u8]) -> PacketAnswer
     ensures { λ r. ⌜ r ≡ packetAnswer (readPacket (now (packet .entry))) ⌝ }
@@ -294,6 +380,7 @@ pub extern "C" fn saratoga_read(packet: &[u8]) -> PacketAnswer
     }
     let a = packet::read_packet(packet);
     match a {
+        Read::Beacon(b) => return beacon_packet(b),
         Read::Metadata(m) => return metadata_packet(m),
         Read::Data(d) => return data_packet(d),
         Read::Success(s) => return success_packet(s),
@@ -307,6 +394,19 @@ pub extern "C" fn saratoga_read_hole(packet: &[u8], index: u64) -> HoleAnswer
     ensures { λ r. ⌜ r ≡ holeAnswer (readHole index (now (packet .entry))) ⌝ }
 {
     hole_answer(packet_status::read_hole(packet, index))
+}
+
+#[no_mangle]
+pub extern "C" fn saratoga_write_beacon(
+    flags: u64,
+    free: u64,
+    endpoint: &[u8],
+    out: &mut [u8],
+) -> WrittenAnswer
+    ensures { λ r. ⌜ (r ≡ writtenAnswer (beaconWritten flags free (now (endpoint .entry)) (now (out .entry))))
+        × (now (out .exit) ≡ beaconBuffer flags free (now (endpoint .entry)) (now (out .entry))) ⌝ }
+{
+    written_answer(packet_beacon::write_beacon(out, flags, free, endpoint))
 }
 
 #[no_mangle]

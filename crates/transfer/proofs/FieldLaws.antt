@@ -31,7 +31,7 @@ unfolding metadataOf entryOf
 fields-known s o z =
     let f = metadata-fine s z in
     record {
-      id-fits = part-lt s 4 4 o (f .start .start .long);
+      id-fits = part-lt s 4 4 o (f .start .long);
       width-is = file-fine (wordOf s) (f .file) .octets;
       size-fits = entry-fine (descriptorOctets (wordOf s)) (drop (entryAt (wordOf s)) s) (f .entry) .size-fits;
     }

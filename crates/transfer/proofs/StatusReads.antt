@@ -14,7 +14,8 @@ use Rattle.octets.specs.Numbers.{beValue, beDigits, Width}
 use Rattle.octets.proofs.NumberLaws.{value-digits, length-digits, width-le, width-some}
 use Rattle.refusals.specs.Refusals.{refusalOf}
 use Rattle.header.specs.FirstWord.{markOf, typeOf, flagsOf, widthOf, descriptorOctets, timestampOctets, partialOf, statusOf, wordFor}
-use Rattle.header.specs.Start.{wordOf, idOf, startRefusal, typeRefusal}
+use Rattle.header.specs.Start.{wordOf, idOf, typeRefusal}
+use Rattle.header.proofs.StartLaws.{type-known, type-none}
 use Rattle.runs.specs.declared.Hole.{Hole}
 use Rattle.packet_status.specs.HoleList.{holesOf, holesAfter, startsWell, holesWell}
 use Rattle.packet_status.specs.Status.{holesAt, progressOf, responseOf, listOctets, holeCount, holeList, successRefusal, statusRefusal, successOf, readStatus, readHole}
@@ -158,15 +159,11 @@ module _ (id d from to : ℕ) (p u : Bool) (hs : List Hole) (w : Width d) (id-fi
         omega (arith, status-octets-size (statusFlags d p u) id d from to hs, width-le w)
 
     typed : typeRefusal 4 s ≡ 0
-    unfolding typeRefusal startRefusal
     typed =
-        rw (
-          word,
-          le-ltb 65535 (length s) (omega (arith, size-lt)),
-          le-ltb (length s) 8 (omega (arith, status-octets-size (statusFlags d p u) id d from to hs)),
-          eq-eqb (markOf (wordFor 4 (statusFlags d p u))) 1 (flags-mark d p u),
-          eq-eqb (typeOf (wordFor 4 (statusFlags d p u))) 4 (flags-type d p u),
-        )
+        let mark : markOf (wordOf s) ≡ 1 = rw word (flags-mark d p u) in
+        let ptype : typeOf (wordOf s) ≡ 4 = rw word (flags-type d p u) in
+        let size = status-octets-size (statusFlags d p u) id d from to hs in
+        type-none 4 s (type-known 4 s (omega (arith, size-lt)) mark ptype (omega arith))
 
     list-well : holesWell (eqb (partialOf (wordOf s)) 1) (progressOf s) (responseOf s) (holeList s) ≡ true
     list-well = rw (progress-is, response-is, list-is, word, flags-partial d p u, bit-test p) well

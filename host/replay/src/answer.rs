@@ -12,7 +12,7 @@ use crate::record::Record;
 /// A line, or the refusal that is printed in its stead.
 type Line = Result<String, Refusal>;
 
-/// The lines of a record: one, and for `P` sometimes a second.
+/// The lines of a record: one, for `P` sometimes a second, and for `W` none.
 pub fn lines(table: &mut Table, record: &Record) -> Vec<String> {
     let body = record.body.as_deref();
     match record.kind {
@@ -26,6 +26,7 @@ pub fn lines(table: &mut Table, record: &Record) -> Vec<String> {
             Ok(packet) => off_the_dish(table, packet),
             Err(refusal) => vec![line::refused(refusal)],
         },
+        b'W' => time(body),
         kind => vec![format!("unknown kind {kind:02x}")],
     }
 }
@@ -96,6 +97,14 @@ fn close(table: &mut Table, body: Option<&[u8]>) -> String {
     let Some(&id) = exactly::<4>(body) else { return bad_length() };
     let id = u32::from_be_bytes(id);
     print(table.close(u64::from(id)).map(|()| format!("close id={id}")))
+}
+
+/// `W`: the time of the record after it, 8 octets. It has no line.
+fn time(body: Option<&[u8]>) -> Vec<String> {
+    match exactly::<8>(body) {
+        Some(_) => vec![],
+        None => vec![bad_length()],
+    }
 }
 
 /// The type of a packet, "Bits 2 to 7".

@@ -376,10 +376,26 @@ fn longest_packets() {
 
 #[test]
 fn every_other_kind_is_unknown() {
-    for kind in (0..=255).filter(|kind| !b"FODRSCP".contains(kind)) {
+    for kind in (0..=255).filter(|kind| !b"FODRSCPW".contains(kind)) {
         let pass = [record(kind, b"F\0\0\0\0"), record(b'F', &[])].concat();
         assert_eq!(printed(&pass), format!("1 unknown kind {kind:02x}\n2 fresh\n"));
     }
+}
+
+#[test]
+fn times_have_no_line_and_change_nothing() {
+    check_octets(&[
+        ('W', hex("18a7 0000 0000 0001"), &[]),
+        ('O', hex(PAGE), &["open id=7 width=16 length=3000 edge=0 complete=0 new"]),
+        ('W', vec![0xff; 8], &[]),
+        ('W', vec![0; 8], &[]),
+        ('W', vec![0; 7], &["bad length"]),
+        ('W', vec![0; 9], &["bad length"]),
+        ('W', vec![], &["bad length"]),
+        ('W', vec![0; 65_536], &["bad length"]),
+        ('O', hex(PAGE), &["open id=7 width=16 length=3000 edge=0 complete=0 already-open"]),
+        ('W', vec![0; 8], &[]),
+    ]);
 }
 
 #[test]
@@ -404,7 +420,7 @@ fn cut_short_at_every_place() {
 #[test]
 fn cut_short_comes_before_all_else() {
     // Whatever the kind and the length would have given.
-    for kind in *b"FODRSCPX" {
+    for kind in *b"FODRSCPWX" {
         for length in [1u32, 6, 18, 65_535, 65_536, u32::MAX] {
             let head = [&[kind][..], &length.to_be_bytes()].concat();
             for body in [0, length.min(70_000) as usize - 1] {

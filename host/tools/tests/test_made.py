@@ -5,7 +5,7 @@ import tempfile
 import unittest
 
 from packets import (END_OF_DATA, STREAMS, WANTED, beacon, close_record, data, failure, fit, header, metadata, record, split,
-                     status_record, success)
+                     status_record, success, time_of, time_record)
 
 ROOT = os.path.join(os.path.dirname(os.path.abspath(__file__)), "..", "..", "..")
 
@@ -57,6 +57,9 @@ class Module(unittest.TestCase):
         self.assertEqual(record(b"P", b"ab"), b"P\0\0\0\2ab")
         self.assertEqual(close_record(7), b"C\0\0\0\4\0\0\0\7")
         self.assertEqual(status_record(7).hex(), "5300000011" "00000007" "0000000000000000" "00" "0000ffff")
+        self.assertEqual(time_record(2**63 + 1).hex(), "5700000008" "8000000000000001")
+        self.assertEqual([time_of(b"W", body) for body in (bytes(7), b"\0" * 7 + b"\x05", bytes(9))], [None, 5, None])
+        self.assertEqual(time_of(b"P", bytes(8)), None)
         whole = record(b"F") + record(b"P", b"page")
         for cut in range(len(whole) + 1):
             records, rest = split(whole[:cut])

@@ -1,13 +1,16 @@
 """passplot: what it draws of replay's lines, and the lines that errors name."""
+import os
 import random
 import re
 import subprocess
 import sys
+import tempfile
+import time
 import unittest
 import xml.etree.ElementTree as tree
 
 import loading
-from packets import data, metadata, record
+from packets import data, metadata, record, split, time_record
 
 passplot = loading.tool("passplot")
 SVG = "{http://www.w3.org/2000/svg}"
@@ -47,7 +50,8 @@ LATE = """\
 def drawing(text, times=None, passed=None):
     drawn = passplot.read(text.split("\n"))
     if passed is not None:
-        passplot.give_names(drawn, passed)
+        passplot.give_names(drawn, split(passed)[0])
+        times = passplot.times_in(drawn, split(passed)[0])
     return passplot.Drawing(drawn, "Pass", times).svg()
 
 
@@ -159,7 +163,8 @@ class Drawn(unittest.TestCase):
         linked = ("1 open id=7 width=16 length=1 edge=0 complete=0 new\n"
                   "2 record id=7 offset=0 length=1 edge=1 complete=1\n"
                   "2 complete id=7 length=1 file=00000007.page mtime=0 ctime=0 checksum= path=plant/page611.pla\n"
-                  "3 lost id=7 offset=0 length=1\n4 too-large id=8 length=9 code=3\n5 close id=7 to-make-room\n")
+                  "3 lost id=7 offset=0 length=1\n4 too-large id=8 length=9 code=8\n4 too-many id=9 code=3\n"
+                  "4 of-another-sender id=7 code=6\n5 close id=7 to-make-room\n")
         self.assertIn("Transfer 7, plant/page611.pla: 1 octet, width 16", texts(drawing(linked)))
         long = record(b"P", metadata(7, 16, 3000, b"a" * 500 + b"z" * 500))
         svg = drawing("1 open id=7 width=16 length=3000 edge=0 complete=0 new\n", passed=long)
@@ -240,20 +245,47 @@ class Drawn(unittest.TestCase):
         self.assertEqual(told.count("NOT complete: 50.0% of 10"), 50)
         self.assertEqual(len(boxes(svg, passplot.NEW)), 100)
 
+    def test_very_many_transfers_in_a_moment(self):
+        """In processor time, which other programs don't change; with a look at all others for each it took 20 seconds."""
+        lines = "".join(f"{2 * at + 1} open id=7 width=16 length=9 edge=0 complete=0 new\n{2 * at + 2} fresh\n"
+                        for at in range(12000))
+        begun = time.process_time()
+        self.assertIn("opened again (12000)", drawing(lines))
+        self.assertLess(time.process_time() - begun, 10)
+
     def test_times(self):
         times = {record: 1700000000 * 10**9 + record * 10**9 for record in range(1, 9) if record != 4}
         svg = drawing(LATE, times)
         self.assertIn("s since 2023-11-14 22:13:21 UTC", texts(svg))
         self.assertIn("7", texts(svg))
         self.assertIn("record 4: 0 to 1,000 again", tips(svg))
-        for odd in ({1: 0}, {1: 10**60, 2: 0, 3: 10**59}, {8: 5}, {record: 7 for record in range(1, 9)}):
+        for odd in ({1: 0}, {1: 2**64 - 1, 2: 0, 3: 2**63}, {8: 5}, {record: 7 for record in range(1, 9)}):
             tree.fromstring(drawing(LATE, odd))
-        with self.assertRaisesRegex(passplot.Wrong, "no time of any record"):
-            drawing(LATE, {9: 5})
-        self.assertEqual(passplot.read_times(b"1 1700000000.000005000\n"), {1: 1700000000000005000})
-        for wrong in (b"x", b"1 2", b"1 2.5", b"1 -1.000000000", b"\xff\xff", b"1 2.000000000\n\n"):
-            with self.assertRaisesRegex(passplot.Wrong, "^line "):
-                passplot.read_times(wrong)
+        self.assertIn("record of the pass", texts(drawing(LATE, {})))
+
+    def test_times_of_a_pass(self):
+        """A time is that of the record after it; one that nothing follows, or of another length, is none."""
+        start = 1700000000 * 10**9
+        passed = [time_record(start), record(b"P", metadata(7, 16, 20)), record(b"F"), time_record(5),
+                  time_record(start + 60 * 10**9), record(b"P", data(7, 16, 0, bytes(10))), record(b"W", bytes(7)),
+                  record(b"P", data(7, 16, 10, bytes(10))), time_record(9)]
+        lines = ("2 open id=7 width=16 length=20 edge=0 complete=0 new\n"
+                 "6 record id=7 offset=0 length=10 edge=10 complete=0\n7 bad length\n"
+                 "8 record id=7 offset=10 length=10 edge=20 complete=1\n")
+        self.assertEqual(passplot.times_in(passplot.read(lines.split("\n")), split(b"".join(passed))[0]),
+                         {2: start, 6: start + 60 * 10**9})
+        told = texts(drawing(lines, passed=b"".join(passed)))
+        self.assertIn("s since 2023-11-14 22:13:20 UTC", told)
+        self.assertIn("4 records; 1 transfer, 1 complete", told)
+        self.assertIn("60", told)
+
+    def test_a_column_ends_where_the_next_time_begins(self):
+        """The records between that have no time, as W records, don't make it narrow."""
+        scale = passplot.ByTime({2: 0, 4: 10**9, 6: 2 * 10**9}, 0, 800)
+        for number in (2, 4, 6):
+            self.assertAlmostEqual(scale.stop(number) - scale.x(number), 4)
+        crowded = passplot.ByTime({2: 0, 4: 1, 6: 1000}, 0, 800)
+        self.assertAlmostEqual(crowded.stop(2), crowded.x(4))
 
     def test_ticks(self):
         self.assertEqual(list(passplot.ticks(1, 19, 20)), list(range(1, 20)))
@@ -302,8 +334,13 @@ class Errors(unittest.TestCase):
         self.assertEqual(run(LATE, "--pass", "/dev/null"), (
             "", "passplot: /dev/null: record 1 is no METADATA, and the lines say that it opened a transfer: they are of "
                 "another pass\n", 1))
-        self.assertEqual(run(LATE, "--times", "/dev/null"),
-                         ("", "passplot: /dev/null: no time of any record that the lines tell of\n", 1))
+        with tempfile.TemporaryDirectory() as place:
+            name = os.path.join(place, "timed.pass")
+            with open(name, "wb") as file:
+                file.write(time_record(1700000000 * 10**9) + record(b"P", metadata(7, 16, 20)))
+            line = "2 open id=7 width=16 length=20 edge=0 complete=0 new\n"
+            self.assertIn("since 2023-11-14 22:13:20 UTC", run(line, "--pass", name)[0])
+            self.assertIn("record of the pass", run(line, "--pass", name, "--by-record")[0])
         self.assertEqual(run("", "/nowhere/lines"), ("", "passplot: /nowhere/lines: No such file or directory\n", 1))
 
 

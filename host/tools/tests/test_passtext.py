@@ -7,7 +7,7 @@ import unittest
 
 import loading
 from packets import (END_OF_DATA, INCOMPLETE, TIMESTAMP, WANTED, beacon, data, failure, metadata, page_packets, record,
-                     success)
+                     success, time_record)
 
 passtext = loading.tool("passtext")
 
@@ -53,6 +53,10 @@ class Forms(unittest.TestCase):
          record(b"R", success(7, 64, 0, 0, flags=INCOMPLETE | 0x010000))),
         ("read failure id=7 status=6", record(b"R", failure(7, 6))),
         ("read failure id=7 status=6 flags=c00006", record(b"R", bytes.fromhex("44c0000600000007"))),
+        ("time at=1970-01-01T00:00:00.000000000Z", time_record(0)),
+        ("time at=2023-11-14T22:13:20.000005000Z", time_record(1700000000000005000)),
+        ("time at=2554-07-21T23:34:33.709551615Z", time_record(2**64 - 1)),
+        ("packet W 00", record(b"W", b"\0")),
         ("read beacon largest-width=64 send=willing receive=not-now free-width=32 free=1048576 endpoint=dish%203",
          record(b"R", bytes.fromhex("408e5000" "00100000") + b"dish 3")),
         ("link beacon largest-width=16 send=cannot receive=cannot endpoint=", record(b"P", bytes.fromhex("40000000"))),

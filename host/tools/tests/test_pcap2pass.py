@@ -14,7 +14,7 @@ import captures
 import loading
 from captures import (cooked, cooked2, enhanced, ethernet, interface, ipv4, ipv6, loopback, pcap, pcapng, section, simple,
                       udp)
-from packets import page_packets, record, split
+from packets import page_packets, record, split, time_of
 
 pcap2pass = loading.tool("pcap2pass")
 PACKETS = page_packets()
@@ -51,15 +51,16 @@ WRAPPINGS = {
 
 
 def run(capture, wanted=pcap2pass.Wanted(), **options):
-    """Output, messages and exit status of pcap2pass on a capture."""
+    """Output, messages and exit status of pcap2pass on a capture. The times are left to the tests of times."""
     out, told = io.BytesIO(), []
-    status = pcap2pass.convert(pcap2pass.Source(io.BytesIO(capture)), wanted, out, told.append, **options)
+    status = pcap2pass.convert(pcap2pass.Source(io.BytesIO(capture)), wanted, out, told.append,
+                               **{"with_times": False, **options})
     return out.getvalue(), "".join(f"pcap2pass: {message}\n" for message in told), status
 
 
-def run_program(capture, *options):
+def run_program(capture, *options, times=("--no-times",)):
     """The same of the program with options."""
-    done = subprocess.run([sys.executable, "-B", loading.path_of("pcap2pass"), *options], input=capture,
+    done = subprocess.run([sys.executable, "-B", loading.path_of("pcap2pass"), *times, *options], input=capture,
                           capture_output=True, check=False)
     return done.stdout, done.stderr.decode(), done.returncode
 
@@ -103,6 +104,16 @@ class Whole(unittest.TestCase):
             with open(out, "rb") as file:
                 self.assertEqual(file.read(), PASS)
 
+
+    def test_the_capture_is_not_written_over(self):
+        with tempfile.TemporaryDirectory() as place:
+            name, octets = os.path.join(place, "capture"), pcap([ethernet(ipv4(udp(b"one")))])
+            with open(name, "wb") as file:
+                file.write(octets)
+            self.assertEqual(run_program(b"", "-o", name, name),
+                             (b"", f"pcap2pass: {name}: is the capture, which would be lost\n", 2))
+            with open(name, "rb") as file:
+                self.assertEqual(file.read(), octets)
 
     def test_the_program_s_messages_and_status(self):
         self.assertEqual(run_program(b"GIF89a"), (b"", "pcap2pass: broken file: neither pcap nor pcapng: the first "
@@ -258,35 +269,38 @@ class Times(unittest.TestCase):
     FRAME = ethernet(ipv4(udp(b"one")))
 
     def times(self, capture):
-        out = io.BytesIO()
-        run(capture, times=out)
-        return out.getvalue().decode().splitlines()
+        """The time before each packet, None where there is none."""
+        times, given = [], None
+        for kind, body in split(run(capture, with_times=True)[0])[0]:
+            if kind == b"P":
+                times.append(given)
+            given = time_of(kind, body)
+        return times
 
     def test_pcap(self):
         frames = [self.FRAME, ethernet(ipv4(udp(b"dns", target=53))), self.FRAME]
-        self.assertEqual(self.times(pcap(frames)), ["1 1700000000.000005000", "2 1700000002.000005000"])
+        self.assertEqual(self.times(pcap(frames)), [1700000000000005000, 1700000002000005000])
         self.assertEqual(self.times(pcap(frames, order=">", magic=0xA1B23C4D)),
-                         ["1 1700000000.000000005", "2 1700000002.000000005"])
+                         [1700000000000000005, 1700000002000000005])
 
     def test_pcapng(self):
-        for resolution, time, told in ((9, 1700000000 * 10**9 + 7, "1700000000.000000007"), (6, 15, "0.000015000"),
-                                       (0, 3, "3.000000000"), (0x80 | 10, 1536, "1.500000000"),
-                                       (0xFF, 2**64 - 1, "0.000000000"), (127, 2**64 - 1, "0.000000000")):
+        for resolution, time, told in ((9, 1700000000 * 10**9 + 7, 1700000000000000007), (6, 15, 15000),
+                                       (0, 3, 3 * 10**9), (0x80 | 10, 1536, 1500000000), (9, 2**64 - 1, 2**64 - 1),
+                                       (0xFF, 2**64 - 1, 0), (127, 2**64 - 1, 0), (0, 2**64 - 1, None)):
             capture = section() + interface(1, resolution=resolution) + enhanced(self.FRAME, time=time)
-            self.assertEqual(self.times(capture), ["1 " + told], resolution)
+            self.assertEqual(self.times(capture), [told], resolution)
         capture = section() + interface(1, offset=1000) + enhanced(self.FRAME, time=7)
-        self.assertEqual(self.times(capture), ["1 1000.000000007"])
-        capture = section() + interface(1, offset=-1000) + enhanced(self.FRAME, time=7)
-        self.assertEqual(self.times(capture), [])
+        self.assertEqual(self.times(capture), [1000000000007])
+        for offset in (-1000, 2**63 - 1, -2**63):
+            capture = section() + interface(1, offset=offset) + enhanced(self.FRAME, time=7)
+            self.assertEqual(self.times(capture), [None], offset)
         capture = section() + interface(1) + simple(self.FRAME) + enhanced(self.FRAME, time=10**9)
-        self.assertEqual(self.times(capture), ["2 1.000000000"])
+        self.assertEqual(self.times(capture), [None, 10**9])
 
     def test_the_program(self):
-        with tempfile.TemporaryDirectory() as place:
-            name = os.path.join(place, "times")
-            self.assertEqual(run_program(pcap([self.FRAME]), "--times", name), (record(b"P", b"one"), "", 0))
-            with open(name, encoding="ascii") as file:
-                self.assertEqual(file.read(), "1 1700000000.000005000\n")
+        timed = bytes.fromhex("5700000008" "17979cfe362a1388") + record(b"P", b"one")
+        self.assertEqual(run_program(pcap([self.FRAME]), times=()), (timed, "", 0))
+        self.assertEqual(run_program(pcap([self.FRAME])), (record(b"P", b"one"), "", 0))
 
 
 class Broken(unittest.TestCase):

@@ -1,9 +1,11 @@
 -- `header::start_refusal` meets its contract: a return for each test. Assumes nothing.
+use mathlib.Core.Path.{_≡_, ap, _∙_}
 use lib.ListN.{length}
 use denote.Ref.{now}
 use borrow.Author.Tests.{lt-ltb, le-ltb, eq-eqb, ne-eqb}
 use Rattle.header.specs.FirstWord.{markOf}
-use Rattle.header.specs.Start.{wordOf, startRefusal}
+use Rattle.header.specs.Start.{wordOf, startOctets, startRefusal}
+use Rattle.header.proofs.StartLaws.{start-between}
 use borrow.Author.Needs.{needs}
 use native.Mathlib.Omega.{arith}
 use Rattle.header.proofs.start_refusal.Statement.{statement}
@@ -15,28 +17,49 @@ returns c = let s = now (c .before .before .args .p) in rw (lt-ltb 65535 (length
 
 returns-2 : tie.Need-returns-2
 unfolding startRefusal
-returns-2 c = let s = now (c .before .before .before .args .p) in rw (le-ltb 65535 (length s) (omega arith), lt-ltb (length s) 8 (omega arith))
+returns-2 c =
+    let s = now (c .before .before .before .args .p) in
+    rw (le-ltb 65535 (length s) (omega arith), lt-ltb (length s) (startOctets (wordOf s)) (omega (arith, start-between (wordOf s))))
 
 word-requires : tie.Need-word-requires
 word-requires c κs = search needs
 
-split-requires : tie.Need-split-requires
-split-requires c κs = search needs
+start-octets-requires : tie.Need-start-octets-requires
+start-octets-requires c κs = search needs
+
+-- how many octets are needed
+needed : (c : tie.After-start-octets) → c .start-octets .result ≡ startOctets (wordOf (now (c .before .before .before .before .before .args .p)))
+needed c = c .start-octets .ensures ∙ ap startOctets (c .before .word .ensures)
 
 returns-3 : tie.Need-returns-3
 unfolding startRefusal
 returns-3 c =
-    let start = c .before .before .before .before .before .before .before in
+    let start = c .before .before .before .before .before .before in
     let s = now (start .args .p) in
-    rw (le-ltb 65535 (length s) (omega arith), le-ltb (length s) 8 (omega arith), ne-eqb (markOf (wordOf s)) 1 (omega arith))
+    let n = needed (c .before) in
+    rw (le-ltb 65535 (length s) (omega arith), lt-ltb (length s) (startOctets (wordOf s)) (omega arith))
+
+split-requires : tie.Need-split-requires
+split-requires c κs = search needs
 
 returns-4 : tie.Need-returns-4
 unfolding startRefusal
 returns-4 c =
-    let start = c .before .before .before .before .before .before .before in
+    let octets-place = c .before .before .before .before in
+    let start = octets-place .before .before .before .before .before in
     let s = now (start .args .p) in
-    rw (le-ltb 65535 (length s) (omega arith), le-ltb (length s) 8 (omega arith), eq-eqb (markOf (wordOf s)) 1 (omega arith))
+    let n = needed octets-place in
+    rw (le-ltb 65535 (length s) (omega arith), le-ltb (length s) (startOctets (wordOf s)) (omega arith), ne-eqb (markOf (wordOf s)) 1 (omega arith))
+
+returns-5 : tie.Need-returns-5
+unfolding startRefusal
+returns-5 c =
+    let octets-place = c .before .before .before .before in
+    let start = octets-place .before .before .before .before .before in
+    let s = now (start .args .p) in
+    let n = needed octets-place in
+    rw (le-ltb 65535 (length s) (omega arith), le-ltb (length s) (startOctets (wordOf s)) (omega arith), eq-eqb (markOf (wordOf s)) 1 (omega arith))
 
 pub start-refusal-spec : {M : Type 1} → statement M
 start-refusal-spec =
-    tie.close (tie.spec returns returns-2 word-requires split-requires returns-3 returns-4)
+    tie.close (tie.spec returns returns-2 word-requires start-octets-requires returns-3 split-requires returns-4 returns-5)

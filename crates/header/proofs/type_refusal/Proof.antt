@@ -6,7 +6,7 @@ use borrow.Author.Tests.{eq-eqb, ne-eqb}
 use Rattle.header.specs.FirstWord.{typeOf}
 use Rattle.header.specs.Start.{wordOf, startRefusal, typeRefusal}
 use Rattle.refusals.proofs.RefusalLaws.{stays}
-use Rattle.header.proofs.StartLaws.{start-fine}
+use Rattle.header.proofs.StartLaws.{start-word}
 use borrow.Author.Needs.{needs}
 use native.Mathlib.Omega.{arith}
 use Rattle.header.proofs.type_refusal.Statement.{statement}
@@ -20,7 +20,7 @@ unfolding typeRefusal
 returns c = let s = now (c .before .before .before .args .p) in c .before .start-refusal .ensures ∙ sym (stays (startRefusal s) _ (omega arith))
 
 word-requires : tie.Need-word-requires
-word-requires c κs = start-fine (now (c .before .before .before .args .p)) (omega arith) .long
+word-requires c κs = start-word (now (c .before .before .before .args .p)) (omega arith)
 
 split-requires : tie.Need-split-requires
 split-requires c κs = search needs

@@ -5,8 +5,8 @@ use denote.Ref.{now}
 use borrow.Author.Tests.{ne-eqb}
 use Rattle.header.specs.FirstWord.{typeOf}
 use Rattle.header.specs.Start.{wordOf, startRefusal}
-use Rattle.header.proofs.StartLaws.{start-fine}
-use Rattle.packet.specs.Read.{ofMetadata, ofData, ofStatus, readType}
+use Rattle.header.proofs.StartLaws.{start-word}
+use Rattle.packet.specs.Read.{ofBeacon, ofMetadata, ofData, ofStatus, readType}
 use Rattle.packet.proofs.ReadLaws.{read-refused, read-by-type}
 use borrow.Author.Needs.{needs}
 use native.Mathlib.Omega.{arith}
@@ -25,7 +25,7 @@ returns c =
     rw (c .refuse .ensures, c .before .before .start-refusal .ensures) (read-refused s (omega arith))
 
 word-requires : tie.Need-word-requires
-word-requires c κs = start-fine (now (c .before .before .before .args .p)) (omega arith) .long
+word-requires c κs = start-word (now (c .before .before .before .args .p)) (omega arith)
 
 split-requires : tie.Need-split-requires
 split-requires c κs = search needs
@@ -83,19 +83,35 @@ returns-4 c =
     let t : typeOf (wordOf s) ≡ 4 = omega arith in
     c .of-status .ensures ∙ ap ofStatus (c .before .read-status .ensures) ∙ read-by-type s (k .0) (rw (t, readType))
 
-refuse-requires-2 : tie.Need-refuse-requires-2
-refuse-requires-2 c κs = search needs
+read-beacon-requires : tie.Need-read-beacon-requires
+read-beacon-requires c κs = search needs
+
+of-beacon-requires : tie.Need-of-beacon-requires
+of-beacon-requires c κs = search needs
 
 returns-5 : tie.Need-returns-5
 unfolding readType
 returns-5 c =
-    let before-place = c .before .before .before .before .before .before in
+    let before-place = c .before .before .before .before .before .before .before .before .before in
+    let start = before-place .before .before .before .before .before .before in
+    let s = now (start .args .p) in
+    let k = known (before-place .before) in
+    let t : typeOf (wordOf s) ≡ 0 = omega arith in
+    c .of-beacon .ensures ∙ ap ofBeacon (c .before .read-beacon .ensures) ∙ read-by-type s (k .0) (rw (t, readType))
+
+refuse-requires-2 : tie.Need-refuse-requires-2
+refuse-requires-2 c κs = search needs
+
+returns-6 : tie.Need-returns-6
+unfolding readType
+returns-6 c =
+    let before-place = c .before .before .before .before .before .before .before .before in
     let start = before-place .before .before .before .before .before .before in
     let s = now (start .args .p) in
     let k = known (before-place .before) in
     let t = typeOf (wordOf s) in
     rw (c .refuse2 .ensures)
-    (read-by-type s (k .0) (rw (ne-eqb t 2 (omega arith), ne-eqb t 3 (omega arith), ne-eqb t 4 (omega arith))))
+    (read-by-type s (k .0) (rw (ne-eqb t 0 (omega arith), ne-eqb t 2 (omega arith), ne-eqb t 3 (omega arith), ne-eqb t 4 (omega arith))))
 
 pub read-packet-spec : {M : Type 1} → statement M
 read-packet-spec =
@@ -115,5 +131,8 @@ read-packet-spec =
     read-status-requires
     of-status-requires
     returns-4
+    read-beacon-requires
+    of-beacon-requires
+    returns-5
     refuse-requires-2
-    returns-5)
+    returns-6)

@@ -12,7 +12,7 @@ use Rattle.packet_data.proofs.data_fields.Statement.{statement}
 use Rattle.packet_data.proofs.data_fields.Tie as tie
 
 word-requires : tie.Need-word-requires
-word-requires c κs = data-fine (now (c .before .args .p)) (c .before .pre) .head .start .long
+word-requires c κs = omega (arith, data-fine (now (c .before .args .p)) (c .before .pre) .head .long)
 
 split-requires : tie.Need-split-requires
 split-requires c κs = search needs
@@ -24,7 +24,7 @@ payload-at-requires : tie.Need-payload-at-requires
 payload-at-requires c κs = search needs
 
 id-requires : tie.Need-id-requires
-id-requires c κs = data-fine (now (c .before .before .before .before .before .args .p)) (c .before .before .before .before .before .pre) .head .start .long
+id-requires c κs = data-fine (now (c .before .before .before .before .before .args .p)) (c .before .before .before .before .before .pre) .head .long
 
 timestamp-octets-requires : tie.Need-timestamp-octets-requires
 timestamp-octets-requires c κs = search needs

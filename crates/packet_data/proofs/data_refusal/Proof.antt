@@ -24,7 +24,7 @@ unfolding dataRefusal
 returns c = let s = now (c .before .before .before .args .p) in c .before .type-refusal .ensures ∙ sym (stays (typeRefusal 3 s) _ (omega arith))
 
 word-requires : tie.Need-word-requires
-word-requires c κs = type-fine 3 (now (c .before .before .before .args .p)) (omega arith) .start .long
+word-requires c κs = omega (arith, type-fine 3 (now (c .before .before .before .args .p)) (omega arith) .long)
 
 file-refusal-requires : tie.Need-file-refusal-requires
 file-refusal-requires c κs = search needs

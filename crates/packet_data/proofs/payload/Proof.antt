@@ -24,7 +24,7 @@ unfolding payloadOf
 returns c = let s = now (c .before .before .before .before .args .p) in part-refused (dataRefusal s) s (omega arith)
 
 word-requires : tie.Need-word-requires
-word-requires c κs = data-fine (now (c .before .before .before .args .p)) (omega arith) .head .start .long
+word-requires c κs = omega (arith, data-fine (now (c .before .before .before .args .p)) (omega arith) .head .long)
 
 payload-at-requires : tie.Need-payload-at-requires
 payload-at-requires c κs = search needs

@@ -17,7 +17,7 @@ use Rattle.packet_metadata.proofs.metadata_fields.Statement.{statement}
 use Rattle.packet_metadata.proofs.metadata_fields.Tie as tie
 
 word-requires : tie.Need-word-requires
-word-requires c κs = metadata-fine (now (c .before .args .p)) (c .before .pre) .start .start .long
+word-requires c κs = omega (arith, metadata-fine (now (c .before .args .p)) (c .before .pre) .start .long)
 
 split-requires : tie.Need-split-requires
 split-requires c κs = search needs
@@ -58,7 +58,7 @@ entry-fields-requires c κs =
     (rw (rest-part s (8 + c .before .checksum-octets .result), k .0, k .1) (metadata-fine s (start .pre) .entry), omega arith)
 
 id-requires : tie.Need-id-requires
-id-requires c κs = metadata-fine (now (c .before .before .before .before .before .before .before .args .p)) (c .before .before .before .before .before .before .before .pre) .start .start .long
+id-requires c κs = metadata-fine (now (c .before .before .before .before .before .before .before .args .p)) (c .before .before .before .before .before .before .before .pre) .start .long
 
 entry : (c : tie.After-entry-fields) → c .entry-fields .result ≡ entryOf (entryAt (wordOf (now (c .before .before .before .before .before .before .before .args .p)))) (drop (entryAt (wordOf (now (c .before .before .before .before .before .before .before .args .p)))) (now (c .before .before .before .before .before .before .before .args .p)))
 entry c =

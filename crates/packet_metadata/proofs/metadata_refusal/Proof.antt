@@ -24,7 +24,7 @@ unfolding metadataRefusal
 returns c = c .before .type-refusal .ensures ∙ sym (stays (typeRefusal 2 (now (c .before .before .before .args .p))) _ (omega arith))
 
 word-requires : tie.Need-word-requires
-word-requires c κs = type-fine 2 (now (c .before .before .before .args .p)) (omega arith) .start .long
+word-requires c κs = omega (arith, type-fine 2 (now (c .before .before .before .args .p)) (omega arith) .long)
 
 file-refusal-requires : tie.Need-file-refusal-requires
 file-refusal-requires c κs = search needs

@@ -22,7 +22,7 @@ unfolding holeRefusal
 returns c = let s = now (c .before .before .before .args .p) in c .before .status-refusal .ensures ∙ sym (stays (statusRefusal s) _ (omega arith))
 
 word-requires : tie.Need-word-requires
-word-requires c κs = status-fine (now (c .before .before .before .args .p)) (omega arith) .typed .start .long
+word-requires c κs = omega (arith, status-fine (now (c .before .before .before .args .p)) (omega arith) .typed .long)
 
 split-requires : tie.Need-split-requires
 split-requires c κs = search needs
@@ -40,7 +40,7 @@ success-fields-requires c κs =
     let s = now (c .before .before .before .before .before .before .before .args .p) in
     let y : statusOf (wordOf s) ≡ 0 = omega arith in
     let f = status-fine s (omega arith) in
-    (f .typed .start .long, f .success y)
+    (f .typed .long, f .success y)
 
 counted : (c : tie.After-success-fields) → c .success-fields .result .count ≡ holeCount (now (c .before .before .before .before .before .before .before .before .args .p))
 unfolding successOf

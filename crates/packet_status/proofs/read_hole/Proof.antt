@@ -31,7 +31,7 @@ returns c =
     rw (c .refuse .ensures, e) (answered-refused Refused n (Accepted (indexedHole (a .index) (now (a .p)))) (omega arith))
 
 word-requires : tie.Need-word-requires
-word-requires c κs = let a = c .before .before .before .args in hole-fine (a .index) (now (a .p)) (omega arith) .start .long
+word-requires c κs = let a = c .before .before .before .args in omega (arith, hole-fine (a .index) (now (a .p)) (omega arith) .typed .long)
 
 descriptor-octets-requires : tie.Need-descriptor-octets-requires
 descriptor-octets-requires c κs = search needs

@@ -27,7 +27,7 @@ returns c =
     rw (c .refuse .ensures, e) (answered-refused Refused (statusRefusal s) _ (omega arith))
 
 word-requires : tie.Need-word-requires
-word-requires c κs = status-fine (now (c .before .before .before .args .p)) (omega arith) .typed .start .long
+word-requires c κs = omega (arith, status-fine (now (c .before .before .before .args .p)) (omega arith) .typed .long)
 
 split-requires : tie.Need-split-requires
 split-requires c κs = search needs
@@ -37,7 +37,7 @@ success-fields-requires c κs =
     let s = now (c .before .before .before .before .before .before .args .p) in
     let y : statusOf (wordOf s) ≡ 0 = omega arith in
     let f = status-fine s (omega arith) in
-    (f .typed .start .long, f .success y)
+    (f .typed .long, f .success y)
 
 returns-2 : tie.Need-returns-2
 unfolding readStatus
@@ -49,7 +49,7 @@ returns-2 c =
     rw (z, y, c .success-fields .ensures)
 
 id-requires : tie.Need-id-requires
-id-requires c κs = status-fine (now (c .before .before .before .before .before .before .args .p)) (omega arith) .typed .start .long
+id-requires c κs = status-fine (now (c .before .before .before .before .before .before .args .p)) (omega arith) .typed .long
 
 returns-3 : tie.Need-returns-3
 unfolding readStatus failureOf

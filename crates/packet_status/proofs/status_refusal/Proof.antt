@@ -21,7 +21,7 @@ unfolding statusRefusal
 returns c = let s = now (c .before .before .before .args .p) in c .before .type-refusal .ensures ∙ sym (stays (typeRefusal 4 s) _ (omega arith))
 
 word-requires : tie.Need-word-requires
-word-requires c κs = type-fine 4 (now (c .before .before .before .args .p)) (omega arith) .start .long
+word-requires c κs = omega (arith, type-fine 4 (now (c .before .before .before .args .p)) (omega arith) .long)
 
 split-requires : tie.Need-split-requires
 split-requires c κs = search needs
@@ -35,7 +35,7 @@ returns-2 c =
     rw (z, ne-eqb (statusOf (wordOf s)) 0 (omega arith))
 
 success-refusal-requires : tie.Need-success-refusal-requires
-success-refusal-requires c κs = type-fine 4 (now (c .before .before .before .before .before .before .before .args .p)) (omega arith) .start .long
+success-refusal-requires c κs = type-fine 4 (now (c .before .before .before .before .before .before .before .args .p)) (omega arith) .long
 
 returns-3 : tie.Need-returns-3
 unfolding statusRefusal

@@ -11,37 +11,45 @@ use Rattle.replay_answers.proofs.put_read.Tie as tie
 enum-known-a : tie.Need-enum-known-a
 enum-known-a c = search needs
 
-put-metadata-requires : tie.Need-put-metadata-requires
-put-metadata-requires c κs =
+put-beacon-requires : tie.Need-put-beacon-requires
+put-beacon-requires c κs =
     let start = c .before .before .before .before .before .before in
     start .pre
 
 enum-known-a-2 : tie.Need-enum-known-a-2
 enum-known-a-2 c = search needs
 
-put-data-requires : tie.Need-put-data-requires
-put-data-requires c κs =
+put-metadata-requires : tie.Need-put-metadata-requires
+put-metadata-requires c κs =
     let start = c .before .before .before .before .before .before in
     start .pre
 
 enum-known-a-3 : tie.Need-enum-known-a-3
 enum-known-a-3 c = search needs
 
-put-success-requires : tie.Need-put-success-requires
-put-success-requires c κs =
+put-data-requires : tie.Need-put-data-requires
+put-data-requires c κs =
     let start = c .before .before .before .before .before .before in
     start .pre
 
 enum-known-a-4 : tie.Need-enum-known-a-4
 enum-known-a-4 c = search needs
 
-put-failure-requires : tie.Need-put-failure-requires
-put-failure-requires c κs =
+put-success-requires : tie.Need-put-success-requires
+put-success-requires c κs =
     let start = c .before .before .before .before .before .before in
     start .pre
 
 enum-known-a-5 : tie.Need-enum-known-a-5
 enum-known-a-5 c = search needs
+
+put-failure-requires : tie.Need-put-failure-requires
+put-failure-requires c κs =
+    let start = c .before .before .before .before .before .before in
+    start .pre
+
+enum-known-a-6 : tie.Need-enum-known-a-6
+enum-known-a-6 c = search needs
 
 put-refused-requires : tie.Need-put-refused-requires
 put-refused-requires c κs =
@@ -49,68 +57,81 @@ put-refused-requires c κs =
     start .pre
 
 same-length : tie.Need-same-length
-same-length c = c .before .before .put-metadata .ensures .size
+same-length c = c .before .before .put-beacon .ensures .size
 
 returns : tie.Need-returns
 unfolding readText
 returns c =
-    let put-metadata-place = c .before .before in
-    let a-place = put-metadata-place .before .before .before in
+    let put-beacon-place = c .before .before in
+    let a-place = put-beacon-place .before .before .before in
     let start = a-place .before .before .before .before in
     let a = start .args in
     added-as (ap (readText (a .number) (now (a .p))) (sym (a-place .a .given .1)))
-    (put-metadata-place .put-metadata .ensures)
+    (put-beacon-place .put-beacon .ensures)
 
 same-length-2 : tie.Need-same-length-2
-same-length-2 c = c .before .before .put-data .ensures .size
+same-length-2 c = c .before .before .put-metadata .ensures .size
 
 returns-2 : tie.Need-returns-2
 unfolding readText
 returns-2 c =
-    let put-data-place = c .before .before in
-    let a2-place = put-data-place .before .before .before in
+    let put-metadata-place = c .before .before in
+    let a2-place = put-metadata-place .before .before .before in
     let start = a2-place .before .before .before .before in
     let a = start .args in
     added-as (ap (readText (a .number) (now (a .p))) (sym (a2-place .a2 .given .1)))
-    (put-data-place .put-data .ensures)
+    (put-metadata-place .put-metadata .ensures)
 
 same-length-3 : tie.Need-same-length-3
-same-length-3 c = c .before .before .put-success .ensures .size
+same-length-3 c = c .before .before .put-data .ensures .size
 
 returns-3 : tie.Need-returns-3
 unfolding readText
 returns-3 c =
-    let put-success-place = c .before .before in
-    let a3-place = put-success-place .before .before .before in
+    let put-data-place = c .before .before in
+    let a3-place = put-data-place .before .before .before in
     let start = a3-place .before .before .before .before in
     let a = start .args in
     added-as (ap (readText (a .number) (now (a .p))) (sym (a3-place .a3 .given .1)))
-    (put-success-place .put-success .ensures)
+    (put-data-place .put-data .ensures)
 
 same-length-4 : tie.Need-same-length-4
-same-length-4 c = c .before .before .put-failure .ensures .size
+same-length-4 c = c .before .before .put-success .ensures .size
 
 returns-4 : tie.Need-returns-4
 unfolding readText
 returns-4 c =
-    let put-failure-place = c .before .before in
-    let a4-place = put-failure-place .before .before .before in
+    let put-success-place = c .before .before in
+    let a4-place = put-success-place .before .before .before in
     let start = a4-place .before .before .before .before in
     let a = start .args in
     added-as (ap (readText (a .number) (now (a .p))) (sym (a4-place .a4 .given .1)))
-    (put-failure-place .put-failure .ensures)
+    (put-success-place .put-success .ensures)
 
 same-length-5 : tie.Need-same-length-5
-same-length-5 c = c .before .before .put-refused .ensures .size
+same-length-5 c = c .before .before .put-failure .ensures .size
 
 returns-5 : tie.Need-returns-5
 unfolding readText
 returns-5 c =
-    let put-refused-place = c .before .before in
-    let a5-place = put-refused-place .before .before .before in
+    let put-failure-place = c .before .before in
+    let a5-place = put-failure-place .before .before .before in
     let start = a5-place .before .before .before .before in
     let a = start .args in
     added-as (ap (readText (a .number) (now (a .p))) (sym (a5-place .a5 .given .1)))
+    (put-failure-place .put-failure .ensures)
+
+same-length-6 : tie.Need-same-length-6
+same-length-6 c = c .before .before .put-refused .ensures .size
+
+returns-6 : tie.Need-returns-6
+unfolding readText
+returns-6 c =
+    let put-refused-place = c .before .before in
+    let a6-place = put-refused-place .before .before .before in
+    let start = a6-place .before .before .before .before in
+    let a = start .args in
+    added-as (ap (readText (a .number) (now (a .p))) (sym (a6-place .a6 .given .1)))
     (put-refused-place .put-refused .ensures)
 
 pub put-read-spec : {M : Type 1} → statement M
@@ -118,14 +139,16 @@ put-read-spec =
     tie.close
     (tie.spec
     enum-known-a
-    put-metadata-requires
+    put-beacon-requires
     enum-known-a-2
-    put-data-requires
+    put-metadata-requires
     enum-known-a-3
-    put-success-requires
+    put-data-requires
     enum-known-a-4
-    put-failure-requires
+    put-success-requires
     enum-known-a-5
+    put-failure-requires
+    enum-known-a-6
     put-refused-requires
     same-length
     returns
@@ -136,4 +159,6 @@ put-read-spec =
     same-length-4
     returns-4
     same-length-5
-    returns-5)
+    returns-5
+    same-length-6
+    returns-6)

@@ -1,11 +1,14 @@
--- `replay_steps::deliver::put_failure_sent` meets its contract: a code of 0 and a packet with no Id get no line.
+-- `replay_steps::deliver::put_failure_sent` meets its contract: a code of 0 and a packet with no Id, as a BEACON, get no line.
 -- Assumes nothing.
-use mathlib.Core.Path.{ap, ap₂, _∙_}
+use mathlib.Core.Path.{_≡_, ap, ap₂, _∙_}
 use Prim.Native.Nat.{ℕ}
 use denote.Ref.{now}
 use lib.ListN.{length}
 use borrow.Author.Tests.{eq-eqb, ne-eqb, lt-ltb, le-ltb}
 use borrow.Author.Needs.{needs}
+use native.Mathlib.Omega.{arith}
+use Rattle.header.specs.FirstWord.{typeOf}
+use Rattle.header.specs.Start.{wordOf}
 use Rattle.packet_status.specs.WriteFailure.{failureWritten, failureBuffer}
 use Rattle.text.proofs.AddedLaws.{added-as, added-none}
 use Rattle.replay_answers.specs.AnswerLines.{sentText}
@@ -26,6 +29,32 @@ returns-2 c =
     let a = start .args in
     rw (ne-eqb (a .code) 0 (c .before .if1 .left), lt-ltb (length (now (a .p))) 8 (c .if2 .taken)) (added-none (now (a .out)) (a .at) (start .pre))
 
+word-requires : tie.Need-word-requires
+word-requires c κs = search needs
+
+split-requires : tie.Need-split-requires
+split-requires c κs = search needs
+
+-- the type is at hand
+typed : (c : tie.After-split) → c .split .result .ptype ≡ typeOf (wordOf (now (c .before .before .before .before .before .before .before .args .p)))
+typed c = c .split .ensures .ptype-is ∙ ap typeOf (c .before .word .ensures)
+
+returns-3 : tie.Need-returns-3
+unfolding failureSent
+returns-3 c =
+    let split-place = c .before .before in
+    let if2-place = split-place .before .before in
+    let if1-place = if2-place .before in
+    let start = if1-place .before .before .before .before in
+    let a = start .args in
+    let t = typed split-place in
+    rw (
+      ne-eqb (a .code) 0 (if1-place .if1 .left),
+      le-ltb (length (now (a .p))) 8 (if2-place .if2 .left),
+      eq-eqb (typeOf (wordOf (now (a .p)))) 0 (omega arith),
+    )
+    (added-none (now (a .out)) (a .at) (start .pre))
+
 id-requires : tie.Need-id-requires
 id-requires c κs = search needs
 
@@ -41,19 +70,25 @@ same-length c = search needs
 same-length-2 : tie.Need-same-length-2
 same-length-2 c = search needs
 
-returns-3 : tie.Need-returns-3
+returns-4 : tie.Need-returns-4
 unfolding failureSent
-returns-3 c =
+returns-4 c =
     let put-sent-place = c .before .before in
     let write-failure-place = put-sent-place .before .before .before .before .before in
     let id-place = write-failure-place .before in
-    let if2-place = id-place .before .before in
+    let split-place = id-place .before .before .before in
+    let if2-place = split-place .before .before in
     let if1-place = if2-place .before in
     let start = if1-place .before .before .before .before in
     let a = start .args in
+    let t = typed split-place in
     let i = id-place .id .ensures in
     let w = write-failure-place .write-failure .ensures in
-    rw (ne-eqb (a .code) 0 (if1-place .if1 .left), le-ltb (length (now (a .p))) 8 (if2-place .if2 .left))
+    rw (
+      ne-eqb (a .code) 0 (if1-place .if1 .left),
+      le-ltb (length (now (a .p))) 8 (if2-place .if2 .left),
+      ne-eqb (typeOf (wordOf (now (a .p)))) 0 (omega arith),
+    )
     (added-as (ap₂ (sentText (a .number)) (w .0 ∙ ap (λ (n : ℕ). failureWritten n (a .code) (now (a .lent))) i) (w .1 ∙ ap (λ (n : ℕ). failureBuffer n (a .code) (now (a .lent))) i))
     (put-sent-place .put-sent .ensures))
 
@@ -63,9 +98,12 @@ put-failure-sent-spec =
     (tie.spec
     returns
     returns-2
+    word-requires
+    split-requires
+    returns-3
     id-requires
     write-failure-requires
     put-sent-requires
     same-length
     same-length-2
-    returns-3)
+    returns-4)

@@ -145,8 +145,8 @@ returns-7 c =
     of-kind (a .number) (now (a .body)) (now (a .area)) (now (a .lent)) (if7-place .if7 .taken)
     (deliver-place .deliver .ensures)
 
-put-unknown-requires : tie.Need-put-unknown-requires
-put-unknown-requires c κs = search needs
+time-requires : tie.Need-time-requires
+time-requires c κs = search needs
 
 same-length-16 : tie.Need-same-length-16
 same-length-16 c = search needs
@@ -154,8 +154,25 @@ same-length-16 c = search needs
 returns-8 : tie.Need-returns-8
 unfolding recordLines areaAfter
 returns-8 c =
+    let time-place = c .before .before in
+    let if8-place = time-place .before .before in
+    let start = if8-place .before .before .before .before .before .before .before .before .before .before .before .before in
+    let a = start .args in
+    of-kind (a .number) (now (a .body)) (now (a .area)) (now (a .lent)) (if8-place .if8 .taken)
+    (time-place .time .ensures, refl)
+
+put-unknown-requires : tie.Need-put-unknown-requires
+put-unknown-requires c κs = search needs
+
+same-length-17 : tie.Need-same-length-17
+same-length-17 c = search needs
+
+returns-9 : tie.Need-returns-9
+unfolding recordLines areaAfter
+returns-9 c =
     let put-unknown-place = c .before .before in
-    let if7-place = put-unknown-place .before .before in
+    let if8-place = put-unknown-place .before .before in
+    let if7-place = if8-place .before in
     let if6-place = if7-place .before in
     let if5-place = if6-place .before in
     let if4-place = if5-place .before in
@@ -171,7 +188,8 @@ returns-8 c =
     let n5 = ne-eqb (a .kind) 0x53 (if5-place .if5 .left) in
     let n6 = ne-eqb (a .kind) 0x43 (if6-place .if6 .left) in
     let n7 = ne-eqb (a .kind) 0x50 (if7-place .if7 .left) in
-    (rw (n1, n2, n3, n4, n5, n6, n7) (put-unknown-place .put-unknown .ensures), rw (n1, n2, n3, n6, n7))
+    let n8 = ne-eqb (a .kind) 0x57 (if8-place .if8 .left) in
+    (rw (n1, n2, n3, n4, n5, n6, n7, n8) (put-unknown-place .put-unknown .ensures), rw (n1, n2, n3, n6, n7))
 
 pub lines-spec : {M : Type 1} → statement M
 lines-spec =
@@ -206,6 +224,9 @@ lines-spec =
     same-length-14
     same-length-15
     returns-7
-    put-unknown-requires
+    time-requires
     same-length-16
-    returns-8)
+    returns-8
+    put-unknown-requires
+    same-length-17
+    returns-9)

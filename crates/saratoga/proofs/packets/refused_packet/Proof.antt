@@ -15,8 +15,11 @@ no-data-requires c κs = search needs
 no-status-requires : tie.Need-no-status-requires
 no-status-requires c κs = search needs
 
+no-beacon-requires : tie.Need-no-beacon-requires
+no-beacon-requires c κs = search needs
+
 returns : tie.Need-returns
 returns c = cc
 
 pub refused-packet-spec : {M : Type 1} → statement M
-refused-packet-spec = tie.close (tie.spec no-part-requires no-metadata-requires no-data-requires no-status-requires returns)
+refused-packet-spec = tie.close (tie.spec no-part-requires no-metadata-requires no-data-requires no-status-requires no-beacon-requires returns)

@@ -1,0 +1,26 @@
+-- `header::start_octets` meets its contract: a return for each test. Assumes nothing.
+use borrow.Author.Tests.{eq-eqb, ne-eqb}
+use Rattle.header.specs.FirstWord.{markOf, typeOf}
+use borrow.Author.Needs.{needs}
+use native.Mathlib.Omega.{arith}
+use Rattle.header.proofs.start_octets.Statement.{statement}
+use Rattle.header.proofs.start_octets.Tie as tie
+
+split-requires : tie.Need-split-requires
+split-requires c κs = search needs
+
+returns : tie.Need-returns
+returns c = let w = c .before .before .before .args .w in rw (ne-eqb (markOf w) 1 (omega arith))
+
+returns-2 : tie.Need-returns-2
+returns-2 c =
+    let start = c .before .before .before .before .before in
+    let w = start .args .w in rw (eq-eqb (markOf w) 1 (omega arith), eq-eqb (typeOf w) 0 (omega arith))
+
+returns-3 : tie.Need-returns-3
+returns-3 c =
+    let start = c .before .before .before .before .before in
+    let w = start .args .w in rw (eq-eqb (markOf w) 1 (omega arith), ne-eqb (typeOf w) 0 (omega arith))
+
+pub start-octets-spec : {M : Type 1} → statement M
+start-octets-spec = tie.close (tie.spec split-requires returns returns-2 returns-3)

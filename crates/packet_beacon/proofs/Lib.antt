@@ -1,0 +1,5 @@
+pub mod FlagLaws
+pub mod BeaconLaws
+pub mod WriteBeaconLaws
+pub mod RoundTrip
+pub mod LimitLaws

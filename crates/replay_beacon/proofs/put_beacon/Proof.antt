@@ -1,0 +1,63 @@
+-- `replay_beacon::put_beacon` meets its contract: one part after the other.
+-- Assumes nothing.
+use mathlib.Core.Path.{ap}
+use Rattle.text.proofs.AddedLaws.{_then_, added-as}
+use Rattle.replay_fields.specs.Fields.{octetsField}
+use Rattle.replay_fields.specs.LineWords.{w-endpoint}
+use Rattle.replay_beacon.specs.BeaconLine.{beaconLine}
+use borrow.Author.Needs.{needs}
+use Rattle.replay_beacon.proofs.put_beacon.Statement.{statement}
+use Rattle.replay_beacon.proofs.put_beacon.Tie as tie
+
+put-flags-requires : tie.Need-put-flags-requires
+put-flags-requires c κs = search needs
+
+put-states-requires : tie.Need-put-states-requires
+put-states-requires c κs = search needs
+
+put-free-requires : tie.Need-put-free-requires
+put-free-requires c κs = search needs
+
+slice-aggregate-put-octets : tie.Need-slice-aggregate-put-octets
+slice-aggregate-put-octets c = search needs
+
+part-requires : tie.Need-part-requires
+part-requires c κs = search needs
+
+put-octets-requires : tie.Need-put-octets-requires
+put-octets-requires c κs = search needs
+
+push-requires : tie.Need-push-requires
+push-requires c κs = search needs
+
+returns : tie.Need-returns
+unfolding beaconLine
+returns c =
+    let push-place = c .before .before in
+    let put-octets-place = push-place .before .before .before .before in
+    let part-place = put-octets-place .before in
+    let put-free-place = part-place .before .before .before .before .before in
+    let put-states-place = put-free-place .before .before .before .before in
+    let put-flags-place = put-states-place .before .before .before .before in
+    put-flags-place .put-flags .ensures
+    then put-states-place .put-states .ensures
+    then put-free-place .put-free .ensures
+    then added-as (ap (octetsField w-endpoint) (part-place .part .ensures)) (put-octets-place .put-octets .ensures)
+    then push-place .push .ensures
+
+same-length : tie.Need-same-length
+same-length c = returns c .size
+
+pub put-beacon-spec : {M : Type 1} → statement M
+put-beacon-spec =
+    tie.close
+    (tie.spec
+    put-flags-requires
+    put-states-requires
+    put-free-requires
+    slice-aggregate-put-octets
+    part-requires
+    put-octets-requires
+    push-requires
+    same-length
+    returns)

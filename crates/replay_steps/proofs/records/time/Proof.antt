@@ -1,0 +1,36 @@
+-- `replay_steps::records::time` meets its contract: `bad length`, or nothing.
+-- Assumes nothing.
+use native.Mathlib.Omega.{arith}
+use denote.Ref.{now}
+use lib.ListN.{length}
+use borrow.Author.Tests.{eq-eqb, ne-eqb}
+use borrow.Author.Needs.{needs}
+use Rattle.text.proofs.AddedLaws.{added-none}
+use Rattle.replay_steps.specs.Records.{timeLines}
+use Rattle.replay_steps.proofs.records.time.Statement.{statement}
+use Rattle.replay_steps.proofs.records.time.Tie as tie
+
+bad-length-requires : tie.Need-bad-length-requires
+bad-length-requires c κs = search needs
+
+same-length : tie.Need-same-length
+same-length c = search needs
+
+returns : tie.Need-returns
+unfolding timeLines
+returns c =
+    let bad-length-place = c .before .before in
+    let if1-place = bad-length-place .before .before in
+    let start = if1-place .before .before .before in
+    let a = start .args in
+    rw (ne-eqb (length (now (a .body))) 8 (if1-place .if1 .taken)) (bad-length-place .bad-length .ensures)
+
+returns-2 : tie.Need-returns-2
+unfolding timeLines
+returns-2 c =
+    let start = c .before .before .before in
+    let a = start .args in
+    rw (eq-eqb (length (now (a .body))) 8 (c .if1 .left)) (added-none (now (a .out)) 0 (omega arith))
+
+pub time-spec : {M : Type 1} → statement M
+time-spec = tie.close (tie.spec bad-length-requires same-length returns returns-2)

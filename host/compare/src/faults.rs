@@ -159,8 +159,8 @@ pub const STATUS: &[Fault<Status>] = &[
     }),
     (5, |p, rng| {
         p.start.flags = with_width(p.start.flags, 3);
-        let last = 1 + 2 * p.holes.len();
-        p.upper = upper(rng, rng.place(0, last));
+        let descriptor = rng.place(0, 1 + 2 * p.holes.len());
+        p.upper = upper(rng, descriptor);
     }),
     (1, |p, rng| p.ending = cut(rng, 0, 7)),
     (1, |p, rng| p.ending = cut(rng, 8, 8 + p.timestamp.len() + 2 * width(p.start.flags) - 1)),

@@ -33,7 +33,9 @@ fn cut(check: &mut Check, packet: &[u8], at: usize) -> Step {
     for len in 0..=packet.len() {
         let number = check.read(&packet[..len])?.number;
         check.read_hole(&packet[..len], 0)?;
-        require((number == 5) == (len >= at + 16), || format!("refusal {number} for {len} octets, descriptor at {at}"))?;
+        require((number == 5) == (len >= at + 16), || {
+            format!("refusal {number} for {len} octets, descriptor at {at}")
+        })?;
     }
     Ok(())
 }

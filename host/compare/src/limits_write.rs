@@ -70,7 +70,7 @@ fn beacon_flags(check: &mut Check) -> Step {
         args.endpoint.truncate(20);
         args.free_space = match free_width(args.flags as u32) {
             0 => 0,
-            octets => check.rng.number(bits(octets)),
+            octets => check.rng.number(number_bits(octets)),
         };
         beacon(check, &args)?;
         if bits % 16 == 0 {

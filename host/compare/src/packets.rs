@@ -135,7 +135,7 @@ pub fn entry_width(properties: u16) -> usize {
 }
 
 /// Bits of the numbers in `octets` octets, of those below 2^64.
-pub fn bits(octets: usize) -> u32 {
+pub fn number_bits(octets: usize) -> u32 {
     8 * octets.min(8) as u32
 }
 
@@ -214,7 +214,7 @@ impl Beacon {
         }
         let free_space = match free_width(flags) {
             0 => 0,
-            octets => rng.number(bits(octets)),
+            octets => rng.number(number_bits(octets)),
         };
         let len = match rng.below(200) {
             0 => 65_535 - 4 - free_width(flags) - rng.place(0, 2),
@@ -248,7 +248,7 @@ impl Metadata {
             start,
             checksum: rng.octets(4 * (pair as usize / 16)),
             properties,
-            size: rng.number(bits(size_octets)),
+            size: rng.number(number_bits(size_octets)),
             mtime: rng.number(32) as u32,
             ctime: rng.number(32) as u32,
             path: path(rng, len),
@@ -282,7 +282,7 @@ impl Data {
         let len = payload_len(rng, taken);
         Data {
             timestamp: rng.octets(stamp),
-            offset: rng.number(bits(width(start.flags))),
+            offset: rng.number(number_bits(width(start.flags))),
             payload: rng.octets(len),
             start,
             upper: Upper::default(),
@@ -338,7 +338,7 @@ impl Status {
         let (low, high) = match (self.holes.first(), self.holes.last()) {
             (Some(&(low, _)), Some(&(_, high))) => (low, high),
             _ => {
-                let low = rng.number(bits(width(self.start.flags)));
+                let low = rng.number(number_bits(width(self.start.flags)));
                 (low, low)
             }
         };

@@ -8,14 +8,13 @@ use crate::rng::Rng;
 
 /// All of it.
 pub fn run(check: &mut Check) -> Step {
-    for _ in 0..4 {
-        data(check)?;
-        metadata(check)?;
-        status(check)?;
-        beacon(check)?;
-    }
+    data(check)?;
+    metadata(check)?;
+    size_too_large(check)?;
+    status(check)?;
+    beacon(check)?;
     with_faults(check, faults::DATA, &[10], data_of, Data::octets)?;
-    with_faults(check, faults::METADATA, &[8, 9], metadata_of, Metadata::octets)?;
+    with_faults(check, faults::METADATA, &[8], metadata_of, Metadata::octets)?;
     with_faults(check, faults::BEACON, &[], beacon_of, Beacon::octets)?;
     with_faults(check, faults::STATUS, &[11], status_of, Status::octets)?;
     with_faults(check, faults::HOLES, &[11], status_of, Status::octets)
@@ -24,7 +23,7 @@ pub fn run(check: &mut Check) -> Step {
 /// Each of the upper eight octets, with the lowest bit set, the highest, or any.
 fn uppers(rng: &mut Rng, descriptor: usize) -> Vec<Upper> {
     let any = rng.between(1, 255);
-    let octets = (0..8).flat_map(|place| [1, 0x80, any].map(|octet| octet << (8 * place)));
+    let octets = (0..8).flat_map(|place| [0x01, 0x80, any].map(|octet| octet << (8 * place)));
     octets.map(|octets| Upper { descriptor, octets }).collect()
 }
 
@@ -32,7 +31,9 @@ fn uppers(rng: &mut Rng, descriptor: usize) -> Vec<Upper> {
 fn cut(check: &mut Check, packet: &[u8], at: usize) -> Step {
     for len in 0..=packet.len() {
         let number = check.read(&packet[..len])?.number;
-        check.read_hole(&packet[..len], 0)?;
+        if packet[0] == 0x44 {
+            check.read_hole(&packet[..len], 0)?;
+        }
         require((number == 5) == (len >= at + 16), || {
             format!("refusal {number} for {len} octets, descriptor at {at}")
         })?;
@@ -71,6 +72,23 @@ fn metadata(check: &mut Check) -> Step {
             packet.upper = Upper::default();
             let octets = packet.octets(&mut check.rng);
             check.read_valid(&octets)?;
+        }
+    }
+    Ok(())
+}
+
+/// A size over the packet's own width: 9, but 5 where its upper octets aren't zero.
+fn size_too_large(check: &mut Check) -> Step {
+    for code in 0..2 {
+        for upper in uppers(&mut check.rng, 0) {
+            let mut packet = metadata_of(&mut check.rng, upper);
+            packet.start.flags = with_width(packet.start.flags, code);
+            packet.size = check.rng.too_large(number_bits(2 << code));
+            let octets = packet.octets(&mut check.rng);
+            check.read_refused(&octets, 5)?;
+            packet.upper = Upper::default();
+            let octets = packet.octets(&mut check.rng);
+            check.read_refused(&octets, 9)?;
         }
     }
     Ok(())
@@ -139,7 +157,7 @@ fn beacon_of(rng: &mut Rng, upper: Upper) -> Beacon {
 }
 
 /// Each fault in a packet whose descriptor is to be refused too: 5 where the fault is one of those `later`, and where it is
-/// earlier the fault's own number. A packet that ends early is either's.
+/// earlier the fault's own number. A packet that ends early is either's, and 9 has its own widths.
 fn with_faults<T>(
     check: &mut Check,
     faults: &[Fault<T>],
@@ -147,7 +165,7 @@ fn with_faults<T>(
     packet: fn(&mut Rng, Upper) -> T,
     octets: fn(&T, &mut Rng) -> Vec<u8>,
 ) -> Step {
-    for &(number, fault) in faults.iter().filter(|(number, _)| *number != 5) {
+    for &(number, fault) in faults.iter().filter(|(number, _)| ![5, 9].contains(number)) {
         for upper in uppers(&mut check.rng, 0) {
             let rng = &mut check.rng;
             let mut packet = packet(rng, upper);

@@ -5,12 +5,13 @@ use mathlib.Core.Path.{_≡_, refl, ap}
 use mathlib.Core.List.{List, [], _∷_}
 use mathlib.Core.Bool.{Bool, true, false, cond}
 use mathlib.Core.Option.{none, some}
+use native.Mathlib.Nat.{pow-le-pow-right, lt-of-lt-of-le}
 use native.Mathlib.Omega.{arith}
 use lib.ListN.{length}
 use lib.Dec.{ltb, leb, eqb}
 use borrow.Author.Tests.{ltb-true, leb-true, eqb-true, lt-ltb, le-leb}
 use Rattle.octets.specs.Numbers.{Width}
-use Rattle.octets.specs.Numbers.Width.{two, four, eight}
+use Rattle.octets.specs.Numbers.Width.{two, four, eight, sixteen}
 use Rattle.words.specs.Words.{wordAt}
 use Rattle.run_rows.proofs.JudgeLaws.{both-true, runs-passed, runs-passes}
 use Rattle.transfer.specs.Transfers.{Transfer, TransferFine}
@@ -22,22 +23,32 @@ use Rattle.area.proofs.PlaceLaws.{length-transfers, holds-read}
 
 -- ---- the width and the length
 
-length-passed : (width length : ℕ) → lengthTest width length ≡ true → Width width × (length < 256 ^ width)
+length-passed : (width length : ℕ) → lengthTest width length ≡ true → Width width × (length < 256 ^ width) × (length < 2 ^ 64)
 unfolding lengthTest
-length-passed w n e = go (eqb w 2) (eqb w 4) (eqb w 8) refl refl refl e
+length-passed w n e = go (eqb w 2) (eqb w 4) (eqb w 8) (eqb w 16) refl refl refl refl e
   where
-    go : (a b c : Bool) → eqb w 2 ≡ a → eqb w 4 ≡ b → eqb w 8 ≡ c
-        → cond a (ltb n (256 ^ 2)) (cond b (ltb n (256 ^ 4)) (cond c (ltb n (256 ^ 8)) false)) ≡ true → Width w × (n < 256 ^ w)
-    go true b c p q r t = rw (eqb-true w 2 p) (two, ltb-true n (256 ^ 2) t)
-    go false true c p q r t = rw (eqb-true w 4 q) (four, ltb-true n (256 ^ 4) t)
-    go false false true p q r t = rw (eqb-true w 8 r) (eight, ltb-true n (256 ^ 8) t)
-    go false false false p q r t = absurd (let z : _≡_ {A = ℕ} 0 1 = cc in omega arith)
+    narrow : (d : ℕ) → Width d → d ≤ 8 → ltb n (256 ^ d) ≡ true → Width d × (n < 256 ^ d) × (n < 2 ^ 64)
+    narrow d x h t =
+        let l = ltb-true n (256 ^ d) t in
+        (x, l, lt-of-lt-of-le l (pow-le-pow-right {n = 256} (omega arith) {i = d} {j = 8} h))
 
-length-passes : (width length : ℕ) → Width width → length < 256 ^ width → lengthTest width length ≡ true
+    go : (a b c d : Bool) → eqb w 2 ≡ a → eqb w 4 ≡ b → eqb w 8 ≡ c → eqb w 16 ≡ d
+        → cond a (ltb n (256 ^ 2)) (cond b (ltb n (256 ^ 4)) (cond c (ltb n (256 ^ 8)) (cond d (ltb n (2 ^ 64)) false))) ≡ true
+        → Width w × (n < 256 ^ w) × (n < 2 ^ 64)
+    go true b c d p q r s t = rw (eqb-true w 2 p) (narrow 2 two (omega arith) t)
+    go false true c d p q r s t = rw (eqb-true w 4 q) (narrow 4 four (omega arith) t)
+    go false false true d p q r s t = rw (eqb-true w 8 r) (narrow 8 eight (omega arith) t)
+    go false false false true p q r s t =
+        let l = ltb-true n (256 ^ 8) t in
+        rw (eqb-true w 16 s) (sixteen, lt-of-lt-of-le l (pow-le-pow-right {n = 256} (omega arith) {i = 8} {j = 16} (omega arith)), l)
+    go false false false false p q r s t = absurd (let z : _≡_ {A = ℕ} 0 1 = cc in omega arith)
+
+length-passes : (width length : ℕ) → Width width → length < 256 ^ width → length < 2 ^ 64 → lengthTest width length ≡ true
 unfolding lengthTest
-length-passes w n two h = lt-ltb n (256 ^ 2) h
-length-passes w n four h = lt-ltb n (256 ^ 4) h
-length-passes w n eight h = lt-ltb n (256 ^ 8) h
+length-passes w n two h l = lt-ltb n (256 ^ 2) h
+length-passes w n four h l = lt-ltb n (256 ^ 4) h
+length-passes w n eight h l = lt-ltb n (256 ^ 8) h
+length-passes w n sixteen h l = lt-ltb n (2 ^ 64) l
 
 -- ---- transfers
 
@@ -53,6 +64,7 @@ transfer-passed x e =
       id-fits = ltb-true (x .key .id) (2 ^ 32) (p .0);
       width-is = w .0;
       length-fits = w .1;
+      length-held = w .2;
       few = leb-true (length (x .runs)) 64 (r .0);
       canonical = s .0;
       within = s .1;
@@ -63,7 +75,7 @@ unfolding transferTest
 transfer-passes x f =
     rw (
       lt-ltb (x .key .id) (2 ^ 32) (f .id-fits),
-      length-passes (x .key .width) (x .key .length) (f .width-is) (f .length-fits),
+      length-passes (x .key .width) (x .key .length) (f .width-is) (f .length-fits) (f .length-held),
       le-leb (length (x .runs)) 64 (f .few),
     )
     (runs-passes (x .key .length) (x .runs) (f .canonical) (f .within))

@@ -63,13 +63,10 @@ fine-at k [] i f h = absurd (omega arith)
 fine-at k (x ∷ t) zero f h = f .1
 fine-at k (x ∷ t) (suc i) f h = fine-at (suc (x .key .id)) t i (f .2) (omega arith)
 
-length-fits : (x : Transfer) → TransferFine x → x .key .length < 2 ^ 64
-length-fits x f = lt-of-lt-of-le (f .length-fits) (pow-le-pow-right {n = 256} (omega arith) {i = x .key .width} {j = 8} (width-le (f .width-is)))
-
 field-fits : (x : Transfer) (f : ℕ) → TransferFine x → field x f < 2 ^ 64
 field-fits x zero h = omega (arith, h .id-fits)
 field-fits x (suc zero) h = omega (arith, width-le (h .width-is))
-field-fits x (suc (suc zero)) h = length-fits x h
+field-fits x (suc (suc zero)) h = h .length-held
 field-fits x (suc (suc (suc f))) h = omega (arith, h .few)
 
 stop-fits : (k L : ℕ) (rs : List Run) (j : ℕ) → CanonicalFrom k rs → StopsTo L rs → j < length rs
@@ -93,10 +90,10 @@ valid-few t v = record {
 run-fits : (x : Transfer) (s j : ℕ) → TransferFine x → j < length (x .runs) → sideOf (nthRun (x .runs) j) s < 2 ^ 64
 run-fits x zero j f h =
     let r = stop-fits 0 (x .key .length) (x .runs) j (f .canonical) (f .within) h in
-    omega (arith, length-fits x f)
+    omega (arith, f .length-held)
 run-fits x (suc s) j f h =
     let r = stop-fits 0 (x .key .length) (x .runs) j (f .canonical) (f .within) h in
-    omega (arith, length-fits x f)
+    omega (arith, f .length-held)
 
 stored-holds-table : (a : List ℕ) (t : List Transfer) → Valid t → Holds (storedIn a t) t
 stored-holds-table a t v =

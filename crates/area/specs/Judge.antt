@@ -13,10 +13,11 @@ use Rattle.transfer.specs.Transfers.{Transfer}
 use Rattle.area.specs.Layout.{transferPlaces, runPlaces, areaOctets}
 use Rattle.area.specs.Places.{readTable}
 
--- the width is one of the three, and the length fits it
+-- the width is one of the four, and the length fits it and 64 bits
 unfoldable pub lengthTest : ℕ → ℕ → Bool
 lengthTest width length =
-    cond (eqb width 2) (ltb length (256 ^ 2)) (cond (eqb width 4) (ltb length (256 ^ 4)) (cond (eqb width 8) (ltb length (256 ^ 8)) false))
+    cond (eqb width 2) (ltb length (256 ^ 2))
+    (cond (eqb width 4) (ltb length (256 ^ 4)) (cond (eqb width 8) (ltb length (256 ^ 8)) (cond (eqb width 16) (ltb length (2 ^ 64)) false)))
 
 unfoldable pub transferTest : Transfer → Bool
 transferTest x =

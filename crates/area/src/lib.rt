@@ -130,7 +130,7 @@ fn length_ok(width: u64, length: u64) -> bool
     if width == 8 {
         return true;
     }
-    false
+    width == 16
 }
 
 // Whether the transfer at place i is fine by itself.

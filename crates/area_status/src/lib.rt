@@ -87,7 +87,11 @@ fn put_holes(
         put_pairs(area, rows, 4, first, count, out, from);
         return;
     }
-    put_pairs(area, rows, 8, first, count, out, from);
+    if width == 8 {
+        put_pairs(area, rows, 8, first, count, out, from);
+        return;
+    }
+    put_pairs(area, rows, 16, first, count, out, from);
 }
 
 // What stands before the holes.

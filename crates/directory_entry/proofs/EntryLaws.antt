@@ -18,7 +18,6 @@ use Rattle.directory_entry.specs.Properties.{sizeOctets, pathAt, propert
 use Rattle.directory_entry.specs.Path.{zeroAt, pathRefusal}
 use Rattle.directory_entry.specs.Entry.{propertiesOf, sizeOf, afterTimes, entryRefusal}
 use Rattle.directory_entry.specs.WriteEntry.{entryOctets, entrySize}
-use Rattle.directory_entry.proofs.PropertyLaws.{PropertiesFine, properties-fine}
 use Rattle.directory_entry.proofs.PathLaws.{PathFine, path-fine}
 
 -- the rest of a slice from a place on
@@ -27,7 +26,7 @@ rest-part s at = take-all (length s - at) (drop at s) (simp length-drop (omega a
 
 pub record EntryFine (d : ℕ) (e : List ℕ) : Type 0 where
   pub property : propertyRefusal (propertiesOf e) ≡ 0
-  pub properties : PropertiesFine (propertiesOf e)
+  pub size : descriptorRefusal (sizeOctets (propertiesOf e)) 2 e ≡ 0
   pub path-none : pathRefusal (afterTimes e) ≡ 0
   pub path : PathFine (afterTimes e)
   pub long : pathAt (propertiesOf e) + zeroAt (afterTimes e) + 1 ≡ length e
@@ -45,7 +44,7 @@ entry-fine d e q =
     let p : PathFine (afterTimes e) = path-fine (afterTimes e) (first-none _ _ r4) in
     record {
       property = first-none _ _ r1;
-      properties = properties-fine x (first-none _ _ r1);
+      size = first-none _ _ r2;
       path-none = first-none _ _ r4;
       path = p;
       long = omega (arith, p .some, p .closed, length-drop (pathAt x) e);

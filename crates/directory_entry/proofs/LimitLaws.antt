@@ -1,20 +1,21 @@
--- "Given exactly when", for a directory entry: 6, 5, 1, 8 and 9 read; 21, 6, 5, 8 and 9 written.
+-- "Given exactly when", for a directory entry: 6, 1, 5, 8 and 9 read; 21, 6, 8 and 9 written.
 -- Assumes nothing.
 use Prim.Native.Nat.{ℕ, _+_, _^_, _<_, _≤_}
 use mathlib.Core.Path.{_≡_, refl}
 use mathlib.Core.Bool.{Bool, true, not, _&&_}
 use mathlib.Core.List.{List}
-use mathlib.Core.Logic.{_⊎_, inl, inr, ⊎-elim, _↔_, Iff·rfl, Iff·trans}
+use mathlib.Core.Logic.{_⊎_, inl, inr, _↔_, Iff·rfl, Iff·trans}
 use native.Mathlib.Omega.{arith}
 use lib.ListN.{length}
 use lib.Dec.{ltb, eqb}
 use borrow.Author.Tests.{eq-eqb, ne-eqb, le-ltb}
 use Rattle.refusals.specs.Refusals.{_▹_, when}
-use Rattle.refusals.proofs.TestLaws.{eqb-iff, eqb-not, ltb-iff, ltb-not, and-iff, test-not, not-not, both}
+use Rattle.refusals.proofs.TestLaws.{eqb-iff, ltb-iff, ltb-not, and-iff, test-not, not-not, both}
 use Rattle.refusals.proofs.RefusalLaws.{given-here, given-later, after-none, when-given, when-other}
-use Rattle.refusals.proofs.LimitLaws.{either, unequal-iff, not-below-iff, when-all, chain-all, link-all, first-only, given-again, when-none, chain-none, alone-none}
+use Rattle.refusals.proofs.LimitLaws.{either, unequal-iff, not-below-iff, when-all, chain-all, link-all, first-only, chain-iff, given-again, when-none, chain-none, alone-none}
 use Rattle.header.specs.Descriptor.{descriptorRefusal}
-use Rattle.directory_entry.specs.Properties.{specialOf, bundleOf, sizeWidth, sizeOctets, pathAt, propertyRefusal}
+use Rattle.header.proofs.LimitLaws as header
+use Rattle.directory_entry.specs.Properties.{specialOf, bundleOf, sizeOctets, pathAt, propertyRefusal}
 use Rattle.directory_entry.specs.Path.{zeroAt, pathRefusal, pathWriteRefusal}
 use Rattle.directory_entry.specs.Entry.{propertiesOf, sizeOf, afterTimes, entryRefusal}
 use Rattle.directory_entry.specs.WriteEntry.{entryExcess, entryWriteRefusal}
@@ -26,7 +27,6 @@ use Rattle.directory_entry.proofs.PathLaws.{PathFine, path-fine}
 pub record FileProperties (x : ℕ) : Type 0 where
   pub special-is : specialOf x ≡ 0
   pub bundle-is : bundleOf x ≡ 0
-  pub narrow : sizeWidth x ≡ 3 → ⊥
 
 module _ (x : ℕ) where
   abbrev special : Bool
@@ -34,9 +34,6 @@ module _ (x : ℕ) where
 
   abbrev bundle : Bool
   bundle = not (eqb (bundleOf x) 0)
-
-  abbrev wide : Bool
-  wide = eqb (sizeWidth x) 3
 
   -- 6: "property bits not those of a file"
   abbrev pub NoFile : Type 0
@@ -46,36 +43,26 @@ module _ (x : ℕ) where
   unfolding propertyRefusal
   property-six-iff =
       Iff·trans (given-again special 6 _ (λ e. omega arith))
-      (either (unequal-iff (specialOf x) 0)
-      (Iff·trans (given-here bundle 6 _ (λ e. omega arith) (when-other wide 5 6 (λ e. omega arith) (λ e. omega arith))) (unequal-iff (bundleOf x) 0)))
-
-  -- 5, for the entry: "width bits 11"
-  abbrev pub WideFile : Type 0
-  WideFile = (specialOf x ≡ 0) × ((bundleOf x ≡ 0) × (sizeWidth x ≡ 3))
-
-  after-six : (A : Type 0) (n : ℕ) → (6 ≡ n → ⊥) → (when wide 5 ≡ n) ↔ A → (propertyRefusal x ≡ n) ↔ ((specialOf x ≡ 0) × ((bundleOf x ≡ 0) × A))
-  unfolding propertyRefusal
-  after-six A n h i =
-      Iff·trans (given-later special 6 n _ (λ e. omega arith) h)
-      (both (Iff·trans (not-not (eqb (specialOf x) 0)) (eqb-iff (specialOf x) 0))
-      (Iff·trans (given-later bundle 6 n _ (λ e. omega arith) h) (both (Iff·trans (not-not (eqb (bundleOf x) 0)) (eqb-iff (bundleOf x) 0)) i)))
-
-  property-five-iff : (propertyRefusal x ≡ 5) ↔ WideFile
-  property-five-iff = after-six (sizeWidth x ≡ 3) 5 (λ e. omega arith) (Iff·trans (when-given wide 5 (λ e. omega arith)) (eqb-iff (sizeWidth x) 3))
+      (either (unequal-iff (specialOf x) 0) (Iff·trans (when-given bundle 6 (λ e. omega arith)) (unequal-iff (bundleOf x) 0)))
 
   property-none-iff : (propertyRefusal x ≡ 0) ↔ FileProperties x
-  property-none-iff =
-      Iff·trans (after-six (sizeWidth x ≡ 3 → ⊥) 0 (λ e. omega arith) (Iff·trans (when-none wide 5 (λ e. omega arith)) (eqb-not (sizeWidth x) 3)))
-      ((λ p. record { special-is = p .0; bundle-is = p .1 .0; narrow = p .1 .1 }), (λ f. (f .special-is, (f .bundle-is, f .narrow))))
-
-  property-all : (P : ℕ → Type 0) → P 0 → P 5 → P 6 → P (propertyRefusal x)
   unfolding propertyRefusal
-  property-all P z a b = link-all P special 6 _ b (link-all P bundle 6 _ b (when-all P wide 5 z a))
+  property-none-iff =
+      Iff·trans (chain-none (when special 6) _)
+      (Iff·trans (both (is-zero (specialOf x)) (is-zero (bundleOf x)))
+      ((λ p. record { special-is = p .0; bundle-is = p .1 }), (λ f. (f .special-is, f .bundle-is))))
+    where
+      is-zero : (n : ℕ) → (when (not (eqb n 0)) 6 ≡ 0) ↔ (n ≡ 0)
+      is-zero n = Iff·trans (when-none (not (eqb n 0)) 6 (λ e. omega arith)) (Iff·trans (not-not (eqb n 0)) (eqb-iff n 0))
+
+  property-all : (P : ℕ → Type 0) → P 0 → P 6 → P (propertyRefusal x)
+  unfolding propertyRefusal
+  property-all P z a = link-all P special 6 _ a (when-all P bundle 6 z a)
 
   -- a number that comes after these
-  after-properties : (r n : ℕ) → (n ≡ 0 → ⊥) → (5 ≡ n → ⊥) → (6 ≡ n → ⊥) → (propertyRefusal x ▹ r ≡ n) ↔ (FileProperties x × (r ≡ n))
-  after-properties r n z a b =
-      Iff·trans (after-none (propertyRefusal x) r n z (property-all (λ m. m ≡ n → ⊥) (λ e. z (omega arith)) a b)) (both property-none-iff Iff·rfl)
+  after-properties : (r n : ℕ) → (n ≡ 0 → ⊥) → (6 ≡ n → ⊥) → (propertyRefusal x ▹ r ≡ n) ↔ (FileProperties x × (r ≡ n))
+  after-properties r n z a =
+      Iff·trans (after-none (propertyRefusal x) r n z (property-all (λ m. m ≡ n → ⊥) (λ e. z (omega arith)) a)) (both property-none-iff Iff·rfl)
 
 -- ---- the path, read: r is what follows Ctime
 
@@ -145,74 +132,86 @@ module _ (d : ℕ) (e : List ℕ) where
   abbrev big : Bool
   big = not (ltb (sizeOf e) (256 ^ d))
 
-  -- what comes after the properties
-  abbrev rest : ℕ
-  rest = descriptorRefusal (sizeOctets x) 2 e ▹ when (ltb (length e) (pathAt x)) 1 ▹ pathRefusal (afterTimes e) ▹ when big 9
+  -- the size
+  abbrev size : ℕ
+  size = descriptorRefusal (sizeOctets x) 2 e
 
-  rest-all : (P : ℕ → Type 0) → P 0 → P 1 → P 8 → P 9 → P rest
-  unfolding descriptorRefusal
-  rest-all P z a b c =
-      link-all P (ltb (length e) (2 + sizeOctets x)) 1 _ a
-      (link-all P (ltb (length e) (pathAt x)) 1 _ a (chain-all P (pathRefusal (afterTimes e)) _ (path-all (afterTimes e) P z a b) (when-all P big 9 z c)))
+  -- what comes after the size
+  abbrev last : ℕ
+  last = when (ltb (length e) (pathAt x)) 1 ▹ pathRefusal (afterTimes e) ▹ when big 9
 
-  -- 5 and 6
-  property-iff : (A : Type 0) (n : ℕ) → 5 ≤ n → n ≤ 6 → (propertyRefusal x ≡ n) ↔ A → (entryRefusal d e ≡ n) ↔ ((2 ≤ length e) × A)
-  unfolding entryRefusal
-  property-iff A n lo hi i =
-      Iff·trans (given-later (ltb (length e) 2) 1 n _ (λ q. omega arith) (λ q. omega arith))
-      (both (ltb-not (length e) 2)
-      (Iff·trans (first-only (propertyRefusal x) rest n (λ q. omega arith) (rest-all (λ m. m ≡ n → ⊥) (λ q. omega arith) (λ q. omega arith) (λ q. omega arith) (λ q. omega arith))) i))
+  last-all : (P : ℕ → Type 0) → P 0 → P 1 → P 8 → P 9 → P last
+  last-all P z a b c = link-all P (ltb (length e) (pathAt x)) 1 _ a (chain-all P (pathRefusal (afterTimes e)) _ (path-all (afterTimes e) P z a b) (when-all P big 9 z c))
+
+  rest-all : (P : ℕ → Type 0) → P 0 → P 1 → P 5 → P 8 → P 9 → P (size ▹ last)
+  rest-all P z a b c f = chain-all P size _ (header.descriptor-all (sizeOctets x) 2 e P z a b) (last-all P z a c f)
 
   -- 6: "property bits not those of a file"
   pub six-iff : (entryRefusal d e ≡ 6) ↔ ((2 ≤ length e) × NoFile x)
-  six-iff = property-iff (NoFile x) 6 (omega arith) (omega arith) (property-six-iff x)
+  unfolding entryRefusal
+  six-iff =
+      Iff·trans (given-later (ltb (length e) 2) 1 6 _ (λ q. omega arith) (λ q. omega arith))
+      (both (ltb-not (length e) 2)
+      (Iff·trans (first-only (propertyRefusal x) _ 6 (λ q. omega arith) (rest-all (λ m. m ≡ 6 → ⊥) (λ q. omega arith) (λ q. omega arith) (λ q. omega arith) (λ q. omega arith) (λ q. omega arith)))
+      (property-six-iff x)))
 
-  -- 5, for the entry: "width bits 11"
-  pub five-iff : (entryRefusal d e ≡ 5) ↔ ((2 ≤ length e) × WideFile x)
-  five-iff = property-iff (WideFile x) 5 (omega arith) (omega arith) (property-five-iff x)
+  -- 5, of the size: "given exactly when one of" its upper eight octets isn't zero, "once its octets are there"
+  pub five-iff : (entryRefusal d e ≡ 5) ↔ (FileProperties x × ((2 + sizeOctets x ≤ length e) × header.Large (sizeOctets x) 2 e))
+  unfolding entryRefusal
+  five-iff =
+      Iff·trans (given-later (ltb (length e) 2) 1 5 _ (λ q. omega arith) (λ q. omega arith))
+      (Iff·trans (both (ltb-not (length e) 2)
+      (Iff·trans (after-properties x _ 5 (λ q. omega arith) (λ q. omega arith))
+      (both Iff·rfl
+      (Iff·trans (first-only size last 5 (λ q. omega arith) (last-all (λ m. m ≡ 5 → ⊥) (λ q. omega arith) (λ q. omega arith) (λ q. omega arith) (λ q. omega arith)))
+      (header.descriptor-five-iff (sizeOctets x) 2 e)))))
+      ((λ p. p .1), (λ p. (omega (arith, p .1 .0), p))))
 
   -- 1: "packet ends inside a field .. or a path has no zero octet in fewer than 1,024 octets"
   abbrev pub EntryEnds : Type 0
-  EntryEnds = (length e < 2) ⊎ (FileProperties x × ((length e < pathAt x) ⊎ Unclosed (afterTimes e)))
+  EntryEnds =
+      (length e < 2)
+      ⊎ (FileProperties x × ((length e < 2 + sizeOctets x) ⊎ (header.Readable (sizeOctets x) 2 e × ((length e < pathAt x) ⊎ Unclosed (afterTimes e)))))
 
-  rest-one-iff : (rest ≡ 1) ↔ ((length e < pathAt x) ⊎ Unclosed (afterTimes e))
-  unfolding descriptorRefusal
-  rest-one-iff =
-      Iff·trans (given-again (ltb (length e) (2 + sizeOctets x)) 1 _ (λ q. omega arith))
-      (Iff·trans (either (ltb-iff (length e) (2 + sizeOctets x))
-      (Iff·trans (given-again (ltb (length e) (pathAt x)) 1 _ (λ q. omega arith))
+  last-one-iff : (last ≡ 1) ↔ ((length e < pathAt x) ⊎ Unclosed (afterTimes e))
+  last-one-iff =
+      Iff·trans (given-again (ltb (length e) (pathAt x)) 1 _ (λ q. omega arith))
       (either (ltb-iff (length e) (pathAt x))
-      (Iff·trans (first-only (pathRefusal (afterTimes e)) _ 1 (λ q. omega arith) (when-other big 9 1 (λ q. omega arith) (λ q. omega arith))) (path-one-iff (afterTimes e))))))
-      (⊎-elim (λ l. inl (omega arith)) (λ m. m), (λ m. inr m)))
+      (Iff·trans (first-only (pathRefusal (afterTimes e)) _ 1 (λ q. omega arith) (when-other big 9 1 (λ q. omega arith) (λ q. omega arith))) (path-one-iff (afterTimes e))))
 
   pub one-iff : (entryRefusal d e ≡ 1) ↔ EntryEnds
   unfolding entryRefusal
   one-iff =
       Iff·trans (given-again (ltb (length e) 2) 1 _ (λ q. omega arith))
       (either (ltb-iff (length e) 2)
-      (Iff·trans (after-properties x rest 1 (λ q. omega arith) (λ q. omega arith) (λ q. omega arith)) (both Iff·rfl rest-one-iff)))
+      (Iff·trans (after-properties x _ 1 (λ q. omega arith) (λ q. omega arith))
+      (both Iff·rfl
+      (Iff·trans (chain-iff size last 1 (λ q. omega arith))
+      (either (header.descriptor-one-iff (sizeOctets x) 2 e) (both (header.descriptor-none-iff (sizeOctets x) 2 e) last-one-iff))))))
 
   -- 8 and 9, after size and times
-  after-times : (A : Type 0) (n : ℕ) → 8 ≤ n → (pathRefusal (afterTimes e) ▹ when big 9 ≡ n) ↔ A → (entryRefusal d e ≡ n) ↔ (FileProperties x × ((pathAt x ≤ length e) × A))
-  unfolding entryRefusal descriptorRefusal
+  after-times : (A : Type 0) (n : ℕ) → 8 ≤ n → (pathRefusal (afterTimes e) ▹ when big 9 ≡ n) ↔ A
+      → (entryRefusal d e ≡ n) ↔ (FileProperties x × (header.Readable (sizeOctets x) 2 e × ((pathAt x ≤ length e) × A)))
+  unfolding entryRefusal
   after-times A n h i =
       Iff·trans (given-later (ltb (length e) 2) 1 n _ (λ q. omega arith) (λ q. omega arith))
       (Iff·trans (both (ltb-not (length e) 2)
-      (Iff·trans (after-properties x _ n (λ q. omega arith) (λ q. omega arith) (λ q. omega arith))
+      (Iff·trans (after-properties x _ n (λ q. omega arith) (λ q. omega arith))
       (both Iff·rfl
-      (Iff·trans (given-later (ltb (length e) (2 + sizeOctets x)) 1 n _ (λ q. omega arith) (λ q. omega arith))
-      (both (ltb-not (length e) (2 + sizeOctets x))
+      (Iff·trans (header.after-descriptor (sizeOctets x) 2 e last n (λ q. omega arith) (λ q. omega arith) (λ q. omega arith))
+      (both Iff·rfl
       (Iff·trans (given-later (ltb (length e) (pathAt x)) 1 n _ (λ q. omega arith) (λ q. omega arith)) (both (ltb-not (length e) (pathAt x)) i)))))))
-      ((λ p. (p .1 .0, p .1 .1 .1)), (λ p. (omega (arith, p .1 .0), (p .0, (omega (arith, p .1 .0), p .1))))))
+      ((λ p. p .1), (λ p. (omega (arith, p .1 .1 .0), p))))
 
   -- 8: "path empty, over 1,023 octets, or followed by octets"
-  pub eight-iff : (entryRefusal d e ≡ 8) ↔ (FileProperties x × ((pathAt x ≤ length e) × PathWrong (afterTimes e)))
+  pub eight-iff : (entryRefusal d e ≡ 8) ↔ (FileProperties x × (header.Readable (sizeOctets x) 2 e × ((pathAt x ≤ length e) × PathWrong (afterTimes e))))
   eight-iff =
       after-times (PathWrong (afterTimes e)) 8 (omega arith)
       (Iff·trans (first-only (pathRefusal (afterTimes e)) _ 8 (λ q. omega arith) (when-other big 9 8 (λ q. omega arith) (λ q. omega arith))) (path-eight-iff (afterTimes e)))
 
   -- 9: "L above 2^w - 1"
-  pub nine-iff : (entryRefusal d e ≡ 9) ↔ (FileProperties x × ((pathAt x ≤ length e) × (PathFine (afterTimes e) × (256 ^ d ≤ sizeOf e))))
+  pub nine-iff : (entryRefusal d e ≡ 9)
+      ↔ (FileProperties x × (header.Readable (sizeOctets x) 2 e × ((pathAt x ≤ length e) × (PathFine (afterTimes e) × (256 ^ d ≤ sizeOf e)))))
   nine-iff =
       after-times (PathFine (afterTimes e) × (256 ^ d ≤ sizeOf e)) 9 (omega arith)
       (Iff·trans (after-none (pathRefusal (afterTimes e)) _ 9 (λ q. omega arith) (path-all (afterTimes e) (λ m. m ≡ 9 → ⊥) (λ q. omega arith) (λ q. omega arith) (λ q. omega arith)))
@@ -221,7 +220,7 @@ module _ (d : ℕ) (e : List ℕ) where
   -- no other number is given
   pub entry-all : (P : ℕ → Type 0) → P 0 → P 1 → P 5 → P 6 → P 8 → P 9 → P (entryRefusal d e)
   unfolding entryRefusal
-  entry-all P z a b c f g = link-all P (ltb (length e) 2) 1 _ a (chain-all P (propertyRefusal x) _ (property-all x P z b c) (rest-all P z a f g))
+  entry-all P z a b c f g = link-all P (ltb (length e) 2) 1 _ a (chain-all P (propertyRefusal x) _ (property-all x P z c) (rest-all P z a b f g))
 
 -- ---- the entry, written
 
@@ -280,42 +279,34 @@ module _ (path : List ℕ) where
     abbrev above : Bool
     above = not (ltb size (256 ^ d))
 
-    -- 5 and 6, of the properties
-    write-property-iff : (A : Type 0) (n : ℕ) → 5 ≤ n → n ≤ 6 → (propertyRefusal properties ≡ n) ↔ A → (entryWriteRefusal d properties size path ≡ n) ↔ A
-    unfolding entryWriteRefusal
-    write-property-iff A n lo hi i =
-        let P : ℕ → Type 0 = λ m. m ≡ n → ⊥ in
-        Iff·trans (first-only (propertyRefusal properties) _ n (λ q. omega arith)
-        (chain-all P (pathWriteRefusal path) _ (path-write-all P (λ q. omega arith) (λ q. omega arith)) (when-all P above 9 (λ q. omega arith) (λ q. omega arith))))
-        i
-
     -- 6: "property bits not those of a file"
     pub write-six-iff : (entryWriteRefusal d properties size path ≡ 6) ↔ NoFile properties
-    write-six-iff = write-property-iff (NoFile properties) 6 (omega arith) (omega arith) (property-six-iff properties)
-
-    -- 5, for the entry: "width bits 11"
-    pub write-five-iff : (entryWriteRefusal d properties size path ≡ 5) ↔ WideFile properties
-    write-five-iff = write-property-iff (WideFile properties) 5 (omega arith) (omega arith) (property-five-iff properties)
+    unfolding entryWriteRefusal
+    write-six-iff =
+        let P : ℕ → Type 0 = λ m. m ≡ 6 → ⊥ in
+        Iff·trans (first-only (propertyRefusal properties) _ 6 (λ q. omega arith)
+        (chain-all P (pathWriteRefusal path) _ (path-write-all P (λ q. omega arith) (λ q. omega arith)) (when-all P above 9 (λ q. omega arith) (λ q. omega arith))))
+        (property-six-iff properties)
 
     pub write-eight-iff : (entryWriteRefusal d properties size path ≡ 8) ↔ (FileProperties properties × PathUnfit)
     unfolding entryWriteRefusal
     write-eight-iff =
-        Iff·trans (after-properties properties _ 8 (λ q. omega arith) (λ q. omega arith) (λ q. omega arith))
+        Iff·trans (after-properties properties _ 8 (λ q. omega arith) (λ q. omega arith))
         (both Iff·rfl (Iff·trans (first-only (pathWriteRefusal path) _ 8 (λ q. omega arith) (when-other above 9 8 (λ q. omega arith) (λ q. omega arith))) path-write-eight-iff))
 
     -- 9: "L above 2^w - 1"
     pub write-nine-iff : (entryWriteRefusal d properties size path ≡ 9) ↔ (FileProperties properties × ((PathUnfit → ⊥) × (256 ^ d ≤ size)))
     unfolding entryWriteRefusal
     write-nine-iff =
-        Iff·trans (after-properties properties _ 9 (λ q. omega arith) (λ q. omega arith) (λ q. omega arith))
+        Iff·trans (after-properties properties _ 9 (λ q. omega arith) (λ q. omega arith))
         (both Iff·rfl
         (Iff·trans (after-none (pathWriteRefusal path) _ 9 (λ q. omega arith) (path-write-all (λ m. m ≡ 9 → ⊥) (λ q. omega arith) (λ q. omega arith)))
         (both path-write-none-iff (Iff·trans (when-given above 9 (λ q. omega arith)) (not-below-iff size (256 ^ d))))))
 
     -- no other number is given
-    pub write-all : (P : ℕ → Type 0) → P 0 → P 5 → P 6 → P 8 → P 9 → P (entryWriteRefusal d properties size path)
+    pub write-all : (P : ℕ → Type 0) → P 0 → P 6 → P 8 → P 9 → P (entryWriteRefusal d properties size path)
     unfolding entryWriteRefusal
-    write-all P z a b c f = chain-all P (propertyRefusal properties) _ (property-all properties P z a b) (chain-all P (pathWriteRefusal path) _ (path-write-all P z c) (when-all P above 9 z f))
+    write-all P z a b c = chain-all P (propertyRefusal properties) _ (property-all properties P z a) (chain-all P (pathWriteRefusal path) _ (path-write-all P z b) (when-all P above 9 z c))
 
     pub write-none-iff : (entryWriteRefusal d properties size path ≡ 0) ↔ (FileProperties properties × ((PathUnfit → ⊥) × (size < 256 ^ d)))
     unfolding entryWriteRefusal

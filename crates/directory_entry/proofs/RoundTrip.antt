@@ -11,6 +11,7 @@ use lib.Dec.{ltb}
 use borrow.Author.Tests.{ltb-true, not-false, lt-ltb, le-ltb}
 use Rattle.octets.specs.Numbers.{beValue, beDigits, Octets}
 use Rattle.octets.proofs.PutLaws.{refold}
+use Rattle.octets.proofs.UpperLaws.{digits-small}
 use Rattle.octets.proofs.NumberLaws.{value-digits, length-digits, part-digits, part-lt}
 use Rattle.refusals.specs.Refusals.{when}
 use Rattle.refusals.proofs.RefusalLaws.{first-none, rest-none, failed}
@@ -58,8 +59,8 @@ write-fine d properties size path e =
       size-fits = ltb-true _ _ (not-false _ (failed _ 8 (rest-none (pathWriteRefusal path) _ r1)));
     }
 
--- reading what was written
-module _ (d properties size mtime ctime : ℕ) (path : List ℕ) (ok : entryExcess properties size mtime ctime ≡ 0) (may : entryWriteRefusal d properties size path ≡ 0) where
+-- reading what was written; a size is handed over as a number of 64 bits
+module _ (d properties size mtime ctime : ℕ) (path : List ℕ) (held : size < 2 ^ 64) (ok : entryExcess properties size mtime ctime ≡ 0) (may : entryWriteRefusal d properties size path ≡ 0) where
   abbrev e : List ℕ
   e = entryOctets properties size mtime ctime path
 
@@ -90,8 +91,11 @@ module _ (d properties size mtime ctime : ℕ) (path : List ℕ) (ok : entryExce
       let n : 10 + k ≡ 6 + k + 4 = omega arith in
       rw (n, ← drop-drop 4 (6 + k) e, after-mtime)
 
+  size-part : take k (drop 2 e) ≡ beDigits k size
+  size-part = rw after-properties (take-at (beDigits k size) (beDigits 4 mtime ++ (beDigits 4 ctime ++ (path ++ (0 ∷ [])))) k (length-digits k size))
+
   size-is : descriptorAt k 2 e ≡ size
-  size-is = rw (after-properties, take-at (beDigits k size) (beDigits 4 mtime ++ (beDigits 4 ctime ++ (path ++ (0 ∷ [])))) k (length-digits k size)) (value-digits k size (fit .size-fits))
+  size-is = rw size-part (value-digits k size (fit .size-fits))
 
   mtime-is : beValue (take 4 (drop (2 + k) e)) ≡ mtime
   mtime-is = rw after-size (value-digits 4 mtime (fit .mtime-fits))
@@ -106,7 +110,7 @@ module _ (d properties size mtime ctime : ℕ) (path : List ℕ) (ok : entryExce
       let n = entrySize properties (length path) in
       rw (
         properties-is,
-        descriptor-none k 2 e (omega (arith, length-entry properties size mtime ctime path)),
+        descriptor-none k 2 e (omega (arith, length-entry properties size mtime ctime path)) (rw size-part (digits-small k size (fit .size-fits) held)),
         length-entry,
         after-ctime,
         size-is,

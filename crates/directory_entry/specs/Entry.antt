@@ -22,7 +22,7 @@ sizeOf e = descriptorAt (sizeOctets (propertiesOf e)) 2 e
 abbrev pub afterTimes : List ℕ → List ℕ
 afterTimes e = drop (pathAt (propertiesOf e)) e
 
--- 1 for the properties, 6, 5 for the entry, 1 for the size and then for the times, the path (1 or 8), 9.
+-- 1 for the properties, 6, 1 and 5 for the size, 1 for the times, the path (1 or 8), 9.
 -- e is the entry, to the packet's end, and d the octets of the packet's own descriptors:
 -- the size "must not exceed 2^w - 1, where w is the packet's own descriptor width"
 unfoldable pub entryRefusal : ℕ → List ℕ → ℕ

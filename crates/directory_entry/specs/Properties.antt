@@ -32,9 +32,8 @@ pub record PropertiesOf (x : ℕ) (p : Properties) : Type 0 where
   pub bundle-is : p .bundle ≡ bundleOf x
   pub width-is : p .width ≡ sizeWidth x
 
--- 6, then 5 for the entry
+-- 6: "property bits not those of a file"
 unfoldable pub propertyRefusal : ℕ → ℕ
 propertyRefusal x =
     when (not (eqb (specialOf x) 0)) 6
     ▹ when (not (eqb (bundleOf x) 0)) 6
-    ▹ when (eqb (sizeWidth x) 3) 5

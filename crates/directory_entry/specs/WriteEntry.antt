@@ -17,7 +17,7 @@ entryExcess properties size mtime ctime =
     ▹ when (not (ltb mtime (2 ^ 32))) 21
     ▹ when (not (ltb ctime (2 ^ 32))) 21
 
--- what the reader would refuse, in its order: 6, 5, 8, 9
+-- what the reader would refuse, in its order: 6, 8, 9. No number of 64 bits has upper octets that would be 5
 unfoldable pub entryWriteRefusal : ℕ → ℕ → ℕ → List ℕ → ℕ
 entryWriteRefusal d properties size path =
     propertyRefusal properties

@@ -44,7 +44,7 @@ pub fn size_octets(x: u64) -> usize
     header::octets_of_width(p.width)
 }
 
-// Refusals 6 and 5 of properties; 0 for none.
+// Refusal 6 of properties; 0 for none.
 fn property_refusal(x: u64) -> u64
     ensures { λ r. ⌜ r ≡ propertyRefusal x ⌝ }
 {
@@ -54,9 +54,6 @@ fn property_refusal(x: u64) -> u64
     }
     if p.bundle != 0 {
         return 6;
-    }
-    if p.width == 3 {
-        return 5;
     }
     0
 }
@@ -105,19 +102,19 @@ pub fn entry_refusal(e: &[u8], d: usize) -> u64
     if e.len() < 2 {
         return 1;
     }
-    let x = octets::read_number(e, 0, 2);
+    let x = octets::read_two(e, 0);
     let f = property_refusal(x);
     if f != 0 {
         return f;
     }
     let k = size_octets(x);
-    let h = header::descriptor_refusal(e, 2, k);
-    if h != 0 {
-        return h;
-    }
     let at = 10 + k;
+    let size = header::descriptor_refusal(e, 2, k);
+    if size != 0 {
+        return size;
+    }
     if e.len() < at {
-        return 1;
+        return 1; // inside the times
     }
     let g = path_refusal(&e[at..]);
     if g != 0 {
@@ -134,14 +131,14 @@ pub fn entry_fields(e: &[u8], d: usize, at: usize) -> Entry
     requires { ⌜ (entryRefusal d (now e) ≡ 0) × (at < 2 ^ 16) ⌝ }
     ensures { λ r. ⌜ r ≡ entryOf at (now (e .entry)) ⌝ }
 {
-    let properties = octets::read_number(e, 0, 2);
+    let properties = octets::read_two(e, 0);
     let k = size_octets(properties);
     let path = 10 + k;
     Entry {
         properties,
         size: header::descriptor(e, 2, k),
-        mtime: octets::read_number(e, 2 + k, 4),
-        ctime: octets::read_number(e, 6 + k, 4),
+        mtime: octets::read_four(e, 2 + k),
+        ctime: octets::read_four(e, 6 + k),
         path: at + path,
         length: e.len() - path - 1,
     }
@@ -182,7 +179,7 @@ fn path_write_refusal(path: &[u8]) -> u64
     0
 }
 
-// Refusals 6, 5, 8, 9 of the fields to be written, for a packet with descriptors of d octets; 0 for none.
+// Refusals 6, 8, 9 of the fields to be written, for a packet with descriptors of d octets; 0 for none.
 pub fn entry_write_refusal(d: usize, properties: u64, size: u64, path: &[u8]) -> u64
     ensures { λ n. ⌜ n ≡ entryWriteRefusal d properties size (now (path .entry)) ⌝ }
 {

@@ -1,17 +1,31 @@
--- A descriptor is not refused exactly where it is all there.
+-- A descriptor is not refused exactly where it is all there and its upper octets are zero; its value is then below 2 ^ 64.
 -- Assumes nothing.
-use Prim.Native.Nat.{ℕ, _+_, _≤_}
-use mathlib.Core.Path.{_≡_}
+use Prim.Native.Nat.{ℕ, _+_, _^_, _<_, _≤_}
+use mathlib.Core.Path.{_≡_, _∙_}
+use mathlib.Core.Bool.{true}
 use mathlib.Core.List.{List}
-use lib.ListN.{length}
-use borrow.Author.Tests.{le-ltb, ltb-false}
-use Rattle.refusals.proofs.RefusalLaws.{failed}
-use Rattle.header.specs.Descriptor.{descriptorRefusal}
+use lib.ListN.{length, take, drop}
+use lib.Dec.{ltb}
+use borrow.Author.Tests.{le-ltb, ltb-false, not-false}
+use Rattle.octets.specs.Numbers.{Octets, upperZero}
+use Rattle.octets.proofs.NumberLaws.{part-octets}
+use Rattle.octets.proofs.UpperLaws.{small-lt}
+use Rattle.refusals.specs.Refusals.{when}
+use Rattle.refusals.proofs.RefusalLaws.{first-none, rest-none, failed}
+use Rattle.header.specs.Descriptor.{descriptorAt, descriptorRefusal}
 
-pub descriptor-there : (d at : ℕ) (s : List ℕ) → descriptorRefusal d at s ≡ 0 → at + d ≤ length s
-unfolding descriptorRefusal
-descriptor-there d at s e = ltb-false (length s) (at + d) (failed _ 0 e)
+module _ (d at : ℕ) (s : List ℕ) where
+  pub descriptor-there : descriptorRefusal d at s ≡ 0 → at + d ≤ length s
+  unfolding descriptorRefusal
+  descriptor-there e = ltb-false (length s) (at + d) (failed _ 0 (first-none _ _ e))
 
-pub descriptor-none : (d at : ℕ) (s : List ℕ) → at + d ≤ length s → descriptorRefusal d at s ≡ 0
-unfolding descriptorRefusal
-descriptor-none d at s h = rw (le-ltb (length s) (at + d) h)
+  pub descriptor-small : descriptorRefusal d at s ≡ 0 → upperZero (take d (drop at s)) ≡ true
+  unfolding descriptorRefusal
+  descriptor-small e = not-false _ (failed _ 4 (rest-none (when (ltb (length s) (at + d)) 1) _ e))
+
+  pub descriptor-none : at + d ≤ length s → upperZero (take d (drop at s)) ≡ true → descriptorRefusal d at s ≡ 0
+  unfolding descriptorRefusal
+  descriptor-none h u = rw (le-ltb (length s) (at + d) h, u)
+
+  pub descriptor-lt : Octets s → descriptorRefusal d at s ≡ 0 → descriptorAt d at s < 2 ^ 64
+  descriptor-lt o e = small-lt (take d (drop at s)) (part-octets s at d o (descriptor-there e)) (descriptor-small e)

@@ -2,20 +2,24 @@
 -- Assumes nothing.
 use Prim.Native.Nat.{ℕ, _*_, _^_, _<_, _≤_}
 use mathlib.Core.Path.{_≡_, ap}
-use native.Mathlib.Nat.{pow-le-pow-right}
 use native.Mathlib.Omega.{arith}
+use Rattle.octets.specs.Numbers.{Width}
+use Rattle.octets.proofs.NumberLaws.{width-of, width-le}
 use Rattle.header.specs.FirstWord.{markOf, typeOf, flagsOf, widthOf, kindOf, descriptorOctets, timestampOctets, wordFor}
 use Rattle.header.specs.Start.{fileRefusal}
 
+pub octets-width : (w : ℕ) → Width (descriptorOctets w)
+octets-width w = width-of (widthOf w) (omega arith)
+
 pub octets-le : (w : ℕ) → descriptorOctets w ≤ 16
-octets-le w = omega (arith, pow-le-pow-right {n = 2} (omega arith) {i = widthOf w} {j = 3} (omega arith))
+octets-le w = width-le (octets-width w)
 
 pub timestamp-le : (w : ℕ) → timestampOctets w ≤ 16
 timestamp-le w = omega arith
 
-same-file : (a b : ℕ) → widthOf a ≡ widthOf b → kindOf a ≡ kindOf b → fileRefusal a ≡ fileRefusal b
+same-file : (a b : ℕ) → kindOf a ≡ kindOf b → fileRefusal a ≡ fileRefusal b
 unfolding fileRefusal
-same-file a b e d = rw (e, d)
+same-file a b e = rw e
 
 same-octets : (a b : ℕ) → widthOf a ≡ widthOf b → descriptorOctets a ≡ descriptorOctets b
 same-octets a b e = ap (λ (n : ℕ). 2 * 2 ^ n) e
@@ -38,7 +42,7 @@ module _ (t f : ℕ) (ht : t < 2 ^ 6) (h : f < 2 ^ 24) where
   timestamp-for = omega arith
 
   pub file-for : fileRefusal (wordFor t f) ≡ fileRefusal f
-  file-for = same-file (wordFor t f) f (omega arith) (omega arith)
+  file-for = same-file (wordFor t f) f (omega arith)
 
 -- the flags of a word
 pub octets-flags : (w : ℕ) → descriptorOctets (flagsOf w) ≡ descriptorOctets w
@@ -48,7 +52,7 @@ pub timestamp-flags : (w : ℕ) → timestampOctets (flagsOf w) ≡ timestampOct
 timestamp-flags w = omega arith
 
 pub file-flags : (w : ℕ) → fileRefusal (flagsOf w) ≡ fileRefusal w
-file-flags w = same-file (flagsOf w) w (omega arith) (omega arith)
+file-flags w = same-file (flagsOf w) w (omega arith)
 
 pub flags-lt : (w : ℕ) → flagsOf w < 2 ^ 24
 flags-lt w = omega arith

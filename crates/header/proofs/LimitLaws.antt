@@ -1,22 +1,24 @@
--- "Given exactly when", for what every packet begins with: 2, 1, 3 and 4, then 5 and 6 of METADATA and DATA; 1 for a descriptor.
+-- "Given exactly when", for what every packet begins with: 2, 1, 3 and 4, then 6 of METADATA and DATA; 1 and 5 for a descriptor.
 -- Assumes nothing.
 use Prim.Native.Nat.{ℕ, _+_, _<_, _≤_}
 use mathlib.Core.Path.{_≡_}
-use mathlib.Core.Bool.{Bool, not}
+use mathlib.Core.Bool.{Bool, true, false, not}
 use mathlib.Core.List.{List}
 use mathlib.Core.Logic.{_⊎_, _↔_, Iff·rfl, Iff·trans}
 use native.Mathlib.Omega.{arith}
-use lib.ListN.{length}
+use lib.ListN.{length, take, drop}
 use lib.Dec.{ltb, eqb}
 use borrow.Author.Tests.{le-ltb, eq-eqb, ne-eqb}
+use Rattle.octets.specs.Numbers.{upperZero}
 use Rattle.refusals.specs.Refusals.{_▹_}
-use Rattle.refusals.proofs.TestLaws.{eqb-iff, eqb-not, ltb-iff, ltb-not, both}
+use Rattle.refusals.proofs.TestLaws.{ltb-iff, ltb-not, not-iff, both}
 use Rattle.refusals.proofs.RefusalLaws.{given-here, given-later, after-none, when-given, when-other}
 use Rattle.refusals.proofs.LimitLaws.{either, unequal-iff, when-all, chain-all, link-all, chain-iff, first-only}
-use Rattle.header.specs.FirstWord.{markOf, typeOf, widthOf, kindOf}
+use Rattle.header.specs.FirstWord.{markOf, typeOf, kindOf}
 use Rattle.header.specs.Start.{wordOf, startOctets, startRefusal, typeRefusal, fileRefusal}
 use Rattle.header.specs.Descriptor.{descriptorRefusal}
-use Rattle.header.proofs.StartLaws.{start-between, start-octets, StartFine, start-fine, TypeFine, type-fine, type-none, FileFine, file-fine}
+use Rattle.header.proofs.StartLaws.{start-between, start-octets, StartFine, start-fine, TypeFine, type-fine, type-none, file-fine}
+use Rattle.header.proofs.DescriptorLaws.{descriptor-there, descriptor-small, descriptor-none}
 
 -- ---- the first 8 octets, of BEACON the first 4
 
@@ -122,43 +124,70 @@ module _ (t : ℕ) (s : List ℕ) where
   pub one-or-after : (r : ℕ) → (typeRefusal t s ▹ r ≡ 1) ↔ ((length s < startOctets (wordOf s)) ⊎ (TypeFine t s × (r ≡ 1)))
   one-or-after r = Iff·trans (chain-iff (typeRefusal t s) r 1 (λ e. omega arith)) (either one-iff (both type-none-iff Iff·rfl))
 
--- ---- width and kind of METADATA and DATA
+-- ---- the kind of METADATA and DATA
 
 module _ (w : ℕ) where
   abbrev otherKind : Bool
   otherKind = not (eqb (kindOf w) 0)
 
-  -- 5: "width bits 11"
-  pub five-iff : (fileRefusal w ≡ 5) ↔ (widthOf w ≡ 3)
-  unfolding fileRefusal
-  five-iff =
-      Iff·trans (given-here (eqb (widthOf w) 3) 5 _ (λ e. omega arith) (when-other otherKind 6 5 (λ e. omega arith) (λ e. omega arith)))
-      (eqb-iff (widthOf w) 3)
-
   -- 6: "kind .. bits not those of a file"
-  pub six-iff : (fileRefusal w ≡ 6) ↔ ((widthOf w ≡ 3 → ⊥) × (kindOf w ≡ 0 → ⊥))
+  pub six-iff : (fileRefusal w ≡ 6) ↔ (kindOf w ≡ 0 → ⊥)
   unfolding fileRefusal
-  six-iff =
-      Iff·trans (given-later (eqb (widthOf w) 3) 5 6 _ (λ e. omega arith) (λ e. omega arith))
-      (both (eqb-not (widthOf w) 3) (Iff·trans (when-given otherKind 6 (λ e. omega arith)) (unequal-iff (kindOf w) 0)))
+  six-iff = Iff·trans (when-given otherKind 6 (λ e. omega arith)) (unequal-iff (kindOf w) 0)
 
   -- no other number is given
-  pub file-all : (P : ℕ → Type 0) → P 0 → P 5 → P 6 → P (fileRefusal w)
+  pub file-all : (P : ℕ → Type 0) → P 0 → P 6 → P (fileRefusal w)
   unfolding fileRefusal
-  file-all P z a b = link-all P (eqb (widthOf w) 3) 5 _ a (when-all P otherKind 6 z b)
+  file-all P z a = when-all P otherKind 6 z a
 
-  pub file-none-iff : (fileRefusal w ≡ 0) ↔ FileFine w
+  pub file-none-iff : (fileRefusal w ≡ 0) ↔ (kindOf w ≡ 0)
   unfolding fileRefusal
-  file-none-iff = (file-fine w, (λ f. rw (ne-eqb (widthOf w) 3 (omega (arith, f .narrow)), eq-eqb (kindOf w) 0 (f .kind))))
+  file-none-iff = (file-fine w, (λ k. rw (eq-eqb (kindOf w) 0 k)))
 
   -- a number that comes after these
-  pub after-file : (r n : ℕ) → (n ≡ 0 → ⊥) → (5 ≡ n → ⊥) → (6 ≡ n → ⊥) → (fileRefusal w ▹ r ≡ n) ↔ (FileFine w × (r ≡ n))
-  after-file r n z a b =
-      Iff·trans (after-none (fileRefusal w) r n z (file-all (λ m. m ≡ n → ⊥) (λ e. z (omega arith)) a b)) (both file-none-iff Iff·rfl)
+  pub after-file : (r n : ℕ) → (n ≡ 0 → ⊥) → (6 ≡ n → ⊥) → (fileRefusal w ▹ r ≡ n) ↔ ((kindOf w ≡ 0) × (r ≡ n))
+  after-file r n z a =
+      Iff·trans (after-none (fileRefusal w) r n z (file-all (λ m. m ≡ n → ⊥) (λ e. z (omega arith)) a)) (both file-none-iff Iff·rfl)
 
 -- ---- a descriptor of d octets
 
--- 1: "packet ends inside a field"
-pub descriptor-one-iff : (d at : ℕ) (s : List ℕ) → (descriptorRefusal d at s ≡ 1) ↔ (length s < at + d)
-unfolding descriptorRefusal
-descriptor-one-iff d at s = Iff·trans (when-given (ltb (length s) (at + d)) 1 (λ e. omega arith)) (ltb-iff (length s) (at + d))
+module _ (d at : ℕ) (s : List ℕ) where
+  -- one of its upper octets is not zero
+  abbrev pub Large : Type 0
+  Large = upperZero (take d (drop at s)) ≡ false
+
+  abbrev cut : Bool
+  cut = ltb (length s) (at + d)
+
+  abbrev large : Bool
+  large = not (upperZero (take d (drop at s)))
+
+  -- 1: "packet ends inside a field"
+  pub descriptor-one-iff : (descriptorRefusal d at s ≡ 1) ↔ (length s < at + d)
+  unfolding descriptorRefusal
+  descriptor-one-iff =
+      Iff·trans (given-here cut 1 _ (λ e. omega arith) (when-other large 5 1 (λ e. omega arith) (λ e. omega arith))) (ltb-iff (length s) (at + d))
+
+  -- 5: "given exactly when one of them isn't" zero, "once its octets are there"
+  pub descriptor-five-iff : (descriptorRefusal d at s ≡ 5) ↔ ((at + d ≤ length s) × Large)
+  unfolding descriptorRefusal
+  descriptor-five-iff =
+      Iff·trans (given-later cut 1 5 _ (λ e. omega arith) (λ e. omega arith))
+      (both (ltb-not (length s) (at + d)) (Iff·trans (when-given large 5 (λ e. omega arith)) (not-iff (upperZero (take d (drop at s))))))
+
+  -- no other number is given
+  pub descriptor-all : (P : ℕ → Type 0) → P 0 → P 1 → P 5 → P (descriptorRefusal d at s)
+  unfolding descriptorRefusal
+  descriptor-all P z a b = link-all P cut 1 _ a (when-all P large 5 z b)
+
+  -- it is all there, and its upper octets are zero
+  abbrev pub Readable : Type 0
+  Readable = (at + d ≤ length s) × (upperZero (take d (drop at s)) ≡ true)
+
+  pub descriptor-none-iff : (descriptorRefusal d at s ≡ 0) ↔ Readable
+  descriptor-none-iff = ((λ e. (descriptor-there d at s e, descriptor-small d at s e)), (λ r. descriptor-none d at s (r .0) (r .1)))
+
+  -- a number that comes after these
+  pub after-descriptor : (r n : ℕ) → (n ≡ 0 → ⊥) → (1 ≡ n → ⊥) → (5 ≡ n → ⊥) → (descriptorRefusal d at s ▹ r ≡ n) ↔ (Readable × (r ≡ n))
+  after-descriptor r n z a b =
+      Iff·trans (after-none (descriptorRefusal d at s) r n z (descriptor-all (λ m. m ≡ n → ⊥) (λ e. z (omega arith)) a b)) (both descriptor-none-iff Iff·rfl)

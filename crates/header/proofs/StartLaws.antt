@@ -1,18 +1,15 @@
 -- What is known of a packet whose first refusals are none.
 -- Assumes nothing.
-use Prim.Native.Nat.{ℕ, _<_, _≤_}
+use Prim.Native.Nat.{ℕ, _≤_}
 use mathlib.Core.Path.{_≡_}
 use mathlib.Core.Bool.{Bool, true, false, cond}
 use mathlib.Core.List.{List}
-use native.Mathlib.Nat.{pow-le-pow-right}
 use native.Mathlib.Omega.{arith}
 use lib.ListN.{length}
 use lib.Dec.{ltb, eqb}
-use borrow.Author.Tests.{le-ltb, eq-eqb, ltb-false, eqb-true, eqb-false, not-false}
-use Rattle.octets.specs.Numbers.{Width}
-use Rattle.octets.proofs.NumberLaws.{width-of}
+use borrow.Author.Tests.{le-ltb, eq-eqb, ltb-false, eqb-true, not-false}
 use Rattle.refusals.specs.Refusals.{when}
-use Rattle.header.specs.FirstWord.{markOf, typeOf, widthOf, kindOf, descriptorOctets}
+use Rattle.header.specs.FirstWord.{markOf, typeOf, kindOf}
 use Rattle.header.specs.Start.{wordOf, octetsOfType, startOctets, startRefusal, typeRefusal, fileRefusal}
 use Rattle.refusals.proofs.RefusalLaws.{first-none, rest-none, failed}
 
@@ -76,23 +73,7 @@ type-none t s f =
       eq-eqb (typeOf (wordOf s)) t (f .ptype),
     )
 
--- descriptors that are not of 128 bits
-pub narrow-octets : (w : ℕ) → (widthOf w ≡ 3 → ⊥) → Width (descriptorOctets w)
-narrow-octets w n = width-of (widthOf w) (omega arith)
-
-pub record FileFine (w : ℕ) : Type 0 where
-  pub narrow : widthOf w < 3
-  pub octets : Width (descriptorOctets w)
-  pub small : descriptorOctets w ≤ 8
-  pub kind : kindOf w ≡ 0
-
-pub file-fine : (w : ℕ) → fileRefusal w ≡ 0 → FileFine w
+-- what is known of a first word, or flags, of METADATA and DATA
+pub file-fine : (w : ℕ) → fileRefusal w ≡ 0 → kindOf w ≡ 0
 unfolding fileRefusal
-file-fine w e =
-    let n : widthOf w ≡ 3 → ⊥ = eqb-false _ _ (failed (eqb (widthOf w) 3) 4 (first-none _ _ e)) in
-    record {
-      narrow = omega arith;
-      octets = narrow-octets w n;
-      small = omega (arith, pow-le-pow-right {n = 2} (omega arith) {i = widthOf w} {j = 2} (omega arith));
-      kind = eqb-true _ _ (not-false _ (failed _ 5 (rest-none (when (eqb (widthOf w) 3) 5) _ e)));
-    }
+file-fine w e = eqb-true _ _ (not-false _ (failed _ 5 e))

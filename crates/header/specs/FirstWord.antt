@@ -24,7 +24,7 @@ flagsOf w = bits 32 w 8 31
 abbrev pub widthOf : ℕ → ℕ
 widthOf w = bits 32 w 8 9
 
--- the octets of a descriptor: "00 is 16, 01 is 32, 10 is 64 bits", and 11 is 128
+-- the octets of a descriptor: "00 is 16, 01 is 32, 10 is 64 bits", and 11 is 128: "Take width 11"
 abbrev pub descriptorOctets : ℕ → ℕ
 descriptorOctets w = 2 * 2 ^ widthOf w
 

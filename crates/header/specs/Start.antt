@@ -7,7 +7,7 @@ use lib.ListN.{length, take, drop}
 use lib.Dec.{ltb, eqb}
 use Rattle.octets.specs.Numbers.{beValue}
 use Rattle.refusals.specs.Refusals.{_▹_, when}
-use Rattle.header.specs.FirstWord.{markOf, typeOf, widthOf, kindOf}
+use Rattle.header.specs.FirstWord.{markOf, typeOf, kindOf}
 
 -- "Every packet begins with a 32-bit word and a 32-bit Id", but for BEACON, which has no Id
 abbrev pub wordOf : List ℕ → ℕ
@@ -36,6 +36,6 @@ startRefusal s =
 unfoldable pub typeRefusal : ℕ → List ℕ → ℕ
 typeRefusal t s = startRefusal s ▹ when (not (eqb (typeOf (wordOf s)) t)) 4
 
--- "then width, kind": 5 and 6 of METADATA and DATA
+-- "then .. kind": 6 of METADATA and DATA. Of the width bits nothing is refused
 unfoldable pub fileRefusal : ℕ → ℕ
-fileRefusal w = when (eqb (widthOf w) 3) 5 ▹ when (not (eqb (kindOf w) 0)) 6
+fileRefusal w = when (not (eqb (kindOf w) 0)) 6

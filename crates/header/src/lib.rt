@@ -56,7 +56,7 @@ pub fn word(p: &[u8]) -> u64
     requires { ⌜ 4 ≤ length (now p) ⌝ }
     ensures { λ r. ⌜ r ≡ wordOf (now (p .entry)) ⌝ }
 {
-    octets::read_number(p, 0, 4)
+    octets::read_four(p, 0)
 }
 
 // The Id of a packet.
@@ -64,7 +64,7 @@ pub fn id(p: &[u8]) -> u64
     requires { ⌜ 8 ≤ length (now p) ⌝ }
     ensures { λ r. ⌜ r ≡ idOf (now (p .entry)) ⌝ }
 {
-    octets::read_number(p, 4, 4)
+    octets::read_four(p, 4)
 }
 
 // The octets of a descriptor, by the width bits of a word or of the properties.
@@ -91,23 +91,28 @@ pub fn timestamp_octets(w: u64) -> usize
     16 * (h.stamped as usize)
 }
 
-// The refusal of the descriptor of d octets from `at` on; 0 for none.
+// Refusals 1 and 5 of the descriptor of d octets from `at` on; 0 for none.
 pub fn descriptor_refusal(s: &[u8], at: usize, d: usize) -> u64
-    requires { ⌜ at + d < 2 ^ 64 ⌝ }
+    requires { ⌜ Width d × (at + d < 2 ^ 64) ⌝ }
     ensures { λ r. ⌜ r ≡ descriptorRefusal d at (now (s .entry)) ⌝ }
 {
     if s.len() < at + d {
         return 1;
     }
-    0
+    let n = octets::read_number(s, at, d);
+    if n.small {
+        return 0;
+    }
+    5
 }
 
-// The value of the descriptor of d octets from `at` on.
+// The value of the descriptor of d octets from `at` on, which is not refused.
 pub fn descriptor(s: &[u8], at: usize, d: usize) -> u64
-    requires { ⌜ Width d × (at + d ≤ length (now s)) ⌝ }
+    requires { ⌜ Width d × (descriptorRefusal d at (now s) ≡ 0) ⌝ }
     ensures { λ r. ⌜ r ≡ descriptorAt d at (now (s .entry)) ⌝ }
 {
-    octets::read_number(s, at, d)
+    let n = octets::read_number(s, at, d);
+    n.value
 }
 
 // Where the first word ends, and where the Id.
@@ -165,14 +170,11 @@ pub fn type_refusal(p: &[u8], ptype: u64) -> u64
     0
 }
 
-// Refusals 5 and 6 of the first word, or the flags, of METADATA and DATA; 0 for none.
+// Refusal 6 of the first word, or the flags, of METADATA and DATA; 0 for none.
 pub fn file_refusal(w: u64) -> u64
     ensures { λ r. ⌜ r ≡ fileRefusal w ⌝ }
 {
     let h = split(w);
-    if h.width == 3 {
-        return 5;
-    }
     if h.kind != 0 {
         return 6;
     }

@@ -3,5 +3,6 @@ pub mod PutLaws
 pub mod PutParts
 pub mod PartLaws
 pub mod OctetLaws
+pub mod UpperLaws
 pub mod LowFirstLaws
 pub mod MoveLaws

@@ -13,24 +13,33 @@ use lib.Arith.{digits-lt, digits-div, digits-mod, lt-one}
 use lib.ListN.{length, getD, take, drop, set, length-drop, take-append-drop}
 use lib.Seq.{drop-cons, set-split, drop-at, length-take-le, getD-drop}
 use Rattle.octets.specs.Numbers.{beFrom, beValue, beOnto, beDigits, Octets, Width}
-use Rattle.octets.specs.Numbers.Width.{two, four, eight}
+use Rattle.octets.specs.Numbers.Width.{two, four, eight, sixteen}
 
-pub width-le : {d : ℕ} → Width d → d ≤ 8
+pub width-le : {d : ℕ} → Width d → d ≤ 16
 width-le two = omega arith
 width-le four = omega arith
 width-le eight = omega arith
+width-le sixteen = omega arith
+
+pub width-narrow : {d : ℕ} → Width d → (d ≡ 16 → ⊥) → d ≤ 8
+width-narrow two n = omega arith
+width-narrow four n = omega arith
+width-narrow eight n = omega arith
+width-narrow sixteen n = absurd (n refl)
 
 pub width-some : {d : ℕ} → Width d → 2 ≤ d
 width-some two = omega arith
 width-some four = omega arith
 width-some eight = omega arith
+width-some sixteen = omega arith
 
--- descriptors with the width bits 0, 1 and 2 have 2, 4 and 8 octets
-pub width-of : (c : ℕ) → c < 3 → Width (2 * 2 ^ c)
+-- descriptors with the width bits 0 to 3 have 2, 4, 8 and 16 octets
+pub width-of : (c : ℕ) → c < 4 → Width (2 * 2 ^ c)
 width-of zero h = two
 width-of (suc zero) h = four
 width-of (suc (suc zero)) h = eight
-width-of (suc (suc (suc c))) h = absurd (omega arith)
+width-of (suc (suc (suc zero))) h = sixteen
+width-of (suc (suc (suc (suc c)))) h = absurd (omega arith)
 
 length-onto : (d v : ℕ) (r : List ℕ) → length (beOnto d v r) ≡ d + length r
 length-onto zero v r = omega arith

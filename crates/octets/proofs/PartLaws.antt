@@ -19,7 +19,7 @@ from-append : (v : ℕ) (xs ys : List ℕ) → beFrom v (xs ++ ys) ≡ beFrom (b
 from-append v [] ys = refl
 from-append v (x ∷ xs) ys = from-append (v * 256 + x) xs ys
 
-two-octets : (s : List ℕ) (at : ℕ) → at + 2 ≤ length s → beValue (take 2 (drop at s)) ≡ getD s at 0 * 256 + getD s (at + 1) 0
+pub two-octets : (s : List ℕ) (at : ℕ) → at + 2 ≤ length s → beValue (take 2 (drop at s)) ≡ getD s at 0 * 256 + getD s (at + 1) 0
 two-octets s at h = rw (first-octet s at 1 (omega arith), first-octet s (at + 1) 0 (omega arith)) (omega arith)
 
 from-shift : (v : ℕ) (xs : List ℕ) → beFrom v xs ≡ v * 256 ^ length xs + beFrom 0 xs

@@ -1,8 +1,11 @@
 -- "All numbers are big-endian": the octets of a number, highest first, and the number that octets stand for. The same lowest first.
 -- Assumes nothing.
-use Prim.Native.Nat.{ℕ, zero, suc, _+_, _*_, _/_, _%_, _<_}
+use Prim.Native.Nat.{ℕ, zero, suc, _+_, _*_, _-_, _/_, _%_, _<_}
+use mathlib.Core.Bool.{Bool, true, cond, _&&_}
 use mathlib.Core.List.{List, [], _∷_, reverse}
-use lib.ListN.{getD}
+use lib.ListN.{length, getD, take}
+use lib.Dec.{eqb}
+use Rattle.octets.specs.declared.Number.{Number}
 
 -- the number so far, with the octets that are left to read
 abbrev pub beFrom : ℕ → List ℕ → ℕ
@@ -33,8 +36,26 @@ leDigits d v = reverse (beDigits d v)
 abbrev pub Octets : List ℕ → Type 0
 Octets xs = (i : ℕ) → getD xs i 0 < 256
 
--- the octets of a descriptor: 16, 32 or 64 bits
+-- the octets of a descriptor: 16, 32, 64 or 128 bits
 pub data Width : ℕ → Type 0 where
   two : Width 2
   four : Width 4
   eight : Width 8
+  sixteen : Width 16
+
+-- each of these octets is zero
+abbrev pub allZero : List ℕ → Bool
+allZero [] = true
+allZero (x ∷ xs) = eqb x 0 && allZero xs
+
+-- the octets above the last eight: of a descriptor of 128 bits its upper eight octets, of a narrower one none
+abbrev pub upperOctets : List ℕ → List ℕ
+upperOctets xs = take (length xs - 8) xs
+
+-- "the upper eight octets of a descriptor .. are zero"
+unfoldable pub upperZero : List ℕ → Bool
+upperZero xs = allZero (upperOctets xs)
+
+-- what the octets of a descriptor tell: whether the upper ones are zero, and the number where they are
+unfoldable pub numberIn : List ℕ → Number
+numberIn xs = record { small = upperZero xs; value = cond (upperZero xs) (beValue xs) 0 }

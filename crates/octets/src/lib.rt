@@ -3,17 +3,40 @@ ghost use mathlib.Core.Path.{_≡_};
 ghost use Prim.Native.Nat.{_+_, _*_, _^_, _≤_, _<_};
 ghost use lib.Dec.{ltb};
 ghost use lib.ListN.{length, take, drop};
-ghost use Rattle.octets.specs.Numbers.{beValue, beDigits, leValue, leDigits, Width};
+ghost use Rattle.octets.specs.Numbers.{beValue, beDigits, leValue, leDigits, Width, numberIn};
 ghost use Rattle.octets.specs.Put.{put};
 
-// The number that the d octets from `at` on stand for. Eight go without the loop, which is slow for so many.
-pub fn read_number(s: &[u8], at: usize, d: usize) -> u64
+// What the octets of a descriptor tell: whether all of them above the last eight are zero, and the number where they are, else 0.
+pub struct Number {
+    pub small: bool,
+    pub value: u64,
+}
+
+// What the d octets from `at` on tell.
+pub fn read_number(s: &[u8], at: usize, d: usize) -> Number
     requires { ⌜ Width d × (at + d ≤ length (now s)) ⌝ }
+    ensures { λ r. ⌜ r ≡ numberIn (take d (drop at (now (s .entry)))) ⌝ }
+{
+    if d == 16 {
+        return read_sixteen(s, at);
+    }
+    if d == 8 {
+        return Number {
+            small: true,
+            value: read_eight(s, at),
+        };
+    }
+    Number {
+        small: true,
+        value: read_short(s, at, d),
+    }
+}
+
+// The number that at most eight octets stand for.
+fn read_short(s: &[u8], at: usize, d: usize) -> u64
+    requires { ⌜ (d ≤ 8) × (at + d ≤ length (now s)) ⌝ }
     ensures { λ r. ⌜ r ≡ beValue (take d (drop at (now (s .entry)))) ⌝ }
 {
-    if d == 8 {
-        return read_eight(s, at);
-    }
     let mut v: u64 = 0;
     let mut i = 0;
     while i < d {
@@ -23,6 +46,14 @@ pub fn read_number(s: &[u8], at: usize, d: usize) -> u64
     v
 }
 
+// The number that the two octets from `at` on stand for.
+pub fn read_two(s: &[u8], at: usize) -> u64
+    requires { ⌜ at + 2 ≤ length (now s) ⌝ }
+    ensures { λ r. ⌜ r ≡ beValue (take 2 (drop at (now (s .entry)))) ⌝ }
+{
+    join_four(0, 0, s[at], s[at + 1])
+}
+
 // The number of four octets, the highest first.
 fn join_four(a: u8, b: u8, c: u8, d: u8) -> u64
     ensures { λ r. ⌜ r ≡ a * 16777216 + b * 65536 + c * 256 + d ⌝ }
@@ -30,7 +61,8 @@ fn join_four(a: u8, b: u8, c: u8, d: u8) -> u64
     (a as u64) * 16777216 + (b as u64) * 65536 + (c as u64) * 256 + d as u64
 }
 
-fn read_four(s: &[u8], at: usize) -> u64
+// The number that the four octets from `at` on stand for.
+pub fn read_four(s: &[u8], at: usize) -> u64
     requires { ⌜ at + 4 ≤ length (now s) ⌝ }
     ensures { λ r. ⌜ r ≡ beValue (take 4 (drop at (now (s .entry)))) ⌝ }
 {
@@ -43,6 +75,23 @@ pub fn read_eight(s: &[u8], at: usize) -> u64
     ensures { λ r. ⌜ r ≡ beValue (take 8 (drop at (now (s .entry)))) ⌝ }
 {
     read_four(s, at) * 4294967296 + read_four(s, at + 4)
+}
+
+// What sixteen octets tell: the number of the last eight, where the upper eight are zero.
+fn read_sixteen(s: &[u8], at: usize) -> Number
+    requires { ⌜ at + 16 ≤ length (now s) ⌝ }
+    ensures { λ r. ⌜ r ≡ numberIn (take 16 (drop at (now (s .entry)))) ⌝ }
+{
+    if read_eight(s, at) != 0 {
+        return Number {
+            small: false,
+            value: 0,
+        };
+    }
+    Number {
+        small: true,
+        value: read_eight(s, at + 8),
+    }
 }
 
 // The d octets from `at` on become those of v; the others stay.

@@ -2,7 +2,7 @@
 -- BEACON "Round trip .. as for DATA":
 -- in the terms of the public operations, for every octet list and every list of fields.
 -- Assumes nothing.
-use Prim.Native.Nat.{ℕ, zero, suc, _+_, _≤_}
+use Prim.Native.Nat.{ℕ, zero, suc, _+_, _^_, _<_, _≤_}
 use mathlib.Core.Path.{_≡_, refl, ap, _∙_}
 use mathlib.Core.List.{List}
 use native.Mathlib.Omega.{arith}
@@ -42,8 +42,8 @@ written-size : (n size m : ℕ) → writtenOf n size ≡ Size m → (n ≡ 0) ×
 written-size zero size m e = (refl, cc)
 written-size (suc n) size m e = absurd (let z : _≡_ {A = ℕ} 0 1 = cc in omega arith)
 
--- BEACON, written and read
-module _ (flags free : ℕ) (endpoint old : List ℕ) (n : ℕ) (ok : beaconWritten flags free endpoint old ≡ Size n) where
+-- BEACON, written and read; a free space is handed over as a number of 64 bits
+module _ (flags free : ℕ) (endpoint old : List ℕ) (n : ℕ) (held : free < 2 ^ 64) (ok : beaconWritten flags free endpoint old ≡ Size n) where
   taken : (beaconRefused flags free endpoint old ≡ 0) × (endpointAt flags + length endpoint ≡ n)
   unfolding beaconWritten
   taken = written-size _ _ n ok
@@ -52,7 +52,7 @@ module _ (flags free : ℕ) (endpoint old : List ℕ) (n : ℕ) (ok : beaconWrit
   unfolding beaconBuffer
   beacon-packet-written =
       rw (taken .0)
-      (take-put n (beaconOctets flags free endpoint) old (beacon-trip.beacon-octets-length flags free endpoint (length old) (taken .0) ∙ taken .1))
+      (take-put n (beaconOctets flags free endpoint) old (beacon-trip.beacon-octets-length flags free endpoint (length old) held (taken .0) ∙ taken .1))
 
   pub beacon-reads-back : readPacket (take n (beaconBuffer flags free endpoint old)) ≡ read.Beacon (record {
     flags = flags;
@@ -69,11 +69,11 @@ module _ (flags free : ℕ) (endpoint old : List ℕ) (n : ℕ) (ok : beaconWrit
   unfolding readType beaconRefusal
   beacon-reads-back =
       let s = beaconOctets flags free endpoint in
-      let r = beacon-trip.beacon-read-written flags free endpoint (length old) (taken .0) in
+      let r = beacon-trip.beacon-read-written flags free endpoint (length old) held (taken .0) in
       rw beacon-packet-written (read-typed 0 s (first-none _ _ (beacon-given s _ r .0)) ∙ ap ofBeacon r)
 
   pub endpoint-reads-back : drop (endpointAt flags) (take n (beaconBuffer flags free endpoint old)) ≡ endpoint
-  endpoint-reads-back = rw beacon-packet-written (beacon-trip.endpoint-read-written flags free endpoint (length old) (taken .0))
+  endpoint-reads-back = rw beacon-packet-written (beacon-trip.endpoint-read-written flags free endpoint (length old) held (taken .0))
 
 -- BEACON, read and written; the endpoint is the octets at its place
 module _ (s : List ℕ) (os : Octets s) (b : Beacon) (ok : readPacket s ≡ read.Beacon b) (old : List ℕ) (room : length s ≤ length old) where
@@ -88,8 +88,8 @@ module _ (s : List ℕ) (os : Octets s) (b : Beacon) (ok : readPacket s ≡ read
       rw (← nought .1)
       (beacon-trip.beacon-written-read s os (nought .0) old room, beacon-trip.beacon-buffer-read s os (nought .0) old room)
 
--- DATA, written and read
-module _ (flags id : ℕ) (timestamp : List ℕ) (offset : ℕ) (payload old : List ℕ) (n : ℕ)
+-- DATA, written and read; an offset is handed over as a number of 64 bits
+module _ (flags id : ℕ) (timestamp : List ℕ) (offset : ℕ) (payload old : List ℕ) (n : ℕ) (held : offset < 2 ^ 64)
     (ok : dataWritten flags id timestamp offset payload old ≡ Size n) where
   accepted : (dataRefused flags id timestamp offset payload old ≡ 0) × (payloadAt flags + length payload ≡ n)
   unfolding dataWritten
@@ -100,7 +100,7 @@ module _ (flags id : ℕ) (timestamp : List ℕ) (offset : ℕ) (payload old : L
   data-packet-written =
       rw (accepted .0)
       (take-put n (dataOctets flags id timestamp offset payload) old
-      (data-trip.data-octets-length flags id timestamp offset payload (length old) (accepted .0) ∙ accepted .1))
+      (data-trip.data-octets-length flags id timestamp offset payload (length old) held (accepted .0) ∙ accepted .1))
 
   pub data-reads-back : readPacket (take n (dataBuffer flags id timestamp offset payload old)) ≡ read.Data (record {
     flags = flags;
@@ -115,14 +115,14 @@ module _ (flags id : ℕ) (timestamp : List ℕ) (offset : ℕ) (payload old : L
   })
   data-reads-back =
       let s = dataOctets flags id timestamp offset payload in
-      let g = data-given s _ (data-trip.data-read-written flags id timestamp offset payload (length old) (accepted .0)) in
+      let g = data-given s _ (data-trip.data-read-written flags id timestamp offset payload (length old) held (accepted .0)) in
       rw data-packet-written (data-taken s (g .0) ∙ ap read.Data (g .1))
 
   pub payload-reads-back : payloadOf (take n (dataBuffer flags id timestamp offset payload old)) ≡ payload
-  payload-reads-back = rw data-packet-written (data-trip.payload-read-written flags id timestamp offset payload (length old) (accepted .0))
+  payload-reads-back = rw data-packet-written (data-trip.payload-read-written flags id timestamp offset payload (length old) held (accepted .0))
 
   pub timestamp-reads-back : take (timestampOctets flags) (drop 8 (take n (dataBuffer flags id timestamp offset payload old))) ≡ timestamp
-  timestamp-reads-back = rw data-packet-written (data-trip.timestamp-read-written flags id timestamp offset payload (length old) (accepted .0))
+  timestamp-reads-back = rw data-packet-written (data-trip.timestamp-read-written flags id timestamp offset payload (length old) held (accepted .0))
 
 -- DATA, read and written
 module _ (s : List ℕ) (os : Octets s) (d : Data) (ok : readPacket s ≡ read.Data d) (old : List ℕ) (room : length s ≤ length old) where
@@ -137,8 +137,8 @@ module _ (s : List ℕ) (os : Octets s) (d : Data) (ok : readPacket s ≡ read.D
       rw (← none .1, none .0)
       (data-trip.data-written-read s os (none .0) old room, data-trip.data-buffer-read s os (none .0) old room)
 
--- METADATA, written and read
-module _ (flags id : ℕ) (checksum : List ℕ) (properties size mtime ctime : ℕ) (path old : List ℕ) (n : ℕ)
+-- METADATA, written and read; so is a size
+module _ (flags id : ℕ) (checksum : List ℕ) (properties size mtime ctime : ℕ) (path old : List ℕ) (n : ℕ) (held : size < 2 ^ 64)
     (ok : metadataWritten flags id checksum properties size mtime ctime path old ≡ Size n) where
   fine : (metadataWriteRefusal flags id checksum properties size mtime ctime path (length old) ≡ 0)
       × (metadataSize flags properties (length path) ≡ n)
@@ -151,7 +151,7 @@ module _ (flags id : ℕ) (checksum : List ℕ) (properties size mtime ctime : �
   metadata-packet-written =
       rw (fine .0)
       (take-put n (metadataOctets flags id checksum properties size mtime ctime path) old
-      (metadata.metadata-octets-length flags id checksum properties size mtime ctime path (length old) (fine .0) ∙ fine .1))
+      (metadata.metadata-octets-length flags id checksum properties size mtime ctime path (length old) held (fine .0) ∙ fine .1))
 
   pub metadata-reads-back : readPacket (take n (metadataBuffer flags id checksum properties size mtime ctime path old)) ≡ read.Metadata (record {
     flags = flags;
@@ -164,18 +164,18 @@ module _ (flags id : ℕ) (checksum : List ℕ) (properties size mtime ctime : �
   unfolding readType metadataRefusal
   metadata-reads-back =
       let s = metadataOctets flags id checksum properties size mtime ctime path in
-      let r = metadata.metadata-read-written flags id checksum properties size mtime ctime path (length old) (fine .0) in
+      let r = metadata.metadata-read-written flags id checksum properties size mtime ctime path (length old) held (fine .0) in
       rw metadata-packet-written
       (read-typed 2 s (first-none _ _ (metadata-given s _ r .0)) ∙ ap ofMetadata r)
 
   pub checksum-reads-back : take (length checksum) (drop 8 (take n (metadataBuffer flags id checksum properties size mtime ctime path old))) ≡ checksum
   checksum-reads-back =
-      rw metadata-packet-written (metadata.checksum-read-written flags id checksum properties size mtime ctime path (length old) (fine .0))
+      rw metadata-packet-written (metadata.checksum-read-written flags id checksum properties size mtime ctime path (length old) held (fine .0))
 
   pub path-reads-back :
       take (length path) (drop (entryAt flags + pathAt properties) (take n (metadataBuffer flags id checksum properties size mtime ctime path old))) ≡ path
   path-reads-back =
-      rw metadata-packet-written (metadata.path-read-written flags id checksum properties size mtime ctime path (length old) (fine .0))
+      rw metadata-packet-written (metadata.path-read-written flags id checksum properties size mtime ctime path (length old) held (fine .0))
 
 -- METADATA, read and written; checksum and path are the octets at their places
 module _ (s : List ℕ) (os : Octets s) (m : Metadata) (ok : readPacket s ≡ read.Metadata m) (old : List ℕ) (room : length s ≤ length old) where

@@ -8,9 +8,10 @@ use lib.ListN.{length}
 use Rattle.refusals.specs.Refusals.{answered}
 use Rattle.refusals.proofs.RefusalLaws.{first-none, rest-none}
 use Rattle.header.specs.Start.{wordOf, typeRefusal}
+use Rattle.header.specs.Descriptor.{descriptorRefusal}
 use Rattle.header.proofs.StartLaws.{TypeFine, type-fine}
 use Rattle.header.proofs.DescriptorLaws.{descriptor-there}
-use Rattle.packet_beacon.specs.Flags.{freeOctets, flagsRefusal, freeRefusal}
+use Rattle.packet_beacon.specs.Flags.{freeOctets, flagsRefusal}
 use Rattle.packet_beacon.specs.Beacon.{endpointAt, beaconRefusal, beaconOf, readBeacon}
 use Rattle.packet_beacon.specs.declared.Beacon.{Beacon}
 use Rattle.packet_beacon.specs.declared.BeaconRead.the-variants.{Accepted, Refused}
@@ -18,7 +19,7 @@ use Rattle.packet_beacon.specs.declared.BeaconRead.the-variants.{Accepte
 pub record BeaconFine (s : List ℕ) : Type 0 where
   pub head : TypeFine 0 s
   pub flags-none : flagsRefusal (wordOf s) ≡ 0
-  pub free-none : freeRefusal (wordOf s) ≡ 0
+  pub free-none : descriptorRefusal (freeOctets (wordOf s)) 4 s ≡ 0
   pub there : endpointAt (wordOf s) ≤ length s
 
 pub beacon-fine : (s : List ℕ) → beaconRefusal s ≡ 0 → BeaconFine s
@@ -29,8 +30,8 @@ beacon-fine s e =
     record {
       head = type-fine 0 s (first-none _ _ e);
       flags-none = first-none _ _ r1;
-      free-none = first-none _ _ r2;
-      there = descriptor-there (freeOctets (wordOf s)) 4 s (rest-none (freeRefusal (wordOf s)) _ r2);
+      free-none = r2;
+      there = descriptor-there (freeOctets (wordOf s)) 4 s r2;
     }
 
 -- an accepted read was not refused, and its fields are those of the definition

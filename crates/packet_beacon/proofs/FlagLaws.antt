@@ -1,17 +1,19 @@
 -- The flags of BEACON are the same in a first word, in its flags, and in a word made from flags; the width of the free space.
 -- Assumes nothing.
 use Prim.Native.Nat.{ℕ, zero, suc, _*_, _^_, _<_, _≤_}
-use mathlib.Core.Path.{_≡_, refl, ap}
+use mathlib.Core.Path.{_≡_, refl}
 use mathlib.Core.Bool.{Bool, true, false, cond}
+use mathlib.Core.List.{List}
 use native.Mathlib.Nat.{pow-le-pow-right}
 use native.Mathlib.Omega.{arith}
 use lib.Dec.{eqb}
-use borrow.Author.Tests.{eqb-false}
-use Rattle.octets.specs.Numbers.{Width}
+use lib.ListN.{length}
+use Rattle.octets.specs.Numbers.{Width, upperZero}
 use Rattle.octets.proofs.NumberLaws.{width-of}
-use Rattle.refusals.proofs.RefusalLaws.{failed}
 use Rattle.header.specs.FirstWord.{bits, flagsOf, wordFor}
-use Rattle.packet_beacon.specs.Flags.{sendingPair, receivingPair, freePresent, freeOctets, lastOctet, willingnessOf, pairOf, flagsRefusal, freeRefusal}
+use Rattle.header.specs.Descriptor.{descriptorRefusal}
+use Rattle.header.proofs.DescriptorLaws.{descriptor-none}
+use Rattle.packet_beacon.specs.Flags.{sendingPair, receivingPair, freePresent, freeOctets, lastOctet, willingnessOf, pairOf, flagsRefusal}
 
 pub free-le : (w : ℕ) → freeOctets w ≤ 16
 free-le w = go (eqb (freePresent w) 1)
@@ -23,17 +25,18 @@ free-le w = go (eqb (freePresent w) 1)
     go true = omega (arith, most)
     go false = omega arith
 
--- where there is a free space of not 128 bits, it is a descriptor
-pub free-width : (w : ℕ) → freeRefusal w ≡ 0 → (freeOctets w ≡ 0 → ⊥) → Width (freeOctets w)
-unfolding freeRefusal
-free-width w e n = go (eqb (freePresent w) 1) (eqb-false _ _ (failed _ 4 e)) n
+-- where there is a free space, it is a descriptor
+pub free-width : (w : ℕ) → (freeOctets w ≡ 0 → ⊥) → Width (freeOctets w)
+free-width w n = go (eqb (freePresent w) 1) n
   where
-    go : (b : Bool) → (cond b (2 * 2 ^ bits 32 w 18 19) 0 ≡ 16 → ⊥) → (cond b (2 * 2 ^ bits 32 w 18 19) 0 ≡ 0 → ⊥) → Width (cond b (2 * 2 ^ bits 32 w 18 19) 0)
-    go true h z = width-of (bits 32 w 18 19) (narrow (λ x. h (ap (λ (k : ℕ). 2 * 2 ^ k) x)))
-      where
-        narrow : (bits 32 w 18 19 ≡ 3 → ⊥) → bits 32 w 18 19 < 3
-        narrow m = omega arith
-    go false h z = absurd (z refl)
+    go : (b : Bool) → (cond b (2 * 2 ^ bits 32 w 18 19) 0 ≡ 0 → ⊥) → Width (cond b (2 * 2 ^ bits 32 w 18 19) 0)
+    go true z = width-of (bits 32 w 18 19) (omega arith)
+    go false z = absurd (z refl)
+
+-- where there is none, nothing of it is refused
+pub free-none : (w : ℕ) (s : List ℕ) → 4 ≤ length s → freeOctets w ≡ 0 → descriptorRefusal (freeOctets w) 4 s ≡ 0
+unfolding upperZero
+free-none w s h z = rw z (descriptor-none 0 4 s (omega arith) refl)
 
 -- the state that is told of a pairing has that very pairing, but for 0 1, which is refused
 pub pair-again : (p : ℕ) → p < 4 → (p ≡ 1 → ⊥) → pairOf (willingnessOf p) ≡ p
@@ -60,10 +63,6 @@ module _ (f : ℕ) (h : f < 2 ^ 24) where
   pub flags-none-for : flagsRefusal (wordFor 0 f) ≡ flagsRefusal f
   flags-none-for = same-flags (wordFor 0 f) f (omega arith) (omega arith) (omega arith)
 
-  pub free-none-for : freeRefusal (wordFor 0 f) ≡ freeRefusal f
-  unfolding freeRefusal
-  free-none-for = rw free-for
-
 -- the flags of a word
 module _ (w : ℕ) where
   pub free-flags : freeOctets (flagsOf w) ≡ freeOctets w
@@ -71,7 +70,3 @@ module _ (w : ℕ) where
 
   pub flags-none-flags : flagsRefusal (flagsOf w) ≡ flagsRefusal w
   flags-none-flags = same-flags (flagsOf w) w (omega arith) (omega arith) (omega arith)
-
-  pub free-none-flags : freeRefusal (flagsOf w) ≡ freeRefusal w
-  unfolding freeRefusal
-  free-none-flags = rw free-flags

@@ -1,8 +1,8 @@
--- "Given exactly when", for BEACON: 26, 5 and 1 of the reader; 21, 26, 5, 2 and 20 of the writer.
+-- "Given exactly when", for BEACON: 26, 1 and 5 of the reader; 21, 26, 2 and 20 of the writer.
 -- Assumes nothing.
 use Prim.Native.Nat.{ℕ, suc, _+_, _^_, _<_, _≤_}
 use mathlib.Core.Path.{_≡_, refl, sym, _∙_}
-use mathlib.Core.Bool.{Bool, not}
+use mathlib.Core.Bool.{not}
 use mathlib.Core.List.{List}
 use mathlib.Core.Logic.{_⊎_, inl, inr, ⊎-elim, _↔_, Iff·rfl, Iff·trans}
 use native.Mathlib.Omega.{arith}
@@ -11,14 +11,14 @@ use lib.Dec.{ltb, eqb}
 use Rattle.refusals.specs.Refusals.{_▹_, when, refusalOf}
 use Rattle.refusals.specs.Writing.{roomRefusal}
 use Rattle.refusals.specs.declared.Written.the-variants as written
-use Rattle.refusals.proofs.TestLaws.{eqb-iff, eqb-not, both}
-use Rattle.refusals.proofs.RefusalLaws.{after-none, given-later, when-given, when-other}
+use Rattle.refusals.proofs.TestLaws.{eqb-iff, both}
+use Rattle.refusals.proofs.RefusalLaws.{after-none, when-given}
 use Rattle.refusals.proofs.LimitLaws as chains
 use Rattle.header.specs.Start.{wordOf, startOctets, typeRefusal}
 use Rattle.header.specs.Descriptor.{descriptorRefusal}
 use Rattle.header.proofs.StartLaws.{TypeFine}
 use Rattle.header.proofs.LimitLaws as header
-use Rattle.packet_beacon.specs.Flags.{sendingPair, receivingPair, lastOctet, freeOctets, flagsRefusal, freeRefusal}
+use Rattle.packet_beacon.specs.Flags.{sendingPair, receivingPair, lastOctet, freeOctets, flagsRefusal}
 use Rattle.packet_beacon.specs.Beacon.{endpointAt, beaconRefusal, beaconOf, readBeacon}
 use Rattle.packet_beacon.specs.WriteBeacon.{beaconExcess, beaconWriteRefusal, beaconRefused, beaconWritten}
 use Rattle.packet_beacon.specs.declared.BeaconRead.the-variants.{Accepted, Refused}
@@ -66,13 +66,8 @@ module _ (s : List ℕ) where
   abbrev w : ℕ
   w = wordOf s
 
-  abbrev cut : ℕ
-  cut = descriptorRefusal (freeOctets w) 4 s
-
-  -- what the free space gives: 5 or 1
-  free-all : (P : ℕ → Type 0) → P 0 → P 5 → P 1 → P (freeRefusal w ▹ cut)
-  unfolding freeRefusal descriptorRefusal
-  free-all P z a b = chains.link-all P (eqb (freeOctets w) 16) 5 _ a (chains.when-all P (ltb (length s) (4 + freeOctets w)) 1 z b)
+  abbrev free : ℕ
+  free = descriptorRefusal (freeOctets w) 4 s
 
   -- 2, 3 and 4 come of what the packet begins with (header: LimitLaws)
   pub start-iff : (n : ℕ) → 2 ≤ n → n ≤ 4 → (beaconRefusal s ≡ n) ↔ (typeRefusal 0 s ≡ n)
@@ -81,7 +76,7 @@ module _ (s : List ℕ) where
       let P : ℕ → Type 0 = λ m. m ≡ n → ⊥ in
       chains.first-only (typeRefusal 0 s) _ n (λ e. omega arith)
       (chains.chain-all P (flagsRefusal w) _ (flags-all w P (λ e. omega arith) (λ e. omega arith))
-      (free-all P (λ e. omega arith) (λ e. omega arith) (λ e. omega arith)))
+      (header.descriptor-all (freeOctets w) 4 s P (λ e. omega arith) (λ e. omega arith) (λ e. omega arith)))
 
   -- 26, "next after 4"
   pub twenty-six-iff : (beaconRefusal s ≡ 26) ↔ (TypeFine 0 s × FlagsWrong w)
@@ -89,32 +84,25 @@ module _ (s : List ℕ) where
   twenty-six-iff =
       Iff·trans (header.after-type 0 s _ 26 (omega arith))
       (both Iff·rfl
-      (Iff·trans (chains.first-only (flagsRefusal w) _ 26 (λ e. omega arith) (free-all (λ m. m ≡ 26 → ⊥) (λ e. omega arith) (λ e. omega arith) (λ e. omega arith)))
+      (Iff·trans (chains.first-only (flagsRefusal w) _ 26 (λ e. omega arith) (header.descriptor-all (freeOctets w) 4 s (λ m. m ≡ 26 → ⊥) (λ e. omega arith) (λ e. omega arith) (λ e. omega arith)))
       (flags-iff w)))
 
-  -- 5: "where free space is present", its "width bits 11"
-  pub five-iff : (beaconRefusal s ≡ 5) ↔ (TypeFine 0 s × ((FlagsWrong w → ⊥) × (freeOctets w ≡ 16)))
-  unfolding beaconRefusal freeRefusal descriptorRefusal
+  -- 5: "where free space is present", one of its upper eight octets isn't zero, "once its octets are there"
+  pub five-iff : (beaconRefusal s ≡ 5) ↔ (TypeFine 0 s × ((FlagsWrong w → ⊥) × ((endpointAt w ≤ length s) × header.Large (freeOctets w) 4 s)))
+  unfolding beaconRefusal
   five-iff =
       Iff·trans (header.after-type 0 s _ 5 (omega arith))
       (both Iff·rfl
-      (Iff·trans (after-flags w _ 5 (λ e. omega arith) (λ e. omega arith))
-      (both Iff·rfl
-      (Iff·trans (chains.first-only (when (eqb (freeOctets w) 16) 5) _ 5 (λ e. omega arith) (when-other (ltb (length s) (4 + freeOctets w)) 1 5 (λ e. omega arith) (λ e. omega arith)))
-      (Iff·trans (when-given (eqb (freeOctets w) 16) 5 (λ e. omega arith)) (eqb-iff (freeOctets w) 16))))))
+      (Iff·trans (after-flags w _ 5 (λ e. omega arith) (λ e. omega arith)) (both Iff·rfl (header.descriptor-five-iff (freeOctets w) 4 s))))
 
   -- 1: "packet ends inside a field": the word or the Id, or then the free space
-  pub one-iff : (beaconRefusal s ≡ 1)
-      ↔ ((length s < startOctets w) ⊎ (TypeFine 0 s × ((FlagsWrong w → ⊥) × ((freeOctets w ≡ 16 → ⊥) × (length s < endpointAt w)))))
-  unfolding beaconRefusal freeRefusal
+  pub one-iff : (beaconRefusal s ≡ 1) ↔ ((length s < startOctets w) ⊎ (TypeFine 0 s × ((FlagsWrong w → ⊥) × (length s < endpointAt w))))
+  unfolding beaconRefusal
   one-iff =
       Iff·trans (header.one-or-after 0 s _)
       (chains.either Iff·rfl
       (both Iff·rfl
-      (Iff·trans (after-flags w _ 1 (λ e. omega arith) (λ e. omega arith))
-      (both Iff·rfl
-      (Iff·trans (given-later (eqb (freeOctets w) 16) 5 1 _ (λ e. omega arith) (λ e. omega arith))
-      (both (eqb-not (freeOctets w) 16) (header.descriptor-one-iff (freeOctets w) 4 s)))))))
+      (Iff·trans (after-flags w _ 1 (λ e. omega arith) (λ e. omega arith)) (both Iff·rfl (header.descriptor-one-iff (freeOctets w) 4 s)))))
 
 -- ---- written: lengths of endpoint and buffer
 
@@ -149,11 +137,6 @@ module _ (flags free : ℕ) where
     abbrev size : ℕ
     size = endpointAt flags + endpoint
 
-    -- what comes after 26
-    last-all : (P : ℕ → Type 0) → P 0 → P 5 → P 2 → P 20 → P (freeRefusal flags ▹ roomRefusal size room)
-    unfolding freeRefusal
-    last-all P z a b c = chains.link-all P (eqb (freeOctets flags) 16) 5 _ a (chains.room-all size room P z b c)
-
     -- 21, before all
     pub write-twenty-one-iff : (beaconWriteRefusal flags free endpoint room ≡ 21) ↔ Excess
     unfolding beaconWriteRefusal
@@ -161,7 +144,7 @@ module _ (flags free : ℕ) where
         let P : ℕ → Type 0 = λ m. m ≡ 21 → ⊥ in
         Iff·trans (chains.first-only (beaconExcess flags free) _ 21 (λ e. omega arith)
         (chains.chain-all P (flagsRefusal flags) _ (flags-all flags P (λ e. omega arith) (λ e. omega arith))
-        (last-all P (λ e. omega arith) (λ e. omega arith) (λ e. omega arith) (λ e. omega arith))))
+        (chains.room-all size room P (λ e. omega arith) (λ e. omega arith) (λ e. omega arith))))
         excess-iff
 
     -- 26, as the reader
@@ -171,43 +154,24 @@ module _ (flags free : ℕ) where
         Iff·trans (after-excess _ 26 (λ e. omega arith) (λ e. omega arith))
         (both Iff·rfl
         (Iff·trans (chains.first-only (flagsRefusal flags) _ 26 (λ e. omega arith)
-        (last-all (λ m. m ≡ 26 → ⊥) (λ e. omega arith) (λ e. omega arith) (λ e. omega arith) (λ e. omega arith)))
+        (chains.room-all size room (λ m. m ≡ 26 → ⊥) (λ e. omega arith) (λ e. omega arith) (λ e. omega arith)))
         (flags-iff flags)))
 
     -- the flags are as they should be
-    after-both : (A : Type 0) (n : ℕ) → (n ≡ 0 → ⊥) → (21 ≡ n → ⊥) → (26 ≡ n → ⊥) → (freeRefusal flags ▹ roomRefusal size room ≡ n) ↔ A
+    after-both : (A : Type 0) (n : ℕ) → (n ≡ 0 → ⊥) → (21 ≡ n → ⊥) → (26 ≡ n → ⊥) → (roomRefusal size room ≡ n) ↔ A
         → (beaconWriteRefusal flags free endpoint room ≡ n) ↔ ((Excess → ⊥) × ((FlagsWrong flags → ⊥) × A))
     unfolding beaconWriteRefusal
     after-both A n z a b i = Iff·trans (after-excess _ n z a) (both Iff·rfl (Iff·trans (after-flags flags _ n z b) (both Iff·rfl i)))
 
-    -- 5, as the reader
-    pub write-five-iff : (beaconWriteRefusal flags free endpoint room ≡ 5) ↔ ((Excess → ⊥) × ((FlagsWrong flags → ⊥) × (freeOctets flags ≡ 16)))
-    unfolding freeRefusal
-    write-five-iff =
-        after-both (freeOctets flags ≡ 16) 5 (λ e. omega arith) (λ e. omega arith) (λ e. omega arith)
-        (Iff·trans (chains.first-only (when (eqb (freeOctets flags) 16) 5) _ 5 (λ e. omega arith) (chains.room-all size room (λ m. m ≡ 5 → ⊥) (λ e. omega arith) (λ e. omega arith) (λ e. omega arith)))
-        (Iff·trans (when-given (eqb (freeOctets flags) 16) 5 (λ e. omega arith)) (eqb-iff (freeOctets flags) 16)))
-
-    -- the free space is no descriptor of 128 bits
-    after-free : (A : Type 0) (n : ℕ) → (n ≡ 0 → ⊥) → (5 ≡ n → ⊥) → (21 ≡ n → ⊥) → (26 ≡ n → ⊥) → (roomRefusal size room ≡ n) ↔ A
-        → (beaconWriteRefusal flags free endpoint room ≡ n) ↔ ((Excess → ⊥) × ((FlagsWrong flags → ⊥) × ((freeOctets flags ≡ 16 → ⊥) × A)))
-    unfolding freeRefusal
-    after-free A n z a b c i =
-        after-both ((freeOctets flags ≡ 16 → ⊥) × A) n z b c
-        (Iff·trans (given-later (eqb (freeOctets flags) 16) 5 n _ (λ e. omega arith) a) (both (eqb-not (freeOctets flags) 16) i))
-
     -- 2: "packet over 65,535 octets .. to be written"
-    pub write-two-iff : (beaconWriteRefusal flags free endpoint room ≡ 2)
-        ↔ ((Excess → ⊥) × ((FlagsWrong flags → ⊥) × ((freeOctets flags ≡ 16 → ⊥) × (65535 < size))))
-    write-two-iff =
-        after-free (65535 < size) 2 (λ e. omega arith) (λ e. omega arith) (λ e. omega arith) (λ e. omega arith) (chains.two-iff size room)
+    pub write-two-iff : (beaconWriteRefusal flags free endpoint room ≡ 2) ↔ ((Excess → ⊥) × ((FlagsWrong flags → ⊥) × (65535 < size)))
+    write-two-iff = after-both (65535 < size) 2 (λ e. omega arith) (λ e. omega arith) (λ e. omega arith) (chains.two-iff size room)
 
     -- 20: "buffer too small"
     pub write-twenty-iff : (beaconWriteRefusal flags free endpoint room ≡ 20)
-        ↔ ((Excess → ⊥) × ((FlagsWrong flags → ⊥) × ((freeOctets flags ≡ 16 → ⊥) × ((size ≤ 65535) × (room < size)))))
+        ↔ ((Excess → ⊥) × ((FlagsWrong flags → ⊥) × ((size ≤ 65535) × (room < size))))
     write-twenty-iff =
-        after-free ((size ≤ 65535) × (room < size)) 20 (λ e. omega arith) (λ e. omega arith) (λ e. omega arith) (λ e. omega arith)
-        (chains.twenty-iff size room)
+        after-both ((size ≤ 65535) × (room < size)) 20 (λ e. omega arith) (λ e. omega arith) (λ e. omega arith) (chains.twenty-iff size room)
 
 -- ---- the answers: refused with the number that these laws speak of
 

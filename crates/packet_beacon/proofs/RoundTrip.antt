@@ -2,15 +2,17 @@
 -- Assumes nothing.
 use Prim.Native.Nat.{ℕ, _+_, _-_, _^_, _<_, _≤_}
 use mathlib.Core.Path.{_≡_, refl, sym, ap, _∙_}
+use mathlib.Core.Bool.{true}
 use mathlib.Core.List.{List, _++_}
 use native.Mathlib.Omega.{arith}
 use lib.ListN.{length, take, drop, length-append, length-drop, take-append-drop}
 use lib.Seq.{take-at, drop-at, drop-drop}
 use borrow.Author.Tests.{le-ltb, lt-ltb}
-use Rattle.octets.specs.Numbers.{beDigits, beValue, Octets}
+use Rattle.octets.specs.Numbers.{beDigits, beValue, Octets, upperZero}
 use Rattle.octets.specs.Put.{put}
 use Rattle.octets.proofs.PutLaws.{refold}
 use Rattle.octets.proofs.NumberLaws.{value-digits, length-digits, part-digits, part-lt}
+use Rattle.octets.proofs.UpperLaws.{digits-small}
 use Rattle.refusals.specs.Writing.{roomRefusal}
 use Rattle.refusals.specs.declared.Written.the-variants.{Size}
 use Rattle.header.specs.FirstWord.{flagsOf, descriptorOctets, markOf, typeOf, wordFor}
@@ -22,12 +24,12 @@ use Rattle.packet_beacon.specs.Flags.{bundlesOf, streamsOf, sendingPair,
 use Rattle.packet_beacon.specs.Beacon.{endpointAt, freeSpace, endpointOf, beaconRefusal, beaconOf, readBeacon}
 use Rattle.packet_beacon.specs.WriteBeacon.{beaconExcess, beaconWriteRefusal, beaconOctets, beaconWritten, beaconBuffer}
 use Rattle.packet_beacon.specs.declared.BeaconRead.the-variants.{Accepted}
-use Rattle.packet_beacon.proofs.FlagLaws.{free-for, flags-none-for, free-none-for, free-flags, flags-none-flags, free-none-flags}
+use Rattle.packet_beacon.proofs.FlagLaws.{free-for, flags-none-for, free-flags, flags-none-flags}
 use Rattle.packet_beacon.proofs.BeaconLaws.{BeaconFine, beacon-fine}
 use Rattle.packet_beacon.proofs.WriteBeaconLaws.{Writable, writable}
 
--- fields that are not refused, in a buffer with room
-module _ (f free : ℕ) (e : List ℕ) (room : ℕ) (ok : beaconWriteRefusal f free (length e) room ≡ 0) where
+-- fields that are not refused, in a buffer with room; a free space is handed over as a number of 64 bits
+module _ (f free : ℕ) (e : List ℕ) (room : ℕ) (held : free < 2 ^ 64) (ok : beaconWriteRefusal f free (length e) room ≡ 0) where
   fine : Writable f free (length e) room
   fine = writable f free (length e) room ok
 
@@ -63,15 +65,16 @@ module _ (f free : ℕ) (e : List ℕ) (room : ℕ) (ok : beaconWriteRefusal f f
       let mark : markOf (wordOf s) ≡ 1 = rw word (mark-for 0 f (omega arith) flags-fit) in
       let ptype : typeOf (wordOf s) ≡ 0 = rw word (type-for 0 f (omega arith) flags-fit) in
       let size = beacon-octets-length in
+      let small : upperZero (take (freeOctets f) (drop 4 s)) ≡ true =
+      rw (after-word, take-at (beDigits (freeOctets f) free) e (freeOctets f) (length-digits (freeOctets f) free))
+      (digits-small (freeOctets f) free (fine .free-fits) held) in
       rw (
         type-none 0 s (type-known 0 s (omega (arith, fine .short)) mark ptype (omega arith)),
         word,
         flags-none-for f flags-fit,
         fine .flags-none,
-        free-none-for f flags-fit,
-        fine .free-none,
         free-for f flags-fit,
-        descriptor-none (freeOctets f) 4 s (omega arith),
+        descriptor-none (freeOctets f) 4 s (omega arith) small,
       )
 
   pub beacon-read-written : readBeacon (beaconOctets f free e) ≡ Accepted (record {
@@ -131,8 +134,6 @@ module _ (s : List ℕ) (os : Octets s) (ok : beaconRefusal s ≡ 0) where
         lt-ltb (freeSpace s) (256 ^ freeOctets w) (part-lt s 4 (freeOctets w) os (omega arith)),
         flags-none-flags w,
         read .flags-none,
-        free-none-flags w,
-        read .free-none,
         length-drop,
         le-ltb 65535 n (omega arith),
         le-ltb room n (omega arith),

@@ -13,7 +13,7 @@ use Rattle.octets.proofs.PutLaws.{put-next}
 use Rattle.refusals.specs.Refusals.{when}
 use Rattle.refusals.proofs.RefusalLaws.{first-none, rest-none, failed}
 use Rattle.refusals.proofs.WritingLaws.{RoomFine, room-fine}
-use Rattle.packet_beacon.specs.Flags.{freeOctets, flagsRefusal, freeRefusal}
+use Rattle.packet_beacon.specs.Flags.{freeOctets, flagsRefusal}
 use Rattle.packet_beacon.specs.Beacon.{endpointAt}
 use Rattle.packet_beacon.specs.WriteBeacon.{beaconExcess, beaconWriteRefusal, BeaconFits}
 
@@ -21,21 +21,18 @@ pub record Writable (flags free endpoint room : ℕ) : Type 0 where
   pub fine : BeaconFits flags endpoint room
   pub free-fits : free < 256 ^ freeOctets flags
   pub flags-none : flagsRefusal flags ≡ 0
-  pub free-none : freeRefusal flags ≡ 0
   pub short : endpointAt flags + endpoint ≤ 65535
 
 pub writable : (flags free endpoint room : ℕ) → beaconWriteRefusal flags free endpoint room ≡ 0 → Writable flags free endpoint room
 unfolding beaconWriteRefusal beaconExcess
 writable flags free endpoint room e =
     let r1 = rest-none (beaconExcess flags free) _ e in
-    let r2 = rest-none (flagsRefusal flags) _ r1 in
     let x = first-none (beaconExcess flags free) _ e in
-    let room-ok : RoomFine (endpointAt flags + endpoint) room = room-fine _ _ (rest-none (freeRefusal flags) _ r2) in
+    let room-ok : RoomFine (endpointAt flags + endpoint) room = room-fine _ _ (rest-none (flagsRefusal flags) _ r1) in
     record {
       fine = record { flags-fit = ltb-true _ _ (not-false _ (failed _ 20 (first-none _ _ x))); fits = room-ok .fits };
       free-fits = ltb-true _ _ (not-false _ (failed _ 20 (rest-none (when (not (ltb flags (2 ^ 24))) 21) _ x)));
       flags-none = first-none _ _ r1;
-      free-none = first-none _ _ r2;
       short = room-ok .short;
     }
 

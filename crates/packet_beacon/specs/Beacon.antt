@@ -7,7 +7,7 @@ use Rattle.refusals.specs.Refusals.{_▹_, answered}
 use Rattle.header.specs.FirstWord.{flagsOf}
 use Rattle.header.specs.Start.{wordOf, typeRefusal}
 use Rattle.header.specs.Descriptor.{descriptorAt, descriptorRefusal}
-use Rattle.packet_beacon.specs.Flags.{largestWidth, bundlesOf, streamsOf, sendingPair, receivingPair, freeOctets, willingnessOf, flagsRefusal, freeRefusal}
+use Rattle.packet_beacon.specs.Flags.{largestWidth, bundlesOf, streamsOf, sendingPair, receivingPair, freeOctets, willingnessOf, flagsRefusal}
 use Rattle.packet_beacon.specs.declared.Beacon.{Beacon}
 use Rattle.packet_beacon.specs.declared.BeaconRead.{BeaconRead}
 use Rattle.packet_beacon.specs.declared.BeaconRead.the-variants.{Accepted, Refused}
@@ -23,12 +23,12 @@ freeSpace s = descriptorAt (freeOctets (wordOf s)) 4 s
 abbrev pub endpointOf : List ℕ → List ℕ
 endpointOf s = drop (endpointAt (wordOf s)) s
 
--- the order in reading: 2, 1, 3, 4; 26 "next after 4; then, where free space is present, 5 and 1 for it"
+-- the order in reading: 2, 1, 3, 4; 26 "next after 4"; "then, where free space is present", 1 and 5 for it, as for every
+-- descriptor. Of one of no octets nothing is refused
 unfoldable pub beaconRefusal : List ℕ → ℕ
 beaconRefusal s =
     typeRefusal 0 s
     ▹ flagsRefusal (wordOf s)
-    ▹ freeRefusal (wordOf s)
     ▹ descriptorRefusal (freeOctets (wordOf s)) 4 s
 
 unfoldable pub beaconOf : List ℕ → Beacon

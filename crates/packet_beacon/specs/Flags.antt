@@ -59,10 +59,6 @@ flagsRefusal w =
     ▹ when (eqb (receivingPair w) 1) 26
     ▹ when (not (eqb (lastOctet w) 0)) 26
 
--- 5 of the free space: "width bits 11"
-unfoldable pub freeRefusal : ℕ → ℕ
-freeRefusal w = when (eqb (freeOctets w) 16) 5
-
 -- f holds the flags of the word w
 pub record Splits (w : ℕ) (f : BeaconFlags) : Type 0 where
   pub bundles-is : f .bundles ≡ bundlesOf w

@@ -10,20 +10,20 @@ use Rattle.refusals.specs.Refusals.{_▹_, when}
 use Rattle.refusals.specs.Writing.{roomRefusal, writtenOf, bufferAfter}
 use Rattle.refusals.specs.declared.Written.{Written}
 use Rattle.header.specs.FirstWord.{wordFor}
-use Rattle.packet_beacon.specs.Flags.{freeOctets, flagsRefusal, freeRefusal}
+use Rattle.packet_beacon.specs.Flags.{freeOctets, flagsRefusal}
 use Rattle.packet_beacon.specs.Beacon.{endpointAt}
 
 -- 21: "a field to be written exceeds its bits"; where no free space is present its field has no bits, and holds 0 alone
 unfoldable pub beaconExcess : ℕ → ℕ → ℕ
 beaconExcess flags free = when (not (ltb flags (2 ^ 24))) 21 ▹ when (not (ltb free (256 ^ freeOctets flags))) 21
 
--- "the writer's refusals are as for DATA": 21 before all, what the reader would refuse, 2 then 20 last.
+-- "the writer's refusals are as for DATA": 21 before all, what the reader would refuse (no number of 64 bits has upper octets
+-- that would be 5), 2 then 20 last.
 -- The endpoint is its length, room is the buffer's.
 unfoldable pub beaconWriteRefusal : ℕ → ℕ → ℕ → ℕ → ℕ
 beaconWriteRefusal flags free endpoint room =
     beaconExcess flags free
     ▹ flagsRefusal flags
-    ▹ freeRefusal flags
     ▹ roomRefusal (endpointAt flags + endpoint) room
 
 -- the octets of a packet; the writer sets the type, 0, itself

@@ -1,9 +1,11 @@
 // BEACON packets: who is on the air, what it can and will do, and how much room it has; read and written.
 ghost use mathlib.Core.Path.{_≡_};
-ghost use Prim.Native.Nat.{_+_, _<_, _^_};
+ghost use Prim.Native.Nat.{_+_, _≤_, _<_, _^_};
 ghost use lib.ListN.{length};
 ghost use Rattle.octets.specs.Put.{put};
-ghost use Rattle.packet_beacon.specs.Flags.{Splits, freeOctets, willingnessOf, flagsRefusal, freeRefusal};
+ghost use Rattle.packet_beacon.specs.Flags.{Splits, freeOctets, willingnessOf, flagsRefusal};
+ghost use Rattle.header.specs.Start.{wordOf};
+ghost use Rattle.header.specs.Descriptor.{descriptorRefusal};
 ghost use Rattle.packet_beacon.specs.Beacon.{endpointAt, freeSpace, beaconRefusal, beaconOf, readBeacon};
 ghost use Rattle.packet_beacon.specs.WriteBeacon.{beaconExcess, beaconWriteRefusal, beaconOctets, BeaconFits, beaconWritten, beaconBuffer};
 use refusals::Refusal;
@@ -110,14 +112,16 @@ fn flags_refusal(w: u64) -> u64
     0
 }
 
-// Refusal 5 of the first word or the flags; 0 for none.
-fn free_refusal(w: u64) -> u64
-    ensures { λ r. ⌜ r ≡ freeRefusal w ⌝ }
+// Refusals 1 and 5 of the free space; 0 for none, and where there is no free space.
+fn free_refusal(p: &[u8]) -> u64
+    requires { ⌜ 4 ≤ length (now p) ⌝ }
+    ensures { λ r. ⌜ r ≡ descriptorRefusal (freeOctets (wordOf (now (p .entry)))) 4 (now (p .entry)) ⌝ }
 {
-    if free_octets(w) == 16 {
-        return 5;
+    let width = free_octets(header::word(p));
+    if width == 0 {
+        return 0;
     }
-    0
+    header::descriptor_refusal(p, 4, width)
 }
 
 // The refusal of a packet that has to be BEACON; 0 for none.
@@ -128,11 +132,9 @@ pub fn beacon_refusal(p: &[u8]) -> u64
     if n != 0 {
         return n;
     }
-    let w = header::word(p);
-    let f = flags_refusal(w);
-    let g = free_refusal(w);
-    let d = header::descriptor_refusal(p, 4, free_octets(w));
-    refusals::first(f, refusals::first(g, d))
+    let f = flags_refusal(header::word(p));
+    let g = free_refusal(p);
+    refusals::first(f, g)
 }
 
 // The free space of a packet that is not refused, 0 where it has none.
@@ -204,9 +206,8 @@ fn beacon_write_refusal(flags: u64, free: u64, endpoint: usize, room: usize) -> 
         return e;
     }
     let f = flags_refusal(flags);
-    let g = free_refusal(flags);
     let r = refusals::room_refusal(endpoint_at(flags) + endpoint, room);
-    refusals::first(f, refusals::first(g, r))
+    refusals::first(f, r)
 }
 
 // The octets of fields that are not refused, and their number.

@@ -12,7 +12,7 @@ use Rattle.header.specs.FirstWord.{descriptorOctets}
 use Rattle.header.specs.Start.{wordOf, typeRefusal, fileRefusal}
 use Rattle.header.specs.Descriptor.{descriptorRefusal}
 use Rattle.refusals.proofs.RefusalLaws.{first-none, rest-none, failed}
-use Rattle.header.proofs.StartLaws.{TypeFine, type-fine, FileFine, file-fine}
+use Rattle.header.proofs.StartLaws.{TypeFine, type-fine}
 use Rattle.header.proofs.DescriptorLaws.{descriptor-there}
 use Rattle.header.proofs.FirstWordLaws.{octets-le}
 use Rattle.packet_data.specs.Data.{offsetAt, payloadAt, dataRefusal, dataOf, readData, payloadPart}
@@ -24,8 +24,8 @@ payload-at-le w = omega (arith, octets-le w)
 
 pub record DataFine (s : List ℕ) : Type 0 where
   pub head : TypeFine 3 s
-  pub file : FileFine (wordOf s)
   pub file-none : fileRefusal (wordOf s) ≡ 0
+  pub offset-none : descriptorRefusal (descriptorOctets (wordOf s)) (offsetAt (wordOf s)) s ≡ 0
   pub more : payloadAt (wordOf s) < length s
 
 pub data-fine : (s : List ℕ) → dataRefusal s ≡ 0 → DataFine s
@@ -40,8 +40,8 @@ data-fine s e =
     let ne : length s ≡ payloadAt w → ⊥ = eqb-false _ _ (failed (eqb (length s) (payloadAt w)) 9 r3) in
     record {
       head = type-fine 3 s (first-none _ _ e);
-      file = file-fine w (first-none _ _ r1);
       file-none = first-none _ _ r1;
+      offset-none = first-none _ _ r2;
       more = omega arith;
     }
 

@@ -1,4 +1,4 @@
--- "Given exactly when", for DATA: 5, 6, 1 and 10 of the reader; 21, 5, 6, 1, 10, 2 and 20 of the writer.
+-- "Given exactly when", for DATA: 6, 1, 5 and 10 of the reader; 21, 6, 1, 10, 2 and 20 of the writer.
 -- Assumes nothing.
 use Prim.Native.Nat.{ℕ, suc, _+_, _^_, _<_, _≤_}
 use mathlib.Core.Path.{_≡_, refl, sym, _∙_}
@@ -14,10 +14,10 @@ use Rattle.refusals.specs.declared.Written.the-variants as written
 use Rattle.refusals.proofs.TestLaws.{eqb-iff, eqb-not, ltb-iff, ltb-not, both}
 use Rattle.refusals.proofs.RefusalLaws.{given-here, given-later, after-none, when-given, when-other}
 use Rattle.refusals.proofs.LimitLaws as chains
-use Rattle.header.specs.FirstWord.{widthOf, kindOf, descriptorOctets, timestampOctets}
+use Rattle.header.specs.FirstWord.{kindOf, descriptorOctets, timestampOctets}
 use Rattle.header.specs.Start.{wordOf, startOctets, typeRefusal, fileRefusal}
 use Rattle.header.specs.Descriptor.{descriptorRefusal}
-use Rattle.header.proofs.StartLaws.{TypeFine, FileFine}
+use Rattle.header.proofs.StartLaws.{TypeFine}
 use Rattle.header.proofs.LimitLaws as header
 use Rattle.packet_data.specs.Data.{offsetAt, payloadAt, dataRefusal, dataOf, readData}
 use Rattle.packet_data.specs.declared.DataRead.the-variants.{Accepted, Refused}
@@ -29,16 +29,16 @@ module _ (s : List ℕ) where
   abbrev w : ℕ
   w = wordOf s
 
-  abbrev cut : ℕ
-  cut = descriptorRefusal (descriptorOctets w) (offsetAt w) s
+  -- the offset
+  abbrev judged : ℕ
+  judged = descriptorRefusal (descriptorOctets w) (offsetAt w) s
 
   abbrev empty : Bool
   empty = eqb (length s) (payloadAt w)
 
-  -- what the fields after the Id give: 1 or 10
-  fields-all : (P : ℕ → Type 0) → P 0 → P 1 → P 10 → P (cut ▹ when empty 10)
-  unfolding descriptorRefusal
-  fields-all P z a b = chains.link-all P (ltb (length s) (payloadAt w)) 1 _ a (chains.when-all P empty 10 z b)
+  -- what the fields after the Id give: 1, 5 or 10
+  fields-all : (P : ℕ → Type 0) → P 0 → P 1 → P 5 → P 10 → P (judged ▹ when empty 10)
+  fields-all P z a b c = chains.chain-all P judged _ (header.descriptor-all (descriptorOctets w) (offsetAt w) s P z a b) (chains.when-all P empty 10 z c)
 
   -- 2, 3 and 4 come of what the packet begins with (header: LimitLaws)
   pub start-iff : (n : ℕ) → 2 ≤ n → n ≤ 4 → (dataRefusal s ≡ n) ↔ (typeRefusal 3 s ≡ n)
@@ -46,50 +46,54 @@ module _ (s : List ℕ) where
   start-iff n lo hi =
       let P : ℕ → Type 0 = λ m. m ≡ n → ⊥ in
       chains.first-only (typeRefusal 3 s) _ n (λ e. omega arith)
-      (chains.chain-all P (fileRefusal w) _ (header.file-all w P (λ e. omega arith) (λ e. omega arith) (λ e. omega arith))
-      (fields-all P (λ e. omega arith) (λ e. omega arith) (λ e. omega arith)))
-
-  -- 5: "width bits 11"
-  pub five-iff : (dataRefusal s ≡ 5) ↔ (TypeFine 3 s × (widthOf w ≡ 3))
-  unfolding dataRefusal
-  five-iff =
-      Iff·trans (header.after-type 3 s _ 5 (omega arith))
-      (both Iff·rfl
-      (Iff·trans (chains.first-only (fileRefusal w) _ 5 (λ e. omega arith) (fields-all (λ m. m ≡ 5 → ⊥) (λ e. omega arith) (λ e. omega arith) (λ e. omega arith)))
-      (header.five-iff w)))
+      (chains.chain-all P (fileRefusal w) _ (header.file-all w P (λ e. omega arith) (λ e. omega arith))
+      (fields-all P (λ e. omega arith) (λ e. omega arith) (λ e. omega arith) (λ e. omega arith)))
 
   -- 6: "kind .. bits not those of a file"
-  pub six-iff : (dataRefusal s ≡ 6) ↔ (TypeFine 3 s × ((widthOf w ≡ 3 → ⊥) × (kindOf w ≡ 0 → ⊥)))
+  pub six-iff : (dataRefusal s ≡ 6) ↔ (TypeFine 3 s × (kindOf w ≡ 0 → ⊥))
   unfolding dataRefusal
   six-iff =
       Iff·trans (header.after-type 3 s _ 6 (omega arith))
       (both Iff·rfl
-      (Iff·trans (chains.first-only (fileRefusal w) _ 6 (λ e. omega arith) (fields-all (λ m. m ≡ 6 → ⊥) (λ e. omega arith) (λ e. omega arith) (λ e. omega arith)))
+      (Iff·trans (chains.first-only (fileRefusal w) _ 6 (λ e. omega arith)
+      (fields-all (λ m. m ≡ 6 → ⊥) (λ e. omega arith) (λ e. omega arith) (λ e. omega arith) (λ e. omega arith)))
       (header.six-iff w)))
 
   -- 1: "packet ends inside a field": the word or the Id, or then the timestamp or the offset
-  pub one-iff : (dataRefusal s ≡ 1) ↔ ((length s < startOctets w) ⊎ (TypeFine 3 s × (FileFine w × (length s < payloadAt w))))
+  pub one-iff : (dataRefusal s ≡ 1) ↔ ((length s < startOctets w) ⊎ (TypeFine 3 s × ((kindOf w ≡ 0) × (length s < payloadAt w))))
   unfolding dataRefusal
   one-iff =
       Iff·trans (header.one-or-after 3 s _)
       (chains.either Iff·rfl
       (both Iff·rfl
-      (Iff·trans (header.after-file w _ 1 (λ e. omega arith) (λ e. omega arith) (λ e. omega arith))
+      (Iff·trans (header.after-file w _ 1 (λ e. omega arith) (λ e. omega arith))
       (both Iff·rfl
-      (Iff·trans (chains.first-only cut _ 1 (λ e. omega arith) (when-other empty 10 1 (λ e. omega arith) (λ e. omega arith)))
+      (Iff·trans (chains.first-only judged _ 1 (λ e. omega arith) (when-other empty 10 1 (λ e. omega arith) (λ e. omega arith)))
       (header.descriptor-one-iff (descriptorOctets w) (offsetAt w) s))))))
 
+  -- 5: "given exactly when one of" the upper eight octets of the offset isn't zero, "once its octets are there"
+  pub five-iff : (dataRefusal s ≡ 5)
+      ↔ (TypeFine 3 s × ((kindOf w ≡ 0) × ((payloadAt w ≤ length s) × header.Large (descriptorOctets w) (offsetAt w) s)))
+  unfolding dataRefusal
+  five-iff =
+      Iff·trans (header.after-type 3 s _ 5 (omega arith))
+      (both Iff·rfl
+      (Iff·trans (header.after-file w _ 5 (λ e. omega arith) (λ e. omega arith))
+      (both Iff·rfl
+      (Iff·trans (chains.first-only judged _ 5 (λ e. omega arith) (when-other empty 10 5 (λ e. omega arith) (λ e. omega arith)))
+      (header.descriptor-five-iff (descriptorOctets w) (offsetAt w) s)))))
+
   -- 10: "DATA with no payload"
-  pub ten-iff : (dataRefusal s ≡ 10) ↔ (TypeFine 3 s × (FileFine w × (length s ≡ payloadAt w)))
-  unfolding dataRefusal descriptorRefusal
+  pub ten-iff : (dataRefusal s ≡ 10)
+      ↔ (TypeFine 3 s × ((kindOf w ≡ 0) × (header.Readable (descriptorOctets w) (offsetAt w) s × (length s ≡ payloadAt w))))
+  unfolding dataRefusal
   ten-iff =
       Iff·trans (header.after-type 3 s _ 10 (omega arith))
       (both Iff·rfl
-      (Iff·trans (header.after-file w _ 10 (λ e. omega arith) (λ e. omega arith) (λ e. omega arith))
+      (Iff·trans (header.after-file w _ 10 (λ e. omega arith) (λ e. omega arith))
       (both Iff·rfl
-      (Iff·trans (given-later (ltb (length s) (payloadAt w)) 1 10 _ (λ e. omega arith) (λ e. omega arith))
-      (Iff·trans (both (ltb-not (length s) (payloadAt w)) (Iff·trans (when-given empty 10 (λ e. omega arith)) (eqb-iff (length s) (payloadAt w))))
-      ((λ p. p .1), (λ e. (omega arith, e))))))))
+      (Iff·trans (header.after-descriptor (descriptorOctets w) (offsetAt w) s _ 10 (λ e. omega arith) (λ e. omega arith) (λ e. omega arith))
+      (both Iff·rfl (Iff·trans (when-given empty 10 (λ e. omega arith)) (eqb-iff (length s) (payloadAt w))))))))
 
 -- ---- written: lengths of timestamp, payload and buffer
 
@@ -129,7 +133,7 @@ module _ (flags id timestamp offset : ℕ) where
     abbrev short : Bool
     short = ltb timestamp (timestampOctets flags)
 
-    -- what comes after 21, 5 and 6
+    -- what comes after 21 and 6
     abbrev last : ℕ
     last = when short 1 ▹ when (eqb payload 0) 10 ▹ roomRefusal size room
 
@@ -142,7 +146,7 @@ module _ (flags id timestamp offset : ℕ) where
     write-twenty-one-iff =
         let P : ℕ → Type 0 = λ m. m ≡ 21 → ⊥ in
         Iff·trans (chains.first-only (dataExcess flags id timestamp offset) _ 21 (λ e. omega arith)
-        (chains.chain-all P (fileRefusal flags) _ (header.file-all flags P (λ e. omega arith) (λ e. omega arith) (λ e. omega arith))
+        (chains.chain-all P (fileRefusal flags) _ (header.file-all flags P (λ e. omega arith) (λ e. omega arith))
         (last-all P (λ e. omega arith) (λ e. omega arith) (λ e. omega arith) (λ e. omega arith) (λ e. omega arith))))
         excess-iff
 
@@ -151,63 +155,63 @@ module _ (flags id timestamp offset : ℕ) where
         Iff·trans (after-none (dataExcess flags id timestamp offset) r n z (⊎-elim (λ e q. z (sym q ∙ e)) (λ e q. h (sym e ∙ q)) excess-alone))
         (both excess-none Iff·rfl)
 
-    -- 5 and 6, as the reader (header: LimitLaws)
-    pub write-file-iff : (n : ℕ) → 5 ≤ n → n ≤ 6
-        → (dataWriteRefusal flags id timestamp offset payload room ≡ n) ↔ ((Excess → ⊥) × (fileRefusal flags ≡ n))
+    -- 6, as the reader
+    pub write-six-iff : (dataWriteRefusal flags id timestamp offset payload room ≡ 6) ↔ ((Excess → ⊥) × (kindOf flags ≡ 0 → ⊥))
     unfolding dataWriteRefusal
-    write-file-iff n lo hi =
-        Iff·trans (after-excess _ n (λ e. omega arith) (λ e. omega arith))
+    write-six-iff =
+        Iff·trans (after-excess _ 6 (λ e. omega arith) (λ e. omega arith))
         (both Iff·rfl
-        (chains.first-only (fileRefusal flags) _ n (λ e. omega arith)
-        (last-all (λ m. m ≡ n → ⊥) (λ e. omega arith) (λ e. omega arith) (λ e. omega arith) (λ e. omega arith) (λ e. omega arith))))
+        (Iff·trans (chains.first-only (fileRefusal flags) _ 6 (λ e. omega arith)
+        (last-all (λ m. m ≡ 6 → ⊥) (λ e. omega arith) (λ e. omega arith) (λ e. omega arith) (λ e. omega arith) (λ e. omega arith)))
+        (header.six-iff flags)))
 
     -- any other number
-    after-file : (A : Type 0) (n : ℕ) → (n ≡ 0 → ⊥) → (5 ≡ n → ⊥) → (6 ≡ n → ⊥) → (21 ≡ n → ⊥) → (last ≡ n) ↔ A
-        → (dataWriteRefusal flags id timestamp offset payload room ≡ n) ↔ ((Excess → ⊥) × (FileFine flags × A))
+    after-file : (A : Type 0) (n : ℕ) → (n ≡ 0 → ⊥) → (6 ≡ n → ⊥) → (21 ≡ n → ⊥) → (last ≡ n) ↔ A
+        → (dataWriteRefusal flags id timestamp offset payload room ≡ n) ↔ ((Excess → ⊥) × ((kindOf flags ≡ 0) × A))
     unfolding dataWriteRefusal
-    after-file A n z a b c i =
-        Iff·trans (after-excess _ n z c) (both Iff·rfl (Iff·trans (header.after-file flags last n z a b) (both Iff·rfl i)))
+    after-file A n z a b i =
+        Iff·trans (after-excess _ n z b) (both Iff·rfl (Iff·trans (header.after-file flags last n z a) (both Iff·rfl i)))
 
     -- 1, of the timestamp: "fewer is 1"
     pub write-one-iff : (dataWriteRefusal flags id timestamp offset payload room ≡ 1)
-        ↔ ((Excess → ⊥) × (FileFine flags × (timestamp < timestampOctets flags)))
+        ↔ ((Excess → ⊥) × ((kindOf flags ≡ 0) × (timestamp < timestampOctets flags)))
     write-one-iff =
-        after-file (timestamp < timestampOctets flags) 1 (λ e. omega arith) (λ e. omega arith) (λ e. omega arith) (λ e. omega arith)
+        after-file (timestamp < timestampOctets flags) 1 (λ e. omega arith) (λ e. omega arith) (λ e. omega arith)
         (Iff·trans (given-here short 1 _ (λ e. omega arith)
         (chains.link-all (λ m. m ≡ 1 → ⊥) (eqb payload 0) 10 _ (λ e. omega arith) (chains.room-all size room (λ m. m ≡ 1 → ⊥) (λ e. omega arith) (λ e. omega arith) (λ e. omega arith))))
         (ltb-iff timestamp (timestampOctets flags)))
 
     -- 10: "DATA with no payload"
     pub write-ten-iff : (dataWriteRefusal flags id timestamp offset payload room ≡ 10)
-        ↔ ((Excess → ⊥) × (FileFine flags × ((timestampOctets flags ≤ timestamp) × (payload ≡ 0))))
+        ↔ ((Excess → ⊥) × ((kindOf flags ≡ 0) × ((timestampOctets flags ≤ timestamp) × (payload ≡ 0))))
     write-ten-iff =
-        after-file ((timestampOctets flags ≤ timestamp) × (payload ≡ 0)) 10 (λ e. omega arith) (λ e. omega arith) (λ e. omega arith) (λ e. omega arith)
+        after-file ((timestampOctets flags ≤ timestamp) × (payload ≡ 0)) 10 (λ e. omega arith) (λ e. omega arith) (λ e. omega arith)
         (Iff·trans (given-later short 1 10 _ (λ e. omega arith) (λ e. omega arith))
         (both (ltb-not timestamp (timestampOctets flags))
         (Iff·trans (given-here (eqb payload 0) 10 _ (λ e. omega arith) (chains.room-all size room (λ m. m ≡ 10 → ⊥) (λ e. omega arith) (λ e. omega arith) (λ e. omega arith)))
         (eqb-iff payload 0))))
 
     -- the fields are as they should be
-    after-fields : (A : Type 0) (n : ℕ) → (n ≡ 0 → ⊥) → (1 ≡ n → ⊥) → (5 ≡ n → ⊥) → (6 ≡ n → ⊥) → (10 ≡ n → ⊥) → (21 ≡ n → ⊥) → (roomRefusal size room ≡ n) ↔ A
+    after-fields : (A : Type 0) (n : ℕ) → (n ≡ 0 → ⊥) → (1 ≡ n → ⊥) → (6 ≡ n → ⊥) → (10 ≡ n → ⊥) → (21 ≡ n → ⊥) → (roomRefusal size room ≡ n) ↔ A
         → (dataWriteRefusal flags id timestamp offset payload room ≡ n)
-        ↔ ((Excess → ⊥) × (FileFine flags × ((timestampOctets flags ≤ timestamp) × ((payload ≡ 0 → ⊥) × A))))
-    after-fields A n z a b c d e i =
-        after-file ((timestampOctets flags ≤ timestamp) × ((payload ≡ 0 → ⊥) × A)) n z b c e
+        ↔ ((Excess → ⊥) × ((kindOf flags ≡ 0) × ((timestampOctets flags ≤ timestamp) × ((payload ≡ 0 → ⊥) × A))))
+    after-fields A n z a b c d i =
+        after-file ((timestampOctets flags ≤ timestamp) × ((payload ≡ 0 → ⊥) × A)) n z b d
         (Iff·trans (given-later short 1 n _ (λ q. omega arith) a)
-        (both (ltb-not timestamp (timestampOctets flags)) (Iff·trans (given-later (eqb payload 0) 10 n _ (λ q. omega arith) d) (both (eqb-not payload 0) i))))
+        (both (ltb-not timestamp (timestampOctets flags)) (Iff·trans (given-later (eqb payload 0) 10 n _ (λ q. omega arith) c) (both (eqb-not payload 0) i))))
 
     -- 2: "packet over 65,535 octets .. to be written"
     pub write-two-iff : (dataWriteRefusal flags id timestamp offset payload room ≡ 2)
-        ↔ ((Excess → ⊥) × (FileFine flags × ((timestampOctets flags ≤ timestamp) × ((payload ≡ 0 → ⊥) × (65535 < size)))))
+        ↔ ((Excess → ⊥) × ((kindOf flags ≡ 0) × ((timestampOctets flags ≤ timestamp) × ((payload ≡ 0 → ⊥) × (65535 < size)))))
     write-two-iff =
-        after-fields (65535 < size) 2 (λ e. omega arith) (λ e. omega arith) (λ e. omega arith) (λ e. omega arith) (λ e. omega arith) (λ e. omega arith)
+        after-fields (65535 < size) 2 (λ e. omega arith) (λ e. omega arith) (λ e. omega arith) (λ e. omega arith) (λ e. omega arith)
         (chains.two-iff size room)
 
     -- 20: "buffer too small"
     pub write-twenty-iff : (dataWriteRefusal flags id timestamp offset payload room ≡ 20)
-        ↔ ((Excess → ⊥) × (FileFine flags × ((timestampOctets flags ≤ timestamp) × ((payload ≡ 0 → ⊥) × ((size ≤ 65535) × (room < size))))))
+        ↔ ((Excess → ⊥) × ((kindOf flags ≡ 0) × ((timestampOctets flags ≤ timestamp) × ((payload ≡ 0 → ⊥) × ((size ≤ 65535) × (room < size))))))
     write-twenty-iff =
-        after-fields ((size ≤ 65535) × (room < size)) 20 (λ e. omega arith) (λ e. omega arith) (λ e. omega arith) (λ e. omega arith) (λ e. omega arith) (λ e. omega arith)
+        after-fields ((size ≤ 65535) × (room < size)) 20 (λ e. omega arith) (λ e. omega arith) (λ e. omega arith) (λ e. omega arith) (λ e. omega arith)
         (chains.twenty-iff size room)
 
 -- ---- the answers: refused with the number that these laws speak of

@@ -10,12 +10,13 @@ use borrow.Author.Tests.{le-ltb, lt-ltb, eq-eqb, ne-eqb}
 use Rattle.octets.specs.Numbers.{beDigits, Octets}
 use Rattle.octets.specs.Put.{put}
 use Rattle.octets.proofs.PutLaws.{refold}
+use Rattle.octets.proofs.UpperLaws.{digits-small}
 use Rattle.octets.proofs.NumberLaws.{value-digits, length-digits, part-digits, part-lt}
 use Rattle.header.specs.FirstWord.{flagsOf, descriptorOctets, timestampOctets, wantedOf, eodOf, markOf, typeOf, wordFor}
 use Rattle.header.specs.Start.{wordOf, idOf}
 use Rattle.refusals.specs.Writing.{roomRefusal}
 use Rattle.refusals.specs.declared.Written.the-variants.{Size}
-use Rattle.header.specs.Descriptor.{descriptorAt}
+use Rattle.header.specs.Descriptor.{descriptorAt, descriptorRefusal}
 use Rattle.header.proofs.DescriptorLaws.{descriptor-none}
 use Rattle.header.proofs.StartLaws.{type-known, type-none}
 use Rattle.header.proofs.FirstWordLaws.{mark-for, type-for, flags-for, octets-for, timestamp-for, file-for, octets-flags, timestamp-flags, file-flags, flags-lt, word-again}
@@ -25,8 +26,8 @@ use Rattle.packet_data.specs.declared.DataRead.the-variants.{Accepted}
 use Rattle.packet_data.proofs.DataLaws.{DataFine, data-fine}
 use Rattle.packet_data.proofs.WriteDataLaws.{Writable, writable}
 
--- fields that are not refused, in a buffer with room
-module _ (f i : ℕ) (t : List ℕ) (o : ℕ) (p : List ℕ) (room : ℕ) (ok : dataWriteRefusal f i (length t) o (length p) room ≡ 0) where
+-- fields that are not refused, in a buffer with room; an offset is handed over as a number of 64 bits
+module _ (f i : ℕ) (t : List ℕ) (o : ℕ) (p : List ℕ) (room : ℕ) (held : o < 2 ^ 64) (ok : dataWriteRefusal f i (length t) o (length p) room ≡ 0) where
   fine : Writable f i (length t) o (length p) room
   fine = writable f i (length t) o (length p) room ok
 
@@ -55,10 +56,16 @@ module _ (f i : ℕ) (t : List ℕ) (o : ℕ) (p : List ℕ) (room : ℕ) (ok : 
       sym (drop-drop (timestampOctets f) 8 (dataOctets f i t o p))
       ∙ drop-at t (beDigits (descriptorOctets f) o ++ p) (timestampOctets f) (fine .fine .timestamp-is)
 
+  offset-part : take (descriptorOctets f) (drop (offsetAt f) (dataOctets f i t o p)) ≡ beDigits (descriptorOctets f) o
+  offset-part = rw after-timestamp (take-at (beDigits (descriptorOctets f) o) p (descriptorOctets f) (length-digits (descriptorOctets f) o))
+
   offset : descriptorAt (descriptorOctets f) (offsetAt f) (dataOctets f i t o p) ≡ o
-  offset =
-      rw (after-timestamp, take-at (beDigits (descriptorOctets f) o) p (descriptorOctets f) (length-digits (descriptorOctets f) o))
-      (value-digits (descriptorOctets f) o (fine .offset-fits))
+  offset = rw offset-part (value-digits (descriptorOctets f) o (fine .offset-fits))
+
+  offset-taken : descriptorRefusal (descriptorOctets f) (offsetAt f) (dataOctets f i t o p) ≡ 0
+  offset-taken =
+      descriptor-none (descriptorOctets f) (offsetAt f) (dataOctets f i t o p) (omega (arith, data-octets-length))
+      (rw offset-part (digits-small (descriptorOctets f) o (fine .offset-fits) held))
 
   payload : drop (payloadAt f) (dataOctets f i t o p) ≡ p
   payload =
@@ -81,10 +88,11 @@ module _ (f i : ℕ) (t : List ℕ) (o : ℕ) (p : List ℕ) (room : ℕ) (ok : 
       rw (
         type-none 3 (dataOctets f i t o p) (type-known 3 (dataOctets f i t o p) (omega (arith, fine .short)) mark ptype (omega arith)),
         word,
-        descriptor-none (descriptorOctets (wordFor 3 f)) (offsetAt (wordFor 3 f)) (dataOctets f i t o p) (omega (arith, payload-at, data-octets-length)),
+        octets-for 3 f (omega arith) flags-fit,
+        offset-at,
+        offset-taken,
         data-octets-length,
         file-for 3 f (omega arith) flags-fit,
-        payload-at,
         fine .file,
         ne-eqb n (payloadAt f) (omega (arith, fine .some)),
       )

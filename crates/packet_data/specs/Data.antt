@@ -22,7 +22,7 @@ payloadAt w = offsetAt w + descriptorOctets w
 abbrev pub offsetOf : List ℕ → ℕ
 offsetOf s = descriptorAt (descriptorOctets (wordOf s)) (offsetAt (wordOf s)) s
 
--- the order in reading: 2, 1, 3, 4, 5, 6, 1 for timestamp and offset, 10.
+-- the order in reading: 2, 1, 3, 4, 6, 1 for timestamp and offset, 5 for the offset, 10.
 -- A packet that ends inside the timestamp ends before the offset's last octet too, so one test serves for both.
 unfoldable pub dataRefusal : List ℕ → ℕ
 dataRefusal s =

@@ -53,13 +53,13 @@ pub fn data_refusal(p: &[u8]) -> u64
     if f != 0 {
         return f;
     }
-    let g = header::descriptor_refusal(p, offset_at(w), header::descriptor_octets(w));
-    if g != 0 {
-        return g;
-    }
     let start = payload_at(w);
+    let offset = header::descriptor_refusal(p, offset_at(w), header::descriptor_octets(w));
+    if offset != 0 {
+        return offset;
+    }
     if p.len() == start {
-        return 10;
+        return 10; // nothing after the offset
     }
     0
 }

@@ -1,6 +1,6 @@
--- "Given exactly when", for METADATA: 5, 6, 7, 1, 8 and 9 of the reader; these, 21, 2 and 20 of the writer.
+-- "Given exactly when", for METADATA: 6, 7, 1, 5, 8 and 9 of the reader; 21, 6, 7, 1, 8, 9, 2 and 20 of the writer.
 -- Assumes nothing.
-use Prim.Native.Nat.{ℕ, zero, suc, _^_, _<_, _≤_}
+use Prim.Native.Nat.{ℕ, zero, suc, _+_, _^_, _<_, _≤_}
 use mathlib.Core.Path.{_≡_, refl, sym, _∙_, ap}
 use mathlib.Core.Bool.{Bool, true, not}
 use mathlib.Core.List.{List}
@@ -15,11 +15,11 @@ use Rattle.refusals.specs.declared.Written.the-variants as written
 use Rattle.refusals.proofs.TestLaws.{ltb-iff, ltb-not, not-iff, not-not, test-not, both}
 use Rattle.refusals.proofs.RefusalLaws.{given-later, after-none, when-given}
 use Rattle.refusals.proofs.LimitLaws as chains
-use Rattle.header.specs.FirstWord.{widthOf, kindOf, descriptorOctets, sumType, sumWords}
+use Rattle.header.specs.FirstWord.{kindOf, descriptorOctets, sumType, sumWords}
 use Rattle.header.specs.Start.{wordOf, startOctets, typeRefusal, fileRefusal}
-use Rattle.header.proofs.StartLaws.{TypeFine, FileFine}
+use Rattle.header.proofs.StartLaws.{TypeFine}
 use Rattle.header.proofs.LimitLaws as header
-use Rattle.directory_entry.specs.Properties.{pathAt}
+use Rattle.directory_entry.specs.Properties.{sizeOctets, pathAt}
 use Rattle.directory_entry.specs.Entry.{propertiesOf, sizeOf, afterTimes, entryRefusal}
 use Rattle.directory_entry.specs.WriteEntry.{entryExcess, entryWriteRefusal}
 use Rattle.directory_entry.proofs.PathLaws.{PathFine}
@@ -84,47 +84,47 @@ module _ (w : ℕ) where
       Iff·trans (given-later unpaired 7 n r (λ e. omega arith) h)
       (both (Iff·trans (not-not (pairAllowed (sumType w) (sumWords w))) pair-iff) i)
 
--- ---- what reader and writer judge alike: width, kind and pair of the word w, `have` octets of `need`, and then r
+-- ---- what reader and writer judge alike: kind and pair of the word w, `have` octets of `need`, and then r
 
 module _ (w have need r : ℕ) where
   abbrev body : ℕ
   body = fileRefusal w ▹ pairRefusal w ▹ when (ltb have need) 1 ▹ r
 
   abbrev After : Type 0 → Type 0
-  After A = FileFine w × (PairAllowed w × ((need ≤ have) × A))
+  After A = (kindOf w ≡ 0) × (PairAllowed w × ((need ≤ have) × A))
 
   need-iff : (A : Type 0) (n : ℕ) → (1 ≡ n → ⊥) → (7 ≡ n → ⊥) → (r ≡ n) ↔ A → (pairRefusal w ▹ when (ltb have need) 1 ▹ r ≡ n) ↔ (PairAllowed w × ((need ≤ have) × A))
   need-iff A n a b i =
       after-pair w ((need ≤ have) × A) _ n b (Iff·trans (given-later (ltb have need) 1 n r (λ e. omega arith) a) (both (ltb-not have need) i))
 
-  body-file-iff : (A B : Type 0) (n : ℕ) → 5 ≤ n → n ≤ 6 → (fileRefusal w ≡ n) ↔ B → (r ≡ n) ↔ A → (body ≡ n) ↔ (B ⊎ After A)
-  body-file-iff A B n lo hi f i =
-      Iff·trans (chains.chain-iff (fileRefusal w) _ n (λ e. omega arith))
-      (chains.either f (both (header.file-none-iff w) (need-iff A n (λ e. omega arith) (λ e. omega arith) i)))
+  body-six-iff : (A : Type 0) → (r ≡ 6) ↔ A → (body ≡ 6) ↔ ((kindOf w ≡ 0 → ⊥) ⊎ After A)
+  body-six-iff A i =
+      Iff·trans (chains.chain-iff (fileRefusal w) _ 6 (λ e. omega arith))
+      (chains.either (header.six-iff w) (both (header.file-none-iff w) (need-iff A 6 (λ e. omega arith) (λ e. omega arith) i)))
 
-  body-seven-iff : (r ≡ 7 → ⊥) → (body ≡ 7) ↔ (FileFine w × (PairAllowed w → ⊥))
+  body-seven-iff : (r ≡ 7 → ⊥) → (body ≡ 7) ↔ ((kindOf w ≡ 0) × (PairAllowed w → ⊥))
   unfolding pairRefusal
   body-seven-iff h =
-      Iff·trans (header.after-file w _ 7 (λ e. omega arith) (λ e. omega arith) (λ e. omega arith))
+      Iff·trans (header.after-file w _ 7 (λ e. omega arith) (λ e. omega arith))
       (both Iff·rfl
       (Iff·trans (chains.first-only (when (unpaired w) 7) _ 7 (λ e. omega arith) (chains.link-all (λ m. m ≡ 7 → ⊥) (ltb have need) 1 r (λ e. omega arith) h))
       (Iff·trans (when-given (unpaired w) 7 (λ e. omega arith)) (pair-wrong w))))
 
-  body-one-iff : (A : Type 0) → (r ≡ 1) ↔ A → (body ≡ 1) ↔ (FileFine w × (PairAllowed w × ((have < need) ⊎ A)))
+  body-one-iff : (A : Type 0) → (r ≡ 1) ↔ A → (body ≡ 1) ↔ ((kindOf w ≡ 0) × (PairAllowed w × ((have < need) ⊎ A)))
   body-one-iff A i =
-      Iff·trans (header.after-file w _ 1 (λ e. omega arith) (λ e. omega arith) (λ e. omega arith))
+      Iff·trans (header.after-file w _ 1 (λ e. omega arith) (λ e. omega arith))
       (both Iff·rfl
       (after-pair w ((have < need) ⊎ A) _ 1 (λ e. omega arith)
       (Iff·trans (chains.given-again (ltb have need) 1 r (λ e. omega arith)) (chains.either (ltb-iff have need) i))))
 
-  body-after : (A : Type 0) (n : ℕ) → (n ≡ 0 → ⊥) → (1 ≡ n → ⊥) → (5 ≡ n → ⊥) → (6 ≡ n → ⊥) → (7 ≡ n → ⊥) → (r ≡ n) ↔ A → (body ≡ n) ↔ After A
-  body-after A n z a b c d i = Iff·trans (header.after-file w _ n z b c) (both Iff·rfl (need-iff A n a d i))
+  body-after : (A : Type 0) (n : ℕ) → (n ≡ 0 → ⊥) → (1 ≡ n → ⊥) → (6 ≡ n → ⊥) → (7 ≡ n → ⊥) → (r ≡ n) ↔ A → (body ≡ n) ↔ After A
+  body-after A n z a b c i = Iff·trans (header.after-file w _ n z b) (both Iff·rfl (need-iff A n a c i))
 
-  body-all : (P : ℕ → Type 0) → P 0 → P 1 → P 5 → P 6 → P 7 → P r → P body
+  body-all : (P : ℕ → Type 0) → P 0 → P 1 → P 6 → P 7 → P r → P body
   unfolding pairRefusal
-  body-all P z a b c d f =
-      chains.chain-all P (fileRefusal w) _ (header.file-all w P z b c)
-      (chains.link-all P (unpaired w) 7 _ d (chains.link-all P (ltb have need) 1 r a f))
+  body-all P z a b c f =
+      chains.chain-all P (fileRefusal w) _ (header.file-all w P z b)
+      (chains.link-all P (unpaired w) 7 _ c (chains.link-all P (ltb have need) 1 r a f))
 
 -- ---- read
 
@@ -141,7 +141,7 @@ module _ (s : List ℕ) where
 
   -- what is as it should be before the entry
   abbrev Before : Type 0 → Type 0
-  Before A = FileFine word × (PairAllowed word × ((entryAt word ≤ length s) × A))
+  Before A = (kindOf word ≡ 0) × (PairAllowed word × ((entryAt word ≤ length s) × A))
 
   -- 2, 3 and 4 come of what the packet begins with (header: LimitLaws)
   pub start-iff : (n : ℕ) → 2 ≤ n → n ≤ 4 → (metadataRefusal s ≡ n) ↔ (typeRefusal 2 s ≡ n)
@@ -149,30 +149,19 @@ module _ (s : List ℕ) where
   start-iff n lo hi =
       let P : ℕ → Type 0 = λ m. m ≡ n → ⊥ in
       chains.first-only (typeRefusal 2 s) _ n (λ e. omega arith)
-      (body-all word (length s) (entryAt word) (entryRefusal own entryPart) P (λ e. omega arith) (λ e. omega arith) (λ e. omega arith) (λ e. omega arith) (λ e. omega arith)
+      (body-all word (length s) (entryAt word) (entryRefusal own entryPart) P (λ e. omega arith) (λ e. omega arith) (λ e. omega arith) (λ e. omega arith)
       (entry.entry-all own entryPart P (λ e. omega arith) (λ e. omega arith) (λ e. omega arith) (λ e. omega arith) (λ e. omega arith) (λ e. omega arith)))
 
-  -- 5: "width bits 11", of the packet or of the entry
-  pub five-iff : (metadataRefusal s ≡ 5) ↔ (TypeFine 2 s × ((widthOf word ≡ 3) ⊎ Before ((2 ≤ length entryPart) × entry.WideFile (propertiesOf entryPart))))
-  unfolding metadataRefusal
-  five-iff =
-      Iff·trans (header.after-type 2 s _ 5 (omega arith))
-      (both Iff·rfl
-      (body-file-iff word (length s) (entryAt word) (entryRefusal own entryPart) ((2 ≤ length entryPart) × entry.WideFile (propertiesOf entryPart)) (widthOf word ≡ 3) 5 (omega arith) (omega arith)
-      (header.five-iff word) (entry.five-iff own entryPart)))
-
   -- 6: "kind or property bits not those of a file"
-  pub six-iff : (metadataRefusal s ≡ 6)
-      ↔ (TypeFine 2 s × (((widthOf word ≡ 3 → ⊥) × (kindOf word ≡ 0 → ⊥)) ⊎ Before ((2 ≤ length entryPart) × entry.NoFile (propertiesOf entryPart))))
+  pub six-iff : (metadataRefusal s ≡ 6) ↔ (TypeFine 2 s × ((kindOf word ≡ 0 → ⊥) ⊎ Before ((2 ≤ length entryPart) × entry.NoFile (propertiesOf entryPart))))
   unfolding metadataRefusal
   six-iff =
       Iff·trans (header.after-type 2 s _ 6 (omega arith))
       (both Iff·rfl
-      (body-file-iff word (length s) (entryAt word) (entryRefusal own entryPart) ((2 ≤ length entryPart) × entry.NoFile (propertiesOf entryPart))
-      ((widthOf word ≡ 3 → ⊥) × (kindOf word ≡ 0 → ⊥)) 6 (omega arith) (omega arith) (header.six-iff word) (entry.six-iff own entryPart)))
+      (body-six-iff word (length s) (entryAt word) (entryRefusal own entryPart) ((2 ≤ length entryPart) × entry.NoFile (propertiesOf entryPart)) (entry.six-iff own entryPart)))
 
   -- 7: "checksum pair not allowed"
-  pub seven-iff : (metadataRefusal s ≡ 7) ↔ (TypeFine 2 s × (FileFine word × (PairAllowed word → ⊥)))
+  pub seven-iff : (metadataRefusal s ≡ 7) ↔ (TypeFine 2 s × ((kindOf word ≡ 0) × (PairAllowed word → ⊥)))
   unfolding metadataRefusal
   seven-iff =
       Iff·trans (header.after-type 2 s _ 7 (omega arith))
@@ -182,28 +171,37 @@ module _ (s : List ℕ) where
 
   -- 1: "packet ends inside a field .. or a path has no zero octet in fewer than 1,024 octets"
   pub one-iff : (metadataRefusal s ≡ 1)
-      ↔ ((length s < startOctets word) ⊎ (TypeFine 2 s × (FileFine word × (PairAllowed word × ((length s < entryAt word) ⊎ entry.EntryEnds own entryPart)))))
+      ↔ ((length s < startOctets word) ⊎ (TypeFine 2 s × ((kindOf word ≡ 0) × (PairAllowed word × ((length s < entryAt word) ⊎ entry.EntryEnds own entryPart)))))
   unfolding metadataRefusal
   one-iff =
       Iff·trans (header.one-or-after 2 s _)
       (chains.either Iff·rfl (both Iff·rfl (body-one-iff word (length s) (entryAt word) (entryRefusal own entryPart) (entry.EntryEnds own entryPart) (entry.one-iff own entryPart))))
 
-  entry-iff : (A : Type 0) (n : ℕ) → 8 ≤ n → (entryRefusal own entryPart ≡ n) ↔ A → (metadataRefusal s ≡ n) ↔ (TypeFine 2 s × Before A)
+  entry-iff : (A : Type 0) (n : ℕ) → 5 ≤ n → (6 ≡ n → ⊥) → (7 ≡ n → ⊥) → (entryRefusal own entryPart ≡ n) ↔ A → (metadataRefusal s ≡ n) ↔ (TypeFine 2 s × Before A)
   unfolding metadataRefusal
-  entry-iff A n h i =
+  entry-iff A n h a b i =
       Iff·trans (header.after-type 2 s _ n (omega arith))
       (both Iff·rfl
-      (body-after word (length s) (entryAt word) (entryRefusal own entryPart) A n (λ e. omega arith) (λ e. omega arith) (λ e. omega arith) (λ e. omega arith) (λ e. omega arith) i))
+      (body-after word (length s) (entryAt word) (entryRefusal own entryPart) A n (λ e. omega arith) (λ e. omega arith) a b i))
+
+  -- the size is there, and its upper octets are zero
+  abbrev SizeReadable : Type 0
+  SizeReadable = header.Readable (sizeOctets (propertiesOf entryPart)) 2 entryPart
+
+  -- 5, of the size: "given exactly when one of" its upper eight octets isn't zero, "once its octets are there"
+  pub five-iff : (metadataRefusal s ≡ 5)
+      ↔ (TypeFine 2 s × Before (entry.FileProperties (propertiesOf entryPart) × ((2 + sizeOctets (propertiesOf entryPart) ≤ length entryPart) × header.Large (sizeOctets (propertiesOf entryPart)) 2 entryPart)))
+  five-iff = entry-iff _ 5 (omega arith) (λ e. omega arith) (λ e. omega arith) (entry.five-iff own entryPart)
 
   -- 8: "path empty, over 1,023 octets, or followed by octets"
   pub eight-iff : (metadataRefusal s ≡ 8)
-      ↔ (TypeFine 2 s × Before (entry.FileProperties (propertiesOf entryPart) × ((pathAt (propertiesOf entryPart) ≤ length entryPart) × entry.PathWrong (afterTimes entryPart))))
-  eight-iff = entry-iff _ 8 (omega arith) (entry.eight-iff own entryPart)
+      ↔ (TypeFine 2 s × Before (entry.FileProperties (propertiesOf entryPart) × (SizeReadable × ((pathAt (propertiesOf entryPart) ≤ length entryPart) × entry.PathWrong (afterTimes entryPart)))))
+  eight-iff = entry-iff _ 8 (omega arith) (λ e. omega arith) (λ e. omega arith) (entry.eight-iff own entryPart)
 
   -- 9: "L above 2^w - 1"
   pub nine-iff : (metadataRefusal s ≡ 9)
-      ↔ (TypeFine 2 s × Before (entry.FileProperties (propertiesOf entryPart) × ((pathAt (propertiesOf entryPart) ≤ length entryPart) × (PathFine (afterTimes entryPart) × (256 ^ own ≤ sizeOf entryPart)))))
-  nine-iff = entry-iff _ 9 (omega arith) (entry.nine-iff own entryPart)
+      ↔ (TypeFine 2 s × Before (entry.FileProperties (propertiesOf entryPart) × (SizeReadable × ((pathAt (propertiesOf entryPart) ≤ length entryPart) × (PathFine (afterTimes entryPart) × (256 ^ own ≤ sizeOf entryPart))))))
+  nine-iff = entry-iff _ 9 (omega arith) (λ e. omega arith) (λ e. omega arith) (entry.nine-iff own entryPart)
 
 -- ---- written
 
@@ -269,8 +267,8 @@ module _ (flags id : ℕ) (checksum : List ℕ) (properties size mtime ctime : �
   excess-none = chains.alone-none Excess excess 21 (λ e. omega arith) (excess-all (λ m. (m ≡ 0) ⊎ (m ≡ 21)) (inl refl) (inr refl)) excess-iff
 
   -- what follows the checksum
-  last-all : (P : ℕ → Type 0) → P 0 → P 5 → P 6 → P 8 → P 9 → P 2 → P 20 → P (entryWrong ▹ roomRefusal octets room)
-  last-all P z a b c d e f = chains.chain-all P entryWrong _ (entry.write-all path (descriptorOctets flags) properties size P z a b c d) (chains.room-all octets room P z e f)
+  last-all : (P : ℕ → Type 0) → P 0 → P 6 → P 8 → P 9 → P 2 → P 20 → P (entryWrong ▹ roomRefusal octets room)
+  last-all P z a b c d e = chains.chain-all P entryWrong _ (entry.write-all path (descriptorOctets flags) properties size P z a b c) (chains.room-all octets room P z d e)
 
   -- 21, before all
   pub write-twenty-one-iff : (refusal ≡ 21) ↔ Excess
@@ -278,8 +276,8 @@ module _ (flags id : ℕ) (checksum : List ℕ) (properties size mtime ctime : �
       let P : ℕ → Type 0 = λ m. m ≡ 21 → ⊥ in
       rw flat
       (Iff·trans (chains.first-only excess fields 21 (λ e. omega arith)
-      (body-all flags (length checksum) (checksumOctets flags) (entryWrong ▹ roomRefusal octets room) P (λ e. omega arith) (λ e. omega arith) (λ e. omega arith) (λ e. omega arith) (λ e. omega arith)
-      (last-all P (λ e. omega arith) (λ e. omega arith) (λ e. omega arith) (λ e. omega arith) (λ e. omega arith) (λ e. omega arith) (λ e. omega arith))))
+      (body-all flags (length checksum) (checksumOctets flags) (entryWrong ▹ roomRefusal octets room) P (λ e. omega arith) (λ e. omega arith) (λ e. omega arith) (λ e. omega arith)
+      (last-all P (λ e. omega arith) (λ e. omega arith) (λ e. omega arith) (λ e. omega arith) (λ e. omega arith) (λ e. omega arith))))
       excess-iff)
 
   fields-iff : (A : Type 0) (n : ℕ) → (n ≡ 0 → ⊥) → (21 ≡ n → ⊥) → (fields ≡ n) ↔ A → (refusal ≡ n) ↔ ((Excess → ⊥) × A)
@@ -287,78 +285,71 @@ module _ (flags id : ℕ) (checksum : List ℕ) (properties size mtime ctime : �
 
   -- what is as it should be before the entry
   abbrev Taken : Type 0 → Type 0
-  Taken A = FileFine flags × (PairAllowed flags × ((checksumOctets flags ≤ length checksum) × A))
+  Taken A = (kindOf flags ≡ 0) × (PairAllowed flags × ((checksumOctets flags ≤ length checksum) × A))
 
   last-iff : (A : Type 0) (n : ℕ) → (n ≡ 0 → ⊥) → (2 ≡ n → ⊥) → (20 ≡ n → ⊥) → (entryWrong ≡ n) ↔ A → (entryWrong ▹ roomRefusal octets room ≡ n) ↔ A
   last-iff A n z a b i = Iff·trans (chains.first-only entryWrong _ n z (chains.room-all octets room (λ m. m ≡ n → ⊥) (λ e. z (sym e)) a b)) i
 
-  -- 5: "width bits 11", of the packet or of the entry
-  pub write-five-iff : (refusal ≡ 5) ↔ ((Excess → ⊥) × ((widthOf flags ≡ 3) ⊎ Taken (entry.WideFile properties)))
-  write-five-iff =
-      fields-iff _ 5 (λ e. omega arith) (λ e. omega arith)
-      (body-file-iff flags (length checksum) (checksumOctets flags) _ (entry.WideFile properties) (widthOf flags ≡ 3) 5 (omega arith) (omega arith) (header.five-iff flags)
-      (last-iff _ 5 (λ e. omega arith) (λ e. omega arith) (λ e. omega arith) (entry.write-five-iff path (descriptorOctets flags) properties size)))
-
   -- 6: "kind or property bits not those of a file"
-  pub write-six-iff : (refusal ≡ 6) ↔ ((Excess → ⊥) × (((widthOf flags ≡ 3 → ⊥) × (kindOf flags ≡ 0 → ⊥)) ⊎ Taken (entry.NoFile properties)))
+  pub write-six-iff : (refusal ≡ 6) ↔ ((Excess → ⊥) × ((kindOf flags ≡ 0 → ⊥) ⊎ Taken (entry.NoFile properties)))
   write-six-iff =
       fields-iff _ 6 (λ e. omega arith) (λ e. omega arith)
-      (body-file-iff flags (length checksum) (checksumOctets flags) _ (entry.NoFile properties) ((widthOf flags ≡ 3 → ⊥) × (kindOf flags ≡ 0 → ⊥)) 6 (omega arith) (omega arith) (header.six-iff flags)
+      (body-six-iff flags (length checksum) (checksumOctets flags) _ (entry.NoFile properties)
       (last-iff _ 6 (λ e. omega arith) (λ e. omega arith) (λ e. omega arith) (entry.write-six-iff path (descriptorOctets flags) properties size)))
 
   -- 7: "checksum pair not allowed"
-  pub write-seven-iff : (refusal ≡ 7) ↔ ((Excess → ⊥) × (FileFine flags × (PairAllowed flags → ⊥)))
+  pub write-seven-iff : (refusal ≡ 7) ↔ ((Excess → ⊥) × ((kindOf flags ≡ 0) × (PairAllowed flags → ⊥)))
   write-seven-iff =
       fields-iff _ 7 (λ e. omega arith) (λ e. omega arith)
       (body-seven-iff flags (length checksum) (checksumOctets flags) _
-      (last-all (λ m. m ≡ 7 → ⊥) (λ e. omega arith) (λ e. omega arith) (λ e. omega arith) (λ e. omega arith) (λ e. omega arith) (λ e. omega arith) (λ e. omega arith)))
+      (last-all (λ m. m ≡ 7 → ⊥) (λ e. omega arith) (λ e. omega arith) (λ e. omega arith) (λ e. omega arith) (λ e. omega arith) (λ e. omega arith)))
 
   -- 1, of the checksum: "fewer is 1"
-  pub write-one-iff : (refusal ≡ 1) ↔ ((Excess → ⊥) × (FileFine flags × (PairAllowed flags × (length checksum < checksumOctets flags))))
+  pub write-one-iff : (refusal ≡ 1) ↔ ((Excess → ⊥) × ((kindOf flags ≡ 0) × (PairAllowed flags × (length checksum < checksumOctets flags))))
   write-one-iff =
       fields-iff _ 1 (λ e. omega arith) (λ e. omega arith)
       (Iff·trans (body-one-iff flags (length checksum) (checksumOctets flags) _ ⊥
-      (last-all (λ m. m ≡ 1 → ⊥) (λ e. omega arith) (λ e. omega arith) (λ e. omega arith) (λ e. omega arith) (λ e. omega arith) (λ e. omega arith) (λ e. omega arith), (λ z. absurd z)))
+      (last-all (λ m. m ≡ 1 → ⊥) (λ e. omega arith) (λ e. omega arith) (λ e. omega arith) (λ e. omega arith) (λ e. omega arith) (λ e. omega arith), (λ z. absurd z)))
       (both Iff·rfl (both Iff·rfl (⊎-elim (λ l. l) (λ z. absurd z), (λ l. inl l)))))
 
-  after-checksum : (A : Type 0) (n : ℕ) → (n ≡ 0 → ⊥) → (1 ≡ n → ⊥) → (5 ≡ n → ⊥) → (6 ≡ n → ⊥) → (7 ≡ n → ⊥) → (21 ≡ n → ⊥)
+  after-checksum : (A : Type 0) (n : ℕ) → (n ≡ 0 → ⊥) → (1 ≡ n → ⊥) → (6 ≡ n → ⊥) → (7 ≡ n → ⊥) → (21 ≡ n → ⊥)
       → (entryWrong ▹ roomRefusal octets room ≡ n) ↔ A → (refusal ≡ n) ↔ ((Excess → ⊥) × Taken A)
-  after-checksum A n z a b c d h i = fields-iff _ n z h (body-after flags (length checksum) (checksumOctets flags) _ A n z a b c d i)
+  after-checksum A n z a b c h i = fields-iff _ n z h (body-after flags (length checksum) (checksumOctets flags) _ A n z a b c i)
 
   -- 8: "path empty, over 1,023 octets"; "A path that holds a zero octet is 8"
   pub write-eight-iff : (refusal ≡ 8) ↔ ((Excess → ⊥) × Taken (entry.FileProperties properties × entry.PathUnfit path))
   write-eight-iff =
-      after-checksum _ 8 (λ e. omega arith) (λ e. omega arith) (λ e. omega arith) (λ e. omega arith) (λ e. omega arith) (λ e. omega arith)
+      after-checksum _ 8 (λ e. omega arith) (λ e. omega arith) (λ e. omega arith) (λ e. omega arith) (λ e. omega arith)
       (last-iff _ 8 (λ e. omega arith) (λ e. omega arith) (λ e. omega arith) (entry.write-eight-iff path (descriptorOctets flags) properties size))
 
   -- 9: "L above 2^w - 1"
   pub write-nine-iff : (refusal ≡ 9)
       ↔ ((Excess → ⊥) × Taken (entry.FileProperties properties × ((entry.PathUnfit path → ⊥) × (256 ^ descriptorOctets flags ≤ size))))
   write-nine-iff =
-      after-checksum _ 9 (λ e. omega arith) (λ e. omega arith) (λ e. omega arith) (λ e. omega arith) (λ e. omega arith) (λ e. omega arith)
+      after-checksum _ 9 (λ e. omega arith) (λ e. omega arith) (λ e. omega arith) (λ e. omega arith) (λ e. omega arith)
       (last-iff _ 9 (λ e. omega arith) (λ e. omega arith) (λ e. omega arith) (entry.write-nine-iff path (descriptorOctets flags) properties size))
 
   -- an entry that may be written
   abbrev EntryFits : Type 0
   EntryFits = entry.FileProperties properties × ((entry.PathUnfit path → ⊥) × (size < 256 ^ descriptorOctets flags))
 
-  after-entry : (A : Type 0) (n : ℕ) → (n ≡ 0 → ⊥) → (5 ≡ n → ⊥) → (6 ≡ n → ⊥) → (8 ≡ n → ⊥) → (9 ≡ n → ⊥) → (roomRefusal octets room ≡ n) ↔ A
+  after-entry : (A : Type 0) (n : ℕ) → (n ≡ 0 → ⊥) → (6 ≡ n → ⊥) → (8 ≡ n → ⊥) → (9 ≡ n → ⊥) → (roomRefusal octets room ≡ n) ↔ A
       → (entryWrong ▹ roomRefusal octets room ≡ n) ↔ (EntryFits × A)
-  after-entry A n z a b c d i =
-      Iff·trans (after-none entryWrong _ n z (entry.write-all path (descriptorOctets flags) properties size (λ m. m ≡ n → ⊥) (λ e. z (sym e)) a b c d))
+  after-entry A n z a b c i =
+      Iff·trans (after-none entryWrong _ n z (entry.write-all path (descriptorOctets flags) properties size (λ m. m ≡ n → ⊥) (λ e. z (sym e)) a b c))
       (both (entry.write-none-iff path (descriptorOctets flags) properties size) i)
 
   -- 2: "packet over 65,535 octets .. to be written"
   pub write-two-iff : (refusal ≡ 2) ↔ ((Excess → ⊥) × Taken (EntryFits × (65535 < octets)))
   write-two-iff =
-      after-checksum _ 2 (λ e. omega arith) (λ e. omega arith) (λ e. omega arith) (λ e. omega arith) (λ e. omega arith) (λ e. omega arith)
-      (after-entry _ 2 (λ e. omega arith) (λ e. omega arith) (λ e. omega arith) (λ e. omega arith) (λ e. omega arith) (chains.two-iff octets room))
+      after-checksum _ 2 (λ e. omega arith) (λ e. omega arith) (λ e. omega arith) (λ e. omega arith) (λ e. omega arith)
+      (after-entry _ 2 (λ e. omega arith) (λ e. omega arith) (λ e. omega arith) (λ e. omega arith) (chains.two-iff octets room))
 
   -- 20: "buffer too small"
   pub write-twenty-iff : (refusal ≡ 20) ↔ ((Excess → ⊥) × Taken (EntryFits × ((octets ≤ 65535) × (room < octets))))
   write-twenty-iff =
-      after-checksum _ 20 (λ e. omega arith) (λ e. omega arith) (λ e. omega arith) (λ e. omega arith) (λ e. omega arith) (λ e. omega arith)
-      (after-entry _ 20 (λ e. omega arith) (λ e. omega arith) (λ e. omega arith) (λ e. omega arith) (λ e. omega arith) (chains.twenty-iff octets room))
+      after-checksum _ 20 (λ e. omega arith) (λ e. omega arith) (λ e. omega arith) (λ e. omega arith) (λ e. omega arith)
+      (after-entry _ 20 (λ e. omega arith) (λ e. omega arith) (λ e. omega arith) (λ e. omega arith) (chains.twenty-iff octets room))
 
 -- ---- the answers: refused with the number that these laws speak of
 

@@ -30,8 +30,8 @@ use Rattle.packet_metadata.proofs.ChecksumLaws.{checksum-for, pair-for,
 use Rattle.packet_metadata.proofs.MetadataLaws.{MetadataFine, metadata-fine}
 use Rattle.packet_metadata.proofs.WriteLaws.{WriteFine, write-fine, length-metadata}
 
--- reading what was written
-module _ (flags id : ℕ) (checksum : List ℕ) (properties size mtime ctime : ℕ) (path : List ℕ) (room : ℕ)
+-- reading what was written; a size is handed over as a number of 64 bits
+module _ (flags id : ℕ) (checksum : List ℕ) (properties size mtime ctime : ℕ) (path : List ℕ) (room : ℕ) (held : size < 2 ^ 64)
     (ok : metadataWriteRefusal flags id checksum properties size mtime ctime path room ≡ 0) where
   abbrev s : List ℕ
   s = metadataOctets flags id checksum properties size mtime ctime path
@@ -65,7 +65,7 @@ module _ (flags id : ℕ) (checksum : List ℕ) (properties size mtime ctime : �
   entry-is = sym (drop-drop (checksumOctets flags) 8 s) ∙ drop-at checksum e (checksumOctets flags) (fine .fits .checksum-is)
 
   pub path-read-written : take (length path) (drop (entryAt flags + pathAt properties) s) ≡ path
-  path-read-written = rw (← drop-drop (pathAt properties) (entryAt flags) s, entry-is) (path-written (descriptorOctets flags) properties size mtime ctime path (fine .excess) (fine .entry))
+  path-read-written = rw (← drop-drop (pathAt properties) (entryAt flags) s, entry-is) (path-written (descriptorOctets flags) properties size mtime ctime path held (fine .excess) (fine .entry))
 
   taken : metadataRefusal s ≡ 0
   unfolding metadataRefusal
@@ -87,7 +87,7 @@ module _ (flags id : ℕ) (checksum : List ℕ) (properties size mtime ctime : �
         fine .pair,
         le-ltb n (entryAt flags) (omega arith),
       )
-      (entry-taken (descriptorOctets flags) properties size mtime ctime path (fine .excess) (fine .entry))
+      (entry-taken (descriptorOctets flags) properties size mtime ctime path held (fine .excess) (fine .entry))
 
   pub metadata-read-written : readMetadata s
       ≡ Accepted
@@ -115,7 +115,7 @@ module _ (flags id : ℕ) (checksum : List ℕ) (properties size mtime ctime : �
         octets-for 2 flags (omega arith) small,
         checksum-for 2 flags small,
         entry-is,
-        entry-read-written (descriptorOctets flags) properties size mtime ctime path (fine .excess) (fine .entry) (entryAt flags),
+        entry-read-written (descriptorOctets flags) properties size mtime ctime path held (fine .excess) (fine .entry) (entryAt flags),
         fine .fits .checksum-is,
       )
 

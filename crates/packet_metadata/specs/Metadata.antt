@@ -17,7 +17,7 @@ use Rattle.packet_metadata.specs.declared.MetadataRead.the-variants.{Acc
 abbrev pub entryAt : ℕ → ℕ
 entryAt w = 8 + checksumOctets w
 
--- the order in reading: 2, 1, 3, 4, 5, 6 for the kind, 7, 1 for the checksum, and then the entry's
+-- the order in reading: 2, 1, 3, 4, 6 for the kind, 7, 1 for the checksum, and then the entry's
 unfoldable pub metadataRefusal : List ℕ → ℕ
 metadataRefusal s =
     typeRefusal 2 s

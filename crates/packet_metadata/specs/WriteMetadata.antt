@@ -23,7 +23,7 @@ metadataExcess flags id checksum =
     ▹ when (not (ltb id (2 ^ 32))) 21
     ▹ when (ltb (checksumOctets flags) checksum) 21
 
--- what the reader would refuse before the entry: 5, 6, 7, and of the checksum "fewer is 1"
+-- what the reader would refuse before the entry: 6, 7, and of the checksum "fewer is 1"
 unfoldable pub checksumRefusal : ℕ → ℕ → ℕ
 checksumRefusal flags checksum =
     fileRefusal flags

@@ -130,7 +130,7 @@ fn metadata_excess(flags: u64, id: u64, checksum: usize) -> u64
     0
 }
 
-// Refusals 5, 6, 7 of the flags and 1 of the checksum to be written; 0 for none. `checksum` is a length.
+// Refusals 6, 7 of the flags and 1 of the checksum to be written; 0 for none. `checksum` is a length.
 fn checksum_refusal(flags: u64, checksum: usize) -> u64
     ensures { λ r. ⌜ r ≡ checksumRefusal flags checksum ⌝ }
 {

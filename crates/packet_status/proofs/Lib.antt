@@ -1,3 +1,4 @@
+pub mod DescriptorListLaws
 pub mod HoleListLaws
 pub mod AcceptedLaws
 pub mod StatusLaws

@@ -1,10 +1,11 @@
--- "Given exactly when", for STATUS: 5, 1 and 11 of the reader, none of them for a failure; 21 and 20 of the failure writer.
+-- "Given exactly when", for STATUS: 1, 5 and 11 of the reader, none of them for a failure; 21 and 20 of the failure writer.
 -- Assumes nothing.
 use Prim.Native.Nat.{ℕ, zero, suc, _+_, _*_, _%_, _^_, _<_, _≤_}
 use mathlib.Core.Path.{_≡_}
 use mathlib.Core.Bool.{Bool, not}
 use mathlib.Core.List.{List}
-use mathlib.Core.Logic.{_⊎_, inr, ⊎-elim, _↔_, Iff·rfl, Iff·trans}
+use mathlib.Core.Logic.{_⊎_, inl, ⊎-elim, _↔_, Iff·rfl, Iff·trans}
+use native.Mathlib.Nat.{div-mul-le-self}
 use native.Mathlib.Omega.{arith}
 use lib.ListN.{length}
 use lib.Dec.{ltb, eqb}
@@ -13,17 +14,18 @@ use Rattle.refusals.specs.Refusals.{_▹_, refusalOf}
 use Rattle.refusals.specs.declared.Refusal.{Refusal}
 use Rattle.refusals.specs.declared.Written.the-variants as written
 use Rattle.refusals.proofs.TestLaws.{eqb-iff, eqb-not, ltb-iff, ltb-not, not-iff, not-not, test-not, both}
-use Rattle.refusals.proofs.RefusalLaws.{given-here, given-later, when-given, when-other}
+use Rattle.refusals.proofs.RefusalLaws.{given-here, given-later, after-none, when-given, when-other}
 use Rattle.refusals.proofs.LimitLaws as chains
-use Rattle.header.specs.FirstWord.{widthOf, descriptorOctets, partialOf, statusOf}
+use Rattle.header.specs.FirstWord.{descriptorOctets, partialOf, statusOf}
 use Rattle.header.specs.Start.{wordOf, startOctets, typeRefusal}
 use Rattle.header.specs.Descriptor.{descriptorRefusal}
 use Rattle.header.proofs.StartLaws.{TypeFine}
 use Rattle.header.proofs.LimitLaws as header
 use Rattle.packet_status.specs.HoleList.{holesWell}
-use Rattle.packet_status.specs.Status.{progressAt, responseAt, holesAt, progressOf, responseOf, listOctets, holeList, listRefusal, successRefusal, statusRefusal, acceptedStatus, readStatus}
+use Rattle.packet_status.specs.Status.{progressAt, responseAt, holesAt, progressOf, responseOf, listOctets, listDescriptors, holeList, descriptorsRefusal, listRefusal, successRefusal, statusRefusal, acceptedStatus, readStatus}
 use Rattle.packet_status.specs.declared.StatusRead.the-variants.{Refused}
 use Rattle.packet_status.specs.WriteFailure.{failureWriteRefusal, failureWritten}
+use Rattle.packet_status.proofs.DescriptorListLaws.{AllSmall, descriptors-some, descriptors-all, descriptors-none-iff, descriptors-five-iff}
 use Rattle.packet_status.proofs.AcceptedLaws.{HoleListAccepted, holes-well-means, means-holes-well}
 
 -- ---- read
@@ -34,9 +36,6 @@ module _ (s : List ℕ) where
 
   abbrev d : ℕ
   d = descriptorOctets w
-
-  abbrev wide : Bool
-  wide = eqb (widthOf w) 3
 
   abbrev odd : Bool
   odd = not (eqb (listOctets s % (2 * d)) 0)
@@ -63,22 +62,68 @@ module _ (s : List ℕ) where
   unfolding listRefusal
   list-all P z a = chains.link-all P odd 11 _ a (chains.when-all P ill 11 z a)
 
-  -- 1 for the fields before the list: both tests say that it does not end in time
-  fields-iff : (descriptorRefusal d (progressAt w) s ▹ descriptorRefusal d (responseAt w) s ▹ listRefusal s ≡ 1) ↔ (length s < holesAt w)
-  unfolding descriptorRefusal
-  fields-iff =
-      Iff·trans (chains.given-again (ltb (length s) (progressAt w + d)) 1 _ (λ e. omega arith))
-      (Iff·trans (chains.either (ltb-iff (length s) (progressAt w + d))
-      (Iff·trans (given-here (ltb (length s) (responseAt w + d)) 1 _ (λ e. omega arith) (list-all (λ m. m ≡ 1 → ⊥) (λ e. omega arith) (λ e. omega arith)))
-      (ltb-iff (length s) (responseAt w + d))))
-      (⊎-elim (λ l. omega arith) (λ l. omega arith), (λ l. inr (omega arith))))
+  -- Progress, In-Response-To, and the descriptors of the list
+  abbrev progress : ℕ
+  progress = descriptorRefusal d (progressAt w) s
 
-  -- what comes after the Id of a success STATUS: 5, 1 or 11
-  success-all : (P : ℕ → Type 0) → P 0 → P 5 → P 1 → P 11 → P (successRefusal s)
-  unfolding successRefusal descriptorRefusal
+  abbrev response : ℕ
+  response = descriptorRefusal d (responseAt w) s
+
+  abbrev listed : ℕ
+  listed = descriptorsRefusal d (listDescriptors s) (holesAt w) s
+
+  -- the upper octets of each whole descriptor of the list are zero, a start without its end included
+  abbrev pub ListSmall : Type 0
+  ListSmall = AllSmall d s (listDescriptors s) (holesAt w)
+
+  -- where In-Response-To is there, so are they
+  whole : header.Readable d (responseAt w) s → holesAt w + listDescriptors s * d ≤ length s
+  whole r = omega (arith, r .0, div-mul-le-self (listOctets s) d)
+
+  -- 1 and 5 for Progress; what follows it is judged where it is not refused
+  after-progress : (A : Type 0) (n : ℕ) → (n ≡ 0 → ⊥) → (1 ≡ n → ⊥) → (5 ≡ n → ⊥) → (header.Readable d (responseAt w) s → (listed ▹ listRefusal s ≡ n) ↔ A)
+      → (successRefusal s ≡ n) ↔ (header.Readable d (progressAt w) s × (header.Readable d (responseAt w) s × A))
+  unfolding successRefusal
+  after-progress A n z a b i =
+      Iff·trans (header.after-descriptor d (progressAt w) s _ n z a b)
+      (both Iff·rfl
+      (Iff·trans (header.after-descriptor d (responseAt w) s _ n z a b) ((λ p. (p .0, i (p .0) .0 (p .1))), (λ p. (p .0, i (p .0) .1 (p .1))))))
+
+  -- 1 or 5, of Progress, of In-Response-To, or then of the list
+  field-iff : (A B C : Type 0) (n : ℕ) → (n ≡ 0 → ⊥) → (progress ≡ n) ↔ A → (response ≡ n) ↔ B → (header.Readable d (responseAt w) s → (listed ▹ listRefusal s ≡ n) ↔ C)
+      → (successRefusal s ≡ n) ↔ (A ⊎ (header.Readable d (progressAt w) s × (B ⊎ (header.Readable d (responseAt w) s × C))))
+  unfolding successRefusal
+  field-iff A B C n z f g i =
+      Iff·trans (chains.chain-iff progress _ n z)
+      (chains.either f
+      (both (header.descriptor-none-iff d (progressAt w) s)
+      (Iff·trans (chains.chain-iff response _ n z)
+      (chains.either g
+      (Iff·trans (both (header.descriptor-none-iff d (responseAt w) s) Iff·rfl) ((λ p. (p .0, i (p .0) .0 (p .1))), (λ p. (p .0, i (p .0) .1 (p .1)))))))))
+
+  list-five-iff : header.Readable d (responseAt w) s → (listed ▹ listRefusal s ≡ 5) ↔ (ListSmall → ⊥)
+  list-five-iff r =
+      Iff·trans (chains.first-only listed _ 5 (λ e. omega arith) (list-all (λ m. m ≡ 5 → ⊥) (λ e. omega arith) (λ e. omega arith)))
+      (descriptors-five-iff d s (listDescriptors s) (holesAt w) (whole r))
+
+  list-one : header.Readable d (responseAt w) s → (listed ▹ listRefusal s ≡ 1) ↔ ⊥
+  list-one r = (
+    chains.chain-all (λ m. m ≡ 1 → ⊥) listed _
+        (descriptors-all d s (λ m. m ≡ 1 → ⊥) (listDescriptors s) (holesAt w) (whole r) (λ e. omega arith) (λ e. omega arith))
+        (list-all (λ m. m ≡ 1 → ⊥) (λ e. omega arith) (λ e. omega arith)),
+    (λ z. absurd z),
+  )
+
+  -- what comes after the Id of a success STATUS: 1, 5 or 11
+  success-all : (P : ℕ → Type 0) → P 0 → P 1 → P 5 → P 11 → P (successRefusal s)
+  unfolding successRefusal
   success-all P z a b c =
-      chains.link-all P wide 5 _ a
-      (chains.link-all P (ltb (length s) (progressAt w + d)) 1 _ b (chains.link-all P (ltb (length s) (responseAt w + d)) 1 _ b (list-all P z c)))
+      chains.chain-all P progress _ (header.descriptor-all d (progressAt w) s P z a b)
+      (chains.chain-all P response _ (header.descriptor-all d (responseAt w) s P z a b)
+      (chains.chain-all P listed _ (some-all P z a b) (list-all P z c)))
+    where
+      some-all : (P : ℕ → Type 0) → P 0 → P 1 → P 5 → P listed
+      some-all P z a b = descriptors-some d s P (listDescriptors s) (holesAt w) z a b
 
   -- 2, 3 and 4 come of what the packet begins with (header: LimitLaws)
   pub start-iff : (n : ℕ) → 2 ≤ n → n ≤ 4 → (statusRefusal s ≡ n) ↔ (typeRefusal 4 s ≡ n)
@@ -100,39 +145,36 @@ module _ (s : List ℕ) where
       Iff·trans (header.after-type 4 s _ n h)
       (both Iff·rfl (Iff·trans (chains.when-iff (eqb (statusOf w) 0) (successRefusal s) n (λ e. omega arith)) (both (eqb-iff (statusOf w) 0) i)))
 
-  -- 5: "width bits 11"
-  pub five-iff : (statusRefusal s ≡ 5) ↔ (TypeFine 4 s × ((statusOf w ≡ 0) × (widthOf w ≡ 3)))
-  unfolding successRefusal descriptorRefusal
+  -- 5: "given exactly when one of" the upper eight octets "isn't" zero, of Progress, of In-Response-To, or of a descriptor of the list
+  pub five-iff : (statusRefusal s ≡ 5)
+      ↔ (TypeFine 4 s × ((statusOf w ≡ 0) × (((responseAt w ≤ length s) × header.Large d (progressAt w) s)
+      ⊎ (header.Readable d (progressAt w) s × (((responseAt w + d ≤ length s) × header.Large d (responseAt w) s) ⊎ (header.Readable d (responseAt w) s × (ListSmall → ⊥)))))))
   five-iff =
-      let P : ℕ → Type 0 = λ m. m ≡ 5 → ⊥ in
-      success-iff (widthOf w ≡ 3) 5 (omega arith)
-      (Iff·trans (given-here wide 5 _ (λ e. omega arith)
-      (chains.link-all P (ltb (length s) (progressAt w + d)) 1 _ (λ e. omega arith)
-      (chains.link-all P (ltb (length s) (responseAt w + d)) 1 _ (λ e. omega arith) (list-all P (λ e. omega arith) (λ e. omega arith)))))
-      (eqb-iff (widthOf w) 3))
+      success-iff _ 5 (omega arith)
+      (field-iff _ _ _ 5 (λ e. omega arith) (header.descriptor-five-iff d (progressAt w) s) (header.descriptor-five-iff d (responseAt w) s) list-five-iff)
 
   -- 1: "packet ends inside a field (not in the hole list: 11)": the word or the Id, or then timestamp, Progress or In-Response-To
-  pub one-iff : (statusRefusal s ≡ 1) ↔ ((length s < startOctets w) ⊎ (TypeFine 4 s × ((statusOf w ≡ 0) × ((widthOf w ≡ 3 → ⊥) × (length s < holesAt w)))))
-  unfolding statusRefusal successRefusal
+  pub one-iff : (statusRefusal s ≡ 1)
+      ↔ ((length s < startOctets w) ⊎ (TypeFine 4 s × ((statusOf w ≡ 0) × ((length s < responseAt w) ⊎ (header.Readable d (progressAt w) s × (length s < responseAt w + d))))))
+  unfolding statusRefusal
   one-iff =
       Iff·trans (header.one-or-after 4 s _)
       (chains.either Iff·rfl
       (both Iff·rfl
       (Iff·trans (chains.when-iff (eqb (statusOf w) 0) (successRefusal s) 1 (λ e. omega arith))
-      (both (eqb-iff (statusOf w) 0) (Iff·trans (given-later wide 5 1 _ (λ e. omega arith) (λ e. omega arith)) (both (eqb-not (widthOf w) 3) fields-iff))))))
+      (both (eqb-iff (statusOf w) 0)
+      (Iff·trans (field-iff _ _ ⊥ 1 (λ e. omega arith) (header.descriptor-one-iff d (progressAt w) s) (header.descriptor-one-iff d (responseAt w) s) list-one)
+      (chains.either Iff·rfl (both Iff·rfl (⊎-elim (λ l. l) (λ p. absurd (p .1)), (λ l. inl l)))))))))
 
   -- 11: "hole list not as above"
-  pub eleven-iff : (statusRefusal s ≡ 11) ↔ (TypeFine 4 s × ((statusOf w ≡ 0) × ((widthOf w ≡ 3 → ⊥) × ((holesAt w ≤ length s) × ListWrong))))
-  unfolding successRefusal descriptorRefusal
+  pub eleven-iff : (statusRefusal s ≡ 11)
+      ↔ (TypeFine 4 s × ((statusOf w ≡ 0) × (header.Readable d (progressAt w) s × (header.Readable d (responseAt w) s × (ListSmall × ListWrong)))))
   eleven-iff =
-      success-iff ((widthOf w ≡ 3 → ⊥) × ((holesAt w ≤ length s) × ListWrong)) 11 (omega arith)
-      (Iff·trans (given-later wide 5 11 _ (λ e. omega arith) (λ e. omega arith))
-      (both (eqb-not (widthOf w) 3)
-      (Iff·trans (given-later (ltb (length s) (progressAt w + d)) 1 11 _ (λ e. omega arith) (λ e. omega arith))
-      (Iff·trans (both (ltb-not (length s) (progressAt w + d))
-      (Iff·trans (given-later (ltb (length s) (responseAt w + d)) 1 11 _ (λ e. omega arith) (λ e. omega arith))
-      (both (ltb-not (length s) (responseAt w + d)) list-eleven-iff)))
-      ((λ p. (omega (arith, p .1 .0), p .1 .1)), (λ p. (omega (arith, p .0), (omega (arith, p .0), p .1))))))))
+      success-iff _ 11 (omega arith)
+      (after-progress (ListSmall × ListWrong) 11 (λ e. omega arith) (λ e. omega arith) (λ e. omega arith)
+      (λ r. Iff·trans (after-none listed _ 11 (λ e. omega arith)
+      (descriptors-all d s (λ m. m ≡ 11 → ⊥) (listDescriptors s) (holesAt w) (whole r) (λ e. omega arith) (λ e. omega arith)))
+      (both (descriptors-none-iff d s (listDescriptors s) (holesAt w) (whole r)) list-eleven-iff)))
 
 -- ---- a failure STATUS, written
 

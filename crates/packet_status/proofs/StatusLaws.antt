@@ -4,44 +4,44 @@ use Prim.Native.Nat.{ℕ, zero, suc, _+_, _*_, _%_, _<_, _≤_}
 use mathlib.Core.Path.{_≡_, refl}
 use mathlib.Core.Bool.{not}
 use mathlib.Core.List.{List}
-use native.Mathlib.Nat.{div-mul-le-self, suc-mul, mul-le-mul-right}
+use native.Mathlib.Nat.{div-mul-le-self, le-div-iff-mul-le, le-trans, le-of-eq, suc-mul, mul-comm, mul-assoc, mul-le-mul-right}
 use native.Mathlib.Omega.{arith}
 use lib.ListN.{length, getD}
 use lib.Dec.{eqb}
-use borrow.Author.Tests.{ltb-true, eqb-true, eqb-false, lt-ltb, le-ltb, eq-eqb, ne-eqb, not-false}
-use Rattle.octets.specs.Numbers.{Width}
+use borrow.Author.Tests.{ltb-true, eqb-true, lt-ltb, le-ltb, eq-eqb, not-false}
+use Rattle.octets.proofs.NumberLaws.{width-some}
 use Rattle.refusals.specs.Refusals.{when, refusalOf}
-use Rattle.header.specs.FirstWord.{widthOf, descriptorOctets, partialOf, statusOf}
+use Rattle.header.specs.FirstWord.{descriptorOctets, partialOf, statusOf}
 use Rattle.header.specs.Start.{wordOf, typeRefusal}
 use Rattle.refusals.proofs.RefusalLaws.{first-none, rest-none, failed}
 use Rattle.header.specs.Descriptor.{descriptorRefusal}
-use Rattle.header.proofs.DescriptorLaws.{descriptor-there, descriptor-none}
-use Rattle.header.proofs.StartLaws.{TypeFine, type-fine, narrow-octets}
-use Rattle.packet_status.specs.Status.{progressAt, responseAt, holesAt, progressOf, responseOf, listOctets, holeCount, holeList, listRefusal, successRefusal, statusRefusal, holeRefusal, indexedHole, readHole, failureOf, acceptedStatus}
+use Rattle.header.proofs.DescriptorLaws.{descriptor-there}
+use Rattle.header.proofs.FirstWordLaws.{octets-width}
+use Rattle.header.proofs.StartLaws.{TypeFine, type-fine}
+use Rattle.packet_status.specs.Status.{progressAt, responseAt, holesAt, progressOf, responseOf, listOctets, listDescriptors, holeCount, holeList, descriptorsRefusal, DescriptorsFine, listRefusal, successRefusal, statusRefusal, holeRefusal, indexedHole, readHole, failureOf, acceptedStatus}
 use Rattle.runs.specs.declared.Hole.{Hole}
 use Rattle.packet_status.specs.declared.HoleRead.the-variants as hole-read
 use Rattle.packet_status.specs.declared.StatusRead.the-variants.{Failure, Refused}
+use Rattle.packet_status.proofs.DescriptorListLaws.{each-none, fewer-none}
 use Rattle.packet_status.proofs.HoleListLaws.{length-holes, hole-of-list}
 use Rattle.packet_status.proofs.AcceptedLaws.{HoleListAccepted, holes-well-means, means-holes-well}
 
 -- a success STATUS with refusal 0
 pub record SuccessFine (s : List ℕ) : Type 0 where
-  pub narrow : widthOf (wordOf s) ≡ 3 → ⊥
-  pub long : holesAt (wordOf s) ≤ length s
+  pub descriptors : DescriptorsFine s
   pub whole : listOctets s % (2 * descriptorOctets (wordOf s)) ≡ 0
   pub list : HoleListAccepted (eqb (partialOf (wordOf s)) 1) (progressOf s) (responseOf s) (holeList s)
 
 pub success-fine : (s : List ℕ) → successRefusal s ≡ 0 → SuccessFine s
 unfolding successRefusal listRefusal
 success-fine s e =
-    let r1 = rest-none (when (eqb (widthOf (wordOf s)) 3) 5) _ e in
     let d = descriptorOctets (wordOf s) in
-    let r2 = rest-none (descriptorRefusal d (progressAt (wordOf s)) s) _ r1 in
-    let r3 = rest-none (descriptorRefusal d (responseAt (wordOf s)) s) _ r2 in
+    let r1 = rest-none (descriptorRefusal d (progressAt (wordOf s)) s) _ e in
+    let r2 = rest-none (descriptorRefusal d (responseAt (wordOf s)) s) _ r1 in
+    let r3 = rest-none (descriptorsRefusal d (listDescriptors s) (holesAt (wordOf s)) s) _ r2 in
     let r4 = rest-none (when (not (eqb (listOctets s % (2 * d)) 0)) 11) _ r3 in
     record {
-      narrow = eqb-false _ _ (failed _ 4 (first-none _ _ e));
-      long = omega (arith, descriptor-there d (responseAt (wordOf s)) s (first-none _ _ r2));
+      descriptors = record { progress-none = first-none _ _ e; response-none = first-none _ _ r1; list-none = first-none _ _ r2 };
       whole = eqb-true _ _ (not-false _ (failed _ 10 (first-none _ _ r3)));
       list = holes-well-means _ _ _ _ (not-false _ (failed _ 10 r4));
     }
@@ -51,17 +51,28 @@ pub success-none : (s : List ℕ) → SuccessFine s → successRefusal s ≡ 0
 unfolding successRefusal listRefusal
 success-none s f =
     let well = means-holes-well (eqb (partialOf (wordOf s)) 1) (progressOf s) (responseOf s) (holeList s) (f .list) in
-    let d = descriptorOctets (wordOf s) in
     rw (
-      ne-eqb (widthOf (wordOf s)) 3 (f .narrow),
-      descriptor-none d (progressAt (wordOf s)) s (omega (arith, f .long)),
-      descriptor-none d (responseAt (wordOf s)) s (omega (arith, f .long)),
+      f .descriptors .progress-none,
+      f .descriptors .response-none,
+      f .descriptors .list-none,
       eq-eqb (listOctets s % (2 * descriptorOctets (wordOf s))) 0 (f .whole),
       well,
     )
 
-pub success-octets : (s : List ℕ) → SuccessFine s → Width (descriptorOctets (wordOf s))
-success-octets s f = narrow-octets (wordOf s) (f .narrow)
+-- In-Response-To is there
+pub fields-there : (s : List ℕ) → DescriptorsFine s → holesAt (wordOf s) ≤ length s
+fields-there s f = omega (arith, descriptor-there (descriptorOctets (wordOf s)) (responseAt (wordOf s)) s (f .response-none))
+
+-- the descriptors of the pairs that are counted are not refused
+pub pairs-none : (s : List ℕ) → DescriptorsFine s → descriptorsRefusal (descriptorOctets (wordOf s)) (2 * holeCount s) (holesAt (wordOf s)) s ≡ 0
+pairs-none s f =
+    let d = descriptorOctets (wordOf s) in
+    let p : 0 < d = omega (arith, width-some (octets-width (wordOf s))) in
+    let m : 2 * holeCount s * d ≤ listOctets s = le-trans (le-of-eq (pairs (holeCount s) d)) (div-mul-le-self (listOctets s) (2 * d)) in
+    fewer-none d s (2 * holeCount s) (listDescriptors s) (holesAt (wordOf s)) (le-div-iff-mul-le {k = d} {x = 2 * holeCount s} {y = listOctets s} p .1 m) (f .list-none)
+  where
+    pairs : (n d : ℕ) → 2 * n * d ≡ n * (2 * d)
+    pairs n d = rw (mul-comm 2 n) (mul-assoc n 2 d)
 
 -- the holes that are counted lie within the packet
 pub list-fits : (s : List ℕ) → holesAt (wordOf s) ≤ length s → holesAt (wordOf s) + holeCount s * (2 * descriptorOctets (wordOf s)) ≤ length s
@@ -104,7 +115,20 @@ pub hole-fits : (index : ℕ) (s : List ℕ) → HoleFine index s
 hole-fits index s f =
     let e = 2 * descriptorOctets (wordOf s) in
     let m : suc index * e ≤ holeCount s * e = mul-le-mul-right e (f .below) in
-    omega (arith, suc-mul index e, list-fits s (f .fine .long))
+    omega (arith, suc-mul index e, list-fits s (fields-there s (f .fine .descriptors)))
+
+-- and neither of its descriptors is refused
+pub hole-none : (index : ℕ) (s : List ℕ) → HoleFine index s
+    → let d = descriptorOctets (wordOf s) in
+    let at = holesAt (wordOf s) + index * (2 * d) in
+    (descriptorRefusal d at s ≡ 0) × (descriptorRefusal d (at + d) s ≡ 0)
+hole-none index s f =
+    let d = descriptorOctets (wordOf s) in
+    let at = holesAt (wordOf s) in
+    let n = pairs-none s (f .fine .descriptors) in
+    let a : at + 2 * index * d ≡ at + index * (2 * d) = rw (mul-comm 2 index, mul-assoc index 2 d) in
+    let b : at + suc (2 * index) * d ≡ at + index * (2 * d) + d = omega (arith, suc-mul (2 * index) d, a) in
+    (rw a at (each-none d s (2 * holeCount s) at (2 * index) n (omega (arith, f .below))), rw b at (each-none d s (2 * holeCount s) at (suc (2 * index)) n (omega (arith, f .below))))
 
 -- the hole that is read by its index is the one of the list that is judged
 pub listed-hole : (index : ℕ) (s : List ℕ) (default : Hole) → index < holeCount s → getD (holeList s) index default ≡ indexedHole index s

@@ -4,12 +4,13 @@ use Prim.Native.Nat.{ℕ}
 use mathlib.Core.Path.{_≡_, refl}
 use mathlib.Core.List.{List, [], _∷_}
 use lib.ListN.{take}
+use Rattle.octets.specs.Numbers.{upperZero}
 use Rattle.octets.specs.Put.{put}
 use Rattle.refusals.specs.Refusals.{refusalOf}
 use Rattle.header.specs.Start.{startRefusal, typeRefusal}
 use Rattle.header.specs.Descriptor.{descriptorRefusal}
 use Rattle.packet_status.specs.HoleList.{startsWell, holesWell}
-use Rattle.packet_status.specs.Status.{holeList, listRefusal, successRefusal, statusRefusal, successOf, failureOf, readStatus, holeRefusal, indexedHole, readHole}
+use Rattle.packet_status.specs.Status.{holeList, descriptorsRefusal, listRefusal, successRefusal, statusRefusal, successOf, failureOf, readStatus, holeRefusal, indexedHole, readHole}
 use Rattle.packet_status.specs.WriteFailure.{failureWriteRefusal, failureOctets, failureBuffer}
 use Rattle.packet_status.specs.declared.HoleRead.the-variants as hole-read
 use Rattle.packet_status.specs.declared.StatusRead.the-variants.{Success, Failure, Refused}
@@ -27,18 +28,18 @@ one-hole :
     (readStatus oneHole ≡ Success (record { flags = 0; id = 7; width = 2; timestamp = 0; progress = 1000; response = 3000; holes = 12; count = 1 }))
     × (readHole 0 oneHole ≡ hole-read.Accepted (record { start = 1000; end = 2000 }))
     × (readHole 1 oneHole ≡ hole-read.Refused (refusalOf 19))
-unfolding readStatus statusRefusal typeRefusal startRefusal successRefusal descriptorRefusal listRefusal holeList holesWell startsWell successOf readHole holeRefusal indexedHole
+unfolding readStatus statusRefusal typeRefusal startRefusal successRefusal descriptorsRefusal descriptorRefusal upperZero listRefusal holeList holesWell startsWell successOf readHole holeRefusal indexedHole
 one-hole = (refl, refl, refl)
 
 -- with the last octet gone
 cut-short : readStatus (take 15 oneHole) ≡ Refused (refusalOf 11)
-unfolding readStatus statusRefusal typeRefusal startRefusal successRefusal descriptorRefusal listRefusal
+unfolding readStatus statusRefusal typeRefusal startRefusal successRefusal descriptorsRefusal descriptorRefusal upperZero listRefusal
 cut-short = refl
 
 -- complete: Progress is In-Response-To, and there is no hole
 completed : (readStatus complete ≡ Success (record { flags = 65536; id = 7; width = 2; timestamp = 0; progress = 3000; response = 3000; holes = 12; count = 0 }))
     × (readHole 0 complete ≡ hole-read.Refused (refusalOf 19))
-unfolding readStatus statusRefusal typeRefusal startRefusal successRefusal descriptorRefusal listRefusal holeList holesWell startsWell successOf readHole holeRefusal
+unfolding readStatus statusRefusal typeRefusal startRefusal successRefusal descriptorsRefusal descriptorRefusal upperZero listRefusal holeList holesWell startsWell successOf readHole holeRefusal
 completed = (refl, refl)
 
 -- 44 00 00 00 00 00 00 07, then Progress 1,000, In-Response-To 3,000 and the holes from 1,000 to 1,002 and from `second` to 2,000
@@ -48,7 +49,7 @@ twoHoles second =
 
 -- the second hole may not touch the first
 touching : (statusRefusal (twoHoles 234) ≡ 11) × (statusRefusal (twoHoles 235) ≡ 0) × (readHole 1 (twoHoles 235) ≡ hole-read.Accepted (record { start = 1003; end = 2000 }))
-unfolding statusRefusal typeRefusal startRefusal successRefusal descriptorRefusal listRefusal holeList holesWell startsWell readHole holeRefusal indexedHole
+unfolding statusRefusal typeRefusal startRefusal successRefusal descriptorsRefusal descriptorRefusal upperZero listRefusal holeList holesWell startsWell readHole holeRefusal indexedHole
 touching = (refl, refl, refl)
 
 -- a list from above Progress on, and no hole though Progress is below In-Response-To, want bit 14; it is worth 2 in the second octet
@@ -56,7 +57,7 @@ bit-fourteen : (statusRefusal (68 ∷ 0 ∷ 0 ∷ 0 ∷ 0 ∷ 0 ∷ 0 ∷ 7 ∷ 
     × (statusRefusal (68 ∷ 0 ∷ 0 ∷ 0 ∷ 0 ∷ 0 ∷ 0 ∷ 7 ∷ 0 ∷ 5 ∷ 0 ∷ 9 ∷ 0 ∷ 6 ∷ 0 ∷ 9 ∷ []) ≡ 11)
     × (statusRefusal (68 ∷ 2 ∷ 0 ∷ 0 ∷ 0 ∷ 0 ∷ 0 ∷ 7 ∷ 0 ∷ 5 ∷ 0 ∷ 9 ∷ 0 ∷ 6 ∷ 0 ∷ 9 ∷ []) ≡ 0)
     × (statusRefusal (68 ∷ 2 ∷ 0 ∷ 0 ∷ 0 ∷ 0 ∷ 0 ∷ 7 ∷ 0 ∷ 9 ∷ 0 ∷ 5 ∷ []) ≡ 11)
-unfolding statusRefusal typeRefusal startRefusal successRefusal descriptorRefusal listRefusal holeList holesWell startsWell
+unfolding statusRefusal typeRefusal startRefusal successRefusal descriptorsRefusal descriptorRefusal upperZero listRefusal holeList holesWell startsWell
 bit-fourteen = (refl, refl, refl, refl, refl)
 
 -- a failure with code 6, width bits 11 and garbage after its Id is accepted, and has no holes to read

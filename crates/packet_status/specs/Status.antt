@@ -1,12 +1,13 @@
 -- STATUS, read: which packets are refused, the fields of the others, and one hole of the list.
 -- Assumes nothing.
 use Prim.Native.Nat.{ℕ, zero, suc, _+_, _*_, _-_, _/_, _%_}
+use mathlib.Core.Path.{_≡_}
 use mathlib.Core.Bool.{not}
 use mathlib.Core.List.{List}
 use lib.ListN.{length}
 use lib.Dec.{ltb, eqb}
 use Rattle.refusals.specs.Refusals.{_▹_, when, answered}
-use Rattle.header.specs.FirstWord.{flagsOf, widthOf, descriptorOctets, timestampOctets, partialOf, statusOf}
+use Rattle.header.specs.FirstWord.{flagsOf, descriptorOctets, timestampOctets, partialOf, statusOf}
 use Rattle.header.specs.Start.{wordOf, idOf, typeRefusal}
 use Rattle.header.specs.Descriptor.{descriptorAt, descriptorRefusal}
 use Rattle.packet_status.specs.HoleList.{holeAt, holesOf, holesWell}
@@ -38,6 +39,10 @@ responseOf s = descriptorAt (descriptorOctets (wordOf s)) (responseAt (wordOf s)
 abbrev pub listOctets : List ℕ → ℕ
 listOctets s = length s - holesAt (wordOf s)
 
+-- how many whole descriptors they hold, a start without its end included
+abbrev pub listDescriptors : List ℕ → ℕ
+listDescriptors s = listOctets s / descriptorOctets (wordOf s)
+
 -- how many whole pairs they are, and the pairs
 abbrev pub holeCount : List ℕ → ℕ
 holeCount s = listOctets s / (2 * descriptorOctets (wordOf s))
@@ -51,14 +56,25 @@ listRefusal s =
     when (not (eqb (listOctets s % (2 * descriptorOctets (wordOf s))) 0)) 11
     ▹ when (not (holesWell (eqb (partialOf (wordOf s)) 1) (progressOf s) (responseOf s) (holeList s))) 11
 
--- a success STATUS after the Id: 5, 1 for timestamp and Progress (a packet that ends inside the first has not all of the
--- second), 1 for In-Response-To, 11
+-- the refusal of n descriptors of d octets, one after the other from the place `at` on: the first that is refused
+unfoldable pub descriptorsRefusal : ℕ → ℕ → ℕ → List ℕ → ℕ
+descriptorsRefusal d zero at s = 0
+descriptorsRefusal d (suc n) at s = descriptorRefusal d at s ▹ descriptorsRefusal d n (at + d) s
+
+-- a success STATUS after the Id: 1 and 5 for Progress (a packet that ends inside the timestamp has not all of it), 1 and 5
+-- for In-Response-To, 5 for each whole descriptor of the hole list, "before .. 11"
 unfoldable pub successRefusal : List ℕ → ℕ
 successRefusal s =
-    when (eqb (widthOf (wordOf s)) 3) 5
-    ▹ descriptorRefusal (descriptorOctets (wordOf s)) (progressAt (wordOf s)) s
+    descriptorRefusal (descriptorOctets (wordOf s)) (progressAt (wordOf s)) s
     ▹ descriptorRefusal (descriptorOctets (wordOf s)) (responseAt (wordOf s)) s
+    ▹ descriptorsRefusal (descriptorOctets (wordOf s)) (listDescriptors s) (holesAt (wordOf s)) s
     ▹ listRefusal s
+
+-- what the judgement of the hole list asks: none of the descriptors is refused
+pub record DescriptorsFine (s : List ℕ) : Type 0 where
+  pub progress-none : descriptorRefusal (descriptorOctets (wordOf s)) (progressAt (wordOf s)) s ≡ 0
+  pub response-none : descriptorRefusal (descriptorOctets (wordOf s)) (responseAt (wordOf s)) s ≡ 0
+  pub list-none : descriptorsRefusal (descriptorOctets (wordOf s)) (listDescriptors s) (holesAt (wordOf s)) s ≡ 0
 
 -- the order in reading: 2, 1, 3, 4; "a failure STATUS is then accepted": "If the code isn't 0, reading stops after the Id
 -- and the rest is ignored"

@@ -3,10 +3,9 @@ ghost use mathlib.Core.Path.{_≡_};
 ghost use Prim.Native.Nat.{_+_, _*_, _<_, _≤_};
 ghost use lib.ListN.{length};
 ghost use Rattle.octets.specs.Numbers.{Width};
-ghost use Rattle.header.specs.FirstWord.{descriptorOctets};
-ghost use Rattle.header.specs.Start.{wordOf};
+ghost use Rattle.header.specs.Descriptor.{descriptorRefusal};
 ghost use Rattle.packet_status.specs.HoleList.{holeAt, holesOf, holesAfter, startsWell, holesWell};
-ghost use Rattle.packet_status.specs.Status.{holesAt, listRefusal, successRefusal, statusRefusal, successOf, readStatus, holeRefusal, readHole};
+ghost use Rattle.packet_status.specs.Status.{descriptorsRefusal, DescriptorsFine, listRefusal, successRefusal, statusRefusal, successOf, readStatus, holeRefusal, readHole};
 ghost use Rattle.packet_status.specs.WriteFailure.{failureWriteRefusal, failureWritten, failureBuffer};
 use refusals::Refusal;
 use refusals::Written;
@@ -44,7 +43,7 @@ pub enum HoleRead {
 
 // The pair of descriptors of d octets at a place.
 fn hole_at(s: &[u8], at: usize, d: usize) -> Hole
-    requires { ⌜ Width d × (at + 2 * d ≤ length (now s)) ⌝ }
+    requires { ⌜ Width d × (descriptorRefusal d at (now s) ≡ 0) × (descriptorRefusal d (at + d) (now s) ≡ 0) ⌝ }
     ensures { λ r. ⌜ r ≡ holeAt d at (now (s .entry)) ⌝ }
 {
     Hole {
@@ -55,7 +54,7 @@ fn hole_at(s: &[u8], at: usize, d: usize) -> Hole
 
 // Whether the n holes from `from` on come one after the other, the first above prev, and none ends above top.
 fn holes_after(s: &[u8], from: usize, d: usize, n: usize, prev: u64, top: u64) -> bool
-    requires { ⌜ Width d × (from + n * (2 * d) ≤ length (now s)) ⌝ }
+    requires { ⌜ Width d × (from + n * (2 * d) ≤ length (now s)) × (descriptorsRefusal d (2 * n) from (now s) ≡ 0) ⌝ }
     ensures { λ r. ⌜ r ≡ holesAfter prev top (holesOf d n from (now (s .entry))) ⌝ }
 {
     let mut at = from;
@@ -100,7 +99,7 @@ fn holes_well(
     progress: u64,
     top: u64,
 ) -> bool
-    requires { ⌜ Width d × (at + n * (2 * d) ≤ length (now s)) ⌝ }
+    requires { ⌜ Width d × (at + n * (2 * d) ≤ length (now s)) × (descriptorsRefusal d (2 * n) at (now s) ≡ 0) ⌝ }
     ensures { λ r. ⌜ r ≡ holesWell partial progress top (holesOf d n at (now (s .entry))) ⌝ }
 {
     if n == 0 {
@@ -119,9 +118,9 @@ fn holes_well(
     holes_after(s, at + 2 * d, d, n - 1, h.end, top)
 }
 
-// Refusal 11 of the hole list of a success STATUS whose Progress and In-Response-To are there; 0 for none.
+// Refusal 11 of the hole list of a success STATUS, none of whose descriptors is refused; 0 for none.
 fn list_refusal(p: &[u8]) -> u64
-    requires { ⌜ Width (descriptorOctets (wordOf (now p))) × (holesAt (wordOf (now p)) ≤ length (now p)) ⌝ }
+    requires { ⌜ DescriptorsFine (now p) ⌝ }
     ensures { λ r. ⌜ r ≡ listRefusal (now (p .entry)) ⌝ }
 {
     let w = header::word(p);
@@ -141,16 +140,30 @@ fn list_refusal(p: &[u8]) -> u64
     11
 }
 
-// Refusals 5, 1 and 11 of a success STATUS; 0 for none.
+// The refusal of the first of the n descriptors of d octets from `from` on that is refused; 0 for none.
+fn descriptors_refusal(s: &[u8], from: usize, d: usize, n: usize) -> u64
+    requires { ⌜ Width d × (from + n * d ≤ length (now s)) ⌝ }
+    ensures { λ r. ⌜ r ≡ descriptorsRefusal d n from (now (s .entry)) ⌝ }
+{
+    let mut at = from;
+    let mut count = n;
+    while 0 < count {
+        let f = header::descriptor_refusal(s, at, d);
+        if f != 0 {
+            return f;
+        }
+        at = at + d;
+        count -= 1;
+    }
+    0
+}
+
+// Refusals 1, 5 and 11 of a success STATUS; 0 for none.
 fn success_refusal(p: &[u8]) -> u64
     requires { ⌜ 8 ≤ length (now p) ⌝ }
     ensures { λ r. ⌜ r ≡ successRefusal (now (p .entry)) ⌝ }
 {
     let w = header::word(p);
-    let h = header::split(w);
-    if h.width == 3 {
-        return 5;
-    }
     let d = header::descriptor_octets(w);
     let at = 8 + header::timestamp_octets(w);
     let f = header::descriptor_refusal(p, at, d);
@@ -160,6 +173,13 @@ fn success_refusal(p: &[u8]) -> u64
     let g = header::descriptor_refusal(p, at + d, d);
     if g != 0 {
         return g;
+    }
+    let pair = 2 * d;
+    let holes = at + pair;
+    let rest = p.len() - holes;
+    let l = descriptors_refusal(p, holes, d, rest / d);
+    if l != 0 {
+        return l;
     }
     list_refusal(p)
 }

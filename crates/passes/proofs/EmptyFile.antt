@@ -9,6 +9,7 @@ use native.Mathlib.Omega.{arith}
 use lib.ListN.{length}
 use lib.Dec.{eqb}
 use borrow.Author.Tests.{eqb-true, eqb-false, eq-eqb}
+use Rattle.octets.specs.Numbers.{upperZero}
 use Rattle.refusals.specs.Refusals.{refusalOf}
 use Rattle.header.specs.Start.{startRefusal, typeRefusal, fileRefusal}
 use Rattle.header.specs.Descriptor.{descriptorRefusal}
@@ -39,7 +40,7 @@ abbrev table : List Transfer
 table = record { key = key; runs = [] } ∷ []
 
 empty-is : emptyFile ≡ table
-unfolding emptyFile startRefusal typeRefusal fileRefusal descriptorRefusal propertyRefusal pathRefusal entryRefusal entryOf pairAllowed pairRefusal metadataRefusal metadataOf readMetadata keys find add judgeFound judgeOpen openAs openKey openRead openPacket
+unfolding emptyFile startRefusal typeRefusal fileRefusal descriptorRefusal upperZero propertyRefusal pathRefusal entryRefusal entryOf pairAllowed pairRefusal metadataRefusal metadataOf readMetadata keys find add judgeFound judgeOpen openAs openKey openRead openPacket
 empty-is = refl
 
 -- ---- the number of the refusal: 14, and 12 or 13 where Id or width are others

@@ -2,6 +2,7 @@
 -- speaks of every packet and is proved in EmptyFile.
 -- Assumes nothing.
 use mathlib.Core.Path.{refl}
+use Rattle.octets.specs.Numbers.{upperZero}
 use Rattle.passes.proofs.EmptyFile.{empty-never, empty-fourteen}
 use Rattle.passes.specs.Passes.{Passes, twoParts, emptyFile, oneAfterOther, late, scattered, longest, numbered}
 use Rattle.octets.specs.Put.{put}
@@ -25,7 +26,7 @@ use Rattle.transfer.specs.Record.{keyRefusal, extended, runsRefusal}
 use Rattle.transfer.specs.WriteStatus.{skipsTooMany, leastRoom, sizeRefusal, holeRoom, holesSent, partialSent, widthBits, statusFlags, statusFields, pairs, statusOctets, statusPacket, transferWritten, transferBuffer}
 
 pub passes : Passes
-unfolding twoParts emptyFile oneAfterOther late scattered longest numbered put startRefusal typeRefusal fileRefusal descriptorRefusal propertyRefusal pathRefusal entryRefusal entryOf pairAllowed pairRefusal metadataRefusal metadataOf readMetadata dataRefusal dataOf readData insert edgeFrom holesFrom progress complete keys find runsOf add setRuns remove reached judgeFound judgeOpen openAs openKey openRead openPacket dataJudged recordRefusal grown recordAs recordData recordRead recordPacket closeFound closeId keyRefusal extended runsRefusal skipsTooMany leastRoom sizeRefusal holeRoom holesSent partialSent widthBits statusFlags statusFields pairs statusOctets statusPacket transferWritten transferBuffer writtenFor bufferFor statusWritten statusBuffer
+unfolding twoParts emptyFile oneAfterOther late scattered longest numbered put startRefusal typeRefusal fileRefusal descriptorRefusal upperZero propertyRefusal pathRefusal entryRefusal entryOf pairAllowed pairRefusal metadataRefusal metadataOf readMetadata dataRefusal dataOf readData insert edgeFrom holesFrom progress complete keys find runsOf add setRuns remove reached judgeFound judgeOpen openAs openKey openRead openPacket dataJudged recordRefusal grown recordAs recordData recordRead recordPacket closeFound closeId keyRefusal extended runsRefusal skipsTooMany leastRoom sizeRefusal holeRoom holesSent partialSent widthBits statusFlags statusFields pairs statusOctets statusPacket transferWritten transferBuffer writtenFor bufferFor statusWritten statusBuffer
 passes =
     record {
       hole-reported = (refl, refl, refl);

@@ -5,6 +5,7 @@ use mathlib.Core.Path.{_≡_, refl}
 use mathlib.Core.List.{List, [], _∷_}
 use mathlib.Core.Option.{some}
 use lib.ListN.{replicate}
+use Rattle.octets.specs.Numbers.{upperZero}
 use Rattle.octets.specs.Put.{put}
 use Rattle.refusals.specs.Refusals.{codeOf}
 use Rattle.header.specs.Start.{startRefusal, typeRefusal, fileRefusal}
@@ -76,13 +77,13 @@ refused-sent = refl
 -- "12 refused 12 code=6", "12 send 4400000600000007"
 pub refused-data : (area : List ℕ) → tableOf area ≡ some [] → recordLines 12 0x50 dataPacket area (replicate 8 0)
     ≡ 49 ∷ 50 ∷ 32 ∷ 114 ∷ 101 ∷ 102 ∷ 117 ∷ 115 ∷ 101 ∷ 100 ∷ 32 ∷ 49 ∷ 50 ∷ 32 ∷ 99 ∷ 111 ∷ 100 ∷ 101 ∷ 61 ∷ 54 ∷ 10 ∷ 49 ∷ 50 ∷ 32 ∷ 115 ∷ 101 ∷ 110 ∷ 100 ∷ 32 ∷ 52 ∷ 52 ∷ 48 ∷ 48 ∷ 48 ∷ 48 ∷ 48 ∷ 54 ∷ 48 ∷ 48 ∷ 48 ∷ 48 ∷ 48 ∷ 48 ∷ 48 ∷ 55 ∷ 10 ∷ []
-unfolding recordLines decimalOf decimalOnto hexOf readPacket readType put deliverLines codeOf refusalLines refusedLine failureSent sentText octetsLine failureWritten failureBuffer failureWriteRefusal failureOctets recordedLines recordingText recordedSent startRefusal typeRefusal fileRefusal descriptorRefusal dataRefusal dataOf readData recordArea onTable onFound keys find dataJudged recordRefusal grown recordAs recordData recordRead recordPacket
+unfolding recordLines decimalOf decimalOnto hexOf readPacket readType put deliverLines codeOf refusalLines refusedLine failureSent sentText octetsLine failureWritten failureBuffer failureWriteRefusal failureOctets recordedLines recordingText recordedSent startRefusal typeRefusal fileRefusal descriptorRefusal upperZero dataRefusal dataOf readData recordArea onTable onFound keys find dataJudged recordRefusal grown recordAs recordData recordRead recordPacket
 refused-data area e = rw e
 
 -- "2 open id=7 width=16 length=3000 edge=0 complete=0 new"
 pub opened-new : (area : List ℕ) → tableOf area ≡ some [] → recordLines 2 0x4f metadata area []
     ≡ 50 ∷ 32 ∷ 111 ∷ 112 ∷ 101 ∷ 110 ∷ 32 ∷ 105 ∷ 100 ∷ 61 ∷ 55 ∷ 32 ∷ 119 ∷ 105 ∷ 100 ∷ 116 ∷ 104 ∷ 61 ∷ 49 ∷ 54 ∷ 32 ∷ 108 ∷ 101 ∷ 110 ∷ 103 ∷ 116 ∷ 104 ∷ 61 ∷ 51 ∷ 48 ∷ 48 ∷ 48 ∷ 32 ∷ 101 ∷ 100 ∷ 103 ∷ 101 ∷ 61 ∷ 48 ∷ 32 ∷ 99 ∷ 111 ∷ 109 ∷ 112 ∷ 108 ∷ 101 ∷ 116 ∷ 101 ∷ 61 ∷ 48 ∷ 32 ∷ 110 ∷ 101 ∷ 119 ∷ 10 ∷ []
-unfolding recordLines decimalOf decimalOnto startRefusal typeRefusal fileRefusal descriptorRefusal openText openingText openedLine propertyRefusal pathRefusal entryRefusal entryOf pairAllowed pairRefusal metadataRefusal metadataOf readMetadata openArea onTable onFound keys find runsOf add reached edgeFrom progress complete judgeFound judgeOpen openAs openKey openRead openPacket
+unfolding recordLines decimalOf decimalOnto startRefusal typeRefusal fileRefusal descriptorRefusal upperZero openText openingText openedLine propertyRefusal pathRefusal entryRefusal entryOf pairAllowed pairRefusal metadataRefusal metadataOf readMetadata openArea onTable onFound keys find runsOf add reached edgeFrom progress complete judgeFound judgeOpen openAs openKey openRead openPacket
 opened-new area e = rw e
 
 -- Id 7, with octets 0 to 999 and 2,000 to 2,999 of 3,000 received

@@ -25,7 +25,7 @@ pub fn body_length(head: &[u8]) -> u64
     if head.len() < 5 {
         return 0;
     }
-    octets::read_number(head, 1, 4)
+    octets::read_four(head, 1)
 }
 
 // The line of a record inside which the input ends.
@@ -114,10 +114,10 @@ fn status(area: &[u8], number: u64, body: &[u8], lent: &mut [u8], out: &mut [u8]
     if body.len() != 17 {
         return bad_length(number, out);
     }
-    let id = octets::read_number(body, 0, 4);
-    let skip = octets::read_number(body, 4, 8);
+    let id = octets::read_four(body, 0);
+    let skip = octets::read_eight(body, 4);
     let unasked = body[12] != 0;
-    let room = within(octets::read_number(body, 13, 4), lent.len());
+    let room = within(octets::read_four(body, 13), lent.len());
     write(area, number, id, skip, unasked, &mut lent[..room], out)
 }
 
@@ -129,7 +129,7 @@ fn close(area: &mut [u8], number: u64, body: &[u8], out: &mut [u8]) -> usize
     if body.len() != 4 {
         return bad_length(number, out);
     }
-    let id = octets::read_number(body, 0, 4);
+    let id = octets::read_four(body, 0);
     let a = area_open::close(area, id);
     put_close(out, 0, number, id, a)
 }

@@ -37,6 +37,7 @@ empty-fine m h =
       id-fits = h .id-fits;
       width-is = h .width-is;
       length-fits = h .size-fits;
+      length-held = h .size-held;
       few = omega arith;
       canonical = tt;
       within = tt;

@@ -51,6 +51,7 @@ extended-fine k rs d x payload stop few =
       id-fits = x .id-fits;
       width-is = x .width-is;
       length-fits = x .length-fits;
+      length-held = x .length-held;
       few = few;
       canonical = extended-canonical rs d payload (x .canonical);
       within = insert-stops (k .length) (d .offset) (stopOf d) rs stop (x .within);

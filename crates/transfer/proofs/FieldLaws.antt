@@ -6,11 +6,13 @@ use mathlib.Core.List.{List}
 use native.Mathlib.Omega.{arith}
 use lib.ListN.{length, drop}
 use Rattle.octets.specs.Numbers.{Octets, Width}
-use Rattle.octets.proofs.NumberLaws.{part-lt}
+use Rattle.octets.proofs.NumberLaws.{part-lt, octets-drop}
 use Rattle.header.specs.FirstWord.{descriptorOctets}
 use Rattle.header.specs.Start.{wordOf}
-use Rattle.header.proofs.StartLaws.{file-fine}
-use Rattle.directory_entry.specs.Entry.{entryOf}
+use Rattle.header.proofs.FirstWordLaws.{octets-width}
+use Rattle.header.proofs.DescriptorLaws.{descriptor-lt}
+use Rattle.directory_entry.specs.Properties.{sizeOctets}
+use Rattle.directory_entry.specs.Entry.{propertiesOf, entryOf}
 use Rattle.directory_entry.proofs.EntryLaws.{entry-fine}
 use Rattle.packet_metadata.specs.Metadata.{entryAt, metadataRefusal, metadataOf, readMetadata}
 use Rattle.packet_metadata.specs.declared.Metadata.{Metadata}
@@ -25,15 +27,19 @@ pub record MetadataKnown (m : Metadata) : Type 0 where
   pub id-fits : m .id < 2 ^ 32
   pub width-is : Width (m .width)
   pub size-fits : m .entry .size < 256 ^ m .width
+  pub size-held : m .entry .size < 2 ^ 64
 
 fields-known : (s : List ℕ) → Octets s → metadataRefusal s ≡ 0 → MetadataKnown (metadataOf s)
 unfolding metadataOf entryOf
 fields-known s o z =
     let f = metadata-fine s z in
+    let e = drop (entryAt (wordOf s)) s in
+    let g = entry-fine (descriptorOctets (wordOf s)) e (f .entry) in
     record {
       id-fits = part-lt s 4 4 o (f .start .long);
-      width-is = file-fine (wordOf s) (f .file) .octets;
-      size-fits = entry-fine (descriptorOctets (wordOf s)) (drop (entryAt (wordOf s)) s) (f .entry) .size-fits;
+      width-is = octets-width (wordOf s);
+      size-fits = g .size-fits;
+      size-held = descriptor-lt (sizeOctets (propertiesOf e)) 2 e (octets-drop (entryAt (wordOf s)) s o) (g .size);
     }
 
 pub metadata-known : (s : List ℕ) (m : Metadata) → Octets s → readMetadata s ≡ metadata-read.Accepted m → MetadataKnown m

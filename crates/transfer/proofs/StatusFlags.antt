@@ -8,25 +8,27 @@ use native.Mathlib.Omega.{arith}
 use lib.Bits.{bitOr, or-shifted}
 use lib.Dec.{eqb}
 use Rattle.octets.specs.Numbers.{Width}
-use Rattle.octets.specs.Numbers.Width.{two, four, eight}
+use Rattle.octets.specs.Numbers.Width.{two, four, eight, sixteen}
 use Rattle.header.specs.FirstWord.{bits, markOf, typeOf, flagsOf, widthOf, descriptorOctets, timestampOctets, partialOf, statusOf, wordFor}
 use Rattle.header.proofs.FirstWordLaws.{mark-for, type-for, flags-for}
 use Rattle.transfer.specs.WriteStatus.{bit, widthBits, statusFlags}
 
-width-bits-lt : (d : ℕ) → widthBits d < 3
+width-bits-lt : (d : ℕ) → widthBits d < 4
 unfolding widthBits
-width-bits-lt d = go (eqb d 2) (eqb d 4)
+width-bits-lt d = go (eqb d 2) (eqb d 4) (eqb d 8)
   where
-    go : (a b : Bool) → cond a 0 (cond b 1 2) < 3
-    go true b = omega arith
-    go false true = omega arith
-    go false false = omega arith
+    go : (a b c : Bool) → cond a 0 (cond b 1 (cond c 2 3)) < 4
+    go true b c = omega arith
+    go false true c = omega arith
+    go false false true = omega arith
+    go false false false = omega arith
 
 width-bits-octets : {d : ℕ} → Width d → 2 * 2 ^ widthBits d ≡ d
 unfolding widthBits
 width-bits-octets two = refl
 width-bits-octets four = refl
 width-bits-octets eight = refl
+width-bits-octets sixteen = refl
 
 bit-le : (b : Bool) → bit b ≤ 1
 bit-le true = omega arith
@@ -63,9 +65,6 @@ module _ (d : ℕ) (p u : Bool) where
   unfolding statusFlags
   flags-width = omega (arith, width-bits-lt d, bit-le p, bit-le u)
 
-  pub flags-narrow : widthOf word ≡ 3 → ⊥
-  flags-narrow e = omega (arith, flags-width, width-bits-lt d)
-
   pub flags-octets : Width d → descriptorOctets word ≡ d
   flags-octets w = ap (λ (n : ℕ). 2 * 2 ^ n) flags-width ∙ width-bits-octets w
 
@@ -96,7 +95,7 @@ pub flags-or : (d : ℕ) (partial unasked : Bool) (w p u : ℕ) → w ≡ widthB
     → bitOr (bitOr (w * 2 ^ 22 % 2 ^ 64) (p * 2 ^ 17 % 2 ^ 64)) (u * 2 ^ 16 % 2 ^ 64) ≡ statusFlags d partial unasked
 unfolding statusFlags
 flags-or d partial unasked w p u e f g =
-    let wl : w < 3 = omega (arith, width-bits-lt d) in
+    let wl : w < 4 = omega (arith, width-bits-lt d) in
     let pl : p ≤ 1 = omega (arith, bit-le partial) in
     let ul : u ≤ 1 = omega (arith, bit-le unasked) in
     let x : w * 2 ^ 22 % 2 ^ 64 ≡ w * 2 ^ 22 = omega arith in

@@ -1,24 +1,27 @@
 -- "A STATUS that the desk wrote reads back with its fields and holes."
 -- Assumes nothing.
-use Prim.Native.Nat.{ℕ, suc, _+_, _*_, _^_, _<_, _≤_}
+use Prim.Native.Nat.{ℕ, suc, _+_, _*_, _-_, _^_, _<_, _≤_}
 use mathlib.Core.Path.{_≡_, refl, sym, ap, _∙_}
 use mathlib.Core.Bool.{Bool, true, false, _||_}
 use mathlib.Core.List.{List, [], _∷_, _++_, append-assoc}
-use native.Mathlib.Nat.{mul-le-mul, mul-div-right, mul-mod-right}
+use native.Mathlib.Nat.{mul-comm, mul-assoc, mul-le-mul, mul-div-right, mul-mod-right}
 use native.Mathlib.Omega.{arith}
-use lib.ListN.{length, take, drop, getD}
+use lib.ListN.{length, take, drop, getD, length-append, length-drop}
 use lib.Seq.{take-at, drop-at, drop-drop}
 use lib.Dec.{eqb}
 use borrow.Author.Tests.{lt-ltb, le-ltb, le-leb, eq-eqb}
 use Rattle.octets.specs.Numbers.{beValue, beDigits, Width}
 use Rattle.octets.proofs.NumberLaws.{value-digits, length-digits, width-le, width-some}
+use Rattle.octets.proofs.UpperLaws.{digits-small}
 use Rattle.refusals.specs.Refusals.{refusalOf}
-use Rattle.header.specs.FirstWord.{markOf, typeOf, flagsOf, widthOf, descriptorOctets, timestampOctets, partialOf, statusOf, wordFor}
+use Rattle.header.specs.FirstWord.{markOf, typeOf, flagsOf, descriptorOctets, timestampOctets, partialOf, statusOf, wordFor}
 use Rattle.header.specs.Start.{wordOf, idOf, typeRefusal}
+use Rattle.header.specs.Descriptor.{descriptorAt, descriptorRefusal}
+use Rattle.header.proofs.DescriptorLaws.{descriptor-none}
 use Rattle.header.proofs.StartLaws.{type-known, type-none}
 use Rattle.runs.specs.declared.Hole.{Hole}
 use Rattle.packet_status.specs.HoleList.{holesOf, holesAfter, startsWell, holesWell}
-use Rattle.packet_status.specs.Status.{holesAt, progressOf, responseOf, listOctets, holeCount, holeList, successRefusal, statusRefusal, successOf, readStatus, readHole}
+use Rattle.packet_status.specs.Status.{holesAt, progressOf, responseOf, listOctets, listDescriptors, holeCount, holeList, descriptorsRefusal, DescriptorsFine, successRefusal, statusRefusal, successOf, readStatus, readHole}
 use Rattle.packet_status.specs.declared.StatusRead.the-variants.{Success}
 use Rattle.packet_status.specs.declared.HoleRead.the-variants as hole-read
 use Rattle.packet_status.proofs.AcceptedLaws.{holes-well-means}
@@ -32,39 +35,76 @@ use Rattle.transfer.specs.Transfers.{Transfer, TransferFine}
 use Rattle.transfer.specs.WriteStatus.{holeRoom, holesSent, partialSent, statusFlags, statusFields, pairs, statusOctets, statusPacket}
 use Rattle.transfer.proofs.StatusSize.{holes-sent-count, status-octets-size}
 use Rattle.transfer.proofs.StatusPartial.{whole-sent}
-use Rattle.transfer.proofs.StatusFlags.{bit-test, flags-fit, flags-mark, flags-type, flags-flags, flags-narrow, flags-octets, flags-timestamp, flags-partial, flags-status}
+use Rattle.transfer.proofs.StatusFlags.{bit-test, flags-fit, flags-mark, flags-type, flags-flags, flags-octets, flags-timestamp, flags-partial, flags-status}
 
 -- ---- the pairs
 
--- each number of each hole is below n
-abbrev HolesBelow : ℕ → List Hole → Type 0
-HolesBelow n [] = Unit
-HolesBelow n (h ∷ hs) = (h .start < n) × (h .end < n) × HolesBelow n hs
+-- a number of 64 bits that fits d octets
+abbrev Held : ℕ → ℕ → Type 0
+Held d v = (v < 256 ^ d) × (v < 2 ^ 64)
 
-apart-below : (n k top : ℕ) (hs : List Hole) → top < n → HolesApart k top hs → HolesBelow n hs
-apart-below n k top [] l a = tt
-apart-below n k top (h ∷ hs) l a = (omega arith, omega arith, apart-below n (suc (h .end)) top hs l (a .3))
+-- each number of each hole is such a one
+abbrev HolesHeld : ℕ → List Hole → Type 0
+HolesHeld d [] = Unit
+HolesHeld d (h ∷ hs) = Held d (h .start) × Held d (h .end) × HolesHeld d hs
 
--- where pairs stand, their holes are read
-pub pairs-read : (d at : ℕ) (s : List ℕ) (hs : List Hole) → HolesBelow (256 ^ d) hs → drop at s ≡ pairs d hs → holesOf d (length hs) at s ≡ hs
-unfolding pairs
-pairs-read d at s [] b e = refl
-pairs-read d at s (h ∷ hs) b f =
-    let ends = beDigits d (h .end) ++ pairs d hs in
-    let e : drop at s ≡ beDigits d (h .start) ++ ends = f ∙ append-assoc (beDigits d (h .start)) (beDigits d (h .end)) (pairs d hs) in
-    let e2 : drop (at + d) s ≡ ends =
-    sym (drop-drop d at s) ∙ ap (drop d) e ∙ drop-at (beDigits d (h .start)) ends d (length-digits d (h .start)) in
-    let two : at + 2 * d ≡ at + d + d = omega arith in
-    let e3 : drop (at + 2 * d) s ≡ pairs d hs =
-    ap (λ (n : ℕ). drop n s) two ∙ sym (drop-drop d (at + d) s) ∙ ap (drop d) e2 ∙ drop-at (beDigits d (h .end)) (pairs d hs) d (length-digits d (h .end)) in
-    let st : beValue (take d (drop at s)) ≡ h .start =
-    ap (λ (l : List ℕ). beValue (take d l)) e
-    ∙ ap beValue (take-at (beDigits d (h .start)) ends d (length-digits d (h .start))) ∙ value-digits d (h .start) (b .0) in
-    let en : beValue (take d (drop (at + d) s)) ≡ h .end =
-    ap (λ (l : List ℕ). beValue (take d l)) e2
-    ∙ ap beValue (take-at (beDigits d (h .end)) (pairs d hs) d (length-digits d (h .end))) ∙ value-digits d (h .end) (b .1) in
-    let rest = pairs-read d (at + 2 * d) s hs (b .2) e3 in
-    λ i. record { start = st i; end = en i } ∷ rest i
+apart-held : (d k top : ℕ) (hs : List Hole) → Held d top → HolesApart k top hs → HolesHeld d hs
+apart-held d k top [] l a = tt
+apart-held d k top (h ∷ hs) l a = ((omega arith, omega arith), (omega arith, omega arith), apart-held d (suc (h .end)) top hs l (a .3))
+
+-- where the octets of a number stand, its descriptor is not refused, and it is read
+module _ (d v at : ℕ) (s rest : List ℕ) (w : Width d) (held : Held d v) (e : drop at s ≡ beDigits d v ++ rest) where
+  number-part : take d (drop at s) ≡ beDigits d v
+  number-part = rw e (take-at (beDigits d v) rest d (length-digits d v))
+
+  number-read : descriptorAt d at s ≡ v
+  number-read = ap beValue number-part ∙ value-digits d v (held .0)
+
+  number-none : descriptorRefusal d at s ≡ 0
+  number-none =
+      let l : length s - at ≡ d + length rest = sym (length-drop at s) ∙ ap length e ∙ length-append (beDigits d v) rest ∙ rw length-digits in
+      descriptor-none d at s (omega (arith, width-some w)) (rw number-part (digits-small d v (held .0) (held .1)))
+
+  number-after : drop (at + d) s ≡ rest
+  number-after = sym (drop-drop d at s) ∙ ap (drop d) e ∙ drop-at (beDigits d v) rest d (length-digits d v)
+
+-- where pairs stand, their descriptors are not refused, and their holes are read
+module _ (d : ℕ) (s : List ℕ) (w : Width d) where
+  first-pair : (at : ℕ) (h : Hole) (hs : List Hole) → drop at s ≡ pairs d (h ∷ hs) → drop at s ≡ beDigits d (h .start) ++ (beDigits d (h .end) ++ pairs d hs)
+  unfolding pairs
+  first-pair at h hs f = f ∙ append-assoc (beDigits d (h .start)) (beDigits d (h .end)) (pairs d hs)
+
+  -- the start, the end, and what stands after them
+  module _ (at : ℕ) (h : Hole) (hs : List Hole) (b : HolesHeld d (h ∷ hs)) (f : drop at s ≡ pairs d (h ∷ hs)) where
+    ends : drop (at + d) s ≡ beDigits d (h .end) ++ pairs d hs
+    ends = number-after d (h .start) at s _ w (b .0) (first-pair at h hs f)
+
+    others : drop (at + 2 * d) s ≡ pairs d hs
+    others =
+        let two : at + 2 * d ≡ at + d + d = omega arith in
+        ap (λ (n : ℕ). drop n s) two ∙ number-after d (h .end) (at + d) s _ w (b .1) ends
+
+  pub pairs-read : (at : ℕ) (hs : List Hole) → HolesHeld d hs → drop at s ≡ pairs d hs → holesOf d (length hs) at s ≡ hs
+  pairs-read at [] b f = refl
+  pairs-read at (h ∷ hs) b f =
+      let st : descriptorAt d at s ≡ h .start = number-read d (h .start) at s _ w (b .0) (first-pair at h hs f) in
+      let en : descriptorAt d (at + d) s ≡ h .end = number-read d (h .end) (at + d) s _ w (b .1) (ends at h hs b f) in
+      let rest = pairs-read (at + 2 * d) hs (b .2) (others at h hs b f) in
+      λ i. record { start = st i; end = en i } ∷ rest i
+
+  pairs-none : (at : ℕ) (hs : List Hole) → HolesHeld d hs → drop at s ≡ pairs d hs → descriptorsRefusal d (2 * length hs) at s ≡ 0
+  unfolding descriptorsRefusal
+  pairs-none at [] b f = refl
+  pairs-none at (h ∷ hs) b f =
+      let q : 2 * suc (length hs) ≡ suc (suc (2 * length hs)) = omega arith in
+      let two : at + d + d ≡ at + 2 * d = omega arith in
+      rw (
+        q,
+        number-none d (h .start) at s _ w (b .0) (first-pair at h hs f),
+        number-none d (h .end) (at + d) s _ w (b .1) (ends at h hs b f),
+        two,
+      )
+      (pairs-none (at + 2 * d) hs (b .2) (others at h hs b f))
 
 -- ---- the list is one that the reader accepts
 
@@ -98,8 +138,8 @@ octets-word : (flags id d from to : ℕ) (hs : List Hole) → flags < 2 ^ 24 →
 unfolding statusOctets statusFields
 octets-word flags id d from to hs h = value-digits 4 (wordFor 4 flags) (omega arith)
 
-module _ (id d from to : ℕ) (p u : Bool) (hs : List Hole) (w : Width d) (id-fits : id < 2 ^ 32) (from-fits : from < 256 ^ d) (to-fits : to < 256 ^ d)
-    (below : HolesBelow (256 ^ d) hs) where
+module _ (id d from to : ℕ) (p u : Bool) (hs : List Hole) (w : Width d) (id-fits : id < 2 ^ 32) (from-fits : Held d from) (to-fits : Held d to)
+    (below : HolesHeld d hs) where
   abbrev s : List ℕ
   s = statusOctets (statusFlags d p u) id d from to hs
 
@@ -121,22 +161,18 @@ module _ (id d from to : ℕ) (p u : Bool) (hs : List Hole) (w : Width d) (id-fi
   after-id = append-assoc (beDigits d from) (beDigits d to) (pairs d hs)
 
   after-from : drop (8 + d) s ≡ beDigits d to ++ pairs d hs
-  after-from = sym (drop-drop d 8 s) ∙ ap (drop d) after-id ∙ drop-at (beDigits d from) (beDigits d to ++ pairs d hs) d (length-digits d from)
+  after-from = number-after d from 8 s _ w from-fits after-id
 
   after-to : drop (8 + 2 * d) s ≡ pairs d hs
   after-to =
       let e : 8 + 2 * d ≡ 8 + d + d = omega arith in
-      ap (λ (n : ℕ). drop n s) e ∙ sym (drop-drop d (8 + d) s) ∙ ap (drop d) after-from ∙ drop-at (beDigits d to) (pairs d hs) d (length-digits d to)
+      ap (λ (n : ℕ). drop n s) e ∙ number-after d to (8 + d) s _ w to-fits after-from
 
   progress-is : progressOf s ≡ from
-  progress-is =
-      rw (octets, stamp, after-id)
-      (ap beValue (take-at (beDigits d from) (beDigits d to ++ pairs d hs) d (length-digits d from)) ∙ value-digits d from from-fits)
+  progress-is = rw (octets, stamp) (number-read d from 8 s _ w from-fits after-id)
 
   response-is : responseOf s ≡ to
-  response-is =
-      rw (octets, stamp, after-from)
-      (ap beValue (take-at (beDigits d to) (pairs d hs) d (length-digits d to)) ∙ value-digits d to to-fits)
+  response-is = rw (octets, stamp) (number-read d to (8 + d) s _ w to-fits after-from)
 
   holes-at : holesAt (wordOf s) ≡ 8 + 2 * d
   holes-at = rw (octets, stamp)
@@ -149,13 +185,27 @@ module _ (id d from to : ℕ) (p u : Bool) (hs : List Hole) (w : Width d) (id-fi
 
   list-is : holeList s ≡ hs
   unfolding holeList
-  list-is = rw (count-is, holes-at, octets) (pairs-read d (8 + 2 * d) s hs below after-to)
+  list-is = rw (count-is, holes-at, octets) (pairs-read d s w (8 + 2 * d) hs below after-to)
+
+  -- each descriptor that was written is taken
+  descriptors-is : listDescriptors s ≡ 2 * length hs
+  descriptors-is =
+      let e : 2 * d * length hs ≡ d * (2 * length hs) = rw (mul-comm 2 d) (mul-assoc d 2 (length hs)) in
+      rw (list-octets, octets, e) (mul-div-right (2 * length hs) {m = d} (omega (arith, width-some w)))
+
+  taken : DescriptorsFine s
+  taken =
+      record {
+        progress-none = rw (octets, stamp) (number-none d from 8 s _ w from-fits after-id);
+        response-none = rw (octets, stamp) (number-none d to (8 + d) s _ w to-fits after-from);
+        list-none = rw (descriptors-is, octets, stamp) (pairs-none d s w (8 + 2 * d) hs below after-to);
+      }
 
   -- with a list that the reader accepts, and not too many holes
   module _ (well : holesWell p from to hs ≡ true) (few : length hs ≤ 64) where
-    size-lt : length s ≤ 1048
+    size-lt : length s ≤ 2088
     size-lt =
-        let m : 2 * d * length hs ≤ 16 * 64 = mul-le-mul {n₁ = 2 * d} {m₁ = length hs} {n₂ = 16} {m₂ = 64} (omega (arith, width-le w)) few in
+        let m : 2 * d * length hs ≤ 32 * 64 = mul-le-mul {n₁ = 2 * d} {m₁ = length hs} {n₂ = 32} {m₂ = 64} (omega (arith, width-le w)) few in
         omega (arith, status-octets-size (statusFlags d p u) id d from to hs, width-le w)
 
     typed : typeRefusal 4 s ≡ 0
@@ -171,8 +221,7 @@ module _ (id d from to : ℕ) (p u : Bool) (hs : List Hole) (w : Width d) (id-fi
     success : successRefusal s ≡ 0
     success =
         success-none s (record {
-          narrow = λ e. flags-narrow d p u (sym (ap widthOf word) ∙ e);
-          long = omega (arith, holes-at, status-octets-size (statusFlags d p u) id d from to hs);
+          descriptors = taken;
           whole = rw (list-octets, octets) (mul-mod-right (2 * d) (length hs));
           list = holes-well-means _ _ _ _ list-well;
         })
@@ -214,8 +263,10 @@ module _ (x : Transfer) (k : ℕ) (unasked : Bool) (room : ℕ) (fine : Transfer
   abbrev partial : Bool
   partial = partialSent d k room (length hs)
 
-  edge-fits : edge (x .runs) < 256 ^ d
-  edge-fits = omega (arith, edge-stops (x .key .length) (x .runs) (fine .within), fine .length-fits)
+  edge-fits : Held d (edge (x .runs))
+  edge-fits =
+      let e = edge-stops (x .key .length) (x .runs) (fine .within) in
+      (omega (arith, e, fine .length-fits), omega (arith, e, fine .length-held))
 
   sent-apart : HolesApart (progress (x .runs)) (edge (x .runs)) sent
   unfolding holesSent
@@ -223,8 +274,8 @@ module _ (x : Transfer) (k : ℕ) (unasked : Bool) (room : ℕ) (fine : Transfer
       apart-take (holeRoom d room) (progress (x .runs)) (edge (x .runs)) (drop k hs)
       (apart-drop k (progress (x .runs)) (edge (x .runs)) hs (holes-between (x .runs) (fine .canonical)))
 
-  sent-below : HolesBelow (256 ^ d) sent
-  sent-below = apart-below (256 ^ d) (progress (x .runs)) (edge (x .runs)) sent edge-fits sent-apart
+  sent-below : HolesHeld d sent
+  sent-below = apart-held d (progress (x .runs)) (edge (x .runs)) sent edge-fits sent-apart
 
   -- "Reading a success STATUS accepts" the list that was written
   pub status-holes-well : holesWell partial (progress (x .runs)) (edge (x .runs)) sent ≡ true
@@ -236,8 +287,10 @@ module _ (x : Transfer) (k : ℕ) (unasked : Bool) (room : ℕ) (fine : Transfer
   sent-few : length sent ≤ 64
   sent-few = omega (arith, holes-sent-count d k room hs, holes-few (x .runs) (fine .canonical), fine .few)
 
-  progress-fits : progress (x .runs) < 256 ^ d
-  progress-fits = omega (arith, edge-fits, progress-edge (x .runs) (fine .canonical))
+  progress-fits : Held d (progress (x .runs))
+  progress-fits =
+      let e = progress-edge (x .runs) (fine .canonical) in
+      (omega (arith, e, edge-fits .0), omega (arith, e, edge-fits .1))
 
   -- bit 15, and the packet
   abbrev fifteen : Bool

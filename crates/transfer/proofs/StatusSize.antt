@@ -57,7 +57,7 @@ pub skip-there : (d n k room : ℕ) → sizeRefusal d n k room ≡ 0 → k ≤ n
 skip-there d n k room e = ⊎-elim (λ (z : k ≡ 0). omega arith) (λ (z : k < n). omega arith) (status-fits d n k room e .allowed)
 
 -- what the division that finds how many holes fit asks for
-pub fields-room : (d n k room : ℕ) → Width d → sizeRefusal d n k room ≡ 0 → (0 < d) × (d ≤ 8) × (8 + 2 * d ≤ room)
+pub fields-room : (d n k room : ℕ) → Width d → sizeRefusal d n k room ≡ 0 → (0 < d) × (d ≤ 16) × (8 + 2 * d ≤ room)
 fields-room d n k room w e = (omega (arith, width-some w), width-le w, status-fits d n k room e .fields)
 
 -- ---- how many holes fit

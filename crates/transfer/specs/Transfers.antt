@@ -26,11 +26,13 @@ pub record Transfer : Type 0 where
 abbrev pub empty : Key → Transfer
 empty k = record { key = k; runs = [] }
 
--- "from Id to width w, length L (at most 2^w - 1) and a set of received offsets below L"; "A transfer holds at most 64" runs
+-- "from Id to width w, length L (at most 2^w - 1) and a set of received offsets below L"; "A transfer holds at most 64" runs.
+-- The upper eight octets of a length of 128 bits are zero, so L is below 2^64 whatever w is
 pub record TransferFine (x : Transfer) : Type 0 where
   pub id-fits : x .key .id < 2 ^ 32
   pub width-is : Width (x .key .width)
   pub length-fits : x .key .length < 256 ^ x .key .width
+  pub length-held : x .key .length < 2 ^ 64
   pub few : length (x .runs) ≤ 64
   pub canonical : Canonical (x .runs)
   pub within : StopsTo (x .key .length) (x .runs)

@@ -48,9 +48,9 @@ abbrev pub bit : Bool → ℕ
 bit true = 1
 bit false = 0
 
--- the width bits: "00 is 16, 01 is 32, 10 is 64 bits"
+-- the width bits: "00 is 16, 01 is 32, 10 is 64 bits", and 11 is 128
 unfoldable pub widthBits : ℕ → ℕ
-widthBits d = cond (eqb d 2) 0 (cond (eqb d 4) 1 2)
+widthBits d = cond (eqb d 2) 0 (cond (eqb d 4) 1 (cond (eqb d 8) 2 3))
 
 -- bits 8 and 9, 14 and 15; "All other flags are 0, apart from the width"
 unfoldable pub statusFlags : ℕ → Bool → Bool → ℕ

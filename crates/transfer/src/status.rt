@@ -21,7 +21,7 @@ fn skips_too_many(skip: u64, holes: usize) -> bool
 
 // The octets that a STATUS has at least.
 fn least_room(width: usize, holes: usize) -> usize
-    requires { ⌜ width ≤ 8 ⌝ }
+    requires { ⌜ width ≤ 16 ⌝ }
     ensures { λ r. ⌜ r ≡ leastRoom width holes ⌝ }
 {
     if holes == 0 {
@@ -32,7 +32,7 @@ fn least_room(width: usize, holes: usize) -> usize
 
 // Refusals 19 and 20; 0 for none. `room` is the buffer's length.
 pub fn size_refusal(width: usize, holes: usize, skip: u64, room: usize) -> u64
-    requires { ⌜ width ≤ 8 ⌝ }
+    requires { ⌜ width ≤ 16 ⌝ }
     ensures { λ r. ⌜ r ≡ sizeRefusal width holes skip room ⌝ }
 {
     if skips_too_many(skip, holes) {
@@ -46,7 +46,7 @@ pub fn size_refusal(width: usize, holes: usize, skip: u64, room: usize) -> u64
 
 // How many holes have room behind the fields.
 fn hole_room(width: usize, room: usize) -> usize
-    requires { ⌜ (0 < width) × (width ≤ 8) × (8 + 2 * width ≤ room) ⌝ }
+    requires { ⌜ (0 < width) × (width ≤ 16) × (8 + 2 * width ≤ room) ⌝ }
     ensures { λ r. ⌜ r ≡ holeRoom width room ⌝ }
 {
     (room - (8 + 2 * width)) / (2 * width)
@@ -97,7 +97,10 @@ fn width_bits(width: usize) -> u64
     if width == 4 {
         return 1;
     }
-    2
+    if width == 8 {
+        return 2;
+    }
+    3
 }
 
 fn bit_of(b: bool) -> u64

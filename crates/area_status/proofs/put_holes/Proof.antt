@@ -1,11 +1,11 @@
--- `area_status::put_holes` meets its contract: the width is one of the three.
+-- `area_status::put_holes` meets its contract: the width is one of the four.
 -- Assumes nothing.
 use Prim.Native.Nat.{ℕ}
 use mathlib.Core.Path.{_≡_, refl}
 use native.Mathlib.Omega.{arith}
 use borrow.Author.Needs.{needs}
 use Rattle.octets.specs.Numbers.{Width}
-use Rattle.octets.specs.Numbers.Width.{two, four, eight}
+use Rattle.octets.specs.Numbers.Width.{two, four, eight, sixteen}
 use Rattle.area_status.proofs.put_holes.Statement.{statement}
 use Rattle.area_status.proofs.put_holes.Tie as tie
 
@@ -41,16 +41,10 @@ returns-2 c =
     let e : start .args .width ≡ 4 = omega arith in
     rw e (put-pairs2-place .put-pairs2 .ensures)
 
--- neither 2 nor 4
-last-width : (d : ℕ) → Width d → (d ≡ 2 → ⊥) → (d ≡ 4 → ⊥) → d ≡ 8
-last-width d two p q = absurd (p refl)
-last-width d four p q = absurd (q refl)
-last-width d eight p q = refl
-
 put-pairs-requires-3 : tie.Need-put-pairs-requires-3
 put-pairs-requires-3 c κs =
-    let s = c .before .before .before .before .before in
-    let e : s .args .width ≡ 8 = last-width (s .args .width) (s .pre .0) (λ z. omega arith) (λ z. omega arith) in
+    let s = c .before .before .before .before .before .before in
+    let e : s .args .width ≡ 8 = omega arith in
     (s .pre .1, s .pre .2, rw e at (s .pre .3))
 
 same-length-3 : tie.Need-same-length-3
@@ -59,10 +53,32 @@ same-length-3 c = search needs
 returns-3 : tie.Need-returns-3
 returns-3 c =
     let put-pairs3-place = c .before .before in
-    let before-place = put-pairs3-place .before .before .before .before .before in
-    let s = before-place .before in
-    let e : s .args .width ≡ 8 = last-width (s .args .width) (s .pre .0) (λ z. omega arith) (λ z. omega arith) in
+    let start = put-pairs3-place .before .before .before .before .before .before .before in
+    let e : start .args .width ≡ 8 = omega arith in
     rw e (put-pairs3-place .put-pairs3 .ensures)
+
+-- neither 2, 4 nor 8
+last-width : (d : ℕ) → Width d → (d ≡ 2 → ⊥) → (d ≡ 4 → ⊥) → (d ≡ 8 → ⊥) → d ≡ 16
+last-width d two p q r = absurd (p refl)
+last-width d four p q r = absurd (q refl)
+last-width d eight p q r = absurd (r refl)
+last-width d sixteen p q r = refl
+
+put-pairs-requires-4 : tie.Need-put-pairs-requires-4
+put-pairs-requires-4 c κs =
+    let s = c .before .before .before .before .before .before in
+    let e : s .args .width ≡ 16 = last-width (s .args .width) (s .pre .0) (λ z. omega arith) (λ z. omega arith) (λ z. omega arith) in
+    (s .pre .1, s .pre .2, rw e at (s .pre .3))
+
+same-length-4 : tie.Need-same-length-4
+same-length-4 c = search needs
+
+returns-4 : tie.Need-returns-4
+returns-4 c =
+    let put-pairs4-place = c .before .before in
+    let s = put-pairs4-place .before .before .before .before .before .before .before in
+    let e : s .args .width ≡ 16 = last-width (s .args .width) (s .pre .0) (λ z. omega arith) (λ z. omega arith) (λ z. omega arith) in
+    rw e (put-pairs4-place .put-pairs4 .ensures)
 
 pub put-holes-spec : {M : Type 1} → statement M
 put-holes-spec =
@@ -76,4 +92,7 @@ put-holes-spec =
     returns-2
     put-pairs-requires-3
     same-length-3
-    returns-3)
+    returns-3
+    put-pairs-requires-4
+    same-length-4
+    returns-4)

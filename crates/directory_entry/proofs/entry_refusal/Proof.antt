@@ -5,14 +5,12 @@ use denote.Ref.{now}
 use lib.ListN.{length, drop}
 use lib.Dec.{ltb}
 use borrow.Author.Tests.{lt-ltb, le-ltb, not-true, not-false}
-use Rattle.octets.specs.Numbers.Width.{two}
 use Rattle.refusals.proofs.RefusalLaws.{stays}
 use Rattle.header.specs.Descriptor.{descriptorAt, descriptorRefusal}
-use Rattle.header.proofs.DescriptorLaws.{descriptor-there}
 use Rattle.directory_entry.specs.Properties.{sizeOctets, pathAt, propertyRefusal}
 use Rattle.directory_entry.specs.Path.{pathRefusal}
 use Rattle.directory_entry.specs.Entry.{propertiesOf, sizeOf, afterTimes, entryRefusal}
-use Rattle.directory_entry.proofs.PropertyLaws.{size-le, properties-fine}
+use Rattle.directory_entry.proofs.PropertyLaws.{size-le, size-width}
 use Rattle.directory_entry.proofs.EntryLaws.{rest-part}
 use borrow.Author.Needs.{needs}
 use native.Mathlib.Omega.{arith}
@@ -23,14 +21,14 @@ returns : tie.Need-returns
 unfolding entryRefusal
 returns c = rw (lt-ltb (length (now (c .before .before .args .e))) 2 (omega arith))
 
-read-number-requires : tie.Need-read-number-requires
-read-number-requires c κs = (two, omega arith)
+read-two-requires : tie.Need-read-two-requires
+read-two-requires c κs = omega arith
 
 property-refusal-requires : tie.Need-property-refusal-requires
 property-refusal-requires c κs = search needs
 
 property : (c : tie.After-property-refusal) → c .property-refusal .result ≡ propertyRefusal (propertiesOf (now (c .before .before .before .before .args .e)))
-property c = c .property-refusal .ensures ∙ ap propertyRefusal (c .before .read-number .ensures)
+property c = c .property-refusal .ensures ∙ ap propertyRefusal (c .before .read-two .ensures)
 
 returns-2 : tie.Need-returns-2
 unfolding entryRefusal
@@ -46,13 +44,16 @@ size-octets-requires c κs = search needs
 known : (c : tie.After-size-octets)
     → (c .size-octets .result ≡ sizeOctets (propertiesOf (now (c .before .before .before .before .before .before .args .e)))) × (c .size-octets .result ≤ 16) × (propertyRefusal (propertiesOf (now (c .before .before .before .before .before .before .args .e))) ≡ 0)
 known c =
-    let read-number-place = c .before .before .before in
-    let start = read-number-place .before .before .before in
-    let k : c .size-octets .result ≡ sizeOctets (propertiesOf (now (start .args .e))) = c .size-octets .ensures ∙ ap (λ (x : ℕ). sizeOctets x) (read-number-place .read-number .ensures) in
+    let read-two-place = c .before .before .before in
+    let start = read-two-place .before .before .before in
+    let k : c .size-octets .result ≡ sizeOctets (propertiesOf (now (start .args .e))) = c .size-octets .ensures ∙ ap (λ (x : ℕ). sizeOctets x) (read-two-place .read-two .ensures) in
     (k, omega (arith, size-le (propertiesOf (now (start .args .e)))), omega (arith, property (c .before .before)))
 
+add-at : tie.Need-add-at
+add-at c = omega (arith, known c)
+
 descriptor-refusal-requires : tie.Need-descriptor-refusal-requires
-descriptor-refusal-requires c κs = omega (arith, known c)
+descriptor-refusal-requires c κs = (rw (known c .0) (size-width _), omega (arith, known c))
 
 judged : (c : tie.After-descriptor-refusal)
     → let e = now (c .before .before .before .before .before .before .before .args .e) in
@@ -69,12 +70,9 @@ returns-3 c =
     let j = judged (c .before) in
     rw (le-ltb (length e) 2 (omega arith), k .2) (j ∙ sym (stays (descriptorRefusal (sizeOctets (propertiesOf e)) 2 e) _ (omega arith)))
 
--- the size is all there
+-- the size is all there, and its upper octets are zero
 there : (c : tie.Else3) → let e = now (c .before .before .before .before .before .before .before .before .args .e) in descriptorRefusal (sizeOctets (propertiesOf e)) 2 e ≡ 0
 there c = omega (arith, judged (c .before))
-
-add-at : tie.Need-add-at
-add-at c = omega (arith, known (c .before .before))
 
 returns-4 : tie.Need-returns-4
 unfolding entryRefusal
@@ -124,8 +122,7 @@ descriptor-requires c κs =
     let start = before-place-5 .before .before .before .before .before .before .before in
     let e = now (start .args .e) in
     let k = known (before-place-5 .before) in
-    let f = properties-fine (propertiesOf e) (k .2) in
-    (rw (k .0) (f .octets), rw (k .0) (descriptor-there (sizeOctets (propertiesOf e)) 2 e (there (before-place .before))))
+    (rw (k .0) (size-width (propertiesOf e)), rw (k .0) (there (before-place .before)))
 
 fits-requires : tie.Need-fits-requires
 fits-requires c κs = search needs
@@ -182,13 +179,13 @@ entry-refusal-spec =
     tie.close
     (tie.spec
     returns
-    read-number-requires
+    read-two-requires
     property-refusal-requires
     returns-2
     size-octets-requires
+    add-at
     descriptor-refusal-requires
     returns-3
-    add-at
     returns-4
     sub-path-refusal
     part-path-refusal-start

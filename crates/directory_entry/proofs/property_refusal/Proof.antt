@@ -1,6 +1,6 @@
 -- `directory_entry::property_refusal` meets its contract: a return for each test. Assumes nothing.
 use borrow.Author.Tests.{eq-eqb, ne-eqb}
-use Rattle.directory_entry.specs.Properties.{specialOf, bundleOf, sizeWidth, propertyRefusal}
+use Rattle.directory_entry.specs.Properties.{specialOf, bundleOf, propertyRefusal}
 use borrow.Author.Needs.{needs}
 use native.Mathlib.Omega.{arith}
 use Rattle.directory_entry.proofs.property_refusal.Statement.{statement}
@@ -22,15 +22,8 @@ returns-2 c =
 returns-3 : tie.Need-returns-3
 unfolding propertyRefusal
 returns-3 c =
-    let start = c .before .before .before .before .before .before .before in
-    let x = start .args .x in rw (eq-eqb (specialOf x) 0 (omega arith), eq-eqb (bundleOf x) 0 (omega arith), eq-eqb (sizeWidth x) 3 (omega arith))
-
-returns-4 : tie.Need-returns-4
-unfolding propertyRefusal
-returns-4 c =
-    let start = c .before .before .before .before .before .before .before in
-    let x = start .args .x in rw (eq-eqb (specialOf x) 0 (omega arith), eq-eqb (bundleOf x) 0 (omega arith), ne-eqb (sizeWidth x) 3 (omega arith))
+    let start = c .before .before .before .before .before in
+    let x = start .args .x in rw (eq-eqb (specialOf x) 0 (omega arith), eq-eqb (bundleOf x) 0 (omega arith))
 
 pub property-refusal-spec : {M : Type 1} → statement M
-property-refusal-spec =
-    tie.close (tie.spec split-properties-requires returns returns-2 returns-3 returns-4)
+property-refusal-spec = tie.close (tie.spec split-properties-requires returns returns-2 returns-3)

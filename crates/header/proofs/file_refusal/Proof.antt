@@ -1,6 +1,6 @@
 -- `header::file_refusal` meets its contract: a return for each test. Assumes nothing.
 use borrow.Author.Tests.{eq-eqb, ne-eqb}
-use Rattle.header.specs.FirstWord.{widthOf, kindOf}
+use Rattle.header.specs.FirstWord.{kindOf}
 use Rattle.header.specs.Start.{fileRefusal}
 use borrow.Author.Needs.{needs}
 use native.Mathlib.Omega.{arith}
@@ -12,19 +12,11 @@ split-requires c κs = search needs
 
 returns : tie.Need-returns
 unfolding fileRefusal
-returns c = let w = c .before .before .before .args .w in rw (eq-eqb (widthOf w) 3 (omega arith))
+returns c = let w = c .before .before .before .args .w in rw (ne-eqb (kindOf w) 0 (omega arith))
 
 returns-2 : tie.Need-returns-2
 unfolding fileRefusal
-returns-2 c =
-    let start = c .before .before .before .before .before in
-    let w = start .args .w in rw (ne-eqb (widthOf w) 3 (omega arith), ne-eqb (kindOf w) 0 (omega arith))
-
-returns-3 : tie.Need-returns-3
-unfolding fileRefusal
-returns-3 c =
-    let start = c .before .before .before .before .before in
-    let w = start .args .w in rw (ne-eqb (widthOf w) 3 (omega arith), eq-eqb (kindOf w) 0 (omega arith))
+returns-2 c = let w = c .before .before .before .args .w in rw (eq-eqb (kindOf w) 0 (omega arith))
 
 pub file-refusal-spec : {M : Type 1} → statement M
-file-refusal-spec = tie.close (tie.spec split-requires returns returns-2 returns-3)
+file-refusal-spec = tie.close (tie.spec split-requires returns returns-2)

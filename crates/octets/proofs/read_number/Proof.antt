@@ -1,95 +1,46 @@
--- `octets::read_number` meets its contract: in the loop the number so far, and the octets that are left, always give the
--- whole number.
--- Assumes nothing.
-use Prim.Native.Nat.{_+_, _-_, _^_, _≤_, _<_}
-use mathlib.Core.Path.{_≡_, sym, _∙_}
-use native.Mathlib.Nat.{add-zero, sub-zero}
-use native.Mathlib.Numerals.{add-one}
-use native.Mathlib.Omega.{arith}
+-- `octets::read_number` meets its contract: at most eight octets have no upper ones. Assumes nothing.
+use Prim.Native.Nat.{ℕ, _≤_}
+use mathlib.Core.Path.{_≡_}
 use denote.Ref.{now}
-use lib.ListN.{take, drop}
-use Rattle.octets.specs.Numbers.{beFrom, beValue}
-use Rattle.octets.proofs.NumberLaws.{read-step, fits-step, value-step, width-le}
+use Rattle.octets.specs.Numbers.{Width}
+use Rattle.octets.proofs.NumberLaws.{width-narrow}
+use Rattle.octets.proofs.UpperLaws.{short-number}
+use borrow.Author.Needs.{needs}
+use native.Mathlib.Omega.{arith}
 use Rattle.octets.proofs.read_number.Statement.{statement}
 use Rattle.octets.proofs.read_number.Tie as tie
 
-abbrev Inv-loop : tie.InvT-loop
-Inv-loop s at d v₀ i₀ v i = (i ≤ d) × (v < 256 ^ i) × (beFrom v (take (d - i) (drop (at + i) s)) ≡ beValue (take d (drop at s)))
+read-sixteen-requires : tie.Need-read-sixteen-requires
+read-sixteen-requires c κs = omega arith
 
-abbrev μ-loop : tie.MeasureT-loop
-μ-loop s at d v₀ i₀ v i = d - i
+returns : tie.Need-returns
+returns c = let e : c .before .before .before .args .d ≡ 16 = omega arith in rw e (c .read-sixteen .ensures)
 
-read-eight-requires : tie.Need-read-eight-requires Inv-loop μ-loop
+read-eight-requires : tie.Need-read-eight-requires
 read-eight-requires c κs = omega arith
 
-returns : tie.Need-returns Inv-loop μ-loop
-returns c = let e : c .before .before .before .args .d ≡ 8 = omega arith in rw e (c .read-eight .ensures)
-
-loop-holds : tie.Need-loop-holds Inv-loop μ-loop
-loop-holds c = (omega arith, omega arith, rw (sub-zero, add-zero))
-
-mul-v : tie.Need-mul-v Inv-loop μ-loop
-mul-v c =
-    let l = c .before .loop in
-    omega (arith, fits-step (l .i) (l .v) 0 (omega (arith, width-le (c .before .before .before .before .pre .0))) (l .inv .1) (omega arith))
-
-add-v : tie.Need-add-v Inv-loop μ-loop
-add-v c = omega arith
-
-shared-slice-read-v : tie.Need-shared-slice-read-v Inv-loop μ-loop
-shared-slice-read-v c = omega arith
-
-cast-v : tie.Need-cast-v Inv-loop μ-loop
-cast-v c =
-    let loop-place = c .before .before in
-    let start = loop-place .before .before .before in
-    let l = loop-place .loop in omega (arith, c .shared-slice-known2 .given (start .args .at + l .i))
-
-add-v-2 : tie.Need-add-v-2 Inv-loop μ-loop
-add-v-2 c =
-    let loop-place = c .before .before in
-    let start = loop-place .before .before .before in
-    let l = loop-place .loop in
-    record { fits = fits-step (l .i) (l .v) _ (omega (arith, width-le (start .pre .0))) (l .inv .1) (c .shared-slice-known2 .given (start .args .at + l .i) .fits) }
-
-add-i : tie.Need-add-i Inv-loop μ-loop
-add-i c = omega arith
-
-loop-less : tie.Need-loop-less Inv-loop μ-loop
-loop-less c = omega arith
-
-loop-again : tie.Need-loop-again Inv-loop μ-loop
-loop-again c =
-    let loop-place = c .before .before in
-    let start = loop-place .before .before .before in
-    let l = loop-place .loop in
-    let a = start .args in (
-      omega arith,
-      rw add-one (value-step (l .i) (l .v) _ (l .inv .1) (c .shared-slice-known2 .given (a .at + l .i) .fits)),
-      sym (read-step (now (a .s)) (a .at) (a .d) (l .i) (l .v) (omega arith) (omega arith)) ∙ l .inv .2,
-    )
-
-returns-2 : tie.Need-returns-2 Inv-loop μ-loop
+returns-2 : tie.Need-returns-2
 returns-2 c =
-    let l = c .before .loop in
-    let z : c .before .before .before .before .args .d - l .i ≡ 0 = omega arith in
-    rw z at (l .inv .2)
+    let a = c .before .before .before .before .args in
+    let e : a .d ≡ 8 = omega arith in
+    rw (e, c .read-eight .ensures) (short-number (now (a .s)) (a .at) 8 (omega arith) (omega arith))
+
+read-short-requires : tie.Need-read-short-requires
+read-short-requires c κs = let p = c .before .before .before in (width-narrow (p .pre .0) (λ e. omega arith), p .pre .1)
+
+returns-3 : tie.Need-returns-3
+returns-3 c =
+    let p = c .before .before .before .before in
+    let a = p .args in
+    rw (c .read-short .ensures) (short-number (now (a .s)) (a .at) (a .d) (width-narrow (p .pre .0) (λ e. omega arith)) (p .pre .1))
 
 pub read-number-spec : {M : Type 1} → statement M
 read-number-spec =
     tie.close
     (tie.spec
-    Inv-loop
-    μ-loop
-    read-eight-requires
+    read-sixteen-requires
     returns
-    loop-holds
-    mul-v
-    add-v
-    shared-slice-read-v
-    cast-v
-    add-v-2
-    add-i
-    loop-less
-    loop-again
-    returns-2)
+    read-eight-requires
+    returns-2
+    read-short-requires
+    returns-3)

@@ -1,12 +1,10 @@
--- `packet_beacon::beacon_write_refusal` meets its contract: 21 stands, and then the flags, the free space's width and the room
--- are judged in this order.
+-- `packet_beacon::beacon_write_refusal` meets its contract: 21 stands, and then the flags and the room are judged in this order.
 -- Assumes nothing.
 use mathlib.Core.Path.{_≡_, sym, ap, _∙_}
 use Prim.Native.Nat.{ℕ, _+_}
-use Rattle.refusals.specs.Refusals.{_▹_}
 use Rattle.refusals.specs.Writing.{roomRefusal}
 use Rattle.refusals.proofs.RefusalLaws.{stays}
-use Rattle.packet_beacon.specs.Flags.{flagsRefusal, freeRefusal}
+use Rattle.packet_beacon.specs.Flags.{flagsRefusal}
 use Rattle.packet_beacon.specs.Beacon.{endpointAt}
 use Rattle.packet_beacon.specs.WriteBeacon.{beaconExcess, beaconWriteRefusal}
 use Rattle.packet_beacon.proofs.FlagLaws.{free-le}
@@ -27,15 +25,12 @@ returns c =
 flags-refusal-requires : tie.Need-flags-refusal-requires
 flags-refusal-requires c κs = search needs
 
-free-refusal-requires : tie.Need-free-refusal-requires
-free-refusal-requires c κs = search needs
-
 endpoint-at-requires : tie.Need-endpoint-at-requires
 endpoint-at-requires c κs = search needs
 
 add-room-refusal : tie.Need-add-room-refusal
 add-room-refusal c =
-    let start = c .before .before .before .before .before in
+    let start = c .before .before .before .before in
     omega (arith, free-le (start .args .flags))
 
 room-refusal-requires : tie.Need-room-refusal-requires
@@ -44,23 +39,18 @@ room-refusal-requires c κs = search needs
 first-requires : tie.Need-first-requires
 first-requires c κs = search needs
 
-first-requires-2 : tie.Need-first-requires-2
-first-requires-2 c κs = search needs
-
 returns-2 : tie.Need-returns-2
 unfolding beaconWriteRefusal
 returns-2 c =
-    let room-place = c .before .before in
+    let room-place = c .before in
     let endpoint-place = room-place .before in
-    let free-place = endpoint-place .before in
-    let flags-place = free-place .before in
+    let flags-place = endpoint-place .before in
     let start = flags-place .before .before .before in
     let a = start .args in
     let z : beaconExcess (a .flags) (a .free) ≡ 0 = omega arith in
     let d : room-place .room-refusal .result ≡ roomRefusal (endpointAt (a .flags) + a .endpoint) (a .room) =
     room-place .room-refusal .ensures ∙ ap (λ (n : ℕ). roomRefusal (n + a .endpoint) (a .room)) (endpoint-place .endpoint-at .ensures) in
-    rw (z, ← flags-place .flags-refusal .ensures, ← free-place .free-refusal .ensures, ← d)
-    (c .first2 .ensures ∙ ap (λ (n : ℕ). flags-place .flags-refusal .result ▹ n) (c .before .first .ensures))
+    rw (z, ← flags-place .flags-refusal .ensures, ← d) (c .first .ensures)
 
 pub beacon-write-refusal-spec : {M : Type 1} → statement M
 beacon-write-refusal-spec =
@@ -69,10 +59,8 @@ beacon-write-refusal-spec =
     beacon-excess-requires
     returns
     flags-refusal-requires
-    free-refusal-requires
     endpoint-at-requires
     add-room-refusal
     room-refusal-requires
     first-requires
-    first-requires-2
     returns-2)

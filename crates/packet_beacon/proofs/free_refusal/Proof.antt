@@ -1,21 +1,45 @@
--- `packet_beacon::free_refusal` meets its contract: 16 octets are refused. Assumes nothing.
-use borrow.Author.Tests.{eq-eqb, ne-eqb}
-use Rattle.packet_beacon.specs.Flags.{freeOctets, freeRefusal}
+-- `packet_beacon::free_refusal` meets its contract: of no octets nothing is refused. Assumes nothing.
+use mathlib.Core.Path.{_≡_, sym, ap, _∙_}
+use Prim.Native.Nat.{ℕ}
+use denote.Ref.{now}
+use Rattle.header.specs.Start.{wordOf}
+use Rattle.header.specs.Descriptor.{descriptorRefusal}
+use Rattle.packet_beacon.specs.Flags.{freeOctets}
+use Rattle.packet_beacon.proofs.FlagLaws.{free-le, free-width, free-none}
 use borrow.Author.Needs.{needs}
 use native.Mathlib.Omega.{arith}
 use Rattle.packet_beacon.proofs.free_refusal.Statement.{statement}
 use Rattle.packet_beacon.proofs.free_refusal.Tie as tie
 
+word-requires : tie.Need-word-requires
+word-requires c κs = search needs
+
 free-octets-requires : tie.Need-free-octets-requires
 free-octets-requires c κs = search needs
 
+-- the octets of the free space
+width : (c : tie.After-free-octets) → c .free-octets .result ≡ freeOctets (wordOf (now (c .before .before .before .args .p)))
+width c = c .free-octets .ensures ∙ ap freeOctets (c .before .word .ensures)
+
 returns : tie.Need-returns
-unfolding freeRefusal
-returns c = rw (eq-eqb (freeOctets (c .before .before .args .w)) 16 (omega arith))
+returns c =
+    let start = c .before .before .before .before in
+    let s = now (start .args .p) in
+    let e = width (c .before) in
+    sym (free-none (wordOf s) s (start .pre) (omega arith))
+
+descriptor-refusal-requires : tie.Need-descriptor-refusal-requires
+descriptor-refusal-requires c κs =
+    let s = now (c .before .before .before .before .args .p) in
+    let e = width (c .before) in
+    (rw e (free-width (wordOf s) (λ z. omega arith)), omega (arith, free-le (wordOf s)))
 
 returns-2 : tie.Need-returns-2
-unfolding freeRefusal
-returns-2 c = rw (ne-eqb (freeOctets (c .before .before .args .w)) 16 (omega arith))
+returns-2 c =
+    let s = now (c .before .before .before .before .before .args .p) in
+    c .descriptor-refusal .ensures ∙ ap (λ (d : ℕ). descriptorRefusal d 4 s) (width (c .before .before))
 
 pub free-refusal-spec : {M : Type 1} → statement M
-free-refusal-spec = tie.close (tie.spec free-octets-requires returns returns-2)
+free-refusal-spec =
+    tie.close
+    (tie.spec word-requires free-octets-requires returns descriptor-refusal-requires returns-2)

@@ -35,7 +35,7 @@ descriptor-requires c κs =
     let s = now (start .args .p) in
     let f = beacon-fine s (start .pre) in
     let e = width (c .before) in
-    (rw e (free-width (wordOf s) (f .free-none) (λ z. omega arith)), omega (arith, f .there))
+    (rw e (free-width (wordOf s) (λ z. omega arith)), rw e (f .free-none))
 
 returns-2 : tie.Need-returns-2
 returns-2 c =

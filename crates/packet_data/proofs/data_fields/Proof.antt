@@ -4,6 +4,7 @@ use mathlib.Core.Path.{_≡_, ap, _∙_}
 use denote.Ref.{now}
 use Rattle.header.specs.FirstWord.{flagsOf, descriptorOctets, timestampOctets, wantedOf, eodOf}
 use Rattle.header.specs.Start.{wordOf}
+use Rattle.header.proofs.FirstWordLaws.{octets-width}
 use Rattle.packet_data.specs.Data.{offsetAt, payloadAt, dataOf}
 use Rattle.packet_data.proofs.DataLaws.{data-fine}
 use borrow.Author.Needs.{needs}
@@ -42,7 +43,7 @@ descriptor-requires c κs =
     let w : word-place .word .result ≡ wordOf s = word-place .word .ensures in
     let o : c .offset-at .result ≡ offsetAt (wordOf s) = c .offset-at .ensures ∙ ap offsetAt w in
     let d : descriptor-octets-place .descriptor-octets .result ≡ descriptorOctets (wordOf s) = descriptor-octets-place .descriptor-octets .ensures ∙ ap descriptorOctets w in
-    (rw d (f .file .octets), omega (arith, f .more))
+    (rw d (octets-width (wordOf s)), rw (d, o) (f .offset-none))
 
 sub-t11 : tie.Need-sub-t11
 sub-t11 c =

@@ -9,7 +9,7 @@ use Rattle.header.specs.Start.{wordOf, typeRefusal, fileRefusal}
 use Rattle.header.specs.Descriptor.{descriptorRefusal}
 use Rattle.refusals.proofs.RefusalLaws.{stays}
 use Rattle.header.proofs.StartLaws.{type-fine}
-use Rattle.header.proofs.FirstWordLaws.{octets-le}
+use Rattle.header.proofs.FirstWordLaws.{octets-width, octets-le}
 use Rattle.packet_data.specs.Data.{offsetAt, payloadAt, dataRefusal}
 use borrow.Author.Needs.{needs}
 use native.Mathlib.Omega.{arith}
@@ -39,6 +39,9 @@ returns-2 c =
     let f : c .before .file-refusal .result ≡ fileRefusal (wordOf s) = c .before .file-refusal .ensures ∙ ap fileRefusal (word-place .word .ensures) in
     rw z (f ∙ sym (stays (fileRefusal (wordOf s)) _ (omega arith)))
 
+payload-at-requires : tie.Need-payload-at-requires
+payload-at-requires c κs = search needs
+
 offset-at-requires : tie.Need-offset-at-requires
 offset-at-requires c κs = search needs
 
@@ -46,62 +49,58 @@ descriptor-octets-requires : tie.Need-descriptor-octets-requires
 descriptor-octets-requires c κs = search needs
 
 descriptor-refusal-requires : tie.Need-descriptor-refusal-requires
-descriptor-refusal-requires c κs = omega (arith, octets-le (c .before .before .before .before .word .result))
+descriptor-refusal-requires c κs =
+    let w = c .before .before .before .before .before .word .result in
+    (rw (c .descriptor-octets .ensures) (octets-width w), omega (arith, octets-le w))
 
 -- what is known where the offset was judged
 known : (c : tie.After-descriptor-refusal)
-    → let s = now (c .before .before .before .before .before .before .before .before .before .args .p) in
+    → let s = now (c .before .before .before .before .before .before .before .before .before .before .args .p) in
     let w = wordOf s in
     (typeRefusal 3 s ≡ 0)
     × (fileRefusal w ≡ 0)
     × (c .descriptor-refusal .result ≡ descriptorRefusal (descriptorOctets w) (offsetAt w) s)
+    × (c .before .before .before .payload-at .result ≡ payloadAt w)
 known c =
-    let s = now (c .before .before .before .before .before .before .before .before .before .args .p) in
-    let w = c .before .before .before .before .before .word .ensures in
-    let f : c .before .before .before .before .file-refusal .result ≡ fileRefusal (wordOf s) = c .before .before .before .before .file-refusal .ensures ∙ ap fileRefusal w in
-    (omega arith, omega arith, c .descriptor-refusal .ensures ∙ rw (c .before .descriptor-octets .ensures, c .before .before .offset-at .ensures, w))
+    let payload-at-place = c .before .before .before in
+    let file-place = payload-at-place .before .before in
+    let word-place = file-place .before in
+    let start = word-place .before .before .before .before in
+    let s = now (start .args .p) in
+    let w = word-place .word .ensures in
+    let f : file-place .file-refusal .result ≡ fileRefusal (wordOf s) = file-place .file-refusal .ensures ∙ ap fileRefusal w in (
+      omega arith,
+      omega arith,
+      c .descriptor-refusal .ensures ∙ rw (c .before .descriptor-octets .ensures, c .before .before .offset-at .ensures, w),
+      payload-at-place .payload-at .ensures ∙ ap payloadAt w,
+    )
 
 returns-3 : tie.Need-returns-3
 unfolding dataRefusal
 returns-3 c =
-    let start = c .before .before .before .before .before .before .before .before .before .before in
+    let start = c .before .before .before .before .before .before .before .before .before .before .before in
     let k = known (c .before) in
     let s = now (start .args .p) in
     let w = wordOf s in
     rw (k .0, k .1) (k .2 ∙ sym (stays (descriptorRefusal (descriptorOctets w) (offsetAt w) s) _ (omega arith)))
 
-payload-at-requires : tie.Need-payload-at-requires
-payload-at-requires c κs = search needs
-
--- the offset is there, and the start of the payload is at hand
-there : (c : tie.After-payload-at)
-    → let s = now (c .before .before .before .before .before .before .before .before .before .before .before .args .p) in
-    let w = wordOf s in
-    (descriptorRefusal (descriptorOctets w) (offsetAt w) s ≡ 0) × (c .payload-at .result ≡ payloadAt w)
-there c =
-    let word-place = c .before .before .before .before .before .before .before in
-    let k = known (c .before .before) in
-    (omega arith, c .payload-at .ensures ∙ ap payloadAt (word-place .word .ensures))
-
 returns-4 : tie.Need-returns-4
 unfolding dataRefusal
 returns-4 c =
-    let before-place = c .before .before in
-    let start = before-place .before .before .before .before .before .before .before .before .before .before in
-    let k = known (before-place .before) in
-    let h = there (c .before) in
+    let start = c .before .before .before .before .before .before .before .before .before .before .before .before in
+    let k = known (c .before .before) in
     let s = now (start .args .p) in
-    rw (k .0, k .1, h .0, eq-eqb (length s) (payloadAt (wordOf s)) (omega arith))
+    let z : descriptorRefusal (descriptorOctets (wordOf s)) (offsetAt (wordOf s)) s ≡ 0 = omega arith in
+    rw (k .0, k .1, z, eq-eqb (length s) (payloadAt (wordOf s)) (omega arith))
 
 returns-5 : tie.Need-returns-5
 unfolding dataRefusal
 returns-5 c =
-    let before-place = c .before .before in
-    let start = before-place .before .before .before .before .before .before .before .before .before .before in
-    let k = known (before-place .before) in
-    let h = there (c .before) in
+    let start = c .before .before .before .before .before .before .before .before .before .before .before .before in
+    let k = known (c .before .before) in
     let s = now (start .args .p) in
-    rw (k .0, k .1, h .0, ne-eqb (length s) (payloadAt (wordOf s)) (omega arith))
+    let z : descriptorRefusal (descriptorOctets (wordOf s)) (offsetAt (wordOf s)) s ≡ 0 = omega arith in
+    rw (k .0, k .1, z, ne-eqb (length s) (payloadAt (wordOf s)) (omega arith))
 
 pub data-refusal-spec : {M : Type 1} → statement M
 data-refusal-spec =
@@ -112,10 +111,10 @@ data-refusal-spec =
     word-requires
     file-refusal-requires
     returns-2
+    payload-at-requires
     offset-at-requires
     descriptor-octets-requires
     descriptor-refusal-requires
     returns-3
-    payload-at-requires
     returns-4
     returns-5)

@@ -8,6 +8,9 @@ use borrow.Author.Tests.{le-ltb, lt-ltb, le-leb, lt-leb, not-true, not-false}
 use denote.Ref.{now}
 use lib.ListN.{length}
 use Rattle.packet_status.specs.HoleList.{holesOf, startsWell, holesWell}
+use Rattle.header.specs.Descriptor.{descriptorRefusal}
+use Rattle.packet_status.specs.Status.{descriptorsRefusal}
+use Rattle.packet_status.proofs.DescriptorListLaws.{pair-none}
 use Rattle.packet_status.proofs.HoleListLaws.{less-one, holes-step}
 use borrow.Author.Needs.{needs}
 use native.Mathlib.Omega.{arith}
@@ -25,8 +28,18 @@ returns c = rw (c .before .if1 .taken) (c .starts-well .ensures)
 room : (c : tie.Else1) → let a = c .before .before .args in a .at + 2 * a .d + (a .n - 1) * (2 * a .d) ≤ length (now (a .s))
 room c = omega (arith, less-one (c .before .before .args .n) (2 * c .before .before .args .d) (omega arith))
 
+-- neither descriptor of the first is refused, nor of those after it
+pairs : (c : tie.Else1)
+    → let a = c .before .before .args in
+    (descriptorRefusal (a .d) (a .at) (now (a .s)) ≡ 0) × (descriptorRefusal (a .d) (a .at + a .d) (now (a .s)) ≡ 0)
+    × (descriptorsRefusal (a .d) (2 * (a .n - 1)) (a .at + 2 * a .d) (now (a .s)) ≡ 0)
+pairs c =
+    let start = c .before .before in
+    let a = start .args in
+    pair-none (a .d) (now (a .s)) (a .n) (a .at) (omega arith) (start .pre .2)
+
 hole-at-requires : tie.Need-hole-at-requires
-hole-at-requires c κs = (c .before .before .pre .0, omega (arith, room c))
+hole-at-requires c κs = let p = pairs c in (c .before .before .pre .0, p .0, p .1)
 
 starts-well-requires-2 : tie.Need-starts-well-requires-2
 starts-well-requires-2 c κs = search needs
@@ -78,7 +91,7 @@ holes-after-requires : tie.Need-holes-after-requires
 holes-after-requires c κs =
     let before-place = c .before .before .before .before .before .before in
     let start = before-place .before .before .before in
-    (start .pre .0, room (before-place .before))
+    (start .pre .0, room (before-place .before), pairs (before-place .before) .2)
 
 returns-5 : tie.Need-returns-5
 unfolding holesWell

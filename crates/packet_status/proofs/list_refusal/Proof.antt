@@ -12,17 +12,17 @@ use Rattle.octets.proofs.NumberLaws.{width-some}
 use Rattle.refusals.specs.Refusals.{when}
 use Rattle.header.specs.FirstWord.{descriptorOctets, timestampOctets, partialOf}
 use Rattle.header.specs.Start.{wordOf}
-use Rattle.header.proofs.FirstWordLaws.{octets-le}
+use Rattle.header.proofs.FirstWordLaws.{octets-le, octets-width}
 use Rattle.packet_status.specs.HoleList.{holesWell}
 use Rattle.packet_status.specs.Status.{holesAt, progressOf, responseOf, listOctets, holeList, listRefusal}
-use Rattle.packet_status.proofs.StatusLaws.{list-fits}
+use Rattle.packet_status.proofs.StatusLaws.{list-fits, fields-there, pairs-none}
 use borrow.Author.Needs.{needs}
 use native.Mathlib.Omega.{arith}
 use Rattle.packet_status.proofs.list_refusal.Statement.{statement}
 use Rattle.packet_status.proofs.list_refusal.Tie as tie
 
 word-requires : tie.Need-word-requires
-word-requires c κs = search needs
+word-requires c κs = let start = c .before in omega (arith, fields-there (now (start .args .p)) (start .pre))
 
 split-requires : tie.Need-split-requires
 split-requires c κs = search needs
@@ -50,8 +50,7 @@ known c =
     let s = now (start .args .p) in
     let e : word-place .word .result ≡ wordOf s = word-place .word .ensures in
     let d : c .before .descriptor-octets .result ≡ descriptorOctets (wordOf s) = c .before .descriptor-octets .ensures ∙ ap descriptorOctets e in
-    let pre = start .pre in
-    (e, d, c .timestamp-octets .ensures ∙ ap timestampOctets e, pre .1, rw d (pre .0))
+    (e, d, c .timestamp-octets .ensures ∙ ap timestampOctets e, fields-there s (start .pre), rw d (octets-width (wordOf s)))
 
 mul-holes : tie.Need-mul-holes
 mul-holes c = omega (arith, octets-le (c .before .before .before .word .result))
@@ -83,13 +82,19 @@ returns c =
     rw (ne-eqb (listOctets s % (2 * descriptorOctets (wordOf s))) 0 (λ z. c .if1 .taken (rest (c .before) ∙ z)))
 
 descriptor-requires : tie.Need-descriptor-requires
-descriptor-requires c κs = let k = known (c .before) in (k .4, omega arith)
+descriptor-requires c κs =
+    let k = known (c .before) in
+    let start = c .before .before .before .before .before .before in
+    (k .4, rw (k .1, k .2) (start .pre .progress-none))
 
 add-descriptor : tie.Need-add-descriptor
 add-descriptor c = let k = known (c .before .before) in omega arith
 
 descriptor-requires-2 : tie.Need-descriptor-requires-2
-descriptor-requires-2 c κs = let k = known (c .before .before) in (k .4, omega arith)
+descriptor-requires-2 c κs =
+    let k = known (c .before .before) in
+    let start = c .before .before .before .before .before .before .before in
+    (k .4, rw (k .1, k .2) (start .pre .response-none))
 
 mul-holes-well : tie.Need-mul-holes-well
 mul-holes-well c = let k = known (c .before .before .before) in omega arith
@@ -102,7 +107,7 @@ holes-well-requires c κs =
     let before-place = c .before .before .before in
     let start = before-place .before .before .before .before .before .before in
     let k = known (before-place .before) in
-    (k .4, rw (k .1, k .2) (list-fits (now (start .args .p)) (k .3)))
+    (k .4, rw (k .1, k .2) (list-fits (now (start .args .p)) (k .3)), rw (k .1, k .2) (pairs-none (now (start .args .p)) (start .pre)))
 
 -- the judgement is that of the packet's list
 list : (c : tie.After-holes-well)

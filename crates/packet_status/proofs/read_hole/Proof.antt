@@ -7,8 +7,10 @@ use lib.ListN.{length}
 use Rattle.octets.specs.Numbers.{Width}
 use Rattle.header.specs.FirstWord.{descriptorOctets, timestampOctets}
 use Rattle.header.specs.Start.{wordOf}
+use Rattle.header.specs.Descriptor.{descriptorRefusal}
+use Rattle.header.proofs.FirstWordLaws.{octets-width}
 use Rattle.packet_status.specs.Status.{holeRefusal, indexedHole, readHole}
-use Rattle.packet_status.proofs.StatusLaws.{success-octets, hole-fine, hole-fits}
+use Rattle.packet_status.proofs.StatusLaws.{hole-fine, hole-fits, hole-none}
 use Rattle.refusals.proofs.RefusalLaws.{answered-refused}
 use Rattle.packet_status.specs.declared.HoleRead.the-variants.{Accepted, Refused}
 use borrow.Author.Needs.{needs}
@@ -50,6 +52,8 @@ known : (c : tie.After-timestamp-octets)
     × (c .timestamp-octets .result ≡ timestampOctets (wordOf s))
     × Width d
     × (8 + c .timestamp-octets .result + 2 * d + c .before .before .before .before .before .before .args .index * (2 * d) + 2 * d ≤ length s)
+    × (descriptorRefusal d (8 + c .timestamp-octets .result + 2 * d + c .before .before .before .before .before .before .args .index * (2 * d)) s ≡ 0)
+    × (descriptorRefusal d (8 + c .timestamp-octets .result + 2 * d + c .before .before .before .before .before .before .args .index * (2 * d) + d) s ≡ 0)
 known c =
     let word-place = c .before .before in
     let start = word-place .before .before .before .before in
@@ -58,7 +62,8 @@ known c =
     let f = hole-fine i s (omega arith) in
     let d : c .before .descriptor-octets .result ≡ descriptorOctets (wordOf s) = c .before .descriptor-octets .ensures ∙ ap descriptorOctets (word-place .word .ensures) in
     let t : c .timestamp-octets .result ≡ timestampOctets (wordOf s) = c .timestamp-octets .ensures ∙ ap timestampOctets (word-place .word .ensures) in
-    (d, t, rw d (success-octets s (f .fine)), rw (d, t) (hole-fits i s f))
+    let n = hole-none i s f in
+    (d, t, rw d (octets-width (wordOf s)), rw (d, t) (hole-fits i s f), rw (d, t) (n .0), rw (d, t) (n .1))
 
 mul-holes : tie.Need-mul-holes
 mul-holes c = let k = known c in omega arith
@@ -76,7 +81,7 @@ add-hole-at : tie.Need-add-hole-at
 add-hole-at c = let k = known c in omega arith
 
 hole-at-requires : tie.Need-hole-at-requires
-hole-at-requires c κs = let k = known c in (k .2, k .3)
+hole-at-requires c κs = let k = known c in (k .2, k .4, k .5)
 
 returns-2 : tie.Need-returns-2
 unfolding readHole indexedHole

@@ -7,9 +7,9 @@ use lib.ListN.{length}
 use Rattle.octets.specs.Numbers.{Width}
 use Rattle.header.specs.FirstWord.{descriptorOctets, timestampOctets}
 use Rattle.header.specs.Start.{wordOf}
-use Rattle.header.proofs.FirstWordLaws.{octets-le}
+use Rattle.header.proofs.FirstWordLaws.{octets-le, octets-width}
 use Rattle.packet_status.specs.Status.{holesAt, successOf}
-use Rattle.packet_status.proofs.StatusLaws.{success-fine, success-octets}
+use Rattle.packet_status.proofs.StatusLaws.{success-fine, fields-there}
 use Rattle.octets.proofs.NumberLaws.{width-some}
 use borrow.Author.Needs.{needs}
 use native.Mathlib.Omega.{arith}
@@ -46,7 +46,7 @@ known c =
     let e : word-place .word .result ≡ wordOf s = word-place .word .ensures in
     let f = success-fine s (start .pre .1) in
     let d : c .before .descriptor-octets .result ≡ descriptorOctets (wordOf s) = c .before .descriptor-octets .ensures ∙ ap descriptorOctets e in
-    (e, d, c .timestamp-octets .ensures ∙ ap timestampOctets e, f .long, rw d (success-octets s f))
+    (e, d, c .timestamp-octets .ensures ∙ ap timestampOctets e, fields-there s (f .descriptors), rw d (octets-width (wordOf s)))
 
 mul-holes : tie.Need-mul-holes
 mul-holes c = omega (arith, octets-le (c .before .before .before .word .result))
@@ -58,13 +58,19 @@ id-requires : tie.Need-id-requires
 id-requires c κs = search needs
 
 descriptor-requires : tie.Need-descriptor-requires
-descriptor-requires c κs = let k = known (c .before) in (k .4, omega arith)
+descriptor-requires c κs =
+    let k = known (c .before) in
+    let start = c .before .before .before .before .before .before in
+    (k .4, rw (k .1, k .2) (success-fine (now (start .args .p)) (start .pre .1) .descriptors .progress-none))
 
 add-descriptor : tie.Need-add-descriptor
 add-descriptor c = let k = known (c .before .before) in omega arith
 
 descriptor-requires-2 : tie.Need-descriptor-requires-2
-descriptor-requires-2 c κs = let k = known (c .before .before) in (k .4, omega arith)
+descriptor-requires-2 c κs =
+    let k = known (c .before .before) in
+    let start = c .before .before .before .before .before .before .before in
+    (k .4, rw (k .1, k .2) (success-fine (now (start .args .p)) (start .pre .1) .descriptors .response-none))
 
 sub-t13 : tie.Need-sub-t13
 sub-t13 c = let k = known (c .before .before .before) in omega arith

@@ -4,7 +4,6 @@ use native.Mathlib.Omega.{arith}
 use denote.Ref.{now}
 use lib.ListN.{length}
 use borrow.Author.Tests.{lt-ltb, le-ltb}
-use Rattle.octets.specs.Numbers.{four}
 use Rattle.replay_steps.specs.Records.{bodyLength}
 use Rattle.replay_steps.proofs.records.body_length.Statement.{statement}
 use Rattle.replay_steps.proofs.records.body_length.Tie as tie
@@ -15,14 +14,14 @@ returns c =
     let a = c .before .before .args in
     rw (lt-ltb (length (now (a .head))) 5 (c .if1 .taken))
 
-read-number-requires : tie.Need-read-number-requires
-read-number-requires c κs = (four, omega arith)
+read-four-requires : tie.Need-read-four-requires
+read-four-requires c κs = omega arith
 
 returns-2 : tie.Need-returns-2
 unfolding bodyLength
 returns-2 c =
     let a = c .before .before .before .args in
-    rw (le-ltb (length (now (a .head))) 5 (c .before .if1 .left)) (c .read-number .ensures)
+    rw (le-ltb (length (now (a .head))) 5 (c .before .if1 .left)) (c .read-four .ensures)
 
 pub body-length-spec : {M : Type 1} → statement M
-body-length-spec = tie.close (tie.spec returns read-number-requires returns-2)
+body-length-spec = tie.close (tie.spec returns read-four-requires returns-2)

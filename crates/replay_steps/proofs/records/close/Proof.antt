@@ -7,7 +7,6 @@ use denote.Ref.{now}
 use lib.ListN.{length}
 use borrow.Author.Tests.{eq-eqb, ne-eqb}
 use borrow.Author.Needs.{needs}
-use Rattle.octets.specs.Numbers.{four}
 use Rattle.area.specs.Operations.{closeArea}
 use Rattle.text.proofs.AddedLaws.{added-as}
 use Rattle.replay_answers.specs.AnswerLines.{closeText}
@@ -31,8 +30,8 @@ returns c =
     let z = ne-eqb (length (now (a .body))) 4 (if1-place .if1 .taken) in
     (rw z (bad-length-place .bad-length .ensures), rw z)
 
-read-number-requires : tie.Need-read-number-requires
-read-number-requires c κs = (four, omega arith)
+read-four-requires : tie.Need-read-four-requires
+read-four-requires c κs = omega arith
 
 close-requires : tie.Need-close-requires
 close-requires c κs = search needs
@@ -51,12 +50,12 @@ unfolding closeLines closeAfter
 returns-2 c =
     let put-close-place = c .before .before in
     let close-place = put-close-place .before .before .before .before in
-    let read-number-place = close-place .before .before in
-    let if1-place = read-number-place .before in
+    let read-four-place = close-place .before .before in
+    let if1-place = read-four-place .before in
     let start = if1-place .before .before .before .before in
     let a = start .args in
     let z = eq-eqb (length (now (a .body))) 4 (if1-place .if1 .left) in
-    let i = read-number-place .read-number in
+    let i = read-four-place .read-four in
     let o = close-place .close .ensures in (
       rw z (added-as (ap (closeText (a .number) (i .result)) (o .0) ∙ ap (λ (n : ℕ). closeText (a .number) n (closeArea (now (a .area)) n .answer)) (i .ensures)) (put-close-place .put-close .ensures)),
       rw z (o .1 ∙ ap (λ (n : ℕ). closeArea (now (a .area)) n .area) (i .ensures)),
@@ -69,7 +68,7 @@ close-spec =
     bad-length-requires
     same-length
     returns
-    read-number-requires
+    read-four-requires
     close-requires
     put-close-requires
     same-length-2

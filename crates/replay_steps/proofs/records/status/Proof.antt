@@ -11,7 +11,6 @@ use lib.ListN.{length, take, getD}
 use lib.Seq.{length-take-le}
 use borrow.Author.Tests.{eq-eqb, ne-eqb}
 use borrow.Author.Needs.{needs}
-use Rattle.octets.specs.Numbers.{four, eight}
 use Rattle.text.proofs.AddedLaws.{added-as}
 use Rattle.replay_steps.specs.Records.{numberAt, writtenLine, statusLines}
 use Rattle.replay_steps.proofs.records.status.Statement.{statement}
@@ -32,17 +31,17 @@ returns c =
     let a = start .args in
     rw (ne-eqb (length (now (a .body))) 17 (if1-place .if1 .taken)) (bad-length-place .bad-length .ensures)
 
-read-number-requires : tie.Need-read-number-requires
-read-number-requires c κs = (four, omega arith)
+read-four-requires : tie.Need-read-four-requires
+read-four-requires c κs = omega arith
 
-read-number-requires-2 : tie.Need-read-number-requires-2
-read-number-requires-2 c κs = (eight, omega arith)
+read-eight-requires : tie.Need-read-eight-requires
+read-eight-requires c κs = omega arith
 
 shared-slice-read-unasked : tie.Need-shared-slice-read-unasked
 shared-slice-read-unasked c = search needs
 
-read-number-requires-3 : tie.Need-read-number-requires-3
-read-number-requires-3 c κs = (four, omega arith)
+read-four-requires-2 : tie.Need-read-four-requires-2
+read-four-requires-2 c κs = omega arith
 
 within-requires : tie.Need-within-requires
 within-requires c κs = search needs
@@ -70,15 +69,15 @@ unfolding statusLines
 returns-2 c =
     let write-place = c .before .before .before .before in
     let within-place = write-place .before .before .before in
-    let read-number3-place = within-place .before in
-    let read-number2-place = read-number3-place .before .before in
-    let read-number-place = read-number2-place .before in
-    let if1-place = read-number-place .before in
+    let read-four2-place = within-place .before in
+    let read-eight-place = read-four2-place .before .before in
+    let read-four-place = read-eight-place .before in
+    let if1-place = read-four-place .before in
     let start = if1-place .before .before .before .before .before in
     let a = start .args in
-    let id = read-number-place .read-number in
-    let k = read-number2-place .read-number2 in
-    let n = read-number3-place .read-number3 in
+    let id = read-four-place .read-four in
+    let k = read-eight-place .read-eight in
+    let n = read-four2-place .read-four2 in
     let room = within-place .within in
     let unasked = not (eqb (getD (now (a .body)) 12 0) 0) in
     let asked : n .result ≡ numberAt 13 4 (now (a .body)) = n .ensures in
@@ -95,10 +94,10 @@ status-spec =
     bad-length-requires
     same-length
     returns
-    read-number-requires
-    read-number-requires-2
+    read-four-requires
+    read-eight-requires
     shared-slice-read-unasked
-    read-number-requires-3
+    read-four-requires-2
     within-requires
     slice-relend-prefix-write
     slice-aggregate-write

@@ -1,4 +1,4 @@
--- `transfer::status::width_bits` meets its contract: by the three widths.
+-- `transfer::status::width_bits` meets its contract: by the four widths.
 -- Assumes nothing.
 use borrow.Author.Tests.{eq-eqb, ne-eqb}
 use Rattle.transfer.specs.WriteStatus.{widthBits}
@@ -16,7 +16,15 @@ returns-2 c = rw (ne-eqb (c .before .before .args .width) 2 (omega arith), eq-eq
 
 returns-3 : tie.Need-returns-3
 unfolding widthBits
-returns-3 c = rw (ne-eqb (c .before .before .args .width) 2 (omega arith), ne-eqb (c .before .before .args .width) 4 (omega arith))
+returns-3 c =
+    let w = c .before .before .before .args .width in
+    rw (ne-eqb w 2 (omega arith), ne-eqb w 4 (omega arith), eq-eqb w 8 (omega arith))
+
+returns-4 : tie.Need-returns-4
+unfolding widthBits
+returns-4 c =
+    let w = c .before .before .before .args .width in
+    rw (ne-eqb w 2 (omega arith), ne-eqb w 4 (omega arith), ne-eqb w 8 (omega arith))
 
 pub width-bits-spec : {M : Type 1} → statement M
-width-bits-spec = tie.close (tie.spec returns returns-2 returns-3)
+width-bits-spec = tie.close (tie.spec returns returns-2 returns-3 returns-4)

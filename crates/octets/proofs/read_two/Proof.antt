@@ -1,0 +1,34 @@
+-- `octets::read_two` meets its contract: the first octet counts 256 times the second. Assumes nothing.
+use denote.Ref.{now}
+use Rattle.octets.proofs.PartLaws.{two-octets}
+use borrow.Author.Needs.{needs}
+use native.Mathlib.Omega.{arith}
+use Rattle.octets.proofs.read_two.Statement.{statement}
+use Rattle.octets.proofs.read_two.Tie as tie
+
+shared-slice-read-join-four : tie.Need-shared-slice-read-join-four
+shared-slice-read-join-four c = search needs
+
+add-join-four : tie.Need-add-join-four
+add-join-four c = search needs
+
+shared-slice-read-join-four-2 : tie.Need-shared-slice-read-join-four-2
+shared-slice-read-join-four-2 c = search needs
+
+join-four-requires : tie.Need-join-four-requires
+join-four-requires c κs = search needs
+
+returns : tie.Need-returns
+returns c =
+    let p = c .before .before .before .before in
+    omega (arith, two-octets (now (p .args .s)) (p .args .at) (p .pre))
+
+pub read-two-spec : {M : Type 1} → statement M
+read-two-spec =
+    tie.close
+    (tie.spec
+    shared-slice-read-join-four
+    add-join-four
+    shared-slice-read-join-four-2
+    join-four-requires
+    returns)

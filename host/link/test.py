@@ -100,11 +100,11 @@ def passes(program, place):
 10 failure id=7 status=9 flags=000009
 11 record id=7 offset=1000 length=1000 edge=3000 complete=1
 11 complete id=7 length=3000 file=00000007.page META
-11 send 44010000000000070bb80bb8
+11 send 44010000000000070bb80bb7
 12 record id=7 offset=500 length=5 edge=3000 complete=1
-12 send 44010000000000070bb80bb8
+12 send 44010000000000070bb80bb7
 13 open id=7 width=16 length=3000 edge=3000 complete=1 already-open
-13 send 44010000000000070bb80bb8
+13 send 44010000000000070bb80bb7
 14 open id=9 width=16 length=0 edge=0 complete=1 new
 14 complete id=9 length=0 file=00000009.page META
 14 send 440100000000000900000000

@@ -108,8 +108,7 @@ int main(void)
     must(told.hole_count == 0 && told.flags == SARATOGA_FLAG_UNASKED, "the STATUS must name no hole, and have bit 15");
     must(told.progress == LENGTH && told.in_response_to == LENGTH - 1, "the STATUS must point to the last octet");
     must(memcmp(disk, sent, LENGTH) == 0, "the page on disk must be the page that was sent");
-    printf("No hole is left, and the STATUS points to octet %llu, the last. The page on disk is the page that was sent:\n"
-           "page 611 may go to plate.\n",
-           (unsigned long long)told.in_response_to);
+    printf("No hole is left, and the STATUS points to octet %llu, the last.\n", (unsigned long long)told.in_response_to);
+    printf("The page on disk is the page that was sent: page 611 may go to plate.\n");
     return 0;
 }

@@ -169,10 +169,10 @@ def more_than_sixteen(program, place):
     check(lines[32:] == ["17 refused 17 code=3", "17 send 4400000300000010",
                          "18 record id=3 offset=0 length=20 edge=20 complete=1",
                          "18 complete id=3 length=20 file=00000003.page " + META,
-                         "18 send 440100000000000300140014", "19 close id=3 to-make-room",
+                         "18 send 440100000000000300140013", "19 close id=3 to-make-room",
                          "19 open id=16 width=16 length=20 edge=0 complete=0 new", "19 send 440100000000001000000000",
                          "20 record id=16 offset=0 length=20 edge=20 complete=1",
-                         "20 complete id=16 length=20 file=00000010.page " + META, "20 send 440100000000001000140014"],
+                         "20 complete id=16 length=20 file=00000010.page " + META, "20 send 440100000000001000140013"],
           lines[32:])
 
 

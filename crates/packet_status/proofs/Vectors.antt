@@ -41,8 +41,7 @@ completed : (readStatus complete ≡ Success (record { flags = 65536; id = 7; wi
 unfolding readStatus statusRefusal typeRefusal startRefusal successRefusal descriptorRefusal listRefusal holeList listWell pointsToLast holesWell startsWell successOf readHole holeRefusal
 completed = (refl, refl)
 
--- 44 XX 00 00 00 00 00 07, where the second octet is worth 2 by bit 14 and 1 by bit 15, then Progress and In-Response-To of 16 bits, a
--- last octet each, and more
+-- 44 with `flags`, in which bit 14 is worth 2 and bit 15 is worth 1, then 00 00 00 00 00 07, Progress, In-Response-To, and `more`
 abbrev lastOctets : ℕ → ℕ → ℕ → List ℕ → List ℕ
 lastOctets flags from to more = 68 ∷ flags ∷ 0 ∷ 0 ∷ 0 ∷ 0 ∷ 0 ∷ 7 ∷ 0 ∷ from ∷ 0 ∷ to ∷ more
 

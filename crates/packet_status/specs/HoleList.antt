@@ -34,8 +34,8 @@ holesWell partial progress top [] = startsWell partial progress top
 holesWell partial progress top (h ∷ hs) =
     startsWell partial progress (h .start) && (ltb (h .start) (h .end) && (leb (h .end) top && holesAfter (h .end) top hs))
 
--- "The reader also takes In-Response-To equal to Progress - 1 when there are no holes, bit 14 is clear and bit 15 is set": the
--- last octet of a complete transfer, which Progress 0 has none of
+-- "The reader also takes In-Response-To equal to Progress - 1 when there are no holes, bit 14 is clear and bit 15 is set". Nothing is
+-- one less than Progress 0
 unfoldable pub pointsToLast : Bool → Bool → ℕ → ℕ → ℕ → Bool
 pointsToLast partial unasked count progress top = not partial && (unasked && (eqb count 0 && eqb (suc top) progress))
 

@@ -240,7 +240,8 @@ struct saratoga_packet {
  * its end and greater than the end before it, none below Progress or above In-Response-To. With bit 14 clear the
  * first hole starts at Progress, and where there is none Progress is In-Response-To. With bit 15 set and bit 14 clear
  * and no hole, In-Response-To may also be one less than Progress: the last octet of a complete transfer. That alone
- * does not say complete, since other receivers write it of a file that goes on: Progress equal to its length does.
+ * does not say complete, since other receivers write it of a file that goes on: Progress equal to its length does. What was
+ * received ends, in a STATUS that saratoga_write_status wrote, at the greater of Progress and In-Response-To.
  *
  * Order of refusals: 2, 1 (first 8 octets), 3, 4; a failure STATUS is then accepted; then
  * METADATA: 5, 6 (kind), 7, 1 (checksum, properties), 6 (property bits 6, 7, 10), 5 (the size's own width),

@@ -454,8 +454,9 @@ class Sender:
             return
         ends = [value for value, in struct.iter_unpack(">I", packet[8:])]
         missing = list(zip(ends[2::2], ends[3::2]))
-        if ends[1] < len(self.originals[ident]):
-            missing.append((ends[1], len(self.originals[ident])))
+        edge = max(ends[0], ends[1])  # In-Response-To of a complete page is its last octet
+        if edge < len(self.originals[ident]):
+            missing.append((edge, len(self.originals[ident])))
         # What a STATUS said to be received stays so, whatever happened to the program: the area was saved before.
         before = self.missing[ident]
         if self.inside(missing, before):

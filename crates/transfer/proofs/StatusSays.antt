@@ -2,7 +2,7 @@
 -- holes are left out, its bit 15 that it was sent unasked or that the transfer is complete, its In-Response-To the last octet of a
 -- complete transfer and the edge of any other.
 -- Assumes nothing.
-use Prim.Native.Nat.{ℕ, suc, _-_, _<_, _≤_}
+use Prim.Native.Nat.{ℕ, suc, _-_, _<_, _≤_, max}
 use mathlib.Core.Path.{_≡_, refl, sym, ap, subst, _∙_}
 use mathlib.Core.Bool.{Bool, true, false, _||_}
 use mathlib.Core.List.{List, [], _∷_, _++_}
@@ -171,6 +171,15 @@ module _ (x : Transfer) (k : ℕ) (unasked : Bool) (room : ℕ) (fine : Transfer
 
   pub status-says-empty : L ≡ 0 → responseOf packet ≡ 0
   status-says-empty z = omega (arith, complete-to (status-says-complete .1 (λ o l. absurd (omega arith))))
+
+  -- so the edge is the greater of Progress and In-Response-To, in every STATUS
+  pub status-says-reach : max (progressOf packet) (responseOf packet) ≡ edge rs
+  status-says-reach =
+      ⊎-elim
+      (λ c.
+      omega (arith, complete-to c, from-is, complete-progress L rs (fine .canonical) (fine .within) .0 c, complete-edge L rs (fine .canonical) (fine .within) c))
+      (λ n. omega (arith, edge-to n, from-is, progress-edge rs (fine .canonical)))
+      (told (complete L rs))
 
   -- In-Response-To is one less than Progress exactly in the STATUS of a complete transfer that has octets
   pub status-says-one-less : (suc (responseOf packet) ≡ progressOf packet) ↔ ((0 < L) × AllReceived)

@@ -132,8 +132,19 @@ judged c =
       k .2,
     )
 
+-- whether In-Response-To points to the last octet, by the same
+last : (c : tie.After-points-to-last)
+    → let t = c .before .before .before .before .before .before in
+    let s = now (t .before .before .before .before .before .args .p) in
+    let h = t .before .before .split .result in
+    let d = t .before .descriptor-octets .result in
+    let n = (length s - (8 + t .timestamp-octets .result + 2 * d)) / (2 * d) in
+    pointsToLast (eqb (h .partial) 1) (eqb (h .wanted) 1) n (c .before .before .descriptor .result) (c .before .descriptor2 .result)
+    ≡ c .points-to-last .result
+last c = sym (c .points-to-last .ensures)
+
 returns-2 : tie.Need-returns-2
-returns-2 c = sym (judged (c .before .before) ∙ rw (sym (c .before .points-to-last .ensures) ∙ c .if2 .taken))
+returns-2 c = sym (judged (c .before .before) ∙ rw (last (c .before) ∙ c .if2 .taken))
 
 holes-well-requires : tie.Need-holes-well-requires
 holes-well-requires c κs =
@@ -142,14 +153,13 @@ holes-well-requires c κs =
     let k = known timestamp-place in
     (k .4, rw (k .1, k .2) (list-fits (now (start .args .p)) (k .3)))
 
--- where In-Response-To is no last octet
+-- where it does not
 otherwise : (c : tie.After-holes-well)
     → let s = now (c .before .before .before .before .before .before .before .before .before .before .before .before .before .args .p) in
     listRefusal s ≡ when (not (c .holes-well .result)) 11
 otherwise c =
-    let last = c .before .before in
-    judged (last .before)
-    ∙ rw (sym (last .points-to-last .ensures) ∙ c .before .if2 .left) (ap (λ (b : Bool). when (not b) 11) (sym (c .holes-well .ensures)))
+    let last-place = c .before .before in
+    judged (last-place .before) ∙ rw (last last-place ∙ c .before .if2 .left) (ap (λ (b : Bool). when (not b) 11) (sym (c .holes-well .ensures)))
 
 returns-3 : tie.Need-returns-3
 returns-3 c = sym (otherwise (c .before) ∙ rw (c .if3 .taken))

@@ -1,8 +1,8 @@
 -- In-Response-To of a STATUS that is written: the last offset of a complete transfer, the edge of any other.
 -- Assumes nothing.
 use Prim.Native.Nat.{ℕ, zero, suc, _-_}
-use mathlib.Core.Path.{_≡_, refl, ap, _∙_}
-use mathlib.Core.Bool.{Bool, true, false, cond}
+use mathlib.Core.Path.{_≡_, refl}
+use mathlib.Core.Bool.{Bool, true, false}
 use mathlib.Core.List.{List}
 use mathlib.Core.Logic.{_⊎_, inl, inr}
 use native.Mathlib.Omega.{arith}
@@ -23,8 +23,8 @@ told false = inr refl
 
 pub response-complete : (L : ℕ) (rs : List Run) → complete L rs ≡ true → responseSent L rs ≡ L - 1
 unfolding responseSent
-response-complete L rs e = ap (λ (b : Bool). cond b (lastOffset L) (edge rs)) e ∙ last-is L
+response-complete L rs e = rw e (last-is L)
 
 pub response-not : (L : ℕ) (rs : List Run) → complete L rs ≡ false → responseSent L rs ≡ edge rs
 unfolding responseSent
-response-not L rs e = ap (λ (b : Bool). cond b (lastOffset L) (edge rs)) e
+response-not L rs e = rw e

@@ -187,7 +187,7 @@ static void hole_as(const char *what, const uint8_t *area, size_t len, uint64_t 
 static void page_with_a_hole(void)
 {
     static const uint8_t hole[] = {0x44, 0, 0, 0, 0, 0, 0, 7, 0x03, 0xE8, 0x0B, 0xB8, 0x03, 0xE8, 0x07, 0xD0};
-    static const uint8_t whole[] = {0x44, 0x01, 0, 0, 0, 0, 0, 7, 0x0B, 0xB8, 0x0B, 0xB8};
+    static const uint8_t whole[] = {0x44, 0x01, 0, 0, 0, 0, 0, 7, 0x0B, 0xB8, 0x0B, 0xB7};
     uint8_t *area = fresh_area(AREA);
     open_as("page", area, AREA, 7, 2, 3000, (struct saratoga_opened){0, 0, 0, 0, 0});
     received("0 to 999", area, 0, 1000, 1000, 0);

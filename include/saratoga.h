@@ -41,8 +41,8 @@ extern "C" {
 #define SARATOGA_RUNS 64              /* runs of a transfer, and so at most as many holes */
 #define SARATOGA_PACKET_OCTETS 65535  /* of the longest packet that is read or written */
 #define SARATOGA_PATH_OCTETS 1023     /* of the longest path, without the closing zero octet */
-#define SARATOGA_METADATA_OCTETS 1110 /* of the longest METADATA that is written */
-#define SARATOGA_STATUS_OCTETS 1048   /* of the longest STATUS that is written: room for any, with 64 holes */
+#define SARATOGA_METADATA_OCTETS 1118 /* of the longest METADATA that is written */
+#define SARATOGA_STATUS_OCTETS 2088   /* of the longest STATUS that is written: room for any, with 64 holes */
 #define SARATOGA_FAILURE_OCTETS 8     /* of a failure STATUS */
 
 /* Packet types. */
@@ -54,10 +54,11 @@ extern "C" {
 /*
  * Masks on `flags`, which is bits 8 to 31 of the packet as a 24-bit number: bit b is 1 << (31 - b).
  */
-#define SARATOGA_WIDTH_MASK UINT64_C(0xC00000) /* bits 8 and 9 but of BEACON: the descriptor width; 11 is refused with 5 */
+#define SARATOGA_WIDTH_MASK UINT64_C(0xC00000) /* bits 8 and 9 but of BEACON: the descriptor width */
 #define SARATOGA_WIDTH_16 UINT64_C(0x000000)
 #define SARATOGA_WIDTH_32 UINT64_C(0x400000)
 #define SARATOGA_WIDTH_64 UINT64_C(0x800000)
+#define SARATOGA_WIDTH_128 UINT64_C(0xC00000) /* of numbers below 2^64: the upper eight octets are zero, else 5 */
 #define SARATOGA_KIND_MASK UINT64_C(0x300000) /* bits 10 and 11 of METADATA and DATA: 0 is a file, the one kind taken */
 #define SARATOGA_FLAG_ENDED UINT64_C(0x080000)         /* bit 12 of METADATA: the transfer was ended by its sender */
 #define SARATOGA_FLAG_ERRORS_TAKEN UINT64_C(0x040000)  /* bit 13 of METADATA: the content may come with errors */
@@ -92,7 +93,8 @@ extern "C" {
 #define SARATOGA_FREE_SPACE_NONE UINT64_C(0x000000)
 #define SARATOGA_FREE_SPACE_16 UINT64_C(0x004000)
 #define SARATOGA_FREE_SPACE_32 UINT64_C(0x005000)
-#define SARATOGA_FREE_SPACE_64 UINT64_C(0x006000) /* 0x007000, 128 bits, is refused with 5 */
+#define SARATOGA_FREE_SPACE_64 UINT64_C(0x006000)
+#define SARATOGA_FREE_SPACE_128 UINT64_C(0x007000) /* of numbers below 2^64, as SARATOGA_WIDTH_128 */
 
 /* Willingness to send and to receive, as BEACON is read. */
 #define SARATOGA_CANNOT 0  /* it can't at all */
@@ -115,6 +117,7 @@ extern "C" {
 #define SARATOGA_PROPERTIES_WIDTH_16 UINT64_C(0x0000)
 #define SARATOGA_PROPERTIES_WIDTH_32 UINT64_C(0x0040)
 #define SARATOGA_PROPERTIES_WIDTH_64 UINT64_C(0x0080)
+#define SARATOGA_PROPERTIES_WIDTH_128 UINT64_C(0x00C0) /* of sizes below 2^64, as SARATOGA_WIDTH_128 */
 
 /* Status codes, bits 24 to 31 of STATUS, as the draft names them. A refusal's `code` is 0x00, 01, 03, 06, 09 or 0A. */
 #define SARATOGA_CODE_SUCCESS 0x00            /* no error; as the `code` of a refusal: send nothing */
@@ -141,7 +144,7 @@ extern "C" {
 #define SARATOGA_REFUSED_TOO_LONG 2      /* 0x00: packet over 65,535 octets, read or to be written */
 #define SARATOGA_REFUSED_VERSION 3       /* 0x00: bits 0 and 1 are not 0 1 */
 #define SARATOGA_REFUSED_TYPE 4          /* 0x0A: type not 0, 2, 3 or 4, or not the one that the function takes */
-#define SARATOGA_REFUSED_WIDTH 5         /* 0x09: width bits 11, of descriptors or of the free space */
+#define SARATOGA_REFUSED_WIDTH 5         /* 0x09: the upper eight octets of a 128-bit descriptor aren't all zero */
 #define SARATOGA_REFUSED_KIND 6          /* 0x01: kind or property bits not those of a file */
 #define SARATOGA_REFUSED_CHECKSUM 7      /* 0x01: pair of checksum type and length not allowed */
 #define SARATOGA_REFUSED_PATH 8          /* 0x01: path empty, over 1,023 octets, or followed by octets */
@@ -170,7 +173,7 @@ static inline const char *saratoga_refusal_text(uint64_t number)
         "packet longer than 65,535 octets",
         "not this version of the protocol",
         "packet type not taken here",
-        "descriptor width not supported",
+        "upper eight octets of a 128-bit descriptor are not zero",
         "not a plain file",
         "checksum type and length do not go together",
         "path empty, too long, or followed by octets",
@@ -244,7 +247,7 @@ struct saratoga_packet {
     uint64_t type;  /* one of SARATOGA_TYPE_... */
     uint64_t flags; /* bits 8 to 31, as a 24-bit number, all as read */
     uint64_t id;    /* 0 for a BEACON, which has none */
-    uint64_t width; /* octets of the packet's own descriptors: 2, 4 or 8; 0 for a failure STATUS and a BEACON */
+    uint64_t width; /* octets of the packet's own descriptors: 2, 4, 8 or 16; 0 for a failure STATUS and a BEACON */
 
     /* DATA and success STATUS */
     uint64_t timestamp_at, timestamp_len; /* place 8; length 16 where bit 12 is set, else 0 */
@@ -270,19 +273,22 @@ struct saratoga_packet {
     uint64_t largest_width;             /* octets of the widest descriptors that the node supports: 2, 4, 8 or 16 */
     uint64_t bundles, streams;          /* 1 where the node supports them, else 0 */
     uint64_t send, receive;             /* each SARATOGA_CANNOT, SARATOGA_NOT_NOW or SARATOGA_WILLING */
-    uint64_t free_width;                /* octets of the free space: 2, 4 or 8; 0 where none is given */
+    uint64_t free_width;                /* octets of the free space: 2, 4, 8 or 16; 0 where none is given */
     uint64_t free_space;                /* in KiB (1,024 octets each), rounded down; the width's largest: more than that */
     uint64_t endpoint_at, endpoint_len; /* who it is: any octets, to the packet's end; may be none */
 };
 
 /*
- * Reads a packet: BEACON; or METADATA, DATA or STATUS, of a file, with descriptors of 16, 32 or 64 bits.
+ * Reads a packet: BEACON; or METADATA, DATA or STATUS, of a file, with descriptors of 16, 32, 64 or 128 bits.
  *
+ * Numbers are below 2^64: a descriptor of 128 bits is taken where its upper eight octets are zero. Where one of them isn't,
+ * the packet is refused with 5, once all 16 octets are there, whatever is wrong after them.
  * BEACON: four octets are a whole one, with nothing in it but flags. Where bit 17 is clear there is no free space, and
  * bits 18 and 19 are neither tested nor lost.
  * METADATA: the pairs of checksum type (bits 28 to 31) and length in 32-bit words (bits 24 to 27) that are taken are
  * 0 with 0, 1 with 1, 2 with 4, 3 with 5, and 4 to 15 with 1 to 15. The path is 1 to 1,023 octets; one zero octet
- * after it ends the packet. The size may stand in another width than the packet's own, but must fit that too.
+ * after it ends the packet. The size may stand in another width than the packet's own, but must fit that too; no other
+ * field has that width, so none is judged where it is 128 bits.
  * STATUS with a code that isn't 0 (failure): what follows the Id is ignored.
  * STATUS with code 0 (success): Progress is at most In-Response-To; the holes are whole pairs, each start less than
  * its end and greater than the end before it, none below Progress or above In-Response-To. With bit 14 clear the
@@ -293,21 +299,21 @@ struct saratoga_packet {
  *
  * Order of refusals: 2, 1 (first 8 octets; first 4 where the first octet is 0x40, a BEACON's), 3, 4; a failure STATUS is
  * then accepted; then
- * BEACON:   26, and where bit 17 is set 5, 1 (free space).
- * METADATA: 5, 6 (kind), 7, 1 (checksum, properties), 6 (property bits 6, 7, 10), 5 (the size's own width),
- *           1 (size, times), 1 or 8 (path), 9.
- * DATA:     5, 6, 1 (timestamp, offset), 10.
- * STATUS:   5, 1 (timestamp, Progress, In-Response-To), 11.
+ * BEACON:   26, and where bit 17 is set 1, 5 (free space).
+ * METADATA: 6 (kind), 7, 1 (checksum, properties), 6 (property bits 6, 7, 10), 1, 5 (size), 1 (times), 1 or 8 (path), 9.
+ * DATA:     6, 1 (timestamp), 1, 5 (offset), 10.
+ * STATUS:   1 (timestamp), 1, 5 (Progress), 1, 5 (In-Response-To), 5 (any descriptor of the hole list that is whole, a
+ *           start without its end too), 11.
  */
 struct saratoga_packet saratoga_read(const uint8_t *packet, size_t packet_len);
 
 /*
  * Reads hole `index`, counted from 0, of a success STATUS. The whole packet is judged as by saratoga_read, at each call. To
  * walk a long list in one pass, read it once by saratoga_read: its holes are then the `hole_count` pairs of `width` octets each,
- * big-endian, from packet + holes_at on.
+ * big-endian, from packet + holes_at on; of 16 octets the first eight are zero.
  *
- * Order of refusals: 2, 1, 3, 4 (any type but STATUS), 11 (a failure STATUS), 5, 1, 11, 19 (`index` is not below
- * the number of holes).
+ * Order of refusals: 2, 1, 3, 4 (any type but STATUS), 11 (a failure STATUS), 1 and 5 as for saratoga_read, 11, 19 (`index`
+ * is not below the number of holes).
  */
 struct saratoga_hole saratoga_read_hole(const uint8_t *packet, size_t packet_len, uint64_t index);
 
@@ -317,8 +323,8 @@ struct saratoga_hole saratoga_read_hole(const uint8_t *packet, size_t packet_len
  * the rest, and gives the width's largest number where there is more. Where bit 17 is clear it must be 0. `endpoint` may
  * hold any octets, and may have none. The size is 4 octets, the free space's and the endpoint's.
  *
- * Order of refusals: 21 (flags over 24 bits, free space over its width, free space not 0 where bit 17 is clear), 26,
- * 5 (bits 17, 18 and 19 set), 2, 20.
+ * Order of refusals: 21 (flags over 24 bits, free space over its width, free space not 0 where bit 17 is clear), 26, 2, 20.
+ * In 128 bits any number can be written, by this writer and by those below: the upper eight octets are then zero.
  */
 struct saratoga_written saratoga_write_beacon(uint64_t flags, uint64_t free_space, const uint8_t *endpoint,
                                               size_t endpoint_len, uint8_t *out, size_t out_len);
@@ -328,11 +334,11 @@ struct saratoga_written saratoga_write_beacon(uint64_t flags, uint64_t free_spac
  * sets width, kind 00 and the checksum pair in it; the type is set here. `checksum_len` must be four times the words
  * that bits 24 to 27 give. `properties` is 16 bits; its bits 8 and 9 give the width in which `size` is written.
  * `path` comes without a closing zero octet and may hold none; the zero octet is added here. The packet has at most
- * 1,110 octets.
+ * 1,118 octets.
  *
  * Order of refusals: 21 (flags over 24 bits, id, mtime or ctime over 32, properties over 16, size over its own
- * width, checksum longer than the flags say), 5, 6 (kind), 7, 1 (checksum shorter than the flags say),
- * 6 (property bits), 5 (the size's own width), 8 (path empty, over 1,023 octets or with a zero octet in it), 9, 20.
+ * width, checksum longer than the flags say), 6 (kind), 7, 1 (checksum shorter than the flags say), 6 (property bits),
+ * 8 (path empty, over 1,023 octets or with a zero octet in it), 9, 20.
  */
 struct saratoga_written saratoga_write_metadata(uint64_t flags, uint64_t id, const uint8_t *checksum,
                                                 size_t checksum_len, uint64_t properties, uint64_t size,
@@ -345,7 +351,7 @@ struct saratoga_written saratoga_write_metadata(uint64_t flags, uint64_t id, con
  * flags is set, else 0.
  *
  * Order of refusals: 21 (flags over 24 bits, id over 32, offset over the width, timestamp longer than the flags
- * say), 5, 6, 1 (timestamp shorter than the flags say), 10, 2, 20.
+ * say), 6, 1 (timestamp shorter than the flags say), 10, 2, 20.
  */
 struct saratoga_written saratoga_write_data(uint64_t flags, uint64_t id, const uint8_t *timestamp,
                                             size_t timestamp_len, uint64_t offset, const uint8_t *payload,
@@ -407,7 +413,7 @@ struct saratoga_recorded {
 struct saratoga_listed {
     uint64_t number, code;
     uint64_t id;
-    uint64_t width;    /* octets of a descriptor: 2, 4 or 8 */
+    uint64_t width;    /* octets of a descriptor: 2, 4, 8 or 16 */
     uint64_t length;   /* of the file, in octets */
     uint64_t edge;
     uint64_t complete; /* 1 where every octet was received, else 0 */
@@ -427,7 +433,7 @@ struct saratoga_done saratoga_fresh(uint8_t *area, size_t area_len);
  * changes: `already_open` is 1, and edge and completeness are those of the transfer as it stands. Path, times and
  * checksum are not kept and not compared.
  *
- * Order of refusals: 22, the reader's for METADATA with 4 for any other type (2, 1, 3, 4, 5, 6, 7, 1, 6, 5, 1, 1 or 8,
+ * Order of refusals: 22, the reader's for METADATA with 4 for any other type (2, 1, 3, 4, 6, 7, 1, 6, 1, 5, 1, 1 or 8,
  * 9: see saratoga_read), 18, 17.
  */
 struct saratoga_opened saratoga_open(uint8_t *area, size_t area_len, const uint8_t *packet, size_t packet_len);
@@ -436,8 +442,8 @@ struct saratoga_opened saratoga_open(uint8_t *area, size_t area_len, const uint8
  * Records a DATA packet: adds the offsets of its payload to those received. A repeat adds nothing and is accepted.
  * Write the payload to disk first (see above).
  *
- * Order of refusals: 22, the reader's for DATA with 4 for any other type (2, 1, 3, 4, 5, 6, 1, 10: see saratoga_read),
- * 12, 13, 14, 15, 16.
+ * Order of refusals: 22, the reader's for DATA with 4 for any other type (2, 1, 3, 4, 6, 1, 5, 10: see saratoga_read),
+ * 12, 13 (64 and 128 bits are two widths), 14, 15, 16.
  */
 struct saratoga_recorded saratoga_record(uint8_t *area, size_t area_len, const uint8_t *packet, size_t packet_len);
 
@@ -462,7 +468,7 @@ struct saratoga_done saratoga_close(uint8_t *area, size_t area_len, uint64_t id)
  * lowest offset not received, In-Response-To the edge or, where the transfer is complete, its length less one (0 where the
  * length is 0). The first `skip` holes are left out, then as many are written as `out` has room for, lowest first. Bit 14
  * is set where a hole was skipped or did not fit, bit 15 where `unasked` is not 0 or the transfer is complete. With
- * descriptors of d octets (2, 4 or 8) and h holes written, the size is 8 + 2 d + 2 d h, so SARATOGA_STATUS_OCTETS are
+ * descriptors of d octets (2, 4, 8 or 16) and h holes written, the size is 8 + 2 d + 2 d h, so SARATOGA_STATUS_OCTETS are
  * always enough.
  *
  * Set `unasked` to 0 where the STATUS answers DATA that asked for it (SARATOGA_FLAG_STATUS_WANTED), and to 1 where it goes

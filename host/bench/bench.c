@@ -17,8 +17,8 @@
 
 #include "receivers.h"
 
-enum { AREA = SARATOGA_AREA_OCTETS, PAYLOAD = 1000, ROOM = 1048 };
-enum { CALLS = 256, PART = 16, REPEATS_MOST = 1001, CASES_MOST = 20 };
+enum { AREA = SARATOGA_AREA_OCTETS, PAYLOAD = 1000, ROOM = SARATOGA_STATUS_OCTETS };
+enum { CALLS = 256, PART = 16, REPEATS_MOST = 1001, CASES_MOST = 24 };
 enum receiver { OURS, MEMORY, PLAIN_AREA, MAP, RECEIVERS };
 enum operation { READ, OPEN, RECORD, STATUS, CLOSE };
 
@@ -131,7 +131,10 @@ static void put(uint8_t *at, uint64_t number, size_t octets)
 
 static uint64_t width_flags(size_t width)
 {
-    return width == 2 ? 0 : width == 4 ? 0x400000 : 0x800000;
+    return width == 2   ? SARATOGA_WIDTH_16
+           : width == 4 ? SARATOGA_WIDTH_32
+           : width == 8 ? SARATOGA_WIDTH_64
+                        : SARATOGA_WIDTH_128;
 }
 
 static size_t data_packet(uint8_t *p, uint64_t flags, uint64_t id, uint64_t offset, size_t payload)
@@ -140,7 +143,7 @@ static size_t data_packet(uint8_t *p, uint64_t flags, uint64_t id, uint64_t offs
     put(p, UINT64_C(0x43000000) | flags, 4);
     put(p + 4, id, 4);
     memset(p + 8, 0x5A, at - 8);
-    put(p + at, offset, width < 8 ? width : 8);
+    put(p + at, offset, width);
     memset(p + at + width, 0xC3, payload);
     return at + width + payload;
 }
@@ -153,19 +156,20 @@ static size_t beacon_packet(uint8_t *p, size_t endpoint)
     return 4 + endpoint;
 }
 
-/* The size stands in 64 bits. */
+/* The size stands in 64 bits, or in 128 where the packet's own descriptors have so many. */
 static size_t metadata_packet(uint8_t *p, uint64_t flags, uint64_t id, uint64_t size, size_t path)
 {
-    size_t at = 8 + 4 * (flags >> 4 & 15);
+    int wide = (flags & SARATOGA_WIDTH_MASK) == SARATOGA_WIDTH_128;
+    size_t at = 8 + 4 * (flags >> 4 & 15), width = wide ? 16 : 8;
     put(p, UINT64_C(0x42000000) | flags, 4);
     put(p + 4, id, 4);
     memset(p + 8, 0x5A, at - 8);
-    put(p + at, 0x0080, 2);
-    put(p + at + 2, size, 8);
-    put(p + at + 10, 0, 8);
-    memset(p + at + 18, 'p', path);
-    p[at + 18 + path] = 0;
-    return at + 19 + path;
+    put(p + at, wide ? SARATOGA_PROPERTIES_WIDTH_128 : SARATOGA_PROPERTIES_WIDTH_64, 2);
+    put(p + at + 2, size, width);
+    put(p + at + 2 + width, 0, 8);
+    memset(p + at + 10 + width, 'p', path);
+    p[at + 10 + width + path] = 0;
+    return at + 11 + width + path;
 }
 
 /* Comparing. */
@@ -288,12 +292,12 @@ static void compare_damaged(const struct tables *t, const uint8_t *packet, size_
 /* A packet for one of 18 Ids, of which each has a width and a length of its own; or a BEACON. Some are wrong. */
 static size_t random_packet(uint8_t *p, enum operation operation)
 {
-    static const size_t widths[3] = {2, 4, 8};
+    static const size_t widths[4] = {2, 4, 8, 16};
     static const uint8_t pairs[8] = {0x00, 0x11, 0x42, 0x53, 0x14, 0xFF, 0x21, 0x04};
-    uint64_t id = below(3) ? below(4) : below(18), length = id == 5 ? 0 : 20000 + 1000 * id, flags = width_flags(widths[id % 3]);
+    uint64_t id = below(3) ? below(4) : below(18), length = id == 5 ? 0 : 20000 + 1000 * id, flags = width_flags(widths[id % 4]);
     size_t size;
     if (below(40) == 0)
-        flags = width_flags(widths[below(3)]);
+        flags = width_flags(widths[below(4)]);
     if (below(30) == 0) {
         size = beacon_packet(p, below(20));
     } else if (operation == OPEN) {
@@ -334,7 +338,7 @@ static void compare_random(unsigned long calls)
             uint64_t id = below(50) ? below(18) : random_number();
             if (compare_status(t, id, below(3) ? 0 : below(70), below(2), below(2) ? ROOM : below(ROOM))) {
                 memcpy(packet, status_room, ROOM);
-                size = 8 + 4 * below(130);
+                size = 8 + 4 * below(1 + (ROOM - 8) / 4);
                 if (below(3) == 0)
                     packet[below(size)] ^= (uint8_t)(1 << below(8));
                 compare_read(packet, size);
@@ -384,16 +388,16 @@ static uint64_t id_of(size_t transfer)
     return 0x1000 + 0x35 * transfer;
 }
 
-/* Opens transfers of 64 bits, each with `runs` runs of 1,000 octets, the first from `from` on. */
-static void open_with_runs(struct bench_case *c, size_t transfers, size_t runs, uint64_t from)
+/* Opens transfers of this width, each with `runs` runs of 1,000 octets, the first from `from` on. */
+static void open_with_runs(struct bench_case *c, size_t width, size_t transfers, size_t runs, uint64_t from)
 {
     static uint8_t packet[PAYLOAD + 48];
     size_t i, j, size;
     for (i = 0; i < transfers; i++) {
-        size = metadata_packet(packet, 0x800000, id_of(i), (uint64_t)1 << 40, 11);
+        size = metadata_packet(packet, width_flags(width), id_of(i), (uint64_t)1 << 40, 11);
         compare_open(&c->start, packet, size);
         for (j = 0; j < runs; j++) {
-            size = data_packet(packet, 0x800000, id_of(i), from + j * SPACING, PAYLOAD);
+            size = data_packet(packet, width_flags(width), id_of(i), from + j * SPACING, PAYLOAD);
             compare_record(&c->start, packet, size);
         }
     }
@@ -410,20 +414,27 @@ static void read_case(size_t width, int timestamp)
         data_call(c, width_flags(width) | (timestamp ? SARATOGA_FLAG_TIMESTAMP : 0), id_of(i % 16), 100 * i);
 }
 
+/* Recording and STATUS are of 64 bits where their names don't say otherwise. */
+static const char *wide_name(size_t width)
+{
+    return width == 16 ? ", 128 bits" : "";
+}
+
 /*
  * Packets in fours, each four at a transfer and a run drawn at random: one that extends the run, one apart from all runs
  * (a run more), the one between them (a run less), and a repeat. So the number of runs held stays.
  */
-static void record_case(size_t transfers, size_t runs)
+static void record_case(size_t width, size_t transfers, size_t runs)
 {
-    uint64_t stops[16][64], stop;
+    uint64_t stops[16][64], stop, flags = width_flags(width);
     char name[64];
     struct bench_case *c;
     size_t i, j;
-    snprintf(name, sizeof name, "record, %d run%s, %d open", (int)runs, runs == 1 ? "" : "s", (int)transfers);
+    snprintf(name, sizeof name, "record, %d run%s, %d open%s", (int)runs, runs == 1 ? "" : "s", (int)transfers,
+             wide_name(width));
     c = new_case(name, RECORD);
     c->few_runs = transfers == 1 && runs <= 8;
-    open_with_runs(c, transfers, runs, 0);
+    open_with_runs(c, width, transfers, runs, 0);
     for (i = 0; i < 16; i++)
         for (j = 0; j < 64; j++)
             stops[i][j] = j * SPACING + PAYLOAD;
@@ -431,21 +442,21 @@ static void record_case(size_t transfers, size_t runs)
         i = below(transfers);
         j = below(runs);
         stop = stops[i][j];
-        data_call(c, 0x800000, id_of(i), stop);
-        data_call(c, 0x800000, id_of(i), stop + 2 * PAYLOAD);
-        data_call(c, 0x800000, id_of(i), stop + PAYLOAD);
-        data_call(c, 0x800000, id_of(i), stop);
+        data_call(c, flags, id_of(i), stop);
+        data_call(c, flags, id_of(i), stop + 2 * PAYLOAD);
+        data_call(c, flags, id_of(i), stop + PAYLOAD);
+        data_call(c, flags, id_of(i), stop);
         stops[i][j] = stop + 3 * PAYLOAD;
     }
 }
 
-static void status_case(size_t transfers, size_t holes)
+static void status_case(size_t width, size_t transfers, size_t holes)
 {
     char name[64];
     struct bench_case *c;
-    snprintf(name, sizeof name, "STATUS, %d holes, %d open", (int)holes, (int)transfers);
+    snprintf(name, sizeof name, "STATUS, %d holes, %d open%s", (int)holes, (int)transfers, wide_name(width));
     c = new_case(name, STATUS);
-    open_with_runs(c, transfers, holes == 0 ? 1 : holes, holes == 0 ? 0 : PAYLOAD);
+    open_with_runs(c, width, transfers, holes == 0 ? 1 : holes, holes == 0 ? 0 : PAYLOAD);
     while (c->count < CALLS)
         new_call(c, id_of(below(transfers)));
 }
@@ -453,7 +464,7 @@ static void status_case(size_t transfers, size_t holes)
 static void open_call(struct bench_case *c, uint64_t id)
 {
     uint8_t *packet = new_call(c, id);
-    c->calls[c->count - 1].size = metadata_packet(packet, 0x800000, id, (uint64_t)1 << 40, 11);
+    c->calls[c->count - 1].size = metadata_packet(packet, SARATOGA_WIDTH_64, id, (uint64_t)1 << 40, 11);
 }
 
 static void open_and_close_cases(void)
@@ -462,8 +473,8 @@ static void open_and_close_cases(void)
     struct bench_case *already = new_case("open, already open, 16 open", OPEN);
     struct bench_case *closing = new_case("close, 16 to 1 open", CLOSE);
     size_t i;
-    open_with_runs(already, 16, 8, 0);
-    open_with_runs(closing, 16, 8, 0);
+    open_with_runs(already, 8, 16, 8, 0);
+    open_with_runs(closing, 8, 16, 8, 0);
     for (i = 0; i < 16; i++) {
         open_call(new_ids, id_of(7 * i % 16));
         new_call(closing, id_of(11 * i % 16));
@@ -478,14 +489,21 @@ static void make_cases(void)
     size_t i;
     read_case(2, 0);
     read_case(2, 1);
+    read_case(4, 0);
     read_case(8, 0);
     read_case(8, 1);
+    read_case(16, 0);
+    read_case(16, 1);
     for (i = 0; i < 6; i++)
-        record_case(i < 3 ? 1 : 16, runs[i % 3]);
-    status_case(1, 0);
-    status_case(1, 64);
-    status_case(16, 0);
-    status_case(16, 64);
+        record_case(8, i < 3 ? 1 : 16, runs[i % 3]);
+    record_case(16, 1, 8);
+    record_case(16, 16, 63);
+    status_case(8, 1, 0);
+    status_case(8, 1, 64);
+    status_case(8, 16, 0);
+    status_case(8, 16, 64);
+    status_case(16, 1, 64);
+    status_case(16, 16, 64);
     open_and_close_cases();
 }
 
@@ -657,7 +675,7 @@ static void measure(size_t repeats)
     }
     clock = median(clocks, repeats);
     printf("Nanoseconds a call, medians of %d, and ratios\n", (int)repeats);
-    printf("%-31s %8s %8s %8s %8s %7s %7s %7s\n", "", "ours", "(A)", "(B)", "(C)", "ours/A", "ours/B", "ours/C");
+    printf("%-35s %8s %8s %8s %8s %7s %7s %7s\n", "", "ours", "(A)", "(B)", "(C)", "ours/A", "ours/B", "ours/C");
     for (i = 0; i < case_count; i++) {
         double ratio[RECEIVERS] = {0}, time[RECEIVERS] = {0};
         for (k = 0; k < RECEIVERS; k++) {
@@ -666,7 +684,7 @@ static void measure(size_t repeats)
             time[k] = time_of(i, k, repeats, clock);
             ratio[k] = time[OURS] / time[k];
         }
-        printf("%-31s", cases[i]->name);
+        printf("%-35s", cases[i]->name);
         for (k = 0; k < RECEIVERS; k++)
             print_time(time[k]);
         for (k = MEMORY; k < RECEIVERS; k++)

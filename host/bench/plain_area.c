@@ -52,10 +52,10 @@ static inline void put_head(uint8_t *area, size_t place, enum field field, uint6
     put_word(area, HEADS + HEAD * place + field, number);
 }
 
-/* Whether the width is 2, 4 or 8, and the length fits it. */
+/* Whether the width is 2, 4, 8 or 16, and the length fits it. */
 static int length_allowed(uint64_t width, uint64_t length)
 {
-    return (width == 2 || width == 4 || width == 8) && fits(length, (size_t)width);
+    return (width == 2 || width == 4 || width == 8 || width == 16) && fits(length, (size_t)width);
 }
 
 /* Whether the runs of transfer i stand in order, below its length. */

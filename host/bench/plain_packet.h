@@ -51,10 +51,16 @@ static inline uint64_t number64(const uint8_t *at)
            (uint64_t)at[4] << 24 | (uint64_t)at[5] << 16 | (uint64_t)at[6] << 8 | at[7];
 }
 
-/* A number of 2, 4 or 8 octets. */
+/* A number of 2, 4, 8 or 16 octets; of 16 the lower eight. */
 static inline uint64_t number_at(const uint8_t *at, size_t width)
 {
-    return width == 2 ? number16(at) : width == 4 ? number32(at) : number64(at);
+    return width == 2 ? number16(at) : width == 4 ? number32(at) : number64(at + width - 8);
+}
+
+/* Refusal 5: whether an upper octet of a descriptor of 16 isn't zero. */
+static inline int over_64_bits(const uint8_t *at, size_t width)
+{
+    return width == 16 && number64(at) != 0;
 }
 
 static inline void put_number16(uint8_t *at, uint64_t number)
@@ -83,21 +89,25 @@ static inline void put_number64(uint8_t *at, uint64_t number)
     at[7] = (uint8_t)number;
 }
 
-/* Puts a number of 2, 4 or 8 octets. */
+/* Puts a number of 2, 4, 8 or 16 octets. */
 static inline void put_number(uint8_t *at, size_t width, uint64_t number)
 {
     if (width == 2)
         put_number16(at, number);
     else if (width == 4)
         put_number32(at, number);
-    else
+    else if (width == 8)
         put_number64(at, number);
+    else {
+        put_number64(at, 0);
+        put_number64(at + 8, number);
+    }
 }
 
-/* Whether a number fits 2, 4 or 8 octets. */
+/* Whether a number fits 2, 4, 8 or 16 octets. */
 static inline int fits(uint64_t number, size_t width)
 {
-    return width == 8 || number >> (8 * width) == 0;
+    return width >= 8 || number >> (8 * width) == 0;
 }
 
 /* Refusals 2, 1 and 3, and the first word. A BEACON needs four octets, all else eight. */
@@ -121,10 +131,10 @@ static inline unsigned read_beacon(const uint8_t *p, size_t len, uint64_t word, 
     b->free_space = 0;
     if (word >> 14 & 1) {
         b->free_width = (size_t)2 << (word >> 12 & 3);
-        if (b->free_width == 16)
-            return 5;
         if (len < 4 + b->free_width)
             return 1;
+        if (over_64_bits(p + 4, b->free_width))
+            return 5;
         b->free_space = number_at(p + 4, b->free_width);
     }
     b->endpoint_at = 4 + b->free_width;
@@ -140,8 +150,6 @@ static inline unsigned read_data(const uint8_t *p, size_t len, struct plain_data
         return refused;
     if ((word >> 24 & 63) != SARATOGA_TYPE_DATA)
         return 4;
-    if ((word >> 22 & 3) == 3)
-        return 5;
     if (word >> 20 & 3)
         return 6;
     d->flags = word & 0xFFFFFF;
@@ -151,6 +159,8 @@ static inline unsigned read_data(const uint8_t *p, size_t len, struct plain_data
     d->payload_at = 8 + d->timestamp + d->width;
     if (len < d->payload_at)
         return 1;
+    if (over_64_bits(p + 8 + d->timestamp, d->width))
+        return 5;
     if (len == d->payload_at)
         return 10;
     d->offset = number_at(p + 8 + d->timestamp, d->width);
@@ -174,8 +184,6 @@ static inline unsigned read_metadata(const uint8_t *p, size_t len, struct plain_
         return refused;
     if ((word >> 24 & 63) != SARATOGA_TYPE_METADATA)
         return 4;
-    if ((word >> 22 & 3) == 3)
-        return 5;
     if (word >> 20 & 3)
         return 6;
     if (!checksum_allowed(word & 15, word >> 4 & 15))
@@ -190,10 +198,12 @@ static inline unsigned read_metadata(const uint8_t *p, size_t len, struct plain_
     m->properties = number16(p + at);
     if (m->properties & 0x0320)
         return 6;
-    if ((m->properties >> 6 & 3) == 3)
-        return 5;
     width = (size_t)2 << (m->properties >> 6 & 3);
     m->path_at = at + 2 + width + 8;
+    if (len < at + 2 + width)
+        return 1;
+    if (over_64_bits(p + at + 2, width))
+        return 5;
     if (len < m->path_at)
         return 1;
     m->size = number_at(p + at + 2, width);
@@ -232,18 +242,19 @@ static inline int holes_allowed(const uint8_t *at, const struct plain_status *s)
     return 1;
 }
 
-/* A success STATUS, whose first word was read. */
+/* A success STATUS, whose first word was read. Of descriptors over 64 bits the first that is whole decides. */
 static inline unsigned read_success(const uint8_t *p, size_t len, uint64_t word, struct plain_status *s)
 {
-    size_t at;
-    if ((word >> 22 & 3) == 3)
-        return 5;
+    size_t at, whole;
     s->flags = word & 0xFFFFFF;
     s->id = number32(p + 4);
     s->width = (size_t)2 << (word >> 22 & 3);
     s->timestamp = word & SARATOGA_FLAG_TIMESTAMP ? 16 : 0;
     at = 8 + s->timestamp;
     s->holes_at = at + 2 * s->width;
+    for (whole = at; s->width == 16 && whole + 16 <= len; whole += 16)
+        if (over_64_bits(p + whole, 16))
+            return 5;
     if (len < s->holes_at)
         return 1;
     s->progress = number_at(p + at, s->width);
@@ -269,8 +280,8 @@ static inline unsigned data_misfit(const struct plain_data *d, uint64_t width, u
 /* The flags of a success STATUS. */
 static inline uint64_t status_flags(size_t width, int incomplete, int unasked)
 {
-    return (width == 2 ? 0 : width == 4 ? 0x400000 : 0x800000) | (incomplete ? SARATOGA_FLAG_INCOMPLETE : 0) |
-           (unasked ? SARATOGA_FLAG_UNASKED : 0);
+    return (width == 2 ? SARATOGA_WIDTH_16 : width == 4 ? SARATOGA_WIDTH_32 : width == 8 ? SARATOGA_WIDTH_64 : SARATOGA_WIDTH_128) |
+           (incomplete ? SARATOGA_FLAG_INCOMPLETE : 0) | (unasked ? SARATOGA_FLAG_UNASKED : 0);
 }
 
 /* In-Response-To: the last octet of a complete transfer, or 0, and else the edge. */

@@ -50,7 +50,7 @@ static void read_fields(void)
 static void read_each(void)
 {
     static const uint64_t states[4] = {SARATOGA_CANNOT, 0, SARATOGA_NOT_NOW, SARATOGA_WILLING};
-    static const uint64_t last[4] = {0xFFFF, 0xFFFFFFFF, UINT64_MAX, 0};
+    static const uint64_t last[3] = {0xFFFF, 0xFFFFFFFF, UINT64_MAX};
     uint8_t packet[13];
     memset(packet, 0xFF, sizeof packet);
     for (uint8_t pairs = 0; pairs < 16; pairs++) {
@@ -66,22 +66,21 @@ static void read_each(void)
                                              .endpoint_at = 4,
                                              .endpoint_len = 9});
     }
-    for (uint8_t code = 0; code < 4; code++) {
+    for (uint8_t code = 0; code < 3; code++) {
         uint64_t width = (uint64_t)2 << code;
         packet[1] = 0, packet[2] = (uint8_t)(0x40 | code << 4);
-        if (code == 3)
-            read_refused("BEACON with free space of 128 bits", packet, sizeof packet, SARATOGA_REFUSED_WIDTH, 0x09);
-        else
-            read_as("BEACON with free space", packet, sizeof packet,
-                    (struct saratoga_packet){.flags = (uint64_t)packet[2] << 8,
-                                             .largest_width = 2,
-                                             .free_width = width,
-                                             .free_space = last[code],
-                                             .endpoint_at = 4 + width,
-                                             .endpoint_len = 9 - width});
+        read_as("BEACON with free space", packet, sizeof packet,
+                (struct saratoga_packet){.flags = (uint64_t)packet[2] << 8,
+                                         .largest_width = 2,
+                                         .free_width = width,
+                                         .free_space = last[code],
+                                         .endpoint_at = 4 + width,
+                                         .endpoint_len = 9 - width});
     }
+    packet[2] = 0x70;
+    read_refused("BEACON cut in its free space of 128 bits", packet, sizeof packet, SARATOGA_REFUSED_TRUNCATED, 0);
     packet[3] = 1;
-    read_refused("BEACON with a last flags octet, 26 before 5", packet, sizeof packet, SARATOGA_REFUSED_BEACON, 0);
+    read_refused("BEACON with a last flags octet", packet, sizeof packet, SARATOGA_REFUSED_BEACON, 0);
     packet[0] = 0x80;
     read_refused("BEACON of version 2", packet, sizeof packet, SARATOGA_REFUSED_VERSION, 0);
     printf("ctest: pairings and free space\n");
@@ -138,8 +137,6 @@ static void write_fields(void)
                (struct saratoga_written){.number = SARATOGA_REFUSED_BEACON});
     written_as("BEACON with a last flags octet", BEACON_FLAGS | 0x80, gib, sizeof beacon,
                (struct saratoga_written){.number = SARATOGA_REFUSED_BEACON});
-    written_as("BEACON with free space of 128 bits", BEACON_FLAGS | SARATOGA_FREE_SPACE_MASK, UINT64_MAX, sizeof beacon,
-               (struct saratoga_written){.number = SARATOGA_REFUSED_WIDTH, .code = 0x09});
 
     uint8_t out[4];
     same_written("BEACON of four octets", saratoga_write_beacon(0, 0, beacon, 0, out, sizeof out),
@@ -176,6 +173,7 @@ static void names(void)
         {"free space in 16 bits", SARATOGA_FREE_SPACE_16, UINT64_C(4) << 12},
         {"free space in 32 bits", SARATOGA_FREE_SPACE_32, UINT64_C(5) << 12},
         {"free space in 64 bits", SARATOGA_FREE_SPACE_64, UINT64_C(6) << 12},
+        {"free space in 128 bits", SARATOGA_FREE_SPACE_128, UINT64_C(7) << 12},
     };
     for (size_t i = 0; i < sizeof each / sizeof each[0]; i++)
         if (each[i].got != each[i].want)

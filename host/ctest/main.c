@@ -1,6 +1,6 @@
 /*
  * Calls each function of saratoga.h that reads or writes METADATA, DATA and STATUS from C, on packets laid out by hand from
- * the papers; beacon.c does the same for BEACON.
+ * the papers; beacon.c does the same for BEACON, and width.c for descriptors of 128 bits.
  * Checks every field of the answers and every octet of the lent buffers, and ends with status 1 where one is wrong.
  */
 #include "check.h"
@@ -126,8 +126,6 @@ static void read_metadata(void)
     read_refused("METADATA with another pair", packet, sizeof metadata, SARATOGA_REFUSED_CHECKSUM, 0x01);
     packet[1] = 0x50;
     read_refused("METADATA of a directory", packet, sizeof metadata, SARATOGA_REFUSED_KIND, 0x01);
-    packet[1] = 0xD0;
-    read_refused("METADATA of width 128", packet, sizeof metadata, SARATOGA_REFUSED_WIDTH, 0x09);
     packet[0] = 0x41;
     read_refused("REQUEST", packet, sizeof metadata, SARATOGA_REFUSED_TYPE, 0x0A);
     packet[0] = 0x81;
@@ -253,8 +251,6 @@ static void write_data(void)
             (struct saratoga_written){.number = SARATOGA_REFUSED_TRUNCATED});
     data_as("DATA of a stream", flags | 0x300000, 2000, 2, sizeof data,
             (struct saratoga_written){.number = SARATOGA_REFUSED_KIND, .code = 0x01});
-    data_as("DATA of width 128", flags | 0xF00000, 2000, 2, sizeof data,
-            (struct saratoga_written){.number = SARATOGA_REFUSED_WIDTH, .code = 0x09});
     data_as("DATA with an offset over 16 bits", flags, 65536, 2, sizeof data,
             (struct saratoga_written){.number = SARATOGA_REFUSED_FIELD});
     data_as("DATA with flags over 24 bits", flags | 0x1000000, 2000, 2, sizeof data,
@@ -303,7 +299,7 @@ static void texts_as(const char *what, const char *(*text)(uint64_t), uint64_t l
 static void header_alone(void)
 {
     static uint8_t path[SARATOGA_PATH_OCTETS + 1], checksum[60], out[SARATOGA_METADATA_OCTETS];
-    uint64_t longest = SARATOGA_WIDTH_64 | 0xFF, properties = SARATOGA_PROPERTIES_WIDTH_64;
+    uint64_t longest = SARATOGA_WIDTH_64 | 0xFF, properties = SARATOGA_PROPERTIES_WIDTH_128;
     char version[16];
     texts_as("refusals", saratoga_refusal_text, SARATOGA_REFUSED_AREA, "accepted", "unknown refusal");
     if (strcmp(saratoga_refusal_text(SARATOGA_REFUSED_BEACON), "flags of BEACON not allowed") != 0 ||
@@ -337,7 +333,7 @@ static void header_alone(void)
     same_written("SHA-1",
                  saratoga_write_metadata(SARATOGA_WIDTH_16 | SARATOGA_CHECKSUM_SHA1, 7, checksum, 20, properties, 1, 0, 0,
                                          path, 1, out, sizeof out),
-                 (struct saratoga_written){.size = 8 + 20 + 2 + 8 + 8 + 2});
+                 (struct saratoga_written){.size = 8 + 20 + 2 + 16 + 8 + 2});
     printf("ctest: texts, version and limits\n");
 }
 

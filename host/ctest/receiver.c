@@ -61,10 +61,10 @@ static void put_word(uint8_t *area, size_t word, uint64_t number)
         area[8 * word + i] = (uint8_t)(number >> 8 * i);
 }
 
-/* Bits 8 to 15 of a packet, for descriptors of 2, 4 or 8 octets. */
+/* Bits 8 to 15 of a packet, for descriptors of 2, 4, 8 or 16 octets. */
 static uint8_t width_bits(size_t width)
 {
-    return width == 2 ? 0x00 : width == 4 ? 0x40 : 0x80;
+    return width == 2 ? 0x00 : width == 4 ? 0x40 : width == 8 ? 0x80 : 0xC0;
 }
 
 /* An area of `len` octets with nothing open: zeros, and octets 0xA5 past them. */
@@ -502,6 +502,9 @@ static void areas(void)
     word_refused("equal Ids", area, 5, 7);
     word_refused("an Id over 32 bits", area, 5, UINT64_C(1) << 32);
     word_refused("width 3", area, 2, 3);
+    word_refused("width 15", area, 2, 15);
+    word_refused("width 17", area, 2, 17);
+    word_refused("width 32", area, 2, 32);
     word_refused("a length over its width", area, 3, 65536);
     word_refused("a length below the last stop", area, 3, 2999);
     word_refused("65 runs", area, 4, 65);
@@ -564,15 +567,54 @@ static void unwritten_words(void)
     printf("ctest: unwritten words\n");
 }
 
-/* The longest STATUS: 64 holes at width 64. */
+/* A transfer of width 128: 13 and 18 tell it from one of width 64; its STATUS; its area. */
+static void width_128(void)
+{
+    static const uint8_t hole[72] = {0x44, 0xC0, [7] = 7, [38] = 0x0B, 0xB8, [70] = 0x07, 0xD0};
+    static const uint8_t whole[40] = {0x44, 0xC1, [7] = 7, [22] = 0x0B, 0xB8, [38] = 0x0B, 0xB8};
+    struct saratoga_recorded complete = {.edge = 3000, .complete = 1};
+    uint8_t *area = empty_area(AREA), *want = lend(NULL, AREA), packet[25] = {0x43, 0xC0, [7] = 7, [24] = 'a'};
+    const struct numbered_word words[] = {{0, 1}, {1, 7}, {2, 16}, {3, 3000}, {4, 1}, {65, 2000}, {1089, 3000}};
+    open_as("width 128", area, AREA, 7, 16, 3000, (struct saratoga_opened){0, 0, 0, 0, 0});
+    open_as("width 128 again", area, AREA, 7, 16, 3000, (struct saratoga_opened){.already_open = 1});
+    open_as("width 64 after 128", area, AREA, 7, 8, 3000, REFUSED(opened, SARATOGA_REFUSED_OPEN_OTHER, 0x09));
+    record_as("width 64 to 128", area, AREA, 7, 8, 0, 1, 0, REFUSED(recorded, SARATOGA_REFUSED_OTHER_WIDTH, 0x09));
+    record_as("width 128", area, AREA, 7, 16, 2000, 1000, 1, (struct saratoga_recorded){.edge = 3000});
+    PUT_WORDS(want, words);
+    same_octets("width 128", area, want, AREA);
+    list_as("width 128", area, AREA, 0,
+            (struct saratoga_listed){.id = 7, .width = 16, .length = 3000, .edge = 3000, .runs = 1});
+    status_as("width 128", area, AREA, 7, 0, 0, 72, hole, (struct saratoga_written){.size = 72});
+    status_as("width 128 in 71 octets", area, AREA, 7, 0, 0, 71, hole, REFUSED(written, SARATOGA_REFUSED_BUFFER, 0));
+    for (size_t place = 8; place < 16; place++) {
+        packet[place] = 1;
+        same_recorded("an upper octet", saratoga_record(area, AREA, packet, 25),
+                      REFUSED(recorded, SARATOGA_REFUSED_WIDTH, 0x09));
+        same_recorded("an upper octet", saratoga_try_record(area, AREA, packet, 24),
+                      REFUSED(recorded, SARATOGA_REFUSED_WIDTH, 0x09));
+        packet[place] = 0;
+    }
+    same_octets("upper octets", area, want, AREA);
+    record_as("the rest", area, AREA, 7, 16, 0, 2000, 0, complete);
+    status_as("whole", area, AREA, 7, 0, 0, 40, whole, (struct saratoga_written){.size = 40});
+    open_as("length 2^64 - 1", area, AREA, 8, 16, UINT64_MAX, (struct saratoga_opened){0, 0, 0, 0, 0});
+    record_as("offset 2^64 - 1", area, AREA, 8, 16, UINT64_MAX, 1, 0, REFUSED(recorded, SARATOGA_REFUSED_PAST_END, 0x09));
+    open_as("width 64", area, AREA, 9, 8, 3000, (struct saratoga_opened){0, 0, 0, 0, 0});
+    record_as("width 128 to 64", area, AREA, 9, 16, 0, 1, 0, REFUSED(recorded, SARATOGA_REFUSED_OTHER_WIDTH, 0x09));
+    free(area);
+    free(want);
+    printf("ctest: width 128\n");
+}
+
+/* The longest STATUS: 64 holes at width 128. */
 static void longest_status(void)
 {
     const char *what = "the longest STATUS";
     uint8_t *area = empty_area(AREA), *out = lend(NULL, SARATOGA_STATUS_OCTETS);
     uint64_t run;
-    open_as(what, area, AREA, 7, 8, 3000, (struct saratoga_opened){0, 0, 0, 0, 0});
+    open_as(what, area, AREA, 7, 16, 3000, (struct saratoga_opened){0, 0, 0, 0, 0});
     for (run = 0; run < SARATOGA_RUNS; run++)
-        record_as(what, area, AREA, 7, 8, 2 * run + 1, 1, 0, (struct saratoga_recorded){.edge = 2 * run + 2});
+        record_as(what, area, AREA, 7, 16, 2 * run + 1, 1, 0, (struct saratoga_recorded){.edge = 2 * run + 2});
     same_written(what, saratoga_write_status(area, AREA, 7, 0, 0, out, SARATOGA_STATUS_OCTETS),
                  (struct saratoga_written){.size = SARATOGA_STATUS_OCTETS});
     if ((saratoga_read(out, SARATOGA_STATUS_OCTETS).flags & SARATOGA_FLAG_INCOMPLETE) != 0)
@@ -629,6 +671,7 @@ int main(void)
     seventeen_ids();
     recording_refused();
     areas();
+    width_128();
     longest_status();
     asked_alone();
     unwritten_words();

@@ -419,7 +419,7 @@ def many_holes(program, place):
     check(status == 0 and len(lines) == 400, told)
     check(lines[-1] == "400 success id=7 flags=400000 width=32 timestamp= progress=0 in-response-to=24000 holes=" + shown,
           lines[-1][:200])
-    for width in (16, 64):
+    for width in (16, 64, 128):
         lines, told, status = run(program, place, "-", octets=records([success(7, width, 1, 9, [(1, 2), (3, 2**16 - 1)][:1])]))
         check(lines[-1].endswith("holes=1-2"), lines)
 
@@ -547,7 +547,8 @@ def on_air(program, place):
                beacon(b"dish 3", 64, "willing", "willing", 7), beacon(b"dish 3", 64, "not-now", "willing", 7),
                beacon(b"dish 3", 64, "not-now", "willing", 8), beacon(b"dish 3", 64, "not-now", "willing"),
                beacon(b"dish 3", 64, "not-now", "willing", 0), beacon(b""), beacon(b""), beacon(b"dish", 128),
-               told_once, bytes.fromhex("40040000"), bytes.fromhex("40007000") + b"Id?!", bytes.fromhex("400000")]
+               told_once, bytes.fromhex("40040000"), beacon(b"dish 3", free=2**64, free_width=128), bytes.fromhex("400000"),
+               beacon(b"dish 3", 64, "willing", "not-now", 2**64 - 1, 128)]
     lines, told, status = run(program, place, "-", octets=records(packets))
     check((told, status) == ("", 0), told)
     check(lines == [line(1, "willing", "not-now", 7, '"dish 3"'), line(4, "willing", "willing", 7, '"dish 3"'),
@@ -555,7 +556,7 @@ def on_air(program, place):
                     line(7, "not-now", "willing", "", '"dish 3"'), line(8, "not-now", "willing", 0, '"dish 3"'),
                     line(9, "cannot", "cannot", "", '""'), line(11, "cannot", "cannot", "", '"dish"', 128),
                     line(12, "willing", "not-now", 7, '"dish 3"'), "13 refused 26 code=0", "14 refused 5 code=9",
-                    "15 refused 1 code=0"], lines)
+                    "15 refused 1 code=0", line(16, "willing", "not-now", 2**64 - 1, '"dish 3"')], lines)
     check(run(program, place, "-q", "-", octets=records(packets)) == ([], "", 0), "--quiet")
 
     # No octet of an endpoint commands a terminal, and different endpoints are different texts.

@@ -21,7 +21,7 @@ import time
 sys.dont_write_bytecode = True
 from harness import (POWERCUT, SOURCES, WRAPPED, build, check, content, holds, page, run, stem,  # noqa: E402
                      stored)
-from packets import END_OF_DATA, WANTED, data, failure, metadata, record, success  # noqa: E402
+from packets import END_OF_DATA, UNASKED, WANTED, data, failure, metadata, record, success  # noqa: E402
 import plant  # noqa: E402
 
 
@@ -184,7 +184,7 @@ def any_octets(program, place):
         for _ in range(300):
             ident = chance.randrange(20)
             length = lengths[ident]
-            width = 16 if length < 2**16 else 64
+            width = 16 if length < 2**16 else 64 << ident % 2
             packet = metadata(ident, width, length)
             if chance.random() < 0.8:
                 flags = chance.choice((0, WANTED, WANTED, END_OF_DATA))
@@ -203,6 +203,38 @@ def any_octets(program, place):
         check(answered | {0} == set(range(301)), f"no line for packets {set(range(1, 301)) - answered}")
         check(all("File too large" in line or "there is room again" in line or "is kept as" in line
                   for line in told.splitlines()), told)
+
+
+def descriptors_of_128_bits(program, place):
+    """A page whose descriptors have 128 bits: its lines, its STATUS, its .meta, and what is taken up and refused."""
+    text = page(3000, 1)
+    packets = [metadata(9, 128, 3000), data(9, 128, 2000, text[2000:], WANTED), data(9, 64, 0, text[:1]),
+               data(9, 128, 2**64, text[:1]), data(9, 128, 2**64, b""), success(9, 128, 0, 9, [(0, 4)])]
+    hole = success(9, 128, 0, 3000, [(0, 2000)]).hex()
+    expected = ["1 open id=9 width=128 length=3000 edge=0 complete=0 new",
+                "1 send " + success(9, 128, 0, 0, flags=UNASKED).hex(),
+                "2 record id=9 offset=2000 length=1000 edge=3000 complete=0", "2 send " + hole,
+                "3 refused 13 code=9", "3 send 4400000900000009",
+                "4 refused 5 code=9", "4 send 4400000900000009", "5 refused 5 code=9", "5 send 4400000900000009",
+                "6 success id=9 flags=c00000 width=128 timestamp= progress=0 in-response-to=9 holes=0-4"]
+    got = run(program, place, "-", octets=b"".join(record(b"P", packet) for packet in packets))
+    check(got == (expected, "", 0), got)
+    check(b"\nwidth=128\nlength=3000\n" in content(place, "00000009.meta"), content(place, "00000009.meta"))
+    got = run(program, place, "-", octets=record(b"P", data(9, 128, 0, text[:2000])))
+    check(got == (["0 taken-up id=9 width=128 length=3000 edge=3000 complete=0",
+                   "1 record id=9 offset=0 length=2000 edge=3000 complete=1",
+                   "1 complete id=9 length=3000 file=00000009.page " + META,
+                   "1 send " + success(9, 128, 3000, 3000, flags=UNASKED).hex()], "", 0), got)
+    check(content(place, "00000009.page") == text, "the page isn't the original")
+
+
+def longest_status(program, place):
+    """64 holes in 128 bits: the STATUS has 2,088 octets, and all of them."""
+    packets = [metadata(9, 128, 3000)] + [data(9, 128, 2 * at + 1, b"x", WANTED) for at in range(64)]
+    lines, told, status = run(program, place, "-", octets=b"".join(record(b"P", packet) for packet in packets))
+    check(status == 0 and lines[-1] == "65 send " + success(9, 128, 0, 128, [(2 * at, 2 * at + 1) for at in range(64)]).hex(),
+          (told, lines[-1]))
+    check(len(lines[-1]) == len("65 send ") + 2 * 2088, len(lines[-1]))
 
 
 # Cut off between two writes.
@@ -421,7 +453,7 @@ class Sender:
 
     def round(self, ident):
         """One window of a file, and what came back."""
-        original, width = self.originals[ident], 32
+        original, width = self.originals[ident], 128 if ident % 2 else 32
         self.send(metadata(ident, width, len(original), b"../../etc/passwd"))
         chunks, size = [], self.chance.choice((300, 700, 1300))
         for start, stop in self.missing[ident]:
@@ -452,7 +484,8 @@ class Sender:
             self.failures += 1
             check(word & 0xFF in (3, 6), f"a failure STATUS {packet.hex()}")
             return
-        ends = [value for value, in struct.iter_unpack(">I", packet[8:])]
+        size = 2 << (word >> 22 & 3)
+        ends = [int.from_bytes(packet[at:at + size], "big") for at in range(8, len(packet), size)]
         missing = list(zip(ends[2::2], ends[3::2]))
         edge = max(ends[0], ends[1])  # In-Response-To of a complete page is its last octet
         if edge < len(self.originals[ident]):
@@ -612,6 +645,8 @@ def main():
         power = build([*SOURCES, POWERCUT], os.path.join(place, "saratoga-link-power"), *WRAPPED)
         passes(program, fresh("passes"))
         more_than_sixteen(program, fresh("sixteen"))
+        descriptors_of_128_bits(program, fresh("wide"))
+        longest_status(program, fresh("longest"))
         try:
             checked = build(SOURCES, os.path.join(place, "saratoga-link-sanitized"), "-fsanitize=address,undefined",
                             "-fno-sanitize-recover=all")

@@ -1,6 +1,7 @@
 """Packets of Saratoga and the records of a pass: the one place where the tools, their tests and the drivers lay them out.
 
-Widths count bits. Numbers that do not fit their field raise OverflowError: who wants them cut off says so with fit().
+Widths count bits. Numbers that do not fit their field raise OverflowError: who wants them cut off says so with fit(). At
+width 128 a number of 2^64 and more fits, but no reader takes it.
 """
 import struct
 
@@ -8,20 +9,21 @@ PORT = 7542
 MOST_OCTETS_OF_A_PACKET = 65535
 
 BEACON, METADATA, DATA, STATUS = 0, 2, 3, 4
-WIDTHS = (16, 32, 64)
-WIDTH_FLAGS = {16: 0x000000, 32: 0x400000, 64: 0x800000}
-FLAGS_WIDTH = {flags: width for width, flags in WIDTH_FLAGS.items()}  # of 11 there is none
-WIDTH_PROPERTIES = {16: 0x0000, 32: 0x0040, 64: 0x0080}
+WIDTHS = (16, 32, 64, 128)
+WIDTH_FLAGS = {16: 0x000000, 32: 0x400000, 64: 0x800000, 128: 0xC00000}
+FLAGS_WIDTH = {flags: width for width, flags in WIDTH_FLAGS.items()}
+WIDTH_PROPERTIES = {16: 0x0000, 32: 0x0040, 64: 0x0080, 128: 0x00C0}
 PROPERTIES_WIDTH = {properties: width for width, properties in WIDTH_PROPERTIES.items()}
 # Bits 12 and 14; 15, which in DATA wants a STATUS and in a STATUS says that nobody asked; 16.
 TIMESTAMP, INCOMPLETE, WANTED, END_OF_DATA = 0x080000, 0x020000, 0x010000, 0x008000
 UNASKED = WANTED
 # BEACON: bits 8 and 9 by the largest width; 10, 11 and 16; 12 and 13, 14 and 15 by name; 17, and with it 18 and 19 by width.
-LARGEST_FLAGS = {16: 0x000000, 32: 0x400000, 64: 0x800000, 128: 0xC00000}
+LARGEST_FLAGS = WIDTH_FLAGS
 BUNDLES, STREAMS, UDP_LITE, FREE = 0x200000, 0x100000, 0x008000, 0x004000
 SEND_FLAGS = {"cannot": 0x000000, "not-now": 0x080000, "willing": 0x0C0000}
 RECEIVE_FLAGS = {"cannot": 0x000000, "not-now": 0x020000, "willing": 0x030000}
-FREE_FLAGS = {16: 0x004000, 32: 0x005000, 64: 0x006000}
+FREE_FLAGS = {16: 0x004000, 32: 0x005000, 64: 0x006000, 128: 0x007000}
+FLAGS_FREE = {flags: width for width, flags in FREE_FLAGS.items()}
 
 
 def fit(value, width):

@@ -20,8 +20,14 @@ fn other_type(first: &mut u8, rng: &mut Rng) {
     *first = (*first & 0xC0) | kind as u8;
 }
 
-fn refused_width(start: &mut Start) {
-    start.flags = with_width(start.flags, 3);
+/// Upper eight octets of which one isn't zero, or several: of the descriptor with this number.
+pub fn upper(rng: &mut Rng, descriptor: usize) -> Upper {
+    let octets = match rng.below(4) {
+        0 => rng.between(1, u64::MAX),
+        1 => rng.pick(&[1, 1 << 63, u64::MAX]),
+        _ => rng.between(1, 255) << (8 * rng.below(8)),
+    };
+    Upper { descriptor, octets }
 }
 
 fn other_kind(start: &mut Start, rng: &mut Rng) {
@@ -50,10 +56,13 @@ pub const BEACON: &[Fault<Beacon>] = &[
     (26, |p, rng| p.flags = with_pairs(p.flags, NO_PAIRING, rng.pick(&PAIRINGS))),
     (26, |p, rng| p.flags = with_pairs(p.flags, rng.pick(&PAIRINGS), NO_PAIRING)),
     (26, |p, rng| p.flags |= rng.between(1, 255) as u32),
-    (5, |p, _| p.flags = with_free(p.flags, 3)),
+    (5, |p, rng| {
+        p.flags = with_free(p.flags, 3);
+        p.upper = upper(rng, 0);
+    }),
     (1, |p, rng| p.ending = cut(rng, 0, 3)),
     (1, |p, rng| {
-        p.flags = with_free(p.flags, rng.below(3) as u32);
+        p.flags = with_free(p.flags, rng.below(4) as u32);
         p.ending = cut(rng, 4, 4 + free_width(p.flags) - 1);
     }),
     (3, |p, rng| {
@@ -72,13 +81,12 @@ pub const METADATA: &[Fault<Metadata>] = &[
         // The entry is wider than the packet's own width.
         let code = rng.below(2) as u32;
         p.start.flags = with_width(p.start.flags, code);
-        p.properties = with_entry_width(p.properties, rng.between(u64::from(code) + 1, 2) as u32);
+        p.properties = with_entry_width(p.properties, rng.between(u64::from(code) + 1, 3) as u32);
         let (own, entry) = (last(width(p.start.flags)), last(entry_width(p.properties)));
         p.size = rng.pick(&[own + 1, entry]);
     }),
     (3, |p, rng| version(&mut p.start.first, rng)),
     (4, |p, rng| other_type(&mut p.start.first, rng)),
-    (5, |p, _| refused_width(&mut p.start)),
     (6, |p, rng| other_kind(&mut p.start, rng)),
     (7, |p, rng| {
         let pair = refused_pair(rng);
@@ -88,7 +96,10 @@ pub const METADATA: &[Fault<Metadata>] = &[
         }
     }),
     (6, |p, rng| p.properties |= rng.pick(&NOT_A_FILE)),
-    (5, |p, _| p.properties = with_entry_width(p.properties, 3)),
+    (5, |p, rng| {
+        p.properties = with_entry_width(p.properties, 3);
+        p.upper = upper(rng, 0);
+    }),
     (1, |p, _| p.close.clear()),
     (8, |p, _| p.path.clear()),
     (8, |p, rng| {
@@ -119,8 +130,11 @@ pub const METADATA: &[Fault<Metadata>] = &[
 pub const DATA: &[Fault<Data>] = &[
     (3, |p, rng| version(&mut p.start.first, rng)),
     (4, |p, rng| other_type(&mut p.start.first, rng)),
-    (5, |p, _| refused_width(&mut p.start)),
     (6, |p, rng| other_kind(&mut p.start, rng)),
+    (5, |p, rng| {
+        p.start.flags = with_width(p.start.flags, 3);
+        p.upper = upper(rng, 0);
+    }),
     (10, |p, _| p.payload.clear()),
     (1, |p, rng| p.ending = cut(rng, 0, 7)),
     (1, |p, rng| p.ending = cut(rng, 8, 8 + p.timestamp.len() + width(p.start.flags) - 1)),
@@ -134,7 +148,20 @@ pub const STATUS: &[Fault<Status>] = &[
     }),
     (3, |p, rng| version(&mut p.start.first, rng)),
     (4, |p, rng| other_type(&mut p.start.first, rng)),
-    (5, |p, _| refused_width(&mut p.start)),
+    // Progress, In-Response-To, and any descriptor.
+    (5, |p, rng| {
+        p.start.flags = with_width(p.start.flags, 3);
+        p.upper = upper(rng, 0);
+    }),
+    (5, |p, rng| {
+        p.start.flags = with_width(p.start.flags, 3);
+        p.upper = upper(rng, 1);
+    }),
+    (5, |p, rng| {
+        p.start.flags = with_width(p.start.flags, 3);
+        let descriptor = rng.place(0, 1 + 2 * p.holes.len());
+        p.upper = upper(rng, descriptor);
+    }),
     (1, |p, rng| p.ending = cut(rng, 0, 7)),
     (1, |p, rng| p.ending = cut(rng, 8, 8 + p.timestamp.len() + 2 * width(p.start.flags) - 1)),
     (2, |p, rng| p.ending = too_long(rng)),
@@ -145,10 +172,10 @@ pub const HOLES: &[Fault<Status>] = &[
     // Not whole pairs.
     (11, |p, rng| {
         let len = rng.place(1, 2 * width(p.start.flags) - 1);
-        p.extra = rng.octets(len);
+        p.extra = half_pair(rng, len);
     }),
     // A start without an end.
-    (11, |p, rng| p.extra = rng.octets(width(p.start.flags))),
+    (11, |p, rng| p.extra = half_pair(rng, width(p.start.flags))),
     // Two holes touch.
     (11, |p, rng| {
         let at = two_holes(p, rng);
@@ -237,11 +264,20 @@ fn one_less(p: &mut Status, rng: &mut Rng) {
     p.in_response_to = p.progress - 1;
 }
 
+/// Octets of which none makes a descriptor of 128 bits that is refused.
+fn half_pair(rng: &mut Rng, len: usize) -> Vec<u8> {
+    let mut octets = rng.octets(len);
+    if len >= 16 {
+        octets[..8].fill(0);
+    }
+    octets
+}
+
 /// Makes the list one of two holes or more, and picks one that isn't the first.
 fn two_holes(p: &mut Status, rng: &mut Rng) -> usize {
     if p.holes.len() < 2 {
         let count = rng.place(2, 6);
-        *p = Status::with_holes(rng, p.start.clone(), count);
+        *p = Status { upper: p.upper, ..Status::with_holes(rng, p.start.clone(), count) };
     }
     rng.place(1, p.holes.len() - 1)
 }

@@ -206,7 +206,6 @@ pub const BEACON: &[Fault<BeaconArgs>] = &[
     (26, |f, rng| f.set_pairs(NO_PAIRING, rng.pick(&PAIRINGS))),
     (26, |f, rng| f.set_pairs(rng.pick(&PAIRINGS), NO_PAIRING)),
     (26, |f, rng| f.flags |= rng.between(1, 255)),
-    (5, |f, _| f.set_free(Some(3))),
     (2, |f, rng| {
         let room = 65_535 - 4 - free_width(f.flags as u32);
         let len = rng.pick(&[room + 1, room + 1, room + 2, 70_000]);
@@ -220,7 +219,7 @@ pub const METADATA: &[Fault<MetadataArgs>] = &[
     (9, |f, rng| {
         let code = rng.below(2) as u32;
         f.set_width(code);
-        f.set_entry_width(rng.between(u64::from(code) + 1, 2) as u32);
+        f.set_entry_width(rng.between(u64::from(code) + 1, 3) as u32);
         let (own, entry) = (last(width(f.flags as u32)), last(entry_width(f.properties as u16)));
         f.size = rng.pick(&[own + 1, entry]);
     }),
@@ -228,7 +227,6 @@ pub const METADATA: &[Fault<MetadataArgs>] = &[
         f.set_entry_width(rng.below(2) as u32);
         f.size = rng.too_large(8 * entry_width(f.properties as u16) as u32);
     }),
-    (5, |f, _| f.set_width(3)),
     (6, |f, rng| f.flags |= rng.between(1, 3) << (31 - 11)),
     (7, |f, rng| {
         let pair = refused_pair(rng);
@@ -246,7 +244,6 @@ pub const METADATA: &[Fault<MetadataArgs>] = &[
         f.checksum.resize(4 * (f.flags as usize % 256 / 16) + len, 7);
     }),
     (6, |f, rng| f.properties |= u64::from(rng.pick(&NOT_A_FILE))),
-    (5, |f, _| f.set_entry_width(3)),
     (8, |f, _| f.path.clear()),
     (8, |f, rng| {
         let len = rng.pick(&[1_024, 1_024, 1_025, 3_000, 65_536]);
@@ -269,7 +266,6 @@ pub const DATA: &[Fault<DataArgs>] = &[
         f.set_width(rng.below(2) as u32);
         f.offset = rng.too_large(8 * width(f.flags as u32) as u32);
     }),
-    (5, |f, _| f.set_width(3)),
     (6, |f, rng| f.flags |= rng.between(1, 3) << (31 - 11)),
     (1, |f, rng| {
         f.set_timestamp(true, rng);

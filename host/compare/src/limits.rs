@@ -160,7 +160,6 @@ fn beacon_endpoints(check: &mut Check) -> Step {
             let octets = packet.octets(rng);
             match (total > 65_535, code) {
                 (true, _) => check.read_refused(&octets, 2)?,
-                (false, Some(3)) => check.read_refused(&octets, 5)?,
                 _ => drop(check.read_valid(&octets)?),
             }
             check.read_hole(&octets, 0)?;
@@ -169,7 +168,7 @@ fn beacon_endpoints(check: &mut Check) -> Step {
     Ok(())
 }
 
-/// Every pair of checksum type and words, at every pair of widths, the refused one included.
+/// Every pair of checksum type and words, at every pair of widths.
 fn metadata_pairs(check: &mut Check) -> Step {
     for pair in 0..=255 {
         for codes in 0..16 {
@@ -336,11 +335,11 @@ fn last_octets(check: &mut Check) -> Step {
 
 /// Lists that fill a packet of 65,535 octets as far as whole pairs can, then octets up to and past that limit.
 fn full_hole_lists(check: &mut Check) -> Step {
-    for codes in 0..6 {
+    for codes in 0..8 {
         let rng = &mut check.rng;
         let mut start = Status::valid(rng).start;
-        start.flags = with_width(start.flags, codes % 3) & !TIMESTAMP;
-        if codes >= 3 {
+        start.flags = with_width(start.flags, codes % 4) & !TIMESTAMP;
+        if codes >= 4 {
             start.flags |= TIMESTAMP;
         }
         let pair = 2 * width(start.flags);

@@ -70,7 +70,7 @@ fn beacon_flags(check: &mut Check) -> Step {
         args.endpoint.truncate(20);
         args.free_space = match free_width(args.flags as u32) {
             0 => 0,
-            octets => check.rng.number(8 * octets.min(8) as u32),
+            octets => check.rng.number(number_bits(octets)),
         };
         beacon(check, &args)?;
         if bits % 16 == 0 {
@@ -253,11 +253,11 @@ fn data_numbers(check: &mut Check) -> Step {
 
 /// Short payloads, and packets around 65,535 octets, in all rooms.
 fn data_lengths(check: &mut Check) -> Step {
-    for codes in 0..6 {
+    for codes in 0..8 {
         let rng = &mut check.rng;
         let mut args = DataArgs::valid(rng);
-        args.set_width(codes % 3);
-        args.set_timestamp(codes >= 3, rng);
+        args.set_width(codes % 4);
+        args.set_timestamp(codes >= 4, rng);
         args.offset = rng.number(16);
         let taken = 8 + args.timestamp.len() + width(args.flags as u32);
         for len in [0, 1, 2, 3, 17, 300] {

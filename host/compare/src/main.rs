@@ -3,6 +3,9 @@
 
 #![deny(unsafe_code)]
 
+#[macro_use]
+mod wrong_list;
+
 mod answer;
 mod check;
 mod codec;
@@ -12,6 +15,7 @@ mod ffi;
 mod fields;
 mod lent;
 mod limits;
+mod limits_width;
 mod limits_write;
 mod packets;
 mod random;
@@ -23,6 +27,7 @@ mod tally;
 #[cfg(test)]
 mod tests;
 mod wrong;
+mod wrong_width;
 
 use std::process::ExitCode;
 use std::time::{Duration, Instant, SystemTime, UNIX_EPOCH};
@@ -35,8 +40,8 @@ compare: compares libsaratoga.a with a codec and a receiver written from the pap
 usage: compare [--seed N] [--calls N] [--receiver-calls N] [--seconds N] [--self-check] [--help]
 
   --seed N             start the random numbers from N (else from the clock); the seed is printed
-  --calls N            make N calls on packets, 3,000,000 unless given; each limit is always tried, in some 350,000
-  --receiver-calls N   make N calls on areas, 1,000,000 unless given; each limit is always tried, in some 370,000
+  --calls N            make N calls on packets, 3,000,000 unless given; each limit is always tried, in some 620,000
+  --receiver-calls N   make N calls on areas, 1,000,000 unless given; each limit is always tried, in some 400,000
   --seconds N          make calls for N seconds instead, a quarter of the time on packets
   --self-check         compare with codecs and receivers that are wrong in one way each instead: each must be found
   --help               print this

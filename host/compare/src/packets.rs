@@ -10,6 +10,14 @@ pub enum Ending {
     Filled(usize),
 }
 
+/// What the upper eight octets of one descriptor of 128 bits hold, the descriptors counted from the packet's first. Where the
+/// descriptors are narrower, it isn't looked at.
+#[derive(Clone, Copy, Default)]
+pub struct Upper {
+    pub descriptor: usize,
+    pub octets: u64,
+}
+
 /// The first word and the Id. Every field is as wide as in the packet.
 #[derive(Clone)]
 pub struct Start {
@@ -29,6 +37,7 @@ pub struct Beacon {
     /// Written in as many octets as the flags say, so in none where they say none.
     pub free_space: u64,
     pub endpoint: Vec<u8>,
+    pub upper: Upper,
     pub ending: Ending,
 }
 
@@ -43,6 +52,7 @@ pub struct Metadata {
     pub path: Vec<u8>,
     /// What follows the path: one zero octet.
     pub close: Vec<u8>,
+    pub upper: Upper,
     pub ending: Ending,
 }
 
@@ -52,6 +62,7 @@ pub struct Data {
     pub timestamp: Vec<u8>,
     pub offset: u64,
     pub payload: Vec<u8>,
+    pub upper: Upper,
     pub ending: Ending,
 }
 
@@ -64,6 +75,7 @@ pub struct Status {
     pub holes: Vec<(u64, u64)>,
     /// What follows the holes: nothing.
     pub extra: Vec<u8>,
+    pub upper: Upper,
     pub ending: Ending,
 }
 
@@ -103,7 +115,7 @@ pub fn free_width(flags: u32) -> usize {
     }
 }
 
-/// `flags` with width bits `code`: 0, 1, 2 or the refused 3.
+/// `flags` with width bits `code`: 0 to 3.
 pub fn with_width(flags: u32, code: u32) -> u32 {
     (flags & !WIDTH) | (code << (31 - 9))
 }
@@ -123,7 +135,12 @@ pub fn entry_width(properties: u16) -> usize {
     2 << ((properties & ENTRY_WIDTH) >> (15 - 9))
 }
 
-/// The largest number in `octets` octets, of those that the codec can hold.
+/// Bits of the numbers in `octets` octets, of those below 2^64.
+pub fn number_bits(octets: usize) -> u32 {
+    8 * octets.min(8) as u32
+}
+
+/// The largest number in `octets` octets, of those below 2^64.
 pub fn last(octets: usize) -> u64 {
     match octets {
         2 => 0xFFFF,
@@ -185,7 +202,7 @@ pub fn payload_len(rng: &mut Rng, taken: usize) -> usize {
 /// Width bits and flags without a rule at random, kind 00, and bits 24 to 31 as given.
 fn start(rng: &mut Rng, kind: u8, low: u32) -> Start {
     let flags = rng.any() as u32 & 0x00FF_FF00 & !KIND | low;
-    let code = rng.below(3) as u32;
+    let code = rng.below(4) as u32;
     Start { first: 0x40 | kind, flags: with_width(flags, code), id: rng.number(32) as u32 }
 }
 
@@ -194,11 +211,11 @@ impl Beacon {
         let any = rng.any() as u32 & 0x00FF_FF00;
         let mut flags = with_pairs(any, rng.pick(&PAIRINGS), rng.pick(&PAIRINGS));
         if flags & FREE != 0 {
-            flags = with_free(flags, rng.below(3) as u32);
+            flags = with_free(flags, rng.below(4) as u32);
         }
         let free_space = match free_width(flags) {
             0 => 0,
-            octets => rng.number(8 * octets as u32),
+            octets => rng.number(number_bits(octets)),
         };
         let len = match rng.below(200) {
             0 => 65_535 - 4 - free_width(flags) - rng.place(0, 2),
@@ -206,13 +223,15 @@ impl Beacon {
             2..=60 => 0,
             _ => rng.place(1, 60),
         };
-        Beacon { first: 0x40, flags, free_space, endpoint: rng.octets(len), ending: Ending::Whole }
+        let endpoint = rng.octets(len);
+        Beacon { first: 0x40, flags, free_space, endpoint, upper: Upper::default(), ending: Ending::Whole }
     }
 
     pub fn octets(&self, rng: &mut Rng) -> Vec<u8> {
         let mut octets = vec![self.first];
         put(&mut octets, u64::from(self.flags), 3);
         put(&mut octets, self.free_space, free_width(self.flags));
+        self.upper.set(&mut octets, 4, free_width(self.flags));
         octets.extend(&self.endpoint);
         end(octets, self.ending, rng)
     }
@@ -222,19 +241,20 @@ impl Metadata {
     pub fn valid(rng: &mut Rng) -> Metadata {
         let pair = allowed_pair(rng);
         let start = start(rng, 2, pair);
-        let bits = rng.any() as u16 & !NOT_A_FILE[0] & !NOT_A_FILE[1] & !NOT_A_FILE[2];
-        let properties = with_entry_width(bits, rng.below(3) as u32);
+        let any = rng.any() as u16 & !NOT_A_FILE[0] & !NOT_A_FILE[1] & !NOT_A_FILE[2];
+        let properties = with_entry_width(any, rng.below(4) as u32);
         let size_octets = width(start.flags).min(entry_width(properties));
         let len = path_len(rng);
         Metadata {
             start,
             checksum: rng.octets(4 * (pair as usize / 16)),
             properties,
-            size: rng.number(8 * size_octets as u32),
+            size: rng.number(number_bits(size_octets)),
             mtime: rng.number(32) as u32,
             ctime: rng.number(32) as u32,
             path: path(rng, len),
             close: vec![0],
+            upper: Upper::default(),
             ending: Ending::Whole,
         }
     }
@@ -243,7 +263,9 @@ impl Metadata {
         let mut octets = self.start.octets();
         octets.extend(&self.checksum);
         put(&mut octets, u64::from(self.properties), 2);
+        let size_at = octets.len();
         put(&mut octets, self.size, entry_width(self.properties));
+        self.upper.set(&mut octets, size_at, entry_width(self.properties));
         put(&mut octets, u64::from(self.mtime), 4);
         put(&mut octets, u64::from(self.ctime), 4);
         octets.extend(&self.path);
@@ -261,9 +283,10 @@ impl Data {
         let len = payload_len(rng, taken);
         Data {
             timestamp: rng.octets(stamp),
-            offset: rng.number(8 * width(start.flags) as u32),
+            offset: rng.number(number_bits(width(start.flags))),
             payload: rng.octets(len),
             start,
+            upper: Upper::default(),
             ending: Ending::Whole,
         }
     }
@@ -271,7 +294,9 @@ impl Data {
     pub fn octets(&self, rng: &mut Rng) -> Vec<u8> {
         let mut octets = self.start.octets();
         octets.extend(&self.timestamp);
+        let offset_at = octets.len();
         put(&mut octets, self.offset, width(self.start.flags));
+        self.upper.set(&mut octets, offset_at, width(self.start.flags));
         octets.extend(&self.payload);
         end(octets, self.ending, rng)
     }
@@ -299,6 +324,7 @@ impl Status {
             in_response_to: 0,
             holes: rising_holes(rng, octets, count),
             extra: vec![],
+            upper: Upper::default(),
             ending: Ending::Whole,
             start,
         };
@@ -313,7 +339,7 @@ impl Status {
         let (low, high) = match (self.holes.first(), self.holes.last()) {
             (Some(&(low, _)), Some(&(_, high))) => (low, high),
             _ => {
-                let low = rng.number(8 * width(self.start.flags).min(8) as u32);
+                let low = rng.number(number_bits(width(self.start.flags)));
                 (low, low)
             }
         };
@@ -352,6 +378,7 @@ impl Status {
         let octets_each = width(self.start.flags);
         let mut octets = self.start.octets();
         octets.extend(&self.timestamp);
+        let progress_at = octets.len();
         put(&mut octets, self.progress, octets_each);
         put(&mut octets, self.in_response_to, octets_each);
         for &(start, end) in &self.holes {
@@ -359,7 +386,18 @@ impl Status {
             put(&mut octets, end, octets_each);
         }
         octets.extend(&self.extra);
+        self.upper.set(&mut octets, progress_at, octets_each);
         end(octets, self.ending, rng)
+    }
+}
+
+impl Upper {
+    /// Sets them in a packet whose first descriptor stands at `first`, if it has such a descriptor and that is whole.
+    fn set(self, octets: &mut [u8], first: usize, width: usize) {
+        let at = first + 16 * self.descriptor;
+        if width == 16 && octets.len() >= at + 16 && self.octets != 0 {
+            octets[at..at + 8].copy_from_slice(&self.octets.to_be_bytes());
+        }
     }
 }
 

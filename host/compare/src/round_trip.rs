@@ -48,7 +48,8 @@ impl Check<'_> {
             if hole.number == 0 {
                 let width = read.width as usize;
                 let at = read.holes_at as usize + 2 * width * index as usize;
-                let pair = [&hole.start.to_be_bytes()[8 - width..], &hole.end.to_be_bytes()[8 - width..]].concat();
+                let descriptor = |number: u64| u128::from(number).to_be_bytes()[16 - width..].to_vec();
+                let pair = [descriptor(hole.start), descriptor(hole.end)].concat();
                 require(packet[at..at + 2 * width] == pair, || {
                     format!("hole {index} isn't at its place\n  {hole:?}\n{}", describe_packet(packet))
                 })?;

@@ -7,7 +7,7 @@ use crate::check::{Check, Step, Stop};
 use crate::codec::{Codec, Paper};
 use crate::receiver::{self, orders, pass, Receiver};
 use crate::tally::Tally;
-use crate::{limits, limits_write, random, wrong};
+use crate::{limits, limits_width, limits_write, random, wrong};
 
 /// When to end: after so many calls, or at a time. The limits always run whole, which may take more.
 #[derive(Clone, Copy)]
@@ -37,6 +37,7 @@ pub fn packets(codec: &dyn Codec, seed: u64, end: End) -> Result<Agreed, String>
     run(Check::new(codec, &Paper, seed), seed, |check| {
         limits_write::run(check)?;
         limits::run(check)?;
+        limits_width::run(check)?;
         until(check, end, random::case)
     })
 }
@@ -49,6 +50,7 @@ pub fn receiver(codec: &dyn Codec, receiver: &dyn Receiver, seed: u64, end: End)
         }
         receiver::limits::run(check)?;
         receiver::limits_area::run(check)?;
+        receiver::limits_width::run(check)?;
         until(check, end, pass::case)
     })
 }
@@ -86,7 +88,7 @@ fn until(check: &mut Check, end: End, case: fn(&mut Check) -> Step) -> Step {
 pub fn self_check(seed: u64, calls: u64) -> Result<usize, String> {
     let end = End::after(calls);
     for wrong in wrong::ALL {
-        found("codec", &wrong, packets(&wrong, seed, end), seed)?;
+        found("codec", wrong, packets(wrong, seed, end), seed)?;
     }
     for wrong in receiver::wrong::ALL {
         found("receiver", wrong, receiver(&Paper, wrong, seed, end), seed)?;

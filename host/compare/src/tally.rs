@@ -54,13 +54,14 @@ impl Function {
     }
 }
 
-/// The numbers that each function can answer. A METADATA packet to be written never gets over 65,535 octets.
+/// The numbers that each function can answer. A METADATA packet to be written never gets over 65,535 octets, and no
+/// descriptor to be written has upper octets that aren't zero.
 const CAN_OCCUR: [&[usize]; COLUMNS] = [
     &[0, 1, 2, 3, 4, 5, 6, 7, 8, 9, 10, 11, 26],
     &[0, 1, 2, 3, 4, 5, 11, 19],
-    &[0, 2, 5, 20, 21, 26],
-    &[0, 1, 5, 6, 7, 8, 9, 20, 21],
-    &[0, 1, 2, 5, 6, 10, 20, 21],
+    &[0, 2, 20, 21, 26],
+    &[0, 1, 6, 7, 8, 9, 20, 21],
+    &[0, 1, 2, 6, 10, 20, 21],
     &[0, 20, 21],
     &[0, 20],
     &[0, 1, 2, 3, 4, 5, 6, 7, 8, 9, 17, 18, 22],

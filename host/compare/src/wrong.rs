@@ -4,22 +4,17 @@ use paper::write::{BeaconFields, DataFields, MetadataFields};
 
 use crate::answer::{Hole, Packet, Written};
 use crate::codec::{Codec, Paper};
+use crate::wrong_width::{wide_descriptors, with_upper_cleared};
 
-/// What is wrong.
-#[derive(Clone, Copy, Debug, PartialEq, Eq)]
-pub enum Wrong {
+wrong! {
     /// 4 before 3.
     TypeBeforeVersion,
-    /// 6 before 5 in the first word.
-    KindBeforeWidth,
     /// 9 before the path's 1 and 8.
     SizeBeforePath,
     /// 11 for a failure STATUS with octets after the Id.
     FailureReadOn,
     /// 20 before 2.
     BufferBeforeLength,
-    /// 5 before 21.
-    WidthBeforeField,
     /// A path of 1,023 octets is refused.
     ShorterPaths,
     /// A path of 1,024 octets is written.
@@ -102,73 +97,78 @@ pub enum Wrong {
     FreeLeftOut,
     /// The writer loses bit 16.
     BitSixteenLost,
-    /// The writer gives 5 before 26.
-    WriterWidthFirst,
     /// The writer gives 26 before 21.
     WriterFlagsFirst,
     /// The writer refuses an empty endpoint.
     NoEndpointRefused,
+
+    // Descriptors of 128 bits.
+    /// The upper eight octets are not looked at.
+    UpperIgnored,
+    /// The highest octet is not looked at.
+    HighestIgnored,
+    /// The lowest of the upper eight octets is not looked at.
+    EighthIgnored,
+    /// The upper octets of DATA's offset are not looked at.
+    OffsetUpperIgnored,
+    /// Those of the size.
+    SizeUpperIgnored,
+    /// Those of Progress.
+    ProgressUpperIgnored,
+    /// Those of In-Response-To.
+    ResponseUpperIgnored,
+    /// Those of a hole's start.
+    StartUpperIgnored,
+    /// Those of a hole's end.
+    EndUpperIgnored,
+    /// Those of a start without its end.
+    LoneStartIgnored,
+    /// Those of the free space.
+    FreeUpperIgnored,
+    /// Those of a hole, where one is asked for.
+    HoleUpperIgnored,
+    /// 10 before 5.
+    PayloadBeforeUpper,
+    /// 1 for the times before the size's 5.
+    TimesBeforeUpper,
+    /// The path before the size's 5.
+    PathBeforeUpper,
+    /// 9 before 5.
+    SizeBeforeUpper,
+    /// 1 for In-Response-To before the 5 of Progress.
+    ResponseBeforeUpper,
+    /// 11 before 5.
+    ListBeforeUpper,
+    /// 5 before all of the descriptor's octets are there.
+    UpperBeforeWhole,
+    /// 5 by the width bits of DATA alone.
+    DataWidthRefused,
+    /// 5 by those of STATUS.
+    StatusWidthRefused,
+    /// 5 by those of METADATA, which has no descriptor of that width.
+    MetadataWidthRefused,
+    /// 5 by those of a directory entry.
+    EntryWidthRefused,
+    /// 5 by those of the free space.
+    FreeWidthRefused,
+    /// 2^w - 1 wraps to 0 at width 128 where a size is judged.
+    LargestSizeWraps,
+    /// The same where an offset is to be written.
+    LargestOffsetWraps,
+    /// Writers leave the upper eight octets as they were.
+    UpperLeft,
+    /// The DATA writer refuses width 128.
+    WriterDataRefused,
+    /// The METADATA writer refuses it.
+    WriterMetadataRefused,
+    /// The METADATA writer refuses a size of 128 bits.
+    WriterEntryRefused,
+    /// The BEACON writer refuses a free space of 128 bits.
+    WriterFreeRefused,
 }
 
-pub const ALL: [Wrong; 49] = [
-    Wrong::TypeBeforeVersion,
-    Wrong::KindBeforeWidth,
-    Wrong::SizeBeforePath,
-    Wrong::FailureReadOn,
-    Wrong::BufferBeforeLength,
-    Wrong::WidthBeforeField,
-    Wrong::ShorterPaths,
-    Wrong::LongerPaths,
-    Wrong::SmallerSizes,
-    Wrong::LongerPackets,
-    Wrong::OffsetCut,
-    Wrong::BitFourteenIgnored,
-    Wrong::TouchingHoles,
-    Wrong::HoleEndInside,
-    Wrong::LastOctetRefused,
-    Wrong::LastOctetAsked,
-    Wrong::LastOctetPartial,
-    Wrong::LastOctetWithHoles,
-    Wrong::LastOctetWraps,
-    Wrong::IndexWraps,
-    Wrong::FlagLost,
-    Wrong::PayloadPlace,
-    Wrong::OtherCode,
-    Wrong::RefusalWithField,
-    Wrong::LastOctet,
-    Wrong::OctetAfter,
-    Wrong::BufferTouched,
-    Wrong::PairingTaken,
-    Wrong::LastFlagsTaken,
-    Wrong::FreeWidthBeforeFlags,
-    Wrong::Swapped,
-    Wrong::PairAsNumber,
-    Wrong::FreeAlwaysRead,
-    Wrong::FreeInOctets,
-    Wrong::FreeWidthTested,
-    Wrong::FreeWidthLost,
-    Wrong::LargestRefused,
-    Wrong::FourRefused,
-    Wrong::SevenRefused,
-    Wrong::ThreeTaken,
-    Wrong::FourOfAnyTaken,
-    Wrong::HoleOfBeaconCut,
-    Wrong::BeaconWithId,
-    Wrong::EndpointClosed,
-    Wrong::FreeLeftOut,
-    Wrong::BitSixteenLost,
-    Wrong::WriterWidthFirst,
-    Wrong::WriterFlagsFirst,
-    Wrong::NoEndpointRefused,
-];
-
-fn refused(number: u64, code: u64) -> Packet {
+pub fn refused(number: u64, code: u64) -> Packet {
     Packet { number, code, ..Packet::default() }
-}
-
-/// Bits 8 and 9 are 11.
-fn width_refused(second: u8) -> bool {
-    second >> 6 == 3
 }
 
 /// Property bits 8 and 9 as octets of a size.
@@ -244,13 +244,6 @@ impl Codec for Wrong {
             Wrong::TypeBeforeVersion => {
                 wrong(right.number == 3 && ![0, 2, 3, 4].contains(&(packet[0] & 0x3F)), refused(4, 0x0A))
             }
-            Wrong::KindBeforeWidth => wrong(
-                right.number == 5
-                    && width_refused(packet[1])
-                    && [0x42, 0x43].contains(&packet[0])
-                    && packet[1] & 0x30 != 0,
-                refused(6, 0x01),
-            ),
             Wrong::SizeBeforePath if packet.first() == Some(&0x42) && matches!(right.number, 1 | 8) => {
                 let size = packet.get(..8).and_then(|_| with_short_path(packet)).map(|short| Paper.read(&short));
                 wrong(size.is_some_and(|read| read.number == 9), refused(9, 0x09))
@@ -282,6 +275,7 @@ impl Codec for Wrong {
             Wrong::PayloadPlace => wrong(right.payload_at != 0, Packet { payload_at: right.payload_at + 1, ..right }),
             Wrong::OtherCode => wrong(right.number == 10, refused(10, 0)),
             Wrong::RefusalWithField => wrong(right.number == 11, Packet { kind: 4, ..right }),
+            _ if self.of_width() => self.read_wide(packet, right),
             _ if packet.first() == Some(&0x40) => self.read_beacon(packet, right),
             Wrong::FourOfAnyTaken => {
                 wrong(right.number == 1 && (4..8).contains(&packet.len()) && packet[0] >> 6 != 1, refused(3, 0))
@@ -295,6 +289,7 @@ impl Codec for Wrong {
         match self {
             Wrong::HoleEndInside if right.number == 0 => Hole { end: right.end - 1, ..right },
             Wrong::IndexWraps => Paper.read_hole(packet, index % (1 << 60)),
+            Wrong::HoleUpperIgnored if right.number == 5 => Paper.read_hole(&with_upper_cleared(packet), index),
             Wrong::HoleOfBeaconCut if right.number == 4 && packet.len() < 8 => Hole { number: 1, ..Hole::default() },
             _ => right,
         }
@@ -304,7 +299,6 @@ impl Codec for Wrong {
         let before = out.to_vec();
         let right = Paper.write_beacon(fields, out);
         let refused = |number, code| Written { number, code, size: 0 };
-        let free_refused = fields.flags & 0x7000 == 0x7000;
         match self {
             Wrong::FreeLeftOut if right.number == 21 && fields.flags & 0x4000 == 0 => {
                 Paper.write_beacon(&BeaconFields { free_space: 0, ..*fields }, out)
@@ -313,20 +307,30 @@ impl Codec for Wrong {
                 out[2] &= 0x7F;
                 right
             }
-            Wrong::WriterWidthFirst if right.number == 26 && free_refused => refused(5, 0x09),
+            Wrong::WriterFreeRefused if matches!(right.number, 0 | 2 | 20) && fields.flags & 0x7000 == 0x7000 => {
+                out.copy_from_slice(&before);
+                refused(5, 0x09)
+            }
             Wrong::WriterFlagsFirst if right.number == 21 && fields.flags & 0xFF != 0 => refused(26, 0),
             Wrong::NoEndpointRefused if right.number == 0 && fields.endpoint.is_empty() => {
                 out.copy_from_slice(&before);
                 refused(1, 0)
             }
-            _ => self.spoil(right, out),
+            _ => self.spoil(right, &before, out),
         }
     }
 
     fn write_metadata(&self, fields: &MetadataFields, out: &mut [u8]) -> Written {
+        let before = out.to_vec();
         let right = Paper.write_metadata(fields, out);
+        let (own, entry) = (fields.flags >> 22 == 3, fields.properties >> 6 & 3 == 3);
         match self {
-            Wrong::WidthBeforeField if right.number == 21 && width_refused((fields.flags >> 16) as u8) => {
+            Wrong::WriterMetadataRefused if own && !matches!(right.number, 21) => {
+                out.copy_from_slice(&before);
+                Written { number: 5, code: 0x09, size: 0 }
+            }
+            Wrong::WriterEntryRefused if entry && matches!(right.number, 0 | 8 | 9 | 20) => {
+                out.copy_from_slice(&before);
                 Written { number: 5, code: 0x09, size: 0 }
             }
             Wrong::LongerPaths if right.number == 8 && fields.path.len() == 1_024 => {
@@ -334,13 +338,23 @@ impl Codec for Wrong {
                 written.size += u64::from(written.number == 0);
                 written
             }
-            _ => self.spoil(right, out),
+            _ => self.spoil(right, &before, out),
         }
     }
 
     fn write_data(&self, fields: &DataFields, out: &mut [u8]) -> Written {
+        let before = out.to_vec();
         let right = Paper.write_data(fields, out);
+        let wide = fields.flags >> 22 == 3;
         match self {
+            Wrong::WriterDataRefused if wide && right.number != 21 => {
+                out.copy_from_slice(&before);
+                Written { number: 5, code: 0x09, size: 0 }
+            }
+            Wrong::LargestOffsetWraps if wide && fields.offset > 0 => {
+                out.copy_from_slice(&before);
+                Written { number: 21, code: 0, size: 0 }
+            }
             Wrong::BufferBeforeLength if right.number == 2 && out.len() < 65_536 => {
                 Written { number: 20, code: 0, size: 0 }
             }
@@ -348,13 +362,14 @@ impl Codec for Wrong {
                 let bits = 16 << (fields.flags >> 22 & 3).min(2);
                 Paper.write_data(&DataFields { offset: fields.offset & (u64::MAX >> (64 - bits)), ..*fields }, out)
             }
-            _ => self.spoil(right, out),
+            _ => self.spoil(right, &before, out),
         }
     }
 
     fn write_failure(&self, id: u64, status: u64, out: &mut [u8]) -> Written {
+        let before = out.to_vec();
         let right = Paper.write_failure(id, status, out);
-        self.spoil(right, out)
+        self.spoil(right, &before, out)
     }
 }
 
@@ -378,7 +393,10 @@ impl Wrong {
                 let read = with(3, 0);
                 wrong(read.number == 0, Packet { flags: read.flags | u64::from(packet[3]), ..read })
             }
-            Wrong::FreeWidthBeforeFlags => wrong(right.number == 26 && packet[2] & 0x70 == 0x70, refused(5, 0x09)),
+            Wrong::FreeWidthBeforeFlags if right.number == 26 => {
+                let named = [&[packet[0], packet[1] & 0xF0, packet[2], 0], &packet[4..]].concat();
+                wrong(Paper.read(&named).number == 5, refused(5, 0x09))
+            }
             Wrong::Swapped => Packet { send: right.receive, receive: right.send, ..right },
             Wrong::PairAsNumber => {
                 let pair = |state: u64| state + u64::from(state > 0);
@@ -389,9 +407,9 @@ impl Wrong {
                 Packet { flags: right.flags, ..read }
             }
             Wrong::FreeInOctets => Packet { free_space: right.free_space.wrapping_mul(1_024), ..right },
-            Wrong::FreeWidthTested => wrong(taken && packet[2] & 0x30 == 0x30, refused(5, 0x09)),
+            Wrong::FreeWidthTested => wrong(taken && packet[2] & 0x70 == 0x30, refused(5, 0x09)),
             Wrong::FreeWidthLost if right.free_width == 0 => Packet { flags: right.flags & !0x3000, ..right },
-            Wrong::LargestRefused => wrong(taken && width_refused(packet[1]), refused(5, 0x09)),
+            Wrong::LargestRefused => wrong(taken && packet[1] >> 6 == 3, refused(5, 0x09)),
             Wrong::FourRefused => wrong(taken && packet.len() == 4, refused(1, 0)),
             Wrong::SevenRefused => wrong(packet.len() < 8, refused(1, 0)),
             Wrong::ThreeTaken if packet.len() == 3 => Paper.read(&[packet, &[0]].concat()),
@@ -409,9 +427,14 @@ impl Wrong {
     }
 
     /// The wrong writers that differ in octets alone.
-    fn spoil(self, right: Written, out: &mut [u8]) -> Written {
+    fn spoil(self, right: Written, before: &[u8], out: &mut [u8]) -> Written {
         let size = right.size as usize;
         match self {
+            Wrong::UpperLeft => {
+                for at in wide_descriptors(&out[..size]) {
+                    out[at..at + 8].copy_from_slice(&before[at..at + 8]);
+                }
+            }
             Wrong::LastOctet if right.number == 0 => out[size - 1] ^= 1,
             Wrong::OctetAfter if right.number == 0 && out.len() > size => out[size] = 0,
             Wrong::BufferTouched if right.number == 20 && !out.is_empty() => out[0] = 0x44,

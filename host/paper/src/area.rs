@@ -64,11 +64,11 @@ fn table(area: &[u8]) -> Option<Table> {
 }
 
 /// "width w, length L (at most 2^w - 1) and a set of received offsets below L". AREA.md, 4 to 8: the width is one of
-/// three, the length fits it, there are at most 64 runs, each start is below its stop, each stop at most the length, and
+/// four, the length fits it, there are at most 64 runs, each start is below its stop, each stop at most the length, and
 /// each start above the stop before it.
 fn transfer(area: &[u8], i: usize) -> Option<Transfer> {
     let [_, width, length, runs] = [0, 1, 2, 3].map(|field| number(area, HEADS + HEAD_WORDS * i + field));
-    let width = small(width, 8).filter(|width| [2, 4, 8].contains(width))?;
+    let width = small(width, 16).filter(|width| [2, 4, 8, 16].contains(width))?;
     if u128::from(length) > largest(width) {
         return None;
     }

@@ -31,7 +31,7 @@ fn property_bits(properties: u64, first: u32, last: u32) -> u64 {
     bits(properties, 16, first, last)
 }
 
-/// Octets of a descriptor: "00 is 16, 01 is 32, 10 is 64 bits. 11 (128 bits)". 11 is refused, but has its bits.
+/// Octets of a descriptor: "00 is 16, 01 is 32, 10 is 64 bits. 11 (128 bits)".
 fn descriptor_octets(width_bits: u64) -> usize {
     match width_bits {
         0b00 => 2,
@@ -42,15 +42,13 @@ fn descriptor_octets(width_bits: u64) -> usize {
     }
 }
 
-/// The octets of a descriptor that is "refused here".
-pub const REFUSED_WIDTH: usize = 16;
-
 /// The two bits of a width, the other way.
 pub fn width_bits(octets: usize) -> u64 {
     match octets {
         2 => 0b00,
         4 => 0b01,
         8 => 0b10,
+        16 => 0b11,
         _ => unreachable!("no transfer has another width"),
     }
 }

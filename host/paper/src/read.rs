@@ -115,7 +115,8 @@ pub fn read_hole(packet: &[u8], index: u64) -> Result<Hole, Refusal> {
 }
 
 /// Reading by an operation that takes the types `taken`. "Order in reading: 2, 1 (first 8 octets), 3, 4; a failure
-/// STATUS is then accepted; then width, kind, checksum pair; then 1 for the fields that follow."
+/// STATUS is then accepted; then [...] kind, checksum pair; then 1 for the fields that follow." 5 is no more judged by the
+/// width bits, but at each descriptor.
 pub fn read_types(packet: &[u8], taken: &[u64]) -> Result<Packet, Refusal> {
     if packet.len() > MAX_PACKET {
         return Err(Refusal::TooLong);
@@ -149,8 +150,9 @@ pub fn read_types(packet: &[u8], taken: &[u64]) -> Result<Packet, Refusal> {
     }
 }
 
-/// The first word, the free space if bit 17 is set, then the endpoint to the end. The order: 26, "both next after 4; then,
-/// where free space is present, 5 and 1 for it".
+/// The first word, the free space if bit 17 is set, then the endpoint to the end. The order: 26, "both next after 4", then 1
+/// and 5 for the free space: "Take width 11 wherever the upper eight octets of a descriptor, the free space of One included,
+/// are zero."
 fn beacon(word: u64, mut fields: Fields) -> Result<Beacon, Refusal> {
     let (Some(send), Some(receive), 0) = (send(word), receive(word), last_flags_octet(word)) else {
         return Err(Refusal::Beacon);
@@ -168,25 +170,20 @@ fn beacon(word: u64, mut fields: Fields) -> Result<Beacon, Refusal> {
     })
 }
 
-/// The free space, of so many octets: 5, then 1.
+/// The free space, of so many octets: 1, then 5.
 fn free_space(width: usize, fields: &mut Fields) -> Result<Option<FreeSpace>, Refusal> {
     if width == 0 {
         return Ok(None);
     }
-    if width == REFUSED_WIDTH {
-        return Err(Refusal::Width);
-    }
-    let kib = fields.number(width)?;
+    let kib = fields.descriptor(width)?;
     Ok(Some(FreeSpace { width, kib }))
 }
 
-/// "After the Id: the checksum, then a directory entry to the packet's end." The order: 5, 6, 7, "1 for checksum and
-/// properties, 6, 5 for the entry, 1 for size and times, the path (1 or 8), 9".
+/// "After the Id: the checksum, then a directory entry to the packet's end." The order: 6, 7, "1 for checksum and
+/// properties, 6", 1 and 5 for the size, 1 for the times, "the path (1 or 8), 9". No descriptor stands in the packet's own
+/// width, so its width bits 11 are simply taken.
 fn metadata(word: u64, header: Header, mut fields: Fields) -> Result<Metadata, Refusal> {
     let width = packet_width(word);
-    if width == REFUSED_WIDTH {
-        return Err(Refusal::Width);
-    }
     if !is_file(word) {
         return Err(Refusal::Kind);
     }
@@ -199,10 +196,7 @@ fn metadata(word: u64, header: Header, mut fields: Fields) -> Result<Metadata, R
     if !properties_of_file(properties) {
         return Err(Refusal::Kind);
     }
-    if entry_width(properties) == REFUSED_WIDTH {
-        return Err(Refusal::Width);
-    }
-    let size = fields.number(entry_width(properties))?;
+    let size = fields.descriptor(entry_width(properties))?;
     let mtime = fields.number(4)?;
     let ctime = fields.number(4)?;
     let path = path(fields)?;
@@ -232,17 +226,14 @@ fn path(fields: Fields) -> Result<Range<usize>, Refusal> {
 }
 
 /// "after the Id, 16 octets of timestamp if bit 12 is set, an offset of width w, then the payload to the end". The
-/// order: 5, 6, 1; "DATA ends with 10".
+/// order: 6, 1 (timestamp), 1 and 5 (offset); "DATA ends with 10".
 fn data(word: u64, header: Header, mut fields: Fields) -> Result<Data, Refusal> {
     let width = packet_width(word);
-    if width == REFUSED_WIDTH {
-        return Err(Refusal::Width);
-    }
     if !is_file(word) {
         return Err(Refusal::Kind);
     }
     let timestamp = fields.octets(timestamp_octets(word))?;
-    let offset = fields.number(width)?;
+    let offset = fields.descriptor(width)?;
     let payload = fields.rest();
     if payload.is_empty() {
         return Err(Refusal::NoPayload);
@@ -251,15 +242,12 @@ fn data(word: u64, header: Header, mut fields: Fields) -> Result<Data, Refusal> 
 }
 
 /// "16 octets of timestamp if bit 12 is set, Progress, In-Response-To, then holes as pairs of start and end, all of
-/// width w". The order: 5, 1; "STATUS with 11".
+/// width w". The order: 1 (timestamp), 1 and 5 (Progress), 1 and 5 (In-Response-To), 5 (the hole list); "STATUS with 11".
 fn success(word: u64, header: Header, mut fields: Fields) -> Result<Success, Refusal> {
     let width = packet_width(word);
-    if width == REFUSED_WIDTH {
-        return Err(Refusal::Width);
-    }
     let timestamp = fields.octets(timestamp_octets(word))?;
-    let progress = fields.number(width)?;
-    let in_response_to = fields.number(width)?;
+    let progress = fields.descriptor(width)?;
+    let in_response_to = fields.descriptor(width)?;
     let rest = fields.rest();
     let holes = whole_pairs(&fields.packet[rest.clone()], width)?;
     // Document 02: "The reader also takes In-Response-To equal to Progress - 1 when there are no holes, bit 14 is clear
@@ -272,13 +260,14 @@ fn success(word: u64, header: Header, mut fields: Fields) -> Result<Success, Ref
     Ok(Success { header, width, timestamp, progress, in_response_to, holes_at: rest.start, holes })
 }
 
-/// "accepts a hole list only if: it is whole pairs"
+/// "accepts a hole list only if: it is whole pairs". 5 comes before that, for every descriptor that is whole, a start without
+/// its end too: "tested for each descriptor once its octets are there, [...] before 9, 10 and 11".
 fn whole_pairs(octets: &[u8], width: usize) -> Result<Vec<Hole>, Refusal> {
-    let pairs = octets.chunks_exact(2 * width);
-    if !pairs.remainder().is_empty() {
+    let offsets = octets.chunks_exact(width).map(descriptor).collect::<Result<Vec<u64>, Refusal>>()?;
+    if octets.len() % (2 * width) != 0 {
         return Err(Refusal::HoleList);
     }
-    Ok(pairs.map(|pair| Hole { start: number(&pair[..width]), end: number(&pair[width..]) }).collect())
+    Ok(offsets.chunks(2).map(|pair| Hole { start: pair[0], end: pair[1] }).collect())
 }
 
 /// The rest of "Reading a success STATUS", one line for each of its conditions.
@@ -322,9 +311,24 @@ impl Fields<'_> {
         Ok(number(&self.packet[range]))
     }
 
+    /// The next descriptor, of `width` octets: 1, then 5 "once its octets are there".
+    fn descriptor(&mut self, width: usize) -> Result<u64, Refusal> {
+        let range = self.octets(width)?;
+        descriptor(&self.packet[range])
+    }
+
     /// All that is left.
     fn rest(&self) -> Range<usize> {
         self.at..self.packet.len()
+    }
+}
+
+/// The number of a whole descriptor: "Take width 11 wherever the upper eight octets of a descriptor [...] are zero."
+fn descriptor(octets: &[u8]) -> Result<u64, Refusal> {
+    let (upper, lower) = octets.split_at(octets.len().saturating_sub(8));
+    match upper.iter().all(|&octet| octet == 0) {
+        true => Ok(number(lower)),
+        false => Err(Refusal::Width),
     }
 }
 

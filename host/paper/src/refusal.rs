@@ -12,7 +12,8 @@ pub enum Refusal {
     Version = 3,
     /// "type not 2, 3 or 4, or not the one the operation takes"; "In plain reading refusal 4 no longer covers type 0"
     Type = 4,
-    /// "width bits 11"
+    /// "wherever the upper eight octets of a descriptor [...] are zero. Refusal 5 is from now on given exactly when one of
+    /// them isn't"
     Width = 5,
     /// "kind or property bits not those of a file"
     Kind = 6,

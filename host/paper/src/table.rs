@@ -19,7 +19,7 @@ pub struct Table {
 
 #[derive(Clone, Debug, PartialEq, Eq)]
 pub struct Transfer {
-    /// Octets of a descriptor: 2, 4 or 8.
+    /// Octets of a descriptor: 2, 4, 8 or 16.
     pub width: usize,
     pub length: u64,
     pub received: Received,

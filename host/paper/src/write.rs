@@ -35,7 +35,8 @@ pub struct DataFields<'a> {
     pub payload: &'a [u8],
 }
 
-/// Writes BEACON and answers its size: "the writer's refusals are as for DATA". The order: 21, 26, 5, 2, 20.
+/// Writes BEACON and answers its size: "the writer's refusals are as for DATA". The order: 21, 26, 2, 20. No writer gives 5:
+/// its numbers are below 2^64, and "Writers put eight zero octets first."
 pub fn write_beacon(fields: &BeaconFields, out: &mut [u8]) -> Result<usize, Refusal> {
     // "a field to be written exceeds its bits": a free space that isn't there has no bits, and holds only 0.
     let width = free_octets(fields.flags);
@@ -45,9 +46,6 @@ pub fn write_beacon(fields: &BeaconFields, out: &mut [u8]) -> Result<usize, Refu
     if send(fields.flags).is_none() || receive(fields.flags).is_none() || last_flags_octet(fields.flags) != 0 {
         return Err(Refusal::Beacon);
     }
-    if width == REFUSED_WIDTH {
-        return Err(Refusal::Width);
-    }
 
     let mut packet = first_word(BEACON, fields.flags);
     push(&mut packet, fields.free_space, width);
@@ -55,7 +53,7 @@ pub fn write_beacon(fields: &BeaconFields, out: &mut [u8]) -> Result<usize, Refu
     copy_out(&packet, out)
 }
 
-/// Writes METADATA and answers its size. The order: 21, 5, 6, 7, 1 (checksum), 6 and 5 (properties), 8, 9, 2, 20.
+/// Writes METADATA and answers its size. The order: 21, 6, 7, 1 (checksum), 6 (properties), 8, 9, 2, 20.
 pub fn write_metadata(fields: &MetadataFields, out: &mut [u8]) -> Result<usize, Refusal> {
     // "a field to be written exceeds its bits"; "Checksum and timestamp come to them as octets: more than the flags
     // say is 21".
@@ -68,10 +66,6 @@ pub fn write_metadata(fields: &MetadataFields, out: &mut [u8]) -> Result<usize, 
         || fields.checksum.len() > checksum_octets(fields.flags)
     {
         return Err(Refusal::Field);
-    }
-    let width = packet_width(fields.flags);
-    if width == REFUSED_WIDTH {
-        return Err(Refusal::Width);
     }
     if !is_file(fields.flags) {
         return Err(Refusal::Kind);
@@ -86,14 +80,11 @@ pub fn write_metadata(fields: &MetadataFields, out: &mut [u8]) -> Result<usize, 
     if !properties_of_file(fields.properties) {
         return Err(Refusal::Kind);
     }
-    if entry_width(fields.properties) == REFUSED_WIDTH {
-        return Err(Refusal::Width);
-    }
     // "path empty, over 1,023 octets"; "A path that holds a zero octet is 8."
     if fields.path.is_empty() || fields.path.len() > MAX_PATH || fields.path.contains(&0) {
         return Err(Refusal::Path);
     }
-    if u128::from(fields.size) > largest(width) {
+    if u128::from(fields.size) > largest(packet_width(fields.flags)) {
         return Err(Refusal::Size);
     }
 
@@ -108,7 +99,7 @@ pub fn write_metadata(fields: &MetadataFields, out: &mut [u8]) -> Result<usize, 
     copy_out(&packet, out)
 }
 
-/// Writes DATA and answers its size. The order: 21, 5, 6, 1 (timestamp), 10, 2, 20.
+/// Writes DATA and answers its size. The order: 21, 6, 1 (timestamp), 10, 2, 20.
 pub fn write_data(fields: &DataFields, out: &mut [u8]) -> Result<usize, Refusal> {
     let width = packet_width(fields.flags);
     // "(128 where width bits are 11)"
@@ -118,9 +109,6 @@ pub fn write_data(fields: &DataFields, out: &mut [u8]) -> Result<usize, Refusal>
         || fields.timestamp.len() > timestamp_octets(fields.flags)
     {
         return Err(Refusal::Field);
-    }
-    if width == REFUSED_WIDTH {
-        return Err(Refusal::Width);
     }
     if !is_file(fields.flags) {
         return Err(Refusal::Kind);
@@ -166,12 +154,11 @@ pub(crate) fn first_octets(kind: u64, flags: u64, id: u64) -> Vec<u8> {
     packet
 }
 
-/// A number in `octets` octets: "All numbers are big-endian."
+/// A number in up to 16 octets: "All numbers are big-endian." "Writers put eight zero octets first."
 pub(crate) fn push(packet: &mut Vec<u8>, value: u64, octets: usize) {
-    assert!(u128::from(value) <= largest(octets));
-    for place in (0..octets).rev() {
-        packet.push((value >> (8 * place)) as u8);
-    }
+    let value = u128::from(value);
+    assert!(value <= largest(octets));
+    packet.extend_from_slice(&value.to_be_bytes()[16 - octets..]);
 }
 
 /// "2 then 20 last". "Octets after those stay unchanged, as for every writer."

@@ -116,7 +116,6 @@ fn free_space() {
             assert_eq!(written(&BeaconFields { free_space: last + 1, ..fields }, 99).0, Err(Refusal::Field));
         }
     }
-    assert_eq!(refused(&[vec![0x40, 0, 0x70, 0], vec![0; 17]].concat()), Refusal::Width);
 }
 
 /// Where bit 17 is clear, bits 18 and 19 are kept and no rule tests them; and so are bits 16 and 20 to 23 always.
@@ -162,11 +161,11 @@ fn refusals_in_their_order() {
     next(&|p| p[3] = 0x00, Refusal::Beacon);
     next(&|p| p[1] = 0x0D, Refusal::Beacon);
     next(&|p| p[1] = 0x07, Refusal::Beacon);
-    next(&|p| p[1] = 0x0F, Refusal::Width);
-    next(&|p| p.truncate(4), Refusal::Width);
-    next(&|p| p[2] = 0x60, Refusal::Truncated);
-    next(&|p| p.extend([0; 7]), Refusal::Truncated);
-    packet.push(0);
+    // A free space of 128 bits: 1, then 5.
+    next(&|p| p[1] = 0x0F, Refusal::Truncated);
+    next(&|p| p.resize(19, 1), Refusal::Truncated);
+    next(&|p| p.push(1), Refusal::Width);
+    packet[2] = 0x60;
     assert!(read(&packet).is_ok());
 
     let long = vec![1; 65_535];
@@ -180,7 +179,8 @@ fn refusals_in_their_order() {
     assert_eq!(refused(0x0D_70_00, 0, &long), Refusal::Beacon);
     assert_eq!(refused(0x07_70_00, 0, &long), Refusal::Beacon);
     assert_eq!(refused(0x0F_70_01, 0, &long), Refusal::Beacon);
-    assert_eq!(refused(0x0F_70_00, 0, &long), Refusal::Width);
+    assert_eq!(refused(0x0F_70_00, u64::MAX, &long[..65_516]), Refusal::TooLong);
+    assert_eq!(refused(0x0F_70_00, u64::MAX, &long[..65_515]), Refusal::Buffer);
     assert_eq!(refused(0x0F_40_00, 0, &long[..65_530]), Refusal::TooLong);
     assert_eq!(refused(0x0F_40_00, 0, &long[..65_529]), Refusal::Buffer);
 }

@@ -84,7 +84,7 @@ fn size_against_the_packets_own_width() {
 #[test]
 fn metadata_refusals_in_their_order() {
     // Everything is wrong; the faults are mended one after the other.
-    let mut packet = hex("82 F0 00 01 00 00 00 07 00");
+    let mut packet = hex("82 30 00 01 00 00 00 07 00");
     let mut next = |mend: &dyn Fn(&mut Vec<u8>), want: Refusal| {
         mend(&mut packet);
         assert_eq!(refused(&packet), want);
@@ -92,14 +92,12 @@ fn metadata_refusals_in_their_order() {
     next(&|p| p.truncate(7), Refusal::Truncated);
     next(&|p| p.extend(hex("07 00")), Refusal::Version);
     next(&|p| p[0] = 0x41, Refusal::Type);
-    next(&|p| p[0] = 0x42, Refusal::Width);
-    next(&|p| p[1] = 0x30, Refusal::Kind);
+    next(&|p| p[0] = 0x42, Refusal::Kind);
     next(&|p| p[1] = 0x00, Refusal::ChecksumPair);
     next(&|p| p[3] = 0x00, Refusal::Truncated);
     next(&|p| p.splice(8.., hex("01 C0")).for_each(drop), Refusal::Kind);
     next(&|p| p[8] = 0x02, Refusal::Kind);
     next(&|p| p.splice(8.., hex("00 E0")).for_each(drop), Refusal::Kind);
-    next(&|p| p[9] = 0xC0, Refusal::Width);
     next(&|p| p[9] = 0x40, Refusal::Truncated);
     next(&|p| p.extend(hex("FF FF FF FF 00 00 00 00 00 00 00")), Refusal::Truncated);
     next(&|p| p.push(0), Refusal::Truncated);
@@ -154,8 +152,6 @@ fn data_packets() {
     for len in 0..32 {
         assert_eq!(refused(&packet[..len]), Refusal::Truncated);
     }
-    packet[1] = 0xF8;
-    assert_eq!(refused(&packet), Refusal::Width);
     packet[1] = 0x98;
     assert_eq!(refused(&packet), Refusal::Kind);
 }
@@ -263,8 +259,6 @@ fn status_with_timestamp() {
     let Ok(Packet::Success(status)) = read(&packet) else { panic!("refused") };
     assert_eq!((status.width, status.timestamp, status.holes_at), (4, 8..24, 32));
     assert_eq!(status.holes, [Hole { start: 0, end: 65_535 }]);
-    packet[1] = 0xF8;
-    assert_eq!(refused(&packet), Refusal::Width);
 }
 
 #[test]

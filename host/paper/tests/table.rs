@@ -215,6 +215,24 @@ fn status_of_wider_transfers() {
     assert_eq!(status(&table, 0, false, 99), Ok(hex(want)));
 }
 
+/// "STATUS written (8 + 32 + 32 h)": the longest has 64 holes.
+#[test]
+fn status_of_128_bits() {
+    let mut table = with(16, 1_000);
+    table.record(&data(7, 16, 1, 1)).unwrap();
+    let want = "44 C0 00 00 00 00 00 07 00 00 00 00 00 00 00 00 00 00 00 00 00 00 00 00 \
+                00 00 00 00 00 00 00 00 00 00 00 00 00 00 00 02 \
+                00 00 00 00 00 00 00 00 00 00 00 00 00 00 00 00 00 00 00 00 00 00 00 00 00 00 00 00 00 00 00 01";
+    assert_eq!(status(&table, 0, false, 72), Ok(hex(want)));
+    assert_eq!(status(&table, 0, false, 71), Err(Refusal::Buffer));
+    for run in 1..64 {
+        table.record(&data(7, 16, 10 * run, 1)).unwrap();
+    }
+    assert_eq!(status(&table, 0, false, 2_088).map(|status| status.len()), Ok(2_088));
+    let short = status(&table, 0, false, 2_087).unwrap();
+    assert_eq!((short.len(), short[1]), (2_056, 0xC2));
+}
+
 #[test]
 fn listing() {
     let mut table = Table::default();

@@ -65,17 +65,15 @@ fn metadata_refusals_in_their_order() {
     let long = [b'x'; 1_024];
     let mut f = METADATA;
     f.path = &[];
-    f.flags = 0x01_F0_00_01;
+    f.flags = 0x01_30_00_01;
     f.properties = 0x3E0;
     f.size = u64::MAX;
     let refused = |f: &MetadataFields| write_metadata(f, &mut []).unwrap_err();
     assert_eq!(refused(&f), Refusal::Field);
     // Four octets of checksum where the flags say none.
-    f.flags = 0xF0_00_01;
+    f.flags = 0x30_00_01;
     assert_eq!(refused(&f), Refusal::Field);
     f.checksum = &[];
-    assert_eq!(refused(&f), Refusal::Width);
-    f.flags = 0x30_00_01;
     assert_eq!(refused(&f), Refusal::Kind);
     f.flags = 0x00_00_01;
     assert_eq!(refused(&f), Refusal::ChecksumPair);
@@ -86,8 +84,6 @@ fn metadata_refusals_in_their_order() {
         f.properties = properties;
         assert_eq!(refused(&f), Refusal::Kind);
     }
-    f.properties = 0x0C0;
-    assert_eq!(refused(&f), Refusal::Width);
     // Width 64 for the size; the packet's own is 16.
     f.properties = 0x080;
     assert_eq!(refused(&f), Refusal::Path);
@@ -121,11 +117,9 @@ fn fields_over_their_bits() {
 fn data_refusals_in_their_order() {
     let long = vec![1; 65_535];
     let refused = |f: &DataFields| write_data(f, &mut []).unwrap_err();
-    let mut f = DataFields { flags: 0xF8_00_00, id: 1 << 32, timestamp: &[], offset: u64::MAX, payload: &[] };
+    let mut f = DataFields { flags: 0xB8_00_00, id: 1 << 32, timestamp: &[], offset: u64::MAX, payload: &[] };
     assert_eq!(refused(&f), Refusal::Field);
     f.id = 7;
-    assert_eq!(refused(&f), Refusal::Width);
-    f.flags = 0xB8_00_00;
     assert_eq!(refused(&f), Refusal::Kind);
     f.flags = 0x88_00_00;
     assert_eq!(refused(&f), Refusal::Truncated);

@@ -122,6 +122,56 @@ fn fields_of_every_width() {
     ]);
 }
 
+/// Width bits 11: 16 octets each, of which the upper eight are zero; else 5, once all 16 are there.
+#[test]
+fn descriptors_of_128_bits() {
+    let none = "00000000000000000000000000000000";
+    let offset = "000000000000000000000000000007d0";
+    let upper = "00000000000000010000000000000000";
+    let data = |offset: &str| hex(&format!("43c10000 00000009 {offset} 6162"));
+    let metadata = |size: &str| hex(&format!("42c00000 00000009 00c0 {size} 00000001 00000002 61 00"));
+    let success = |rest: &[&str]| hex(&format!("44c00000 00000009 {}", rest.join(" ")));
+    check_octets(&[
+        (
+            'R',
+            metadata(offset),
+            &["metadata id=9 flags=c00000 width=128 checksum= properties=00c0 size=2000 mtime=1 ctime=2 path=61"],
+        ),
+        ('R', metadata(upper), &["refused 5 code=9"]),
+        ('R', metadata(upper)[..26].to_vec(), &["refused 5 code=9"]),
+        ('R', metadata(upper)[..25].to_vec(), &["refused 1 code=0"]),
+        ('P', metadata(offset), &["open id=9 width=128 length=2000 edge=0 complete=0 new"]),
+        ('R', data(offset), &["data id=9 flags=c10000 width=128 timestamp= offset=2000 length=2"]),
+        ('P', data(upper), &["refused 5 code=9", "send 4400000900000009"]),
+        ('R', data(upper)[..24].to_vec(), &["refused 5 code=9"]),
+        ('R', data(offset)[..24].to_vec(), &["refused 10 code=1"]),
+        (
+            'P',
+            data("000000000000000000000000000007ce"),
+            &[
+                "record id=9 offset=1998 length=2 edge=2000 complete=0",
+                concat!(
+                    "send 44c0000000000009",
+                    "00000000000000000000000000000000000000000000000000000000000007d0",
+                    "00000000000000000000000000000000000000000000000000000000000007ce"
+                ),
+            ],
+        ),
+        ('D', hex("43800000 00000009 0000000000000000 61"), &["refused 13 code=9"]),
+        (
+            'R',
+            success(&[none, offset, none, offset]),
+            &["success id=9 flags=c00000 width=128 timestamp= progress=0 in-response-to=2000 holes=0-2000"],
+        ),
+        ('R', success(&[upper]), &["refused 5 code=9"]),
+        ('R', success(&[none, upper]), &["refused 5 code=9"]),
+        ('R', success(&[none, offset, upper]), &["refused 5 code=9"]),
+        ('R', success(&[none, offset, none]), &["refused 11 code=0"]),
+        ('R', success(&[offset, none, none, upper]), &["refused 5 code=9"]),
+        ('S', hex("00000009 0000000000000000 00 00000047"), &["refused 20 code=0"]),
+    ]);
+}
+
 #[test]
 fn opening_and_closing_at_every_width() {
     check(&[
@@ -212,7 +262,11 @@ fn packets_off_the_dish() {
         ),
         ('P', hex("4401000a 00000007"), &["failure id=7 status=10 flags=01000a"]),
         ('P', hex("44000000 00000007 0000 0001"), &["refused 11 code=0"]),
-        ('P', hex("44c00000 fedcba98 0000 0001"), &["refused 5 code=9", "send 44000009fedcba98"]),
+        (
+            'P',
+            hex("44c00000 fedcba98 0000000000000001 0000000000000000"),
+            &["refused 5 code=9", "send 44000009fedcba98"],
+        ),
         // REQUEST and a type without a name; too short for an Id; another version.
         ('P', hex("41000000 00000102"), &["refused 4 code=10", "send 4400000a00000102"]),
         ('P', hex("7fffffff 00000000 33"), &["refused 4 code=10", "send 4400000a00000000"]),
@@ -230,7 +284,7 @@ fn packets_off_the_dish() {
 #[test]
 fn beacons() {
     let page = ["open id=7 width=16 length=3000 edge=0 complete=0 new"];
-    let beacons: [(&str, &str); 14] = [
+    let beacons: [(&str, &str); 15] = [
         (
             "409e5000 00100000 64697368",
             "beacon flags=9e5000 largest-width=64 bundles=0 streams=1 send=willing receive=not-now free-width=32 \
@@ -256,13 +310,18 @@ fn beacons() {
             "beacon flags=006000 largest-width=16 bundles=0 streams=0 send=cannot receive=cannot free-width=64 \
              free=18446744073709551615 endpoint=",
         ),
+        (
+            "40007000 0000000000000000ffffffffffffffff 64",
+            "beacon flags=007000 largest-width=16 bundles=0 streams=0 send=cannot receive=cannot free-width=128 \
+             free=18446744073709551615 endpoint=64",
+        ),
         ("400000", "refused 1 code=0"),
         ("40", "refused 1 code=0"),
         ("40040000 00000007", "refused 26 code=0"),
         ("40010000 00000007", "refused 26 code=0"),
         ("40007001 00000007", "refused 26 code=0"),
-        ("40007000 00000007 00", "refused 5 code=9"),
-        ("40007000", "refused 5 code=9"),
+        ("40007000 00000000000000010000000000000000", "refused 5 code=9"),
+        ("40007000 000000000000000100000000000000", "refused 1 code=0"),
         ("40006000 00000000000000", "refused 1 code=0"),
         ("80000000 00000007", "refused 3 code=0"),
     ];

@@ -39,17 +39,21 @@ class Module(unittest.TestCase):
                          "61626364" "0081" "0000000000000003" "0000000000000000" "7000")
         self.assertEqual(data(7, 64, 5, b"x", WANTED | END_OF_DATA).hex(), "4381800000000007" "0000000000000005" "78")
         self.assertEqual(success(7, 16, 1, 9, [(1, 2), (4, 9)]).hex(), "4400000000000007" "00010009" "00010002" "00040009")
+        self.assertEqual(metadata(7, 128, 3, b"p").hex(), "42c0000000000007" "00c0" + 31 * "0" + "3" + 16 * "0" + "7000")
+        self.assertEqual(data(7, 128, 2**64 + 5, b"x").hex(), "43c0000000000007" "0000000000000001" "0000000000000005" "78")
+        self.assertEqual(success(7, 128, 1, 1).hex(), "44c0000000000007" + 2 * (31 * "0" + "1"))
         self.assertEqual(failure(7, 6).hex(), "4400000600000007")
         self.assertEqual(beacon(b"dish", 64, "willing", "not-now", 2**20, flags=STREAMS).hex(), "409e5000" "00100000"
                          "64697368")
         self.assertEqual(beacon(largest=128, send="not-now", receive="willing", free=1, free_width=64).hex(), "40cb6000"
                          "0000000000000001")
+        self.assertEqual(beacon(b"x", 16, free=255, free_width=128).hex(), "40007000" + 30 * "0" + "ff" "78")
         self.assertEqual((beacon(largest=16).hex(), beacon(b"x", 32, free=65535, free_width=16).hex()),
                          ("40000000", "40404000" "ffff" "78"))
 
     def test_numbers_that_do_not_fit(self):
         for make in (lambda: data(7, 16, 65536, b""), lambda: metadata(7, 16, 65536), lambda: success(7, 16, -1, 0),
-                     lambda: beacon(free=65536, free_width=16)):
+                     lambda: beacon(free=65536, free_width=16), lambda: data(7, 128, 2**128, b"")):
             self.assertRaises(OverflowError, make)
         self.assertEqual((fit(65537, 16), fit(-1, 16)), (1, 65535))
 

@@ -39,6 +39,15 @@ class Forms(unittest.TestCase):
          record(b"D", data(7, 16, 2000, b"*" * 1000, WANTED | END_OF_DATA))),
         ("data id=7 width=64 offset=18446744073709551615 payload=0001 timestamp=" + "ab" * 16,
          record(b"D", data(7, 64, 2**64 - 1, b"\0\1", TIMESTAMP, b"\xab" * 16))),
+        ("open id=7 width=128 length=3000 path=p",
+         record(b"O", bytes.fromhex("42c0000000000007" "00c0" + 28 * "0" + "0bb8" "0000000000000000" "7000"))),
+        ("open id=7 width=128 length=3000 path=p properties=0000",
+         record(b"O", bytes.fromhex("42c0000000000007" "0000" "0bb8" "0000000000000000" "7000"))),
+        ("data id=7 width=128 offset=3 payload=6162",
+         record(b"D", bytes.fromhex("43c0000000000007" + 31 * "0" + "3" "6162"))),
+        # An offset of 2^64: its eighth octet isn't zero.
+        ("data id=7 width=128 offset=18446744073709551616 length=1 fill=61",
+         record(b"D", bytes.fromhex("43c0000000000007" "00000000000000010000000000000000" "61"))),
         ("data id=7 width=16 offset=3 payload=", record(b"D", data(7, 16, 3, b""))),
         ("data id=7 width=16 offset=3 length=1 fill=07 flags=000001", record(b"D", data(7, 16, 3, b"\7", 1))),
         ("status id=7 skip=0 unasked=0 room=65535", record(b"S", struct.pack(">IQBI", 7, 0, 0, 65535))),
@@ -51,6 +60,8 @@ class Forms(unittest.TestCase):
          record(b"P", success(7, 16, 1000, 3000, [(1000, 2000), (2500, 2600)]))),
         ("read success id=7 width=64 progress=0 in-response-to=0 holes= incomplete unasked",
          record(b"R", success(7, 64, 0, 0, flags=INCOMPLETE | 0x010000))),
+        ("link success id=7 width=128 progress=0 in-response-to=2 holes=0-1",
+         record(b"P", bytes.fromhex("44c0000000000007" + 32 * "0" + 31 * "0" + "2" + 32 * "0" + 31 * "0" + "1"))),
         ("read failure id=7 status=6", record(b"R", failure(7, 6))),
         ("read failure id=7 status=6 flags=c00006", record(b"R", bytes.fromhex("44c0000600000007"))),
         ("time at=1970-01-01T00:00:00.000000000Z", time_record(0)),
@@ -68,9 +79,11 @@ class Forms(unittest.TestCase):
          record(b"R", bytes.fromhex("40403f00") + b"p")),
         ("read beacon largest-width=16 send=cannot receive=cannot free-width=16 free=0 endpoint= flags=004f01",
          record(b"R", bytes.fromhex("40004f01" "0000"))),
-        # A pairing 0 1, a free space of 128 bits, one that is cut, and a BEACON that no table takes.
+        ("read beacon largest-width=16 send=cannot receive=cannot free-width=128 free=1 endpoint=p",
+         record(b"R", bytes.fromhex("40007000" + 31 * "0" + "1") + b"p")),
+        # A pairing 0 1, a free space that is cut, and a BEACON that no table takes.
         ("packet R 40040000", record(b"R", bytes.fromhex("40040000"))),
-        ("packet R 40007000" + 16 * "00", record(b"R", bytes.fromhex("40007000") + bytes(16))),
+        ("packet R 40007000" + 15 * "00", record(b"R", bytes.fromhex("40007000") + bytes(15))),
         ("packet R 4000400000", record(b"R", bytes.fromhex("4000400000"))),
         ("packet O 40000000", record(b"O", bytes.fromhex("40000000"))),
         ("packet O " + data(7, 16, 0, b"x").hex(), record(b"O", data(7, 16, 0, b"x"))),
@@ -118,7 +131,9 @@ class RoundTrip(unittest.TestCase):
     def test_damaged_packets_of_each_kind(self):
         chance = random.Random(611)
         packets = page_packets() + [metadata(7, 64, 5, b"p", 0x11, b"abcd"), data(7, 32, 9, b"x", TIMESTAMP, bytes(16)),
-                                    beacon(b"dish"), beacon(b"dish", 128, "willing", "not-now", 9, 64), beacon(free=1)]
+                                    beacon(b"dish"), beacon(b"dish", 128, "willing", "not-now", 9, 64), beacon(free=1),
+                                    metadata(7, 128, 5, b"p"), data(7, 128, 9, b"xy"), success(7, 128, 0, 2, [(0, 1)]),
+                                    beacon(b"dish", free=9, free_width=128)]
         for _ in range(20000):
             packet = bytearray(chance.choice(packets)[:chance.choice((8, 12, 40, 2000))])
             for _ in range(chance.randrange(3)):
@@ -156,7 +171,9 @@ class Errors(unittest.TestCase):
         self.wrong("close id", "id needs a value: id=...")
         self.wrong("close id=7 id=8", "id stands twice")
         self.wrong("open id=7 width=16 length=65536 path=p", "length=65536 is over 16 bits")
-        self.wrong("open id=7 width=24 length=6 path=p", "width=24 is not 16, 32 or 64")
+        self.wrong("open id=7 width=24 length=6 path=p", "width=24 is not 16, 32, 64 or 128")
+        self.wrong("data id=7 width=128 offset=0x" + "f" * 33 + " payload=00",
+                   "offset=0x" + "f" * 33 + " is over 128 bits")
         self.wrong("open id=7 length=6 path=p", "open needs width=")
         self.wrong("open id=7 width=16 length=6", "open needs path=")
         self.wrong("open id=7 width=16 length=6 path=a%2", "a % in a path is followed by two hexadecimal digits; "
@@ -176,10 +193,8 @@ class Errors(unittest.TestCase):
         self.wrong("read beacon largest-width=64 send=cannot receive=cannot free=1 endpoint=", "free= needs free-width=")
         self.wrong("read beacon largest-width=64 send=cannot receive=cannot free-width=32 endpoint=",
                    "read beacon needs free=")
-        self.wrong("read beacon largest-width=64 send=cannot receive=cannot free-width=128 free=1 endpoint=",
-                   "free-width=128 is not 16, 32 or 64")
-        self.wrong("read beacon flags=007000 free=1 endpoint=",
-                   "flags with a free space of width bits 11: write the packet with packet")
+        self.wrong("read beacon largest-width=64 send=cannot receive=cannot free-width=48 free=1 endpoint=",
+                   "free-width=48 is not 16, 32, 64 or 128")
         self.wrong("read beacon flags=8e0000 send=cannot endpoint=",
                    "flags=8e0000 are not those that the other fields make: 820000")
         self.wrong("read beacon flags=000000 streams endpoint=",

@@ -3,14 +3,14 @@
 
 use paper::table::{Table, Transfer};
 
-use crate::receiver::files::{most_payload, File};
+use crate::receiver::files::{File, MOST_PAYLOAD};
 use crate::receiver::Ask;
 use crate::rng::Rng;
 
 /// An offset and a payload's length, for a transfer as it stands.
 pub fn packet(rng: &mut Rng, transfer: &Transfer) -> (u64, usize) {
     let runs: Vec<(u64, u64)> = transfer.received.runs().collect();
-    let most = transfer.length.clamp(1, most_payload(2) as u64);
+    let most = transfer.length.clamp(1, MOST_PAYLOAD);
     let len = payload_len(rng).min(most);
     let length = transfer.length;
     if runs.is_empty() || rng.one_in(4) {
@@ -48,13 +48,13 @@ pub fn packet(rng: &mut Rng, transfer: &Transfer) -> (u64, usize) {
             (start.saturating_sub(rng.below(3)), end.saturating_add(rng.below(3)))
         }
     };
-    let wanted = end.saturating_sub(offset).clamp(1, most_payload(2) as u64);
+    let wanted = end.saturating_sub(offset).clamp(1, MOST_PAYLOAD);
     (offset, wanted as usize)
 }
 
 fn payload_len(rng: &mut Rng) -> u64 {
     match rng.below(60) {
-        0 => rng.between(1, most_payload(2) as u64),
+        0 => rng.between(1, MOST_PAYLOAD),
         1..=3 => rng.between(100, 2_000),
         4..=14 => rng.between(3, 60),
         15..=24 => 2,
@@ -107,7 +107,7 @@ pub fn status(rng: &mut Rng, table: &Table, id: u64) -> (Ask, usize) {
         6 => size(left) - 1,
         7 => size(left.saturating_sub(1)),
         8 => rng.place(0, size(left) + 40),
-        _ => 1_048 + rng.place(0, 40),
+        _ => 2_088 + rng.place(0, 40),
     };
     let unasked = rng.pick(&[0, 0, 0, 1, 1, 2, 1 << 32, u64::MAX]);
     (Ask { id, skip, unasked }, room)

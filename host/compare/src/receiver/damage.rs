@@ -55,11 +55,11 @@ pub const ALL: &[Damage] = &[
     // 4: widths.
     |area, rng| {
         let i = transfer(area, rng);
-        set(area, width(i), rng.pick(&[0, 1, 3, 5, 6, 7, 9, 16, 128, 2 + (1 << 32), u64::MAX]));
+        set(area, width(i), rng.pick(&[0, 1, 3, 5, 6, 7, 9, 12, 15, 17, 32, 64, 128, 2 + (1 << 32), u64::MAX]));
     },
     |area, rng| {
         let i = transfer(area, rng);
-        set(area, width(i), rng.pick(&[2, 4, 8]));
+        set(area, width(i), rng.pick(&[2, 4, 8, 16]));
     },
     // 5: lengths.
     |area, rng| {
@@ -156,7 +156,7 @@ pub const ALL: &[Damage] = &[
         let before = if i == 0 { 0 } else { get(area, id(i - 1)) };
         let new = Entry {
             id: before.wrapping_add(rng.below(3)),
-            width: rng.pick(&[2, 4, 8]),
+            width: rng.pick(&[2, 4, 8, 16]),
             length: rng.between(65_000, 66_000),
             runs: vec![(1, 2), (4, 65_000)],
         };

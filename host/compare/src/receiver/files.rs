@@ -5,7 +5,7 @@ use std::collections::BTreeSet;
 use paper::received::Received;
 use paper::table::{Table, Transfer};
 
-use crate::packets::{last, with_entry_width, with_width, Data, Ending, Metadata, Start};
+use crate::packets::{last, with_entry_width, with_width, Data, Ending, Metadata, Start, Upper};
 use crate::rng::Rng;
 
 pub const END_OF_DATA: u32 = 1 << (31 - 16);
@@ -13,7 +13,7 @@ pub const END_OF_DATA: u32 = 1 << (31 - 16);
 #[derive(Clone, Copy, Debug)]
 pub struct File {
     pub id: u32,
-    /// Width bits: 0, 1 or 2.
+    /// Width bits: 0 to 3.
     pub code: u32,
     pub length: u64,
 }
@@ -38,7 +38,7 @@ pub fn files(rng: &mut Rng, count: usize) -> Vec<File> {
 
 /// Any width, and a length that it allows.
 pub fn file(rng: &mut Rng, id: u32) -> File {
-    let code = rng.below(3) as u32;
+    let code = rng.below(4) as u32;
     File { id, code, length: length(rng, code) }
 }
 
@@ -64,7 +64,7 @@ pub fn opening(rng: &mut Rng, file: File) -> Metadata {
     packet.start.id = file.id;
     packet.start.flags = with_width(packet.start.flags, file.code);
     let narrowest = (0..3).find(|&code| file.length <= last(2 << code)).expect("64 bits are enough");
-    packet.properties = with_entry_width(packet.properties, rng.between(narrowest, 2) as u32);
+    packet.properties = with_entry_width(packet.properties, rng.between(narrowest, 3) as u32);
     packet.size = file.length;
     packet
 }
@@ -76,13 +76,12 @@ pub fn recording(rng: &mut Rng, id: u32, code: u32, offset: u64, len: usize, end
     let flags = flags | if stamped { 1 << (31 - 12) } else { 0 } | if end_of_data { END_OF_DATA } else { 0 };
     let timestamp = rng.octets(if stamped { 16 } else { 0 });
     let payload = vec![rng.any() as u8; len];
-    Data { start: Start { first: 0x43, flags, id }, timestamp, offset, payload, ending: Ending::Whole }
+    let start = Start { first: 0x43, flags, id };
+    Data { start, timestamp, offset, payload, upper: Upper::default(), ending: Ending::Whole }
 }
 
-/// The most octets of payload that any packet of this width holds.
-pub fn most_payload(code: u32) -> usize {
-    65_535 - 8 - 16 - (2 << code)
-}
+/// The most octets of payload that a packet holds, of any width and with a timestamp.
+pub const MOST_PAYLOAD: u64 = 65_535 - 8 - 16 - 16;
 
 /// A table with some of the files open, at most 16, and something received of each.
 pub fn table(rng: &mut Rng, files: &[File]) -> Table {

@@ -97,5 +97,5 @@ fn likely(used: &[Entry], rng: &mut Rng) -> Entry {
     };
     let base = rng.between(0, 300);
     let runs = (0..words::RUNS as u64).map(|run| (base + 3 * run, base + 3 * run + rng.between(1, 2))).collect();
-    Entry { id, width: rng.pick(&[2, 4, 8]), length: rng.between(1_000, 65_535), runs }
+    Entry { id, width: rng.pick(&[2, 4, 8, 16]), length: rng.between(1_000, 65_535), runs }
 }

@@ -6,7 +6,7 @@ use paper::table::{Table, Transfer};
 
 use crate::check::{require, Check, Step};
 use crate::faults;
-use crate::packets::{last, Beacon, Ending};
+use crate::packets::{last, with_entry_width, with_width, Beacon, Ending};
 use crate::receiver::files::{opening, recording, File};
 use crate::receiver::held::{fill_unused, Held};
 use crate::receiver::pass::empty;
@@ -39,7 +39,7 @@ pub fn one(id: u32, width: usize, length: u64, runs: &[(u64, u64)]) -> Table {
 /// Every length at a limit, at each width: opened, opened again, opened otherwise, recorded to and closed.
 fn lengths(check: &mut Check) -> Step {
     let lengths = [0, 1, 2, 0xFFFE, 0xFFFF, 0x1_0000, 0xFFFF_FFFE, 0xFFFF_FFFF, 0x1_0000_0000, u64::MAX - 1, u64::MAX];
-    for code in 0..3 {
+    for code in 0..4 {
         for length in lengths {
             let mut held = empty(check)?;
             let file = File { id: 7, code, length };
@@ -49,7 +49,7 @@ fn lengths(check: &mut Check) -> Step {
             require(number == if fits { 0 } else { 9 }, || format!("length {length} at width bits {code}: {number}"))?;
             let packet = opening(&mut check.rng, file).octets(&mut check.rng);
             check.open(&mut held, &packet)?;
-            for other in 0..3 {
+            for other in 0..4 {
                 for length in lengths {
                     let file = File { id: 7, code: other, length };
                     let packet = opening(&mut check.rng, file).octets(&mut check.rng);
@@ -76,10 +76,10 @@ fn full_table(check: &mut Check) -> Step {
         for id in 0..17u32 {
             // In an order that isn't rising.
             let id = id * 5 % 17;
-            let file = File { id, code: id % 3, length: 10 };
+            let file = File { id, code: id % 4, length: 10 };
             let packet = opening(&mut check.rng, file).octets(&mut check.rng);
             check.open(&mut held, &packet)?;
-            let packet = recording(&mut check.rng, id, id % 3, u64::from(id % 10), 1, false).octets(&mut check.rng);
+            let packet = recording(&mut check.rng, id, id % 4, u64::from(id % 10), 1, false).octets(&mut check.rng);
             check.record(&mut held, &packet)?;
         }
         list(check, &held)?;
@@ -156,7 +156,7 @@ fn many_runs(check: &mut Check) -> Step {
 
 /// Offsets and payloads at the ends of each width, where a sum could wrap.
 fn ends_of_numbers(check: &mut Check) -> Step {
-    for code in 0..3 {
+    for code in 0..4 {
         let most = last(2 << code);
         for length in [most, most - 1, most - 2, 1 << 15] {
             let runs = [(length - 1, length)];
@@ -182,7 +182,7 @@ fn ends_of_numbers(check: &mut Check) -> Step {
 
 /// Every k and every room at a limit, at each width, for transfers with no hole up to 64.
 fn statuses(check: &mut Check) -> Step {
-    for code in 0..3 {
+    for code in 0..4 {
         let d = 2usize << code;
         for holes in [0, 1, 2, 3, 63, 64] {
             let runs: Vec<_> = (0..holes).map(|hole| (3 * hole + 1, 3 * hole + 2)).collect();
@@ -271,7 +271,7 @@ fn short_packets(check: &mut Check) -> Step {
 
 /// All faults of opening together in each choice of them: 22, the reader's, 18, 17.
 fn opening_order(check: &mut Check) -> Step {
-    for choice in 0..16u32 {
+    for choice in 0..32u32 {
         for full in [false, true] {
             let rng = &mut check.rng;
             let mut table = one(9, 2, 5, &[(1, 2)]);
@@ -284,6 +284,10 @@ fn opening_order(check: &mut Check) -> Step {
             if choice & 4 != 0 {
                 packet.close.clear();
             }
+            if choice & 16 != 0 {
+                packet.properties = with_entry_width(packet.properties, 3);
+                packet.upper = faults::upper(rng, 0);
+            }
             let packet = packet.octets(rng);
             let mut held = damaged_if(choice & 8 != 0, Held::holding(table, rng), rng);
             check.open(&mut held, &packet)?;
@@ -295,7 +299,7 @@ fn opening_order(check: &mut Check) -> Step {
 /// All faults of recording together in each choice of them: 22, the reader's, 12, 13, 14, 15, 16.
 fn recording_order(check: &mut Check) -> Step {
     let runs: Vec<_> = (0..64).map(|run| (10 * run, 10 * run + 5)).collect();
-    for choice in 0..512u32 {
+    for choice in 0..1_024u32 {
         let rng = &mut check.rng;
         let is = |bit: u32| choice >> bit & 1 != 0;
         let held = Held::holding(one(9, 2, 3_000, if is(8) { &runs[..3] } else { &runs }), rng);
@@ -311,6 +315,10 @@ fn recording_order(check: &mut Check) -> Step {
         }
         if is(7) {
             packet.ending = Ending::Cut(9);
+        }
+        if is(9) {
+            packet.start.flags = with_width(packet.start.flags, 3);
+            packet.upper = faults::upper(rng, 0);
         }
         let packet = packet.octets(rng);
         check.try_record(&held, &packet)?;

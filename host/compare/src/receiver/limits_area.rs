@@ -156,7 +156,7 @@ fn runs_moved(check: &mut Check) -> Step {
                 let packet = recording(&mut check.rng, 9, 1, offset, len as usize, false).octets(&mut check.rng);
                 check.record(&mut recorded, &packet)?;
                 let seen = refilled(check, &recorded);
-                check.write_status(&seen, Ask { id: 9, skip: 0, unasked: 0 }, 1_048)?;
+                check.write_status(&seen, Ask { id: 9, skip: 0, unasked: 0 }, 2_088)?;
             }
         }
     }

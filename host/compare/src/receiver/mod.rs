@@ -7,6 +7,7 @@ pub mod files;
 pub mod held;
 pub mod limits;
 pub mod limits_area;
+pub mod limits_width;
 pub mod orders;
 pub mod pass;
 pub mod words;

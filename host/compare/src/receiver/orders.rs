@@ -159,7 +159,7 @@ fn statuses(check: &mut Check, first: &Held, second: &Held, files: &[File]) -> S
         for skip in skips {
             let size = |written: u64| 8 + 2 * d + 2 * d * written.min(64) as usize;
             let left = holes.saturating_sub(skip);
-            let rooms = [0, size(0) - 1, size(0), size(1) - 1, size(1), size(left) - 1, size(left), 1_100];
+            let rooms = [0, size(0) - 1, size(0), size(1) - 1, size(1), size(left) - 1, size(left), 2_100];
             let unasked = check.rng.pick(&[0, 1, u64::MAX]);
             for room in [check.rng.pick(&rooms), check.rng.pick(&rooms)] {
                 let out = check.rng.octets(room);

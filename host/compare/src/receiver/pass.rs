@@ -154,8 +154,8 @@ fn opening_of(rng: &mut Rng, files: &[File]) -> crate::packets::Metadata {
     let planned = rng.pick(files);
     let other = match rng.below(24) {
         0 => file(rng, planned.id),
-        1 => File { code: planned.code.max(1), length: planned.length, ..planned },
-        2 => File { code: 2, length: planned.length.saturating_add(1), ..planned },
+        1 => File { code: planned.code.max(rng.between(1, 3) as u32), ..planned },
+        2 => File { code: rng.pick(&[2, 3]), length: planned.length.saturating_add(1), ..planned },
         3 => File { length: planned.length.saturating_sub(1), ..planned },
         _ => planned,
     };
@@ -171,7 +171,7 @@ fn recording_of(rng: &mut Rng, table: &Table, files: &[File]) -> crate::packets:
     let open: Vec<u64> = table.transfers.keys().copied().collect();
     if open.is_empty() || rng.one_in(20) {
         let id = rng.pick(files).id;
-        let (code, offset) = (rng.below(3) as u32, rng.number(64));
+        let (code, offset) = (rng.below(4) as u32, rng.number(64));
         return recording(rng, id, code, offset, 1, false);
     }
     let id = rng.pick(&open);
@@ -179,7 +179,7 @@ fn recording_of(rng: &mut Rng, table: &Table, files: &[File]) -> crate::packets:
     let (offset, len) = aim::packet(rng, transfer);
     let end_of_data = aim::end_of_data(rng, transfer.length, offset, len);
     let code = match rng.below(30) {
-        0 => rng.below(3) as u32,
+        0 => rng.below(4) as u32,
         _ => transfer.width.ilog2() - 1,
     };
     recording(rng, id as u32, code, offset, len, end_of_data)

@@ -1,18 +1,5 @@
 //! Receivers that are wrong in one way each: the comparison must find every one of them.
 
-/// Names each once: the enum, and the list of all.
-macro_rules! wrong {
-    ($($(#[$what:meta])* $name:ident,)*) => {
-        /// What is wrong.
-        #[derive(Clone, Copy, Debug, PartialEq, Eq)]
-        pub enum Wrong {
-            $($(#[$what])* $name,)*
-        }
-
-        pub const ALL: &[Wrong] = &[$(Wrong::$name,)*];
-    };
-}
-
 wrong! {
     // "How a page gets spoiled", and "Proofs that would be worth nothing".
     /// The packet's octets are added to those received before: repeats count twice.
@@ -65,6 +52,12 @@ wrong! {
     RecordedBeaconCut,
     /// A packet of four to seven octets that is no BEACON is judged on.
     RecordedFourOfAny,
+    /// The upper octets of an offset of 128 bits are not looked at.
+    RecordedUpper,
+    /// 64 and 128 bits are one width.
+    WidthsAsOne,
+    /// 12 before 5.
+    IdBeforeUpper,
 
     // Opening.
     /// A 17th Id is opened.
@@ -85,6 +78,12 @@ wrong! {
     EmptyNotComplete,
     /// The width is the directory entry's.
     EntryWidth,
+    /// The upper octets of a size of 128 bits are not looked at.
+    OpenedUpper,
+    /// An Id open with 64 bits is "already open" with 128.
+    OpenedWidthsAsOne,
+    /// A transfer of 128 bits is kept as one of 64.
+    OpenedNarrower,
     /// A BEACON of four to seven octets is 1.
     OpenedBeaconCut,
     /// A BEACON with flags that reading refuses is 26.
@@ -139,6 +138,10 @@ wrong! {
     BufferTouched,
     /// The octet after the STATUS is cleared.
     OctetAfter,
+    /// The upper eight octets of descriptors of 128 bits are left as they were.
+    UpperLeft,
+    /// A transfer of 128 bits has its STATUS in 64.
+    StatusNarrower,
 
     // The area.
     /// The reader's refusals before 22.
@@ -155,6 +158,8 @@ wrong! {
     LongLengthTaken,
     /// Another width is taken.
     OtherWidthTaken,
+    /// A width of 16 octets is refused.
+    SixteenRefused,
     /// An Id over 32 bits is taken.
     LongIdTaken,
     /// Ids in another order are taken.

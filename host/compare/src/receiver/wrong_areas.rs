@@ -42,6 +42,7 @@ impl Wrong {
         };
         match self {
             LongerRefused => area.len() > OCTETS,
+            SixteenRefused => found.iter().any(|entry| entry.width == 16),
             NextHeadRefused => found.len() < TRANSFERS && stray(words::id(found.len())..words::id(found.len() + 1)),
             StrayHeadRefused => stray(words::id(found.len())..words::id(TRANSFERS)),
             StrayRunRefused => found.iter().enumerate().any(|(i, entry)| rows(i, entry.runs.len())),

@@ -10,6 +10,7 @@ use crate::receiver::words::{self, entries, store, Entry, OCTETS};
 use crate::receiver::wrong::Wrong::{self, *};
 use crate::receiver::wrong_areas::unused_heads;
 use crate::receiver::{Ask, Receiver};
+use crate::wrong_width::{wide_descriptors, with_upper_cleared};
 
 impl Receiver for Wrong {
     fn fresh(&self, area: &mut [u8]) -> Done {
@@ -71,6 +72,14 @@ impl Receiver for Wrong {
             (EmptyNotComplete, None) if right.number == 0 && read.size == 0 => return Opened { complete: 0, ..right },
             (OpenedBeaconCut, _) if right.number == 4 && packet.len() < 8 => return refused(1, 0),
             (OpenedBeaconRead, _) if right.number == 4 && read.number == 26 => return refused(26, 0),
+            (OpenedUpper, _) if right.number == 5 => return Paper.open(area, &with_upper_cleared(packet)),
+            (OpenedWidthsAsOne, Some(open)) if right.number == 18 => {
+                let same = open.length == read.size && open.width >= 8 && read.width >= 8;
+                return if same { again(open) } else { right };
+            }
+            (OpenedNarrower, None) if right.number == 0 && read.width == 16 => {
+                change_entry(area, read.id, |entry| entry.width = 8);
+            }
             (EntryWidth, None) if right.number == 0 => {
                 change_entry(area, read.id, |entry| entry.width = 2 << (read.properties >> 6 & 3));
             }
@@ -93,12 +102,21 @@ impl Receiver for Wrong {
         let wrong = match (self, table.transfers.get(&read.id).filter(|_| read.number == 0 && read.kind == 3)) {
             _ if self.refuses(&before) => refused(22, 0),
             (PacketBeforeArea, _) if right.number == 22 && read.number != 0 => refused(read.number, read.code),
+            (RecordedUpper, _) if right.number == 5 => return Paper.record(area, &with_upper_cleared(packet)),
             (IdBeforePacket, _) if matches!(right.number, 1 | 5 | 6 | 10) && packet.len() >= 8 => {
                 let id = u64::from(u32::from_be_bytes(packet[4..8].try_into().expect("four octets")));
                 if table.transfers.contains_key(&id) {
                     return right;
                 }
                 refused(12, 0x06)
+            }
+            (IdBeforeUpper, _) if right.number == 5 => {
+                let later = Paper.record(area, &with_upper_cleared(packet));
+                if later.number == 12 {
+                    later
+                } else {
+                    right
+                }
             }
             (IdBeforeType, _) if right.number == 4 && read.kind == 2 && !table.transfers.contains_key(&read.id) => {
                 refused(12, 0x06)
@@ -164,10 +182,11 @@ impl Receiver for Wrong {
             _ if self.refuses(area) => return Written { number: 22, ..Written::default() },
             _ => ask,
         };
+        let before = out.to_vec();
         let right = self.laid_out(&mut area.to_vec(), |area| Paper.write_status(area, taken, out));
         let table = take_up(area).unwrap_or_default();
         match table.transfers.get(&ask.id) {
-            Some(transfer) => self.status_of(transfer, ask, right, out),
+            Some(transfer) => self.status_of(transfer, ask, right, &before, out),
             None => right,
         }
     }
@@ -273,6 +292,12 @@ impl Wrong {
                 let touches = next[0] <= end && start <= next[1] && next[1] <= length;
                 return if touches { Recorded { edge: right.edge.max(next[1]), ..right } } else { right };
             }
+            WidthsAsOne if right.number == 13 && transfer.width >= 8 && data.width >= 8 => {
+                let offset = descriptor(start, transfer.width);
+                let mut other = [&packet[..data.timestamp.end], &offset, &packet[data.payload]].concat();
+                other[1] ^= 0x40;
+                return Paper.record(area, &other);
+            }
             // What is recorded otherwise.
             TouchingApart if accepted && touches && !overlaps && runs.len() < 64 => {
                 change_entry(area, data.header.id, |entry| {
@@ -318,7 +343,7 @@ impl Wrong {
     }
 
     /// Writing STATUS for an open transfer: what is wrong with the answer, or with the octets.
-    fn status_of(self, transfer: &Transfer, ask: Ask, right: Written, out: &mut [u8]) -> Written {
+    fn status_of(self, transfer: &Transfer, ask: Ask, right: Written, before: &[u8], out: &mut [u8]) -> Written {
         let (d, holes) = (transfer.width, transfer.received.holes());
         let (size, fixed) = (right.size as usize, 8 + 2 * transfer.width);
         let accepted = right.number == 0;
@@ -328,8 +353,8 @@ impl Wrong {
             applies.then(|| {
                 let mut written = vec![0x44, ((d.ilog2() as u8 - 1) << 6) | 2 | u8::from(ask.unasked != 0), 0, 0];
                 written.extend((ask.id as u32).to_be_bytes());
-                written.extend(&transfer.received.lowest_missing().to_be_bytes()[8 - d..]);
-                written.extend(&transfer.received.edge().to_be_bytes()[8 - d..]);
+                written.extend(descriptor(transfer.received.lowest_missing(), d));
+                written.extend(descriptor(transfer.received.edge(), d));
                 out[..fixed].copy_from_slice(&written);
                 Written { size: fixed as u64, ..Written::default() }
             })
@@ -344,12 +369,12 @@ impl Wrong {
             HoleEndInside if accepted => {
                 for end in (fixed + d..size).step_by(2 * d) {
                     let at = holes[ask.skip as usize + (end - fixed) / (2 * d)];
-                    out[end..end + d].copy_from_slice(&(at.1 - 1).to_be_bytes()[8 - d..]);
+                    out[end..end + d].copy_from_slice(&descriptor(at.1 - 1, d));
                 }
             }
             HoleToLength if all_fit && out.len() >= size + 2 * d && transfer.received.edge() < transfer.length => {
-                out[size..size + d].copy_from_slice(&transfer.received.edge().to_be_bytes()[8 - d..]);
-                out[size + d..size + 2 * d].copy_from_slice(&transfer.length.to_be_bytes()[8 - d..]);
+                out[size..size + d].copy_from_slice(&descriptor(transfer.received.edge(), d));
+                out[size + d..size + 2 * d].copy_from_slice(&descriptor(transfer.length, d));
                 return Written { size: (size + 2 * d) as u64, ..right };
             }
             SkippedNotTold if all_fit => out[1] &= !2,
@@ -361,6 +386,18 @@ impl Wrong {
             ProgressAfterSkip if accepted && ask.skip > 0 => out.copy_within(fixed..fixed + d, 8),
             BufferTouched if right.number == 20 && !out.is_empty() => out[0] ^= 0x44,
             OctetAfter if accepted && out.len() > size => out[size] = 0,
+            UpperLeft if accepted => {
+                for at in wide_descriptors(&out[..size]) {
+                    out[at..at + 8].copy_from_slice(&before[at..at + 8]);
+                }
+            }
+            StatusNarrower if accepted && d == 16 => {
+                let narrow: Vec<u8> = out[8..size].chunks(16).flat_map(|wide| wide[8..].to_vec()).collect();
+                out[8 + narrow.len()..].copy_from_slice(&before[8 + narrow.len()..]);
+                out[1] ^= 0x40;
+                out[8..8 + narrow.len()].copy_from_slice(&narrow);
+                return Written { size: 8 + narrow.len() as u64, ..right };
+            }
             _ => {}
         }
         right
@@ -399,12 +436,17 @@ impl Wrong {
             OverlappingTaken => join(entry, |run, next| run.0 <= next.0 && next.0 < run.1),
             LongRunTaken => entry.runs.iter_mut().for_each(|run| run.1 = run.1.min(entry.length)),
             LongLengthTaken => entry.width = 8,
-            OtherWidthTaken if ![2, 4, 8].contains(&entry.width) => entry.width = 8,
+            OtherWidthTaken if ![2, 4, 8, 16].contains(&entry.width) => entry.width = 8,
             LongIdTaken => entry.id %= 1 << 32,
             RunsNotJudged => entry.runs.clear(),
             _ => {}
         }
     }
+}
+
+/// A number in `d` octets.
+fn descriptor(number: u64, d: usize) -> Vec<u8> {
+    u128::from(number).to_be_bytes()[16 - d..].to_vec()
 }
 
 /// Joins neighbours of which `one` holds.

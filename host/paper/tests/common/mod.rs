@@ -9,7 +9,7 @@ pub fn hex(text: &str) -> Vec<u8> {
 
 /// The first octets: the type, the width bits for descriptors of `width` octets, and the Id.
 fn start(kind: u8, width: usize, id: u32) -> Vec<u8> {
-    let width_bits = [(2, 0x00), (4, 0x40), (8, 0x80)].iter().find(|pair| pair.0 == width).unwrap().1;
+    let width_bits = [(2, 0x00), (4, 0x40), (8, 0x80), (16, 0xC0)].iter().find(|pair| pair.0 == width).unwrap().1;
     [&[0x40 | kind, width_bits, 0, 0][..], &id.to_be_bytes()].concat()
 }
 
@@ -20,7 +20,7 @@ pub fn metadata(id: u32, width: usize, size: u64) -> Vec<u8> {
 
 /// DATA without timestamp, with `len` octets of payload.
 pub fn data(id: u32, width: usize, offset: u64, len: usize) -> Vec<u8> {
-    [&start(3, width, id)[..], &offset.to_be_bytes()[8 - width..], &vec![0x61; len]].concat()
+    [&start(3, width, id)[..], &u128::from(offset).to_be_bytes()[16 - width..], &vec![0x61; len]].concat()
 }
 
 /// The same with end of data (bit 16).

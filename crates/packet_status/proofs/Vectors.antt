@@ -51,12 +51,12 @@ lastOctets flags from to more = 68 ∷ flags ∷ 0 ∷ 0 ∷ 0 ∷ 0 ∷ 0 ∷ 7
 last-octet : (statusRefusal (lastOctets 1 9 8 []) ≡ 0) × (statusRefusal (lastOctets 1 1 0 []) ≡ 0) × (statusRefusal (lastOctets 1 9 9 []) ≡ 0)
     × (statusRefusal (lastOctets 0 9 8 []) ≡ 11) × (statusRefusal (lastOctets 2 9 8 []) ≡ 11) × (statusRefusal (lastOctets 3 9 8 []) ≡ 11)
     × (statusRefusal (lastOctets 1 9 8 (0 ∷ 9 ∷ 0 ∷ 10 ∷ [])) ≡ 11) × (statusRefusal (lastOctets 1 9 7 []) ≡ 11)
-unfolding statusRefusal typeRefusal startRefusal successRefusal descriptorRefusal listRefusal holeList listWell pointsToLast holesWell startsWell
+unfolding statusRefusal typeRefusal startRefusal successRefusal descriptorsRefusal descriptorRefusal upperZero listRefusal holeList listWell pointsToLast holesWell startsWell
 last-octet = (refl, refl, refl, refl, refl, refl, refl, refl)
 
 -- nothing wraps: Progress 0 with the largest In-Response-To
 no-wrap : statusRefusal (68 ∷ 1 ∷ 0 ∷ 0 ∷ 0 ∷ 0 ∷ 0 ∷ 7 ∷ 0 ∷ 0 ∷ 255 ∷ 255 ∷ []) ≡ 11
-unfolding statusRefusal typeRefusal startRefusal successRefusal descriptorRefusal listRefusal holeList listWell pointsToLast holesWell startsWell
+unfolding statusRefusal typeRefusal startRefusal successRefusal descriptorsRefusal descriptorRefusal upperZero listRefusal holeList listWell pointsToLast holesWell startsWell
 no-wrap = refl
 
 -- 44 00 00 00 00 00 00 07, then Progress 1,000, In-Response-To 3,000 and the holes from 1,000 to 1,002 and from `second` to 2,000

@@ -300,11 +300,15 @@ module _ (x : Transfer) (k : ℕ) (unasked : Bool) (room : ℕ) (fine : Transfer
   abbrev to : ℕ
   to = responseSent (x .key .length) (x .runs)
 
-  to-fits : to < 256 ^ d
+  to-fits : Held d to
   to-fits =
       ⊎-elim
-      (λ e. omega (arith, response-complete (x .key .length) (x .runs) e, fine .length-fits))
-      (λ e. omega (arith, response-not (x .key .length) (x .runs) e, edge-fits))
+      (λ e.
+      let r = response-complete (x .key .length) (x .runs) e in
+      (omega (arith, r, fine .length-fits), omega (arith, r, fine .length-held)))
+      (λ e.
+      let r = response-not (x .key .length) (x .runs) e in
+      (omega (arith, r, edge-fits .0), omega (arith, r, edge-fits .1)))
       (told (complete (x .key .length) (x .runs)))
 
   abbrev fifteen : Bool

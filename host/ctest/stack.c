@@ -1,7 +1,8 @@
 /*
  * Prints how many octets of stack each function needs, its answer among them, and ends with status 1 where one but
  * saratoga_fresh needs more than docs/AREA.md allows. A thread with a stack of its own paints all of it below its frame
- * and calls: what lost its paint was used. Each function is called in several ways, and the most is printed.
+ * and calls: what lost its paint was used. Each function is called in several ways, with descriptors of each width, and the
+ * most is printed.
  */
 #define _POSIX_C_SOURCE 200809L
 #include <pthread.h>
@@ -18,10 +19,17 @@ static uint8_t *top;
 
 /* 16 transfers of 63 runs, Ids 10 to 160; and the area that is called on. */
 static uint8_t full[AREA], area[AREA];
-static uint8_t packet[2048], out[2048], path[PATH];
+static uint8_t packet[SARATOGA_STATUS_OCTETS], out[SARATOGA_STATUS_OCTETS], path[PATH];
 static const uint8_t checksum[16], timestamp[16], payload[2000];
 static size_t size;
 static int refused; /* whether a call was that fills the table */
+
+/* The flags and properties of descriptors of 2 << width_bits octets, and lengths and offsets that they all hold. */
+static uint64_t width_bits;
+static uint64_t width_flags(void) { return width_bits << 22; }
+static uint64_t properties(void) { return width_bits << 6; }
+static uint64_t free_flags(void) { return 0x0F4000 | width_bits << 12; }
+enum { LENGTH = 60000 };
 
 static void accepted(uint64_t number)
 {
@@ -30,15 +38,16 @@ static void accepted(uint64_t number)
 
 static void make_metadata(uint64_t id)
 {
-    struct saratoga_written written = saratoga_write_metadata(0x800042, id, checksum, 16, 0x0080, (uint64_t)1 << 40, 0, 0,
-                                                              path, PATH, packet, sizeof packet);
+    struct saratoga_written written =
+        saratoga_write_metadata(width_flags() | SARATOGA_CHECKSUM_MD5, id, checksum, 16, properties(), LENGTH, 0, 0, path, PATH,
+                                packet, sizeof packet);
     size = written.size;
 }
 
 static void make_data(uint64_t id, uint64_t offset, size_t length)
 {
     struct saratoga_written written =
-        saratoga_write_data(0x800000, id, timestamp, 0, offset, payload, length, packet, sizeof packet);
+        saratoga_write_data(width_flags(), id, timestamp, 0, offset, payload, length, packet, sizeof packet);
     size = written.size;
 }
 
@@ -62,7 +71,7 @@ static void use_full(void) { memcpy(area, full, AREA); }
 static void for_metadata(void) { make_metadata(15); }
 static void for_data(void) { make_data(10, 0, PAYLOAD); }
 static void for_status(void) { size = saratoga_write_status(full, AREA, 10, 0, 1, packet, sizeof packet).size; }
-static void for_beacon(void) { size = saratoga_write_beacon(0x0F6000, 1, path, PATH, packet, sizeof packet).size; }
+static void for_beacon(void) { size = saratoga_write_beacon(free_flags(), 1, path, PATH, packet, sizeof packet).size; }
 static void for_failure(void) { size = saratoga_write_failure(10, 6, packet, sizeof packet).size; }
 static void for_nothing(void) { size = 0; }
 static void with_15_open(void) { use_full(); saratoga_close(area, AREA, 160); make_metadata(5); }
@@ -72,7 +81,7 @@ static void in_front(void) { use_full(); make_data(10, 0, 5); }
 static void behind(void) { use_full(); make_data(160, GAP * RUNS + 10, 5); }
 static void repeated(void) { use_full(); make_data(80, GAP * 30 + 10, PAYLOAD); }
 static void joins_some(void) { use_full(); make_data(80, 0, 1900); }
-static void past_the_end(void) { use_full(); make_data(80, (uint64_t)1 << 40, 1); }
+static void past_the_end(void) { use_full(); make_data(80, LENGTH, 1); }
 static void a_65th_run(void)
 {
     use_full();
@@ -87,16 +96,20 @@ static void read_packet(void) { saratoga_read(packet, size); }
 static void read_hole(void) { saratoga_read_hole(packet, size, RUNS - 1); }
 static void write_metadata(void)
 {
-    saratoga_write_metadata(0x800042, 7, checksum, 16, 0x0080, 1, 0, 0, path, PATH, out, sizeof out);
+    saratoga_write_metadata(width_flags() | SARATOGA_CHECKSUM_MD5, 7, checksum, 16, properties(), 1, 0, 0, path, PATH, out,
+                            sizeof out);
 }
-static void write_data(void) { saratoga_write_data(0x880000, 7, timestamp, 16, 1, payload, 1000, out, sizeof out); }
-static void write_beacon(void) { saratoga_write_beacon(0x0F6000, 1, path, PATH, out, sizeof out); }
+static void write_data(void)
+{
+    saratoga_write_data(width_flags() | SARATOGA_FLAG_TIMESTAMP, 7, timestamp, 16, 1, payload, 1000, out, sizeof out);
+}
+static void write_beacon(void) { saratoga_write_beacon(free_flags(), 1, path, PATH, out, sizeof out); }
 static void write_failure(void) { saratoga_write_failure(7, 1, out, sizeof out); }
 static void fresh(void) { saratoga_fresh(area, AREA); }
 static void open_transfer(void) { saratoga_open(area, AREA, packet, size); }
 static void record(void) { saratoga_record(area, AREA, packet, size); }
 static void status(void) { saratoga_write_status(area, AREA, 80, 0, 1, out, sizeof out); }
-static void status_of_last(void) { saratoga_write_status(area, AREA, 160, RUNS - 1, 0, out, 40); }
+static void status_of_last(void) { saratoga_write_status(area, AREA, 160, RUNS - 1, 0, out, 72); }
 static void list(void) { saratoga_transfer(area, AREA, IDS - 1); }
 static void try_record(void) { saratoga_try_record(area, AREA, packet, size); }
 static void find_last(void) { saratoga_find(area, AREA, 160); }
@@ -179,14 +192,17 @@ static __attribute__((noinline)) long painted(void)
 /* Each call is made once before, so that nothing has to be bound when it counts. */
 static void *measure(void *unused)
 {
-    size_t i;
-    for (i = 0; i < WAYS; i++) {
-        ways[i].prepare();
-        ways[i].call();
-        ways[i].prepare();
-        paint();
-        ways[i].call();
-        used[i] = top - (stack + painted());
+    for (width_bits = 0; width_bits < 4; width_bits++) {
+        make_full();
+        for (size_t i = 0; i < WAYS; i++) {
+            ways[i].prepare();
+            ways[i].call();
+            ways[i].prepare();
+            paint();
+            ways[i].call();
+            long octets = top - (stack + painted());
+            used[i] = octets > used[i] ? octets : used[i];
+        }
     }
     return unused;
 }
@@ -197,9 +213,8 @@ int main(void)
     pthread_t thread;
     int over = 0;
     size_t i, first;
-    make_full();
-    if (refused || pthread_attr_init(&attributes) != 0 || pthread_attr_setstack(&attributes, stack, sizeof stack) != 0 ||
-        pthread_create(&thread, &attributes, measure, NULL) != 0 || pthread_join(thread, NULL) != 0) {
+    if (pthread_attr_init(&attributes) != 0 || pthread_attr_setstack(&attributes, stack, sizeof stack) != 0 ||
+        pthread_create(&thread, &attributes, measure, NULL) != 0 || pthread_join(thread, NULL) != 0 || refused) {
         fprintf(stderr, "stack: FAILED: it can't be measured\n");
         return 1;
     }

@@ -151,12 +151,15 @@ class Drawn(unittest.TestCase):
     def test_names_of_pages(self):
         """From the pass, and from lines with the path. No octet of a path leaves the text it stands in."""
         packets = [record(b"F"), record(b"P", metadata(7, 16, 3000, b"plant/page 611.pla")),
-                   record(b"O", metadata(8, 64, 9, b"\x1b[2J</text>&%\xff\r\n", 0x52, bytes(20)))]
+                   record(b"O", metadata(8, 64, 9, b"\x1b[2J</text>&%\xff\r\n", 0x52, bytes(20))),
+                   record(b"P", metadata(9, 128, 9, b"wide.pla"))]
         lines = ("1 fresh\n2 open id=7 width=16 length=3000 edge=0 complete=0 new\n"
-                 "3 open id=8 width=64 length=9 edge=0 complete=0 new\n")
+                 "3 open id=8 width=64 length=9 edge=0 complete=0 new\n"
+                 "4 open id=9 width=128 length=9 edge=0 complete=0 new\n")
         told = texts(drawing(lines, passed=b"".join(packets)))
         self.assertIn("Transfer 7, plant/page 611.pla: 3,000 octets, width 16", told)
         self.assertIn("Transfer 8, %1b[2J</text>&%25%ff%0d%0a: 9 octets, width 64", told)
+        self.assertIn("Transfer 9, wide.pla: 9 octets, width 128", told)
         shown = ("1 metadata id=7 flags=000000 width=16 checksum= properties=0000 size=3000 mtime=0 ctime=0 "
                  "path=706167653631312e706c61\n2 open id=7 width=16 length=3000 edge=0 complete=0 new\n")
         self.assertIn("Transfer 7, page611.pla: 3,000 octets, width 16", texts(drawing(shown)))

@@ -310,19 +310,19 @@ fn status(check: &mut Check) -> Step {
 /// Progress and In-Response-To close to each other and to the ends of their numbers: each width, bits 14 and 15 both ways,
 /// with a hole and without.
 fn last_octets(check: &mut Check) -> Step {
-    for codes in 0..3 * 4 * 2 {
+    for codes in 0..4 * 4 * 2 {
         let start = |rng: &mut Rng| {
             let mut start = Status::valid(rng).start;
-            start.flags = with_width(start.flags, codes % 3) & !(INCOMPLETE | UNASKED);
-            start.flags |= [0, INCOMPLETE, UNASKED, INCOMPLETE | UNASKED][codes as usize / 3 % 4];
+            start.flags = with_width(start.flags, codes % 4) & !(INCOMPLETE | UNASKED);
+            start.flags |= [0, INCOMPLETE, UNASKED, INCOMPLETE | UNASKED][codes as usize / 4 % 4];
             start
         };
-        let last = last(2 << (codes % 3));
+        let last = last(2 << (codes % 4));
         let numbers = [0, 1, 2, 3, 4, 0xFF, 0x100, 0x101, last - 2, last - 1, last];
         for progress in numbers {
             for in_response_to in numbers {
                 let start = start(&mut check.rng);
-                let mut packet = Status::with_holes(&mut check.rng, start, codes as usize / 12);
+                let mut packet = Status::with_holes(&mut check.rng, start, codes as usize / 16);
                 packet.progress = progress;
                 packet.in_response_to = in_response_to;
                 let octets = packet.octets(&mut check.rng);

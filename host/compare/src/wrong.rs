@@ -215,13 +215,16 @@ fn last_octet_wrapped(packet: &[u8]) -> Option<Packet> {
     let (width, at) = status_places(packet);
     let from = at - 2 * width;
     let fields = packet.get(from..at)?;
-    let wraps = fields[..width].iter().all(|&octet| octet == 0) && fields[width..].iter().all(|&octet| octet == 0xFF);
+    let low = width.min(8); // of 128 bits the upper eight octets are zero
+    let (upper, lower) = fields[width..].split_at(width - low);
+    let zero = |octets: &[u8]| octets.iter().all(|&octet| octet == 0);
+    let wraps = zero(&fields[..width]) && zero(upper) && lower.iter().all(|&octet| octet == 0xFF);
     let mut next = packet.to_vec();
     next[from + width..at].fill(0);
     next[from + width - 1] = 1;
     let read = Paper.read(&next);
     let taken = wraps && read.number == 0 && read.in_response_to < read.progress;
-    taken.then(|| Packet { progress: 0, in_response_to: u64::MAX >> (64 - 8 * width), ..read })
+    taken.then(|| Packet { progress: 0, in_response_to: u64::MAX >> (64 - 8 * low), ..read })
 }
 
 /// The packet with each end that is the next start lowered by one: the holes then don't touch.

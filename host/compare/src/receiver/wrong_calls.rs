@@ -359,7 +359,8 @@ impl Wrong {
                 Written { size: fixed as u64, ..Written::default() }
             })
         };
-        let respond = |out: &mut [u8], to: u64| out[8 + d..fixed].copy_from_slice(&to.to_be_bytes()[8 - d..]);
+        let low = d.min(8); // of 128 bits the upper eight octets stay zero
+        let respond = |out: &mut [u8], to: u64| out[fixed - low..fixed].copy_from_slice(&to.to_be_bytes()[8 - low..]);
         match self {
             NoRoomNoHole => return without_holes(fixed, 20).unwrap_or(right),
             AllSkipped if ask.skip == holes.len() as u64 => return without_holes(fixed, 19).unwrap_or(right),

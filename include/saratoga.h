@@ -265,7 +265,8 @@ struct saratoga_packet {
 
     /* STATUS */
     uint64_t status;                   /* bits 24 to 31: 0 for a success STATUS, else the failure code */
-    uint64_t progress, in_response_to; /* each the first offset after what it closes */
+    uint64_t progress;                 /* the lowest offset not received */
+    uint64_t in_response_to;           /* one more than the highest received; once complete, the last offset */
     uint64_t holes_at, hole_count;     /* right after In-Response-To, also where there are none */
 
     /* BEACON */
@@ -291,7 +292,10 @@ struct saratoga_packet {
  * STATUS with a code that isn't 0 (failure): what follows the Id is ignored.
  * STATUS with code 0 (success): Progress is at most In-Response-To; the holes are whole pairs, each start less than
  * its end and greater than the end before it, none below Progress or above In-Response-To. With bit 14 clear the
- * first hole starts at Progress, and where there is none Progress is In-Response-To.
+ * first hole starts at Progress, and where there is none Progress is In-Response-To. With bit 15 set and bit 14 clear
+ * and no hole, In-Response-To may also be one less than Progress: the last octet of a complete transfer. That alone
+ * does not say complete, since other receivers write it of a file that goes on: Progress equal to its length does. What was
+ * received ends, in a STATUS that saratoga_write_status wrote, at the greater of Progress and In-Response-To.
  *
  * Order of refusals: 2, 1 (first 8 octets; first 4 where the first octet is 0x40, a BEACON's), 3, 4; a failure STATUS is
  * then accepted; then
@@ -461,10 +465,11 @@ struct saratoga_done saratoga_close(uint8_t *area, size_t area_len, uint64_t id)
 
 /*
  * Writes a success STATUS of an open transfer into `out`; octets after it stay. The area is only read. Progress is the
- * lowest offset not received, In-Response-To the edge. The first `skip` holes are left out, then as many are written as
- * `out` has room for, lowest first. Bit 14 is set where a hole was skipped or did not fit, bit 15 where `unasked` is
- * not 0 or the transfer is complete. With descriptors of d octets (2, 4, 8 or 16) and h holes written, the size is
- * 8 + 2 d + 2 d h, so SARATOGA_STATUS_OCTETS are always enough.
+ * lowest offset not received, In-Response-To the edge or, where the transfer is complete, its length less one (0 where the
+ * length is 0). The first `skip` holes are left out, then as many are written as `out` has room for, lowest first. Bit 14
+ * is set where a hole was skipped or did not fit, bit 15 where `unasked` is not 0 or the transfer is complete. With
+ * descriptors of d octets (2, 4, 8 or 16) and h holes written, the size is 8 + 2 d + 2 d h, so SARATOGA_STATUS_OCTETS are
+ * always enough.
  *
  * Set `unasked` to 0 where the STATUS answers DATA that asked for it (SARATOGA_FLAG_STATUS_WANTED), and to 1 where it goes
  * out of itself: after METADATA, by a timer, or on completion.

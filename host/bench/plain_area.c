@@ -289,7 +289,8 @@ struct saratoga_written area_write_status(const uint8_t *area, size_t area_len, 
         out, status_flags(d, some < holes, unasked != 0 || head(area, place, LENGTH) <= progress_at(area, place)),
         id);
     put_number(out + 8, d, progress_at(area, place));
-    put_number(out + 8 + d, d, edge_at(area, place));
+    put_number(out + 8 + d, d,
+               in_response_to(head(area, place, LENGTH), progress_at(area, place), edge_at(area, place)));
     /* Hole j ends where run `next` starts. */
     at = out + 8 + 2 * d;
     for (j = 0; j < some; j++) {

@@ -144,7 +144,7 @@ saratoga_written map_write_status(const map_table *table, uint64_t id, uint64_t 
         some = room;
     put_status_start(out, status_flags(d, some < holes, unasked != 0 || t.length <= t.progress()), id);
     put_number(out + 8, d, t.progress());
-    put_number(out + 8 + d, d, t.edge());
+    put_number(out + 8 + d, d, in_response_to(t.length, t.progress(), t.edge()));
     uint8_t *at = out + 8 + 2 * d;
     uint64_t last = 0;
     size_t index = 0, left = some;

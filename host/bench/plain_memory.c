@@ -189,7 +189,7 @@ struct saratoga_written memory_write_status(const struct memory_table *table, ui
         some = room;
     put_status_start(out, status_flags(d, some < holes, unasked != 0 || t->length <= progress_of(t)), id);
     put_number(out + 8, d, progress_of(t));
-    put_number(out + 8 + d, d, edge_of(t));
+    put_number(out + 8 + d, d, in_response_to(t->length, progress_of(t), edge_of(t)));
     /* Hole j ends where run `next` starts. */
     at = out + 8 + 2 * d;
     for (j = 0; j < some; j++) {

@@ -224,6 +224,9 @@ static inline int holes_allowed(const uint8_t *at, const struct plain_status *s)
     int partial = (s->flags & SARATOGA_FLAG_INCOMPLETE) != 0;
     uint64_t last = s->progress;
     size_t i;
+    if (s->holes == 0 && !partial && s->flags & SARATOGA_FLAG_UNASKED && s->progress != 0 &&
+        s->progress - 1 == s->in_response_to)
+        return 1;
     if (s->progress > s->in_response_to)
         return 0;
     if (s->holes == 0)
@@ -279,6 +282,12 @@ static inline uint64_t status_flags(size_t width, int incomplete, int unasked)
 {
     return (width == 2 ? SARATOGA_WIDTH_16 : width == 4 ? SARATOGA_WIDTH_32 : width == 8 ? SARATOGA_WIDTH_64 : SARATOGA_WIDTH_128) |
            (incomplete ? SARATOGA_FLAG_INCOMPLETE : 0) | (unasked ? SARATOGA_FLAG_UNASKED : 0);
+}
+
+/* In-Response-To: the last octet of a complete transfer, or 0, and else the edge. */
+static inline uint64_t in_response_to(uint64_t length, uint64_t progress, uint64_t edge)
+{
+    return length > progress ? edge : length == 0 ? 0 : length - 1;
 }
 
 /* The first 8 octets of a STATUS. */

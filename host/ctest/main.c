@@ -13,9 +13,9 @@ static void hole_as(const char *what, const uint8_t *packet, size_t len, uint64_
     free(lent);
 }
 
-/* The STATUS of document 01: 0 to 999 and 2,000 to 2,999 received of 3,000; then all. */
+/* The STATUS of documents 01 and 02: 0 to 999 and 2,000 to 2,999 received of 3,000; then all. */
 static const uint8_t status_one_hole[] = {0x44, 0, 0, 0, 0, 0, 0, 7, 0x03, 0xE8, 0x0B, 0xB8, 0x03, 0xE8, 0x07, 0xD0};
-static const uint8_t status_complete[] = {0x44, 0x01, 0, 0, 0, 0, 0, 7, 0x0B, 0xB8, 0x0B, 0xB8};
+static const uint8_t status_complete[] = {0x44, 0x01, 0, 0, 0, 0, 0, 7, 0x0B, 0xB8, 0x0B, 0xB7};
 
 /* Width 64, timestamp, list not complete; holes 2 to 3 and 5 to 2^64 - 1. */
 static const uint8_t status_wide[] = {
@@ -49,8 +49,12 @@ static void read_status(void)
                                      .width = 2,
                                      .timestamp_at = 8,
                                      .progress = 3000,
-                                     .in_response_to = 3000,
+                                     .in_response_to = 2999,
                                      .holes_at = 12});
+    read_refused("STATUS that points to the last octet, asked for",
+                 (const uint8_t[]){0x44, 0, 0, 0, 0, 0, 0, 7, 0x0B, 0xB8, 0x0B, 0xB7}, 12, SARATOGA_REFUSED_HOLES, 0);
+    read_refused("STATUS with Progress 0 and the largest In-Response-To",
+                 (const uint8_t[]){0x44, 0x01, 0, 0, 0, 0, 0, 7, 0, 0, 0xFF, 0xFF}, 12, SARATOGA_REFUSED_HOLES, 0);
     read_as("STATUS of width 64", status_wide, sizeof status_wide,
             (struct saratoga_packet){.type = SARATOGA_TYPE_STATUS,
                                      .flags = 0x800000 | SARATOGA_FLAG_TIMESTAMP | SARATOGA_FLAG_INCOMPLETE,

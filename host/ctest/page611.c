@@ -53,8 +53,8 @@ static int comes(unsigned first)
     return recorded.complete != 0;
 }
 
-/* The STATUS that goes back to the sender: how many holes it names, and the first of them. */
-static uint64_t status(struct saratoga_hole *hole)
+/* The STATUS that goes back to the sender, as he reads it, and the first hole that it names. */
+static struct saratoga_packet status(struct saratoga_hole *hole)
 {
     uint8_t packet[100];
     struct saratoga_written written = saratoga_write_status(area, sizeof area, ID, 0, 0, packet, sizeof packet);
@@ -64,7 +64,7 @@ static uint64_t status(struct saratoga_hole *hole)
     must(read.number == 0 && read.type == SARATOGA_TYPE_STATUS, "the STATUS must be read");
     if (read.hole_count > 0)
         *hole = saratoga_read_hole(packet, written.size, 0);
-    return read.hole_count;
+    return read;
 }
 
 int main(void)
@@ -74,6 +74,7 @@ int main(void)
                                        0,    0,   0,   0,   0,   0,   0,       0,         'p', 'a', 'g',  'e',
                                        ' ',  '6', '1', '1', 0};
     struct saratoga_opened opened;
+    struct saratoga_packet told;
     struct saratoga_hole hole = {0, 0, 0, 0};
     unsigned i;
     for (i = 0; i < LENGTH; i++)
@@ -92,8 +93,10 @@ int main(void)
 
     must(octets_that_came == LENGTH, "the sum of octets must equal the length");
     printf("Now %u octets came, and the page has %d. By that sum the plate was burned.\n", octets_that_came, LENGTH);
-    must(status(&hole) == 1 && hole.number == 0 && hole.start == 1000 && hole.end == 2000,
+    told = status(&hole);
+    must(told.hole_count == 1 && hole.number == 0 && hole.start == 1000 && hole.end == 2000,
          "the STATUS must name the one hole, from 1000 to 2000");
+    must(told.progress == 1000 && told.in_response_to == LENGTH, "the STATUS must go to the edge");
     must(memcmp(disk, sent, LENGTH) != 0, "the page on disk is not the page that was sent");
     printf("The library says: not complete. It names one hole, from %llu to %llu: octets %llu to %llu are missing.\n",
            (unsigned long long)hole.start, (unsigned long long)hole.end, (unsigned long long)hole.start,
@@ -101,8 +104,11 @@ int main(void)
 
     printf("The sender reads that, and sends the missing packet again.\n");
     must(comes(1000), "the page must be complete");
-    must(status(&hole) == 0, "the STATUS must name no hole");
+    told = status(&hole);
+    must(told.hole_count == 0 && told.flags == SARATOGA_FLAG_UNASKED, "the STATUS must name no hole, and have bit 15");
+    must(told.progress == LENGTH && told.in_response_to == LENGTH - 1, "the STATUS must point to the last octet");
     must(memcmp(disk, sent, LENGTH) == 0, "the page on disk must be the page that was sent");
-    printf("No hole is left. The page on disk is the page that was sent: page 611 may go to plate.\n");
+    printf("No hole is left, and the STATUS points to octet %llu, the last.\n", (unsigned long long)told.in_response_to);
+    printf("The page on disk is the page that was sent: page 611 may go to plate.\n");
     return 0;
 }

@@ -100,11 +100,11 @@ def passes(program, place):
 10 failure id=7 status=9 flags=000009
 11 record id=7 offset=1000 length=1000 edge=3000 complete=1
 11 complete id=7 length=3000 file=00000007.page META
-11 send 44010000000000070bb80bb8
+11 send 44010000000000070bb80bb7
 12 record id=7 offset=500 length=5 edge=3000 complete=1
-12 send 44010000000000070bb80bb8
+12 send 44010000000000070bb80bb7
 13 open id=7 width=16 length=3000 edge=3000 complete=1 already-open
-13 send 44010000000000070bb80bb8
+13 send 44010000000000070bb80bb7
 14 open id=9 width=16 length=0 edge=0 complete=1 new
 14 complete id=9 length=0 file=00000009.page META
 14 send 440100000000000900000000
@@ -169,10 +169,10 @@ def more_than_sixteen(program, place):
     check(lines[32:] == ["17 refused 17 code=3", "17 send 4400000300000010",
                          "18 record id=3 offset=0 length=20 edge=20 complete=1",
                          "18 complete id=3 length=20 file=00000003.page " + META,
-                         "18 send 440100000000000300140014", "19 close id=3 to-make-room",
+                         "18 send 440100000000000300140013", "19 close id=3 to-make-room",
                          "19 open id=16 width=16 length=20 edge=0 complete=0 new", "19 send 440100000000001000000000",
                          "20 record id=16 offset=0 length=20 edge=20 complete=1",
-                         "20 complete id=16 length=20 file=00000010.page " + META, "20 send 440100000000001000140014"],
+                         "20 complete id=16 length=20 file=00000010.page " + META, "20 send 440100000000001000140013"],
           lines[32:])
 
 
@@ -224,7 +224,7 @@ def descriptors_of_128_bits(program, place):
     check(got == (["0 taken-up id=9 width=128 length=3000 edge=3000 complete=0",
                    "1 record id=9 offset=0 length=2000 edge=3000 complete=1",
                    "1 complete id=9 length=3000 file=00000009.page " + META,
-                   "1 send " + success(9, 128, 3000, 3000, flags=UNASKED).hex()], "", 0), got)
+                   "1 send " + success(9, 128, 3000, 2999, flags=UNASKED).hex()], "", 0), got)
     check(content(place, "00000009.page") == text, "the page isn't the original")
 
 
@@ -487,8 +487,9 @@ class Sender:
         size = 2 << (word >> 22 & 3)
         ends = [int.from_bytes(packet[at:at + size], "big") for at in range(8, len(packet), size)]
         missing = list(zip(ends[2::2], ends[3::2]))
-        if ends[1] < len(self.originals[ident]):
-            missing.append((ends[1], len(self.originals[ident])))
+        edge = max(ends[0], ends[1])  # In-Response-To of a complete page is its last octet
+        if edge < len(self.originals[ident]):
+            missing.append((edge, len(self.originals[ident])))
         # What a STATUS said to be received stays so, whatever happened to the program: the area was saved before.
         before = self.missing[ident]
         if self.inside(missing, before):

@@ -5,9 +5,9 @@ ghost use Prim.Native.Nat.{_+_, _*_, _≤_};
 ghost use lib.ListN.{length, take, drop};
 ghost use Rattle.octets.specs.Numbers.{Width};
 ghost use Rattle.octets.specs.Put.{put};
-ghost use Rattle.runs.specs.Holes.{edge, holes, progress, complete};
+ghost use Rattle.runs.specs.Holes.{holes, progress, complete};
 ghost use Rattle.run_rows.specs.Rows.{runsIn, RowsFit, RowsFine};
-ghost use Rattle.transfer.specs.WriteStatus.{statusFlags, statusFields, pairs, transferWritten, transferBuffer};
+ghost use Rattle.transfer.specs.WriteStatus.{statusFlags, statusFields, responseSent, pairs, transferWritten, transferBuffer};
 ghost use Rattle.area.specs.Places.{transferAt};
 ghost use Rattle.area.specs.Operations.{areaStatusWritten, areaStatusBuffer};
 ghost use Rattle.area_status.specs.Used.{UsedPlace};
@@ -99,13 +99,15 @@ fn put_front(area: &[u8], key: Key, rows: Rows, partial: bool, unasked: bool, ou
     requires { ⌜ RowsFit (now area) rows × (8 + 2 * key .width ≤ length (now out)) ⌝ }
     ensures { λ _. ⌜ now (out .exit)
         ≡ put 0 (statusFields (statusFlags (key .width) partial (unasked || complete (key .length) (runsIn (now (area .entry)) rows)))
-        (key .id) (key .width) (progress (runsIn (now (area .entry)) rows)) (edge (runsIn (now (area .entry)) rows))) (now (out .entry)) ⌝ }
+        (key .id) (key .width) (progress (runsIn (now (area .entry)) rows))
+        (responseSent (key .length) (runsIn (now (area .entry)) rows))) (now (out .entry)) ⌝ }
 {
     let done = run_rows::is_complete(area, rows, key.length);
     let told = transfer::status::unasked_or_complete(unasked, done);
     let progress = run_rows::progress_of(area, rows);
     let edge = run_rows::edge_of(area, rows);
-    transfer::status::put_fields(out, key, progress, edge, partial, told);
+    let response = transfer::status::response_sent(key.length, done, edge);
+    transfer::status::put_fields(out, key, progress, response, partial, told);
 }
 
 // STATUS of the transfer with this key and the runs in these rows: after the first `skip` holes as many as fit.

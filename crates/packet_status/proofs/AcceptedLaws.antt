@@ -1,14 +1,16 @@
--- The hole lists that a reader accepts, in the words of document 01: they are the lists that `holesWell` accepts.
+-- The hole lists that a reader accepts, in the words of documents 01 and 02: they are the lists that `listWell` accepts.
 -- Assumes nothing.
-use Prim.Native.Nat.{ℕ, zero, suc, _<_, _≤_}
-use mathlib.Core.Path.{_≡_, refl}
-use mathlib.Core.Bool.{Bool, true, false, _&&_}
+use Prim.Native.Nat.{ℕ, zero, suc, _-_, _<_, _≤_}
+use mathlib.Core.Path.{_≡_, refl, sym, _∙_}
+use mathlib.Core.Bool.{Bool, true, false, not, _&&_, _||_}
 use mathlib.Core.List.{List, [], _∷_}
 use native.Mathlib.Omega.{arith}
 use lib.ListN.{length, getD}
-use lib.Dec.{ltb, leb}
-use borrow.Author.Tests.{ltb-true, leb-true, eqb-true, lt-ltb, le-leb, eq-eqb}
-use Rattle.packet_status.specs.HoleList.{holesAfter, startsWell, holesWell}
+use mathlib.Core.Logic.{_⊎_, inl, inr, ⊎-elim, _↔_}
+use lib.Dec.{ltb, leb, eqb}
+use borrow.Author.Tests.{ltb-true, leb-true, eqb-true, eqb-false, lt-ltb, le-leb, eq-eqb, ne-eqb}
+use Rattle.refusals.proofs.TestLaws.{not-iff, or-iff}
+use Rattle.packet_status.specs.HoleList.{holesAfter, startsWell, holesWell, pointsToLast, listWell}
 use Rattle.runs.specs.declared.Hole.{Hole}
 
 -- the hole with this index; past the list's end, one from 0 to 0
@@ -150,3 +152,55 @@ means-holes-well partial progress response (h ∷ hs) a =
       apart = λ i l. a .apart (suc i) (omega arith);
       high = λ i l. a .high (suc i) (omega arith);
     }))
+
+-- ---- the last STATUS
+
+-- "The reader also takes In-Response-To equal to Progress - 1 when there are no holes, bit 14 is clear and bit 15 is set"
+pub record LastAccepted (partial unasked : Bool) (count progress response : ℕ) : Type 0 where
+  pub whole : partial ≡ false
+  pub unasked-told : unasked ≡ true
+  pub no-holes : count ≡ 0
+  pub last : suc response ≡ progress
+
+-- where Progress is not 0, its difference with 1 says it too
+pub before-same : (progress top : ℕ) → (progress ≡ 0 → ⊥) → eqb (progress - 1) top ≡ eqb (suc top) progress
+before-same zero top h = absurd (h refl)
+before-same (suc n) top h = let p : suc n - 1 ≡ n = omega arith in rw p (go (eqb n top) refl)
+  where
+    go : (b : Bool) → eqb n top ≡ b → eqb n top ≡ eqb (suc top) (suc n)
+    go true e = e ∙ sym (eq-eqb (suc top) (suc n) (omega (arith, eqb-true n top e)))
+    go false e = e ∙ sym (ne-eqb (suc top) (suc n) (λ z. eqb-false n top e (omega arith)))
+
+pub last-means : (partial unasked : Bool) (count progress response : ℕ)
+    → pointsToLast partial unasked count progress response ≡ true → LastAccepted partial unasked count progress response
+unfolding pointsToLast
+last-means partial unasked count progress response e =
+    let a = both (not partial) _ e in
+    let b = both unasked _ (a .1) in
+    let t = both (eqb count 0) _ (b .1) in
+    record {
+      whole = not-iff partial .0 (a .0);
+      unasked-told = b .0;
+      no-holes = eqb-true count 0 (t .0);
+      last = eqb-true (suc response) progress (t .1);
+    }
+
+pub means-last : (partial unasked : Bool) (count progress response : ℕ)
+    → LastAccepted partial unasked count progress response → pointsToLast partial unasked count progress response ≡ true
+unfolding pointsToLast
+means-last partial unasked count progress response a =
+    rw (a .whole, a .unasked-told, eq-eqb count 0 (a .no-holes), eq-eqb (suc response) progress (a .last))
+
+-- ---- by either rule
+
+abbrev pub ListAccepted : Bool → Bool → ℕ → ℕ → List Hole → Type 0
+ListAccepted partial unasked progress response hs =
+    LastAccepted partial unasked (length hs) progress response ⊎ HoleListAccepted partial progress response hs
+
+pub list-well-iff : (partial unasked : Bool) (progress response : ℕ) (hs : List Hole)
+    → (listWell partial unasked progress response hs ≡ true) ↔ ListAccepted partial unasked progress response hs
+unfolding listWell
+list-well-iff partial unasked progress response hs = (
+  (λ e. ⊎-elim (λ p. inl (last-means _ _ _ _ _ p)) (λ p. inr (holes-well-means _ _ _ _ p)) (or-iff _ _ .0 e)),
+  (λ a. or-iff _ _ .1 (⊎-elim (λ p. inl (means-last _ _ _ _ _ p)) (λ p. inr (means-holes-well _ _ _ _ p)) a)),
+)

@@ -16,17 +16,17 @@ use Rattle.refusals.specs.declared.Written.the-variants as written
 use Rattle.refusals.proofs.TestLaws.{eqb-iff, eqb-not, ltb-iff, ltb-not, not-iff, not-not, test-not, both}
 use Rattle.refusals.proofs.RefusalLaws.{given-here, given-later, after-none, when-given, when-other}
 use Rattle.refusals.proofs.LimitLaws as chains
-use Rattle.header.specs.FirstWord.{descriptorOctets, partialOf, statusOf}
+use Rattle.header.specs.FirstWord.{descriptorOctets, statusOf}
 use Rattle.header.specs.Start.{wordOf, startOctets, typeRefusal}
 use Rattle.header.specs.Descriptor.{descriptorRefusal}
 use Rattle.header.proofs.StartLaws.{TypeFine}
 use Rattle.header.proofs.LimitLaws as header
-use Rattle.packet_status.specs.HoleList.{holesWell}
-use Rattle.packet_status.specs.Status.{progressAt, responseAt, holesAt, progressOf, responseOf, listOctets, listDescriptors, holeList, descriptorsRefusal, listRefusal, successRefusal, statusRefusal, acceptedStatus, readStatus}
+use Rattle.packet_status.specs.HoleList.{listWell}
+use Rattle.packet_status.specs.Status.{progressAt, responseAt, holesAt, progressOf, responseOf, listOctets, listDescriptors, holeList, partialTold, unaskedTold, descriptorsRefusal, listRefusal, successRefusal, statusRefusal, acceptedStatus, readStatus}
 use Rattle.packet_status.specs.declared.StatusRead.the-variants.{Refused}
 use Rattle.packet_status.specs.WriteFailure.{failureWriteRefusal, failureWritten}
 use Rattle.packet_status.proofs.DescriptorListLaws.{AllSmall, descriptors-some, descriptors-all, descriptors-none-iff, descriptors-five-iff}
-use Rattle.packet_status.proofs.AcceptedLaws.{HoleListAccepted, holes-well-means, means-holes-well}
+use Rattle.packet_status.proofs.AcceptedLaws.{ListAccepted, list-well-iff}
 
 -- ---- read
 
@@ -41,22 +41,20 @@ module _ (s : List ℕ) where
   odd = not (eqb (listOctets s % (2 * d)) 0)
 
   abbrev ill : Bool
-  ill = not (holesWell (eqb (partialOf w) 1) (progressOf s) (responseOf s) (holeList s))
+  ill = not (listWell (partialTold s) (unaskedTold s) (progressOf s) (responseOf s) (holeList s))
 
   -- "hole list not as above": no whole pairs, or not accepted
   abbrev pub ListWrong : Type 0
-  ListWrong = (listOctets s % (2 * d) ≡ 0 → ⊥) ⊎ (HoleListAccepted (eqb (partialOf w) 1) (progressOf s) (responseOf s) (holeList s) → ⊥)
+  ListWrong = (listOctets s % (2 * d) ≡ 0 → ⊥) ⊎ (ListAccepted (partialTold s) (unaskedTold s) (progressOf s) (responseOf s) (holeList s) → ⊥)
 
   list-eleven-iff : (listRefusal s ≡ 11) ↔ ListWrong
   unfolding listRefusal
   list-eleven-iff =
-      let p = eqb (partialOf w) 1 in
+      let well = listWell (partialTold s) (unaskedTold s) (progressOf s) (responseOf s) (holeList s) in
       Iff·trans (chains.given-again odd 11 _ (λ e. omega arith))
       (chains.either (chains.unequal-iff (listOctets s % (2 * d)) 0)
       (Iff·trans (when-given ill 11 (λ e. omega arith))
-      (Iff·trans (not-iff (holesWell p (progressOf s) (responseOf s) (holeList s)))
-      (test-not (holesWell p (progressOf s) (responseOf s) (holeList s)) (HoleListAccepted p (progressOf s) (responseOf s) (holeList s))
-      (holes-well-means p (progressOf s) (responseOf s) (holeList s), means-holes-well p (progressOf s) (responseOf s) (holeList s))))))
+      (Iff·trans (not-iff well) (test-not well _ (list-well-iff (partialTold s) (unaskedTold s) (progressOf s) (responseOf s) (holeList s))))))
 
   list-all : (P : ℕ → Type 0) → P 0 → P 11 → P (listRefusal s)
   unfolding listRefusal

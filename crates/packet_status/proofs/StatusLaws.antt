@@ -11,26 +11,26 @@ use lib.Dec.{eqb}
 use borrow.Author.Tests.{ltb-true, eqb-true, lt-ltb, le-ltb, eq-eqb, not-false}
 use Rattle.octets.proofs.NumberLaws.{width-some}
 use Rattle.refusals.specs.Refusals.{when, refusalOf}
-use Rattle.header.specs.FirstWord.{descriptorOctets, partialOf, statusOf}
+use Rattle.header.specs.FirstWord.{descriptorOctets, statusOf}
 use Rattle.header.specs.Start.{wordOf, typeRefusal}
 use Rattle.refusals.proofs.RefusalLaws.{first-none, rest-none, failed}
 use Rattle.header.specs.Descriptor.{descriptorRefusal}
 use Rattle.header.proofs.DescriptorLaws.{descriptor-there}
 use Rattle.header.proofs.FirstWordLaws.{octets-width}
 use Rattle.header.proofs.StartLaws.{TypeFine, type-fine}
-use Rattle.packet_status.specs.Status.{progressAt, responseAt, holesAt, progressOf, responseOf, listOctets, listDescriptors, holeCount, holeList, descriptorsRefusal, DescriptorsFine, listRefusal, successRefusal, statusRefusal, holeRefusal, indexedHole, readHole, failureOf, acceptedStatus}
+use Rattle.packet_status.specs.Status.{progressAt, responseAt, holesAt, progressOf, responseOf, listOctets, listDescriptors, holeCount, holeList, partialTold, unaskedTold, descriptorsRefusal, DescriptorsFine, listRefusal, successRefusal, statusRefusal, holeRefusal, indexedHole, readHole, failureOf, acceptedStatus}
 use Rattle.runs.specs.declared.Hole.{Hole}
 use Rattle.packet_status.specs.declared.HoleRead.the-variants as hole-read
 use Rattle.packet_status.specs.declared.StatusRead.the-variants.{Failure, Refused}
 use Rattle.packet_status.proofs.DescriptorListLaws.{each-none, fewer-none}
 use Rattle.packet_status.proofs.HoleListLaws.{length-holes, hole-of-list}
-use Rattle.packet_status.proofs.AcceptedLaws.{HoleListAccepted, holes-well-means, means-holes-well}
+use Rattle.packet_status.proofs.AcceptedLaws.{ListAccepted, list-well-iff}
 
 -- a success STATUS with refusal 0
 pub record SuccessFine (s : List ℕ) : Type 0 where
   pub descriptors : DescriptorsFine s
   pub whole : listOctets s % (2 * descriptorOctets (wordOf s)) ≡ 0
-  pub list : HoleListAccepted (eqb (partialOf (wordOf s)) 1) (progressOf s) (responseOf s) (holeList s)
+  pub list : ListAccepted (partialTold s) (unaskedTold s) (progressOf s) (responseOf s) (holeList s)
 
 pub success-fine : (s : List ℕ) → successRefusal s ≡ 0 → SuccessFine s
 unfolding successRefusal listRefusal
@@ -43,14 +43,14 @@ success-fine s e =
     record {
       descriptors = record { progress-none = first-none _ _ e; response-none = first-none _ _ r1; list-none = first-none _ _ r2 };
       whole = eqb-true _ _ (not-false _ (failed _ 10 (first-none _ _ r3)));
-      list = holes-well-means _ _ _ _ (not-false _ (failed _ 10 r4));
+      list = list-well-iff _ _ _ _ _ .0 (not-false _ (failed _ 10 r4));
     }
 
 -- and every STATUS of which that holds has refusal 0
 pub success-none : (s : List ℕ) → SuccessFine s → successRefusal s ≡ 0
 unfolding successRefusal listRefusal
 success-none s f =
-    let well = means-holes-well (eqb (partialOf (wordOf s)) 1) (progressOf s) (responseOf s) (holeList s) (f .list) in
+    let well = list-well-iff (partialTold s) (unaskedTold s) (progressOf s) (responseOf s) (holeList s) .1 (f .list) in
     rw (
       f .descriptors .progress-none,
       f .descriptors .response-none,

@@ -1,8 +1,9 @@
 -- The hole list of a success STATUS: its pairs, and which lists are accepted.
 -- Assumes nothing.
 use Prim.Native.Nat.{ℕ, zero, suc, _+_, _*_}
-use mathlib.Core.Bool.{Bool, true, cond, _&&_}
+use mathlib.Core.Bool.{Bool, true, cond, not, _&&_, _||_}
 use mathlib.Core.List.{List, [], _∷_}
+use lib.ListN.{length}
 use lib.Dec.{ltb, leb, eqb}
 use Rattle.header.specs.Descriptor.{descriptorAt}
 use Rattle.runs.specs.declared.Hole.{Hole}
@@ -26,9 +27,18 @@ holesAfter last top (h ∷ hs) = ltb last (h .start) && (ltb (h .start) (h .end)
 unfoldable pub startsWell : Bool → ℕ → ℕ → Bool
 startsWell partial progress first = cond partial (leb progress first) (eqb progress first)
 
--- the whole list. With no holes "Progress is at most In-Response-To", and with bit 14 clear it "equals In-Response-To";
+-- the whole list, by document 01. With no holes "Progress is at most In-Response-To", and with bit 14 clear it "equals In-Response-To";
 -- with holes the first follows from progress ≤ start < end ≤ In-Response-To
 unfoldable pub holesWell : Bool → ℕ → ℕ → List Hole → Bool
 holesWell partial progress top [] = startsWell partial progress top
 holesWell partial progress top (h ∷ hs) =
     startsWell partial progress (h .start) && (ltb (h .start) (h .end) && (leb (h .end) top && holesAfter (h .end) top hs))
+
+-- "The reader also takes In-Response-To equal to Progress - 1 when there are no holes, bit 14 is clear and bit 15 is set". Nothing is
+-- one less than Progress 0
+unfoldable pub pointsToLast : Bool → Bool → ℕ → ℕ → ℕ → Bool
+pointsToLast partial unasked count progress top = not partial && (unasked && (eqb count 0 && eqb (suc top) progress))
+
+-- a list is taken by either rule
+unfoldable pub listWell : Bool → Bool → ℕ → ℕ → List Hole → Bool
+listWell partial unasked progress top hs = pointsToLast partial unasked (length hs) progress top || holesWell partial progress top hs

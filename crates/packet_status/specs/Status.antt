@@ -2,15 +2,15 @@
 -- Assumes nothing.
 use Prim.Native.Nat.{ℕ, zero, suc, _+_, _*_, _-_, _/_, _%_}
 use mathlib.Core.Path.{_≡_}
-use mathlib.Core.Bool.{not}
+use mathlib.Core.Bool.{Bool, not}
 use mathlib.Core.List.{List}
 use lib.ListN.{length}
 use lib.Dec.{ltb, eqb}
 use Rattle.refusals.specs.Refusals.{_▹_, when, answered}
-use Rattle.header.specs.FirstWord.{flagsOf, descriptorOctets, timestampOctets, partialOf, statusOf}
+use Rattle.header.specs.FirstWord.{bits, flagsOf, descriptorOctets, timestampOctets, partialOf, statusOf}
 use Rattle.header.specs.Start.{wordOf, idOf, typeRefusal}
 use Rattle.header.specs.Descriptor.{descriptorAt, descriptorRefusal}
-use Rattle.packet_status.specs.HoleList.{holeAt, holesOf, holesWell}
+use Rattle.packet_status.specs.HoleList.{holeAt, holesOf, listWell}
 use Rattle.runs.specs.declared.Hole.{Hole}
 use Rattle.packet_status.specs.declared.HoleRead.{HoleRead}
 use Rattle.packet_status.specs.declared.HoleRead.the-variants as hole-read
@@ -50,11 +50,18 @@ holeCount s = listOctets s / (2 * descriptorOctets (wordOf s))
 unfoldable pub holeList : List ℕ → List Hole
 holeList s = holesOf (descriptorOctets (wordOf s)) (holeCount s) (holesAt (wordOf s)) s
 
--- 11: "hole list not as above", where bit 14 "says that the hole list isn't complete"; "it is whole pairs"
+-- "Bit 14 says that the hole list isn't complete, bit 15 that the STATUS was sent unasked"
+abbrev pub partialTold : List ℕ → Bool
+partialTold s = eqb (partialOf (wordOf s)) 1
+
+abbrev pub unaskedTold : List ℕ → Bool
+unaskedTold s = eqb (bits 32 (wordOf s) 15 15) 1
+
+-- 11: "hole list not as above"; "it is whole pairs"
 unfoldable pub listRefusal : List ℕ → ℕ
 listRefusal s =
     when (not (eqb (listOctets s % (2 * descriptorOctets (wordOf s))) 0)) 11
-    ▹ when (not (holesWell (eqb (partialOf (wordOf s)) 1) (progressOf s) (responseOf s) (holeList s))) 11
+    ▹ when (not (listWell (partialTold s) (unaskedTold s) (progressOf s) (responseOf s) (holeList s))) 11
 
 -- the refusal of n descriptors of d octets, one after the other from the place `at` on: the first that is refused
 unfoldable pub descriptorsRefusal : ℕ → ℕ → ℕ → List ℕ → ℕ

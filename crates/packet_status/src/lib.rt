@@ -4,7 +4,7 @@ ghost use Prim.Native.Nat.{_+_, _*_, _<_, _≤_};
 ghost use lib.ListN.{length};
 ghost use Rattle.octets.specs.Numbers.{Width};
 ghost use Rattle.header.specs.Descriptor.{descriptorRefusal};
-ghost use Rattle.packet_status.specs.HoleList.{holeAt, holesOf, holesAfter, startsWell, holesWell};
+ghost use Rattle.packet_status.specs.HoleList.{holeAt, holesOf, holesAfter, startsWell, holesWell, pointsToLast};
 ghost use Rattle.packet_status.specs.Status.{descriptorsRefusal, DescriptorsFine, listRefusal, successRefusal, statusRefusal, successOf, readStatus, holeRefusal, readHole};
 ghost use Rattle.packet_status.specs.WriteFailure.{failureWriteRefusal, failureWritten, failureBuffer};
 use refusals::Refusal;
@@ -118,6 +118,26 @@ fn holes_well(
     holes_after(s, at + 2 * d, d, n - 1, h.end, top)
 }
 
+// Whether In-Response-To may be the last octet of a complete transfer, and Progress the offset after it.
+fn points_to_last(partial: bool, unasked: bool, count: usize, progress: u64, top: u64) -> bool
+    ensures { λ r. ⌜ r ≡ pointsToLast partial unasked count progress top ⌝ }
+{
+    if partial {
+        return false;
+    }
+    if !unasked {
+        return false;
+    }
+    if count != 0 {
+        return false;
+    }
+    if progress == 0 {
+        false
+    } else {
+        progress - 1 == top
+    }
+}
+
 // Refusal 11 of the hole list of a success STATUS, none of whose descriptors is refused; 0 for none.
 fn list_refusal(p: &[u8]) -> u64
     requires { ⌜ DescriptorsFine (now p) ⌝ }
@@ -132,9 +152,16 @@ fn list_refusal(p: &[u8]) -> u64
     if rest % (2 * d) != 0 {
         return 11;
     }
+    let count = rest / (2 * d);
+    let partial = h.partial == 1;
+    // bit 15, which in DATA says that a STATUS is wanted
+    let unasked = h.wanted == 1;
     let progress = header::descriptor(p, at, d);
     let top = header::descriptor(p, at + d, d);
-    if holes_well(p, holes, d, rest / (2 * d), h.partial == 1, progress, top) {
+    if points_to_last(partial, unasked, count, progress, top) {
+        return 0;
+    }
+    if holes_well(p, holes, d, count, partial, progress, top) {
         return 0;
     }
     11

@@ -104,12 +104,12 @@ pub record Passes : Type 0 where
   pub buffer-too-small :
       (statusWritten twoParts 7 0 false (buffer 15) ≡ written.Refused (refusalOf 20))
       × (statusBuffer twoParts 7 0 false (buffer 15) ≡ buffer 15)
-  -- "Then 1,000 to 1,999 arrives: complete, 44 01 00 00 00 00 00 07 0B B8 0B B8"
+  -- "Then 1,000 to 1,999 arrives: complete, 44 01 00 00 00 00 00 07 0B B8", and now "ends in 0B B8 0B B7"
   pub completed :
       (recordPacket twoParts middle .answer ≡ recorded.Accepted (upTo 3000 true))
       × (statusWritten (takes twoParts middle) 7 0 false (buffer 12) ≡ written.Size 12)
       × (statusBuffer (takes twoParts middle) 7 0 false (buffer 12)
-      ≡ 68 ∷ 1 ∷ 0 ∷ 0 ∷ 0 ∷ 0 ∷ 0 ∷ 7 ∷ 11 ∷ 184 ∷ 11 ∷ 184 ∷ [])
+      ≡ 68 ∷ 1 ∷ 0 ∷ 0 ∷ 0 ∷ 0 ∷ 0 ∷ 7 ∷ 11 ∷ 184 ∷ 11 ∷ 183 ∷ [])
   -- "L = 0: complete at opening; any DATA is refused": with 14 where Id and width are the transfer's
   pub empty-complete :
       (openPacket [] (metadata 7 0 0) .answer ≡ opened.New (upTo 0 true))

@@ -2,8 +2,8 @@
 -- Assumes nothing.
 use Prim.Native.Nat.{ℕ, _<_, _≤_}
 use mathlib.Core.Path.{_≡_, refl}
-use mathlib.Core.Bool.{Bool, true, false, not, _&&_, true≢false, false≢true}
-use mathlib.Core.Logic.{_↔_}
+use mathlib.Core.Bool.{Bool, true, false, not, _&&_, _||_, true≢false, false≢true}
+use mathlib.Core.Logic.{_⊎_, inl, inr, ⊎-elim, _↔_}
 use lib.Dec.{ltb, eqb}
 use borrow.Author.Tests.{ltb-true, ltb-false, eqb-true, eqb-false, lt-ltb, le-ltb, eq-eqb, ne-eqb}
 
@@ -30,6 +30,10 @@ not-not false = ((λ e. absurd (true≢false e)), (λ e. absurd (false≢true e)
 pub and-iff : (a b : Bool) → (a && b ≡ true) ↔ ((a ≡ true) × (b ≡ true))
 and-iff true b = ((λ e. (refl, e)), (λ p. p .1))
 and-iff false b = ((λ e. absurd (false≢true e)), (λ p. absurd (false≢true (p .0))))
+
+pub or-iff : (a b : Bool) → (a || b ≡ true) ↔ ((a ≡ true) ⊎ (b ≡ true))
+or-iff true b = ((λ e. inl refl), (λ m. refl))
+or-iff false b = ((λ e. inr e), ⊎-elim (λ e. absurd (false≢true e)) (λ e. e))
 
 -- a test fails exactly when what it says is not so
 pub test-not : (t : Bool) (A : Type 0) → (t ≡ true) ↔ A → (t ≡ false) ↔ (A → ⊥)

@@ -4,6 +4,7 @@ use Prim.Native.Nat.{ℕ, _+_, _*_, _<_, _≤_}
 use mathlib.Core.Path.{_≡_, sym, ap, _∙_}
 use mathlib.Core.Bool.{Bool, _||_}
 use mathlib.Core.List.{List, _++_}
+use mathlib.Core.Logic.{_⊎_}
 use mathlib.Core.Option.{none, some}
 use native.Mathlib.Nat.{zero-add}
 use native.Mathlib.Omega.{arith}
@@ -19,14 +20,14 @@ use Rattle.packet_status.specs.Status.{holeList, readStatus}
 use Rattle.packet_status.specs.declared.StatusRead.{StatusRead}
 use Rattle.packet_status.specs.declared.StatusRead.the-variants.{Success}
 use Rattle.runs.specs.Runs.{Run}
-use Rattle.runs.specs.Holes.{edge, holes, progress, complete}
+use Rattle.runs.specs.Holes.{holes, progress, complete}
 use Rattle.transfer.specs.declared.Key.{Key}
 use Rattle.transfer.specs.Transfers.{Transfer}
 use Rattle.table.specs.Tables.{Valid, keys, find, runsOf}
 use Rattle.table.specs.WriteStatus.{writtenFor, bufferFor, statusWritten, statusBuffer}
-use Rattle.transfer.specs.WriteStatus.{holesSent, partialSent, statusFlags, statusPacket, transferRefused, transferWritten, transferBuffer}
+use Rattle.transfer.specs.WriteStatus.{holesSent, partialSent, statusFlags, responseSent, statusPacket, transferRefused, transferWritten, transferBuffer}
 use Rattle.table.proofs.FindLaws.{Found, found-fine}
-use Rattle.transfer.proofs.StatusSize.{status-size, status-size-fits}
+use Rattle.transfer.proofs.StatusSize.{status-fits, status-size, status-size-fits}
 use Rattle.transfer.proofs.StatusReads.{status-read, status-holes-read}
 
 module _ (t : List Transfer) (v : Valid t) (id k : ℕ) (unasked : Bool) (old : List ℕ) (key : Key) (found : find id (keys t) ≡ some key)
@@ -80,16 +81,19 @@ module _ (t : List Transfer) (v : Valid t) (id k : ℕ) (unasked : Bool) (old : 
     width = d;
     timestamp = 0;
     progress = progress rs;
-    response = edge rs;
+    response = responseSent (key .length) rs;
     holes = 8 + 2 * d;
     count = length sent;
   })
+
+  allowed : (k ≡ 0) ⊎ (k < length (holes rs))
+  allowed = status-fits d (length (holes rs)) k (length old) ok .allowed
 
   -- "A STATUS that the desk wrote reads back with its fields and holes"
   pub status-buffer-read : readStatus (take size (statusBuffer t id k unasked old)) ≡ fieldsWith id
   status-buffer-read =
       ap readStatus status-buffer-packet
-      ∙ status-read (record { key = key; runs = rs }) k unasked (length old) (known .fine) ∙ ap fieldsWith (known .id-is)
+      ∙ status-read (record { key = key; runs = rs }) k unasked (length old) (known .fine) allowed ∙ ap fieldsWith (known .id-is)
 
   pub status-buffer-holes : holeList (take size (statusBuffer t id k unasked old)) ≡ sent
   status-buffer-holes = ap holeList status-buffer-packet ∙ status-holes-read (record { key = key; runs = rs }) k unasked (length old) (known .fine)

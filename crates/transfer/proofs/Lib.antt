@@ -5,6 +5,7 @@ pub mod LimitLaws
 pub mod StatusSize
 pub mod StatusPartial
 pub mod StatusFlags
+pub mod StatusResponse
 pub mod StatusReads
 pub mod StatusSays
 pub mod StatusPuts

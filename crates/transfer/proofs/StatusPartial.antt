@@ -9,15 +9,12 @@ use native.Mathlib.Omega.{arith}
 use lib.ListN.{length, take, drop}
 use lib.Seq.{take-all}
 use lib.Dec.{ltb}
-use borrow.Author.Tests.{ltb-true, ltb-false, lt-ltb}
+use borrow.Author.Tests.{ltb-true, ltb-false, lt-ltb, le-ltb}
+use Rattle.refusals.proofs.TestLaws.{or-iff}
 use Rattle.runs.specs.declared.Hole.{Hole}
 use Rattle.runs.proofs.CompareLaws.{le-or-lt}
 use Rattle.transfer.specs.WriteStatus.{holeRoom, holesSent, partialSent}
 use Rattle.transfer.proofs.StatusSize.{holes-sent-count}
-
-pub or-iff : (a b : Bool) → (a || b ≡ true) ↔ ((a ≡ true) ⊎ (b ≡ true))
-or-iff true b = ((λ e. inl refl), (λ m. refl))
-or-iff false b = ((λ e. inr e), (λ m. ⊎-elim (λ z. absurd (let o : _≡_ {A = ℕ} 0 1 = cc in omega arith)) (λ e. e) m))
 
 or-none : (a b : Bool) → a || b ≡ false → (a ≡ false) × (b ≡ false)
 or-none true b e = absurd (let z : _≡_ {A = ℕ} 0 1 = cc in omega arith)
@@ -32,6 +29,13 @@ partial-means d k room n =
       (λ e. ⊎-elim (λ p. inl (ltb-true 0 k p)) (λ p. inr (ltb-true (holeRoom d room) (n - k) p)) (o .0 e)),
       (λ p. o .1 (⊎-elim (λ q. inl (lt-ltb 0 k q)) (λ q. inr (lt-ltb (holeRoom d room) (n - k) q)) p)),
     )
+
+-- where k is allowed and there are no holes, bit 14 is clear
+pub none-whole : (d k room n : ℕ) → (k ≡ 0) ⊎ (k < n) → n ≡ 0 → partialSent d k room n ≡ false
+unfolding partialSent
+none-whole d k room n a z =
+    let p : k ≡ 0 = ⊎-elim (λ e. e) (λ (l : k < n). absurd (omega arith)) a in
+    rw (le-ltb 0 k (omega arith), le-ltb (holeRoom d room) (n - k) (omega arith))
 
 module _ (d k room : ℕ) (hs : List Hole) where
   -- where k is allowed: exactly when fewer holes are written than there are

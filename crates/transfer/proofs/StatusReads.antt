@@ -4,38 +4,42 @@ use Prim.Native.Nat.{ℕ, suc, _+_, _*_, _-_, _^_, _<_, _≤_}
 use mathlib.Core.Path.{_≡_, refl, sym, ap, _∙_}
 use mathlib.Core.Bool.{Bool, true, false, _||_}
 use mathlib.Core.List.{List, [], _∷_, _++_, append-assoc}
+use mathlib.Core.Logic.{_⊎_, inl, inr, ⊎-elim}
 use native.Mathlib.Nat.{mul-comm, mul-assoc, mul-le-mul, mul-div-right, mul-mod-right}
 use native.Mathlib.Omega.{arith}
 use lib.ListN.{length, take, drop, getD, length-append, length-drop}
 use lib.Seq.{take-at, drop-at, drop-drop}
-use lib.Dec.{eqb}
 use borrow.Author.Tests.{lt-ltb, le-ltb, le-leb, eq-eqb}
 use Rattle.octets.specs.Numbers.{beValue, beDigits, Width}
 use Rattle.octets.proofs.NumberLaws.{value-digits, length-digits, width-le, width-some}
 use Rattle.octets.proofs.UpperLaws.{digits-small}
 use Rattle.refusals.specs.Refusals.{refusalOf}
+use Rattle.refusals.proofs.TestLaws.{or-iff}
 use Rattle.header.specs.FirstWord.{markOf, typeOf, flagsOf, descriptorOctets, timestampOctets, partialOf, statusOf, wordFor}
 use Rattle.header.specs.Start.{wordOf, idOf, typeRefusal}
 use Rattle.header.specs.Descriptor.{descriptorAt, descriptorRefusal}
 use Rattle.header.proofs.DescriptorLaws.{descriptor-none}
 use Rattle.header.proofs.StartLaws.{type-known, type-none}
 use Rattle.runs.specs.declared.Hole.{Hole}
-use Rattle.packet_status.specs.HoleList.{holesOf, holesAfter, startsWell, holesWell}
-use Rattle.packet_status.specs.Status.{holesAt, progressOf, responseOf, listOctets, listDescriptors, holeCount, holeList, descriptorsRefusal, DescriptorsFine, successRefusal, statusRefusal, successOf, readStatus, readHole}
+use Rattle.packet_status.specs.HoleList.{holesOf, holesAfter, startsWell, holesWell, listWell}
+use Rattle.packet_status.specs.Status.{holesAt, progressOf, responseOf, listOctets, listDescriptors, holeCount, holeList, partialTold, unaskedTold, descriptorsRefusal, DescriptorsFine, successRefusal, statusRefusal, successOf, readStatus, readHole}
 use Rattle.packet_status.specs.declared.StatusRead.the-variants.{Success}
 use Rattle.packet_status.specs.declared.HoleRead.the-variants as hole-read
-use Rattle.packet_status.proofs.AcceptedLaws.{holes-well-means}
+use Rattle.packet_status.proofs.AcceptedLaws.{HoleListAccepted, LastAccepted, ListAccepted, holes-well-means, list-well-iff}
 use Rattle.packet_status.proofs.StatusLaws.{success-none, hole-read-listed, hole-past-list}
 use Rattle.runs.specs.Holes.{edge, holes, progress, complete, HolesApart}
 use Rattle.runs.proofs.EdgeLaws.{edge-stops}
+use Rattle.runs.proofs.CompareLaws.{le-or-lt}
+use Rattle.runs.proofs.CompleteLaws.{complete-progress, complete-no-holes}
 use Rattle.runs.proofs.HoleLaws.{apart-drop, apart-take}
 use Rattle.runs.proofs.HolePlaces.{holes-few}
 use Rattle.runs.proofs.ProgressLaws.{progress-edge, holes-between, progress-no-holes, progress-first-hole}
 use Rattle.transfer.specs.Transfers.{Transfer, TransferFine}
-use Rattle.transfer.specs.WriteStatus.{holeRoom, holesSent, partialSent, statusFlags, statusFields, pairs, statusOctets, statusPacket}
+use Rattle.transfer.specs.WriteStatus.{holeRoom, holesSent, partialSent, statusFlags, statusFields, pairs, statusOctets, responseSent, statusPacket}
 use Rattle.transfer.proofs.StatusSize.{holes-sent-count, status-octets-size}
-use Rattle.transfer.proofs.StatusPartial.{whole-sent}
-use Rattle.transfer.proofs.StatusFlags.{bit-test, flags-fit, flags-mark, flags-type, flags-flags, flags-octets, flags-timestamp, flags-partial, flags-status}
+use Rattle.transfer.proofs.StatusPartial.{none-whole, whole-sent}
+use Rattle.transfer.proofs.StatusFlags.{bit-test, flags-fit, flags-mark, flags-type, flags-flags, flags-octets, flags-timestamp, flags-partial, flags-unasked, flags-status}
+use Rattle.transfer.proofs.StatusResponse.{told, response-complete, response-not}
 
 -- ---- the pairs
 
@@ -202,7 +206,7 @@ module _ (id d from to : ℕ) (p u : Bool) (hs : List Hole) (w : Width d) (id-fi
       }
 
   -- with a list that the reader accepts, and not too many holes
-  module _ (well : holesWell p from to hs ≡ true) (few : length hs ≤ 64) where
+  module _ (well : listWell p u from to hs ≡ true) (few : length hs ≤ 64) where
     size-lt : length s ≤ 2088
     size-lt =
         let m : 2 * d * length hs ≤ 32 * 64 = mul-le-mul {n₁ = 2 * d} {m₁ = length hs} {n₂ = 32} {m₂ = 64} (omega (arith, width-le w)) few in
@@ -215,15 +219,15 @@ module _ (id d from to : ℕ) (p u : Bool) (hs : List Hole) (w : Width d) (id-fi
         let size = status-octets-size (statusFlags d p u) id d from to hs in
         type-none 4 s (type-known 4 s (omega (arith, size-lt)) mark ptype (omega arith))
 
-    list-well : holesWell (eqb (partialOf (wordOf s)) 1) (progressOf s) (responseOf s) (holeList s) ≡ true
-    list-well = rw (progress-is, response-is, list-is, word, flags-partial d p u, bit-test p) well
+    list-well : listWell (partialTold s) (unaskedTold s) (progressOf s) (responseOf s) (holeList s) ≡ true
+    list-well = rw (progress-is, response-is, list-is, word, flags-partial d p u, bit-test p, flags-unasked d p u, bit-test u) well
 
     success : successRefusal s ≡ 0
     success =
         success-none s (record {
           descriptors = taken;
           whole = rw (list-octets, octets) (mul-mod-right (2 * d) (length hs));
-          list = holes-well-means _ _ _ _ list-well;
+          list = list-well-iff _ _ _ _ _ .0 list-well;
         })
 
     code : statusOf (wordOf s) ≡ 0
@@ -277,9 +281,9 @@ module _ (x : Transfer) (k : ℕ) (unasked : Bool) (room : ℕ) (fine : Transfer
   sent-below : HolesHeld d sent
   sent-below = apart-held d (progress (x .runs)) (edge (x .runs)) sent edge-fits sent-apart
 
-  -- "Reading a success STATUS accepts" the list that was written
-  pub status-holes-well : holesWell partial (progress (x .runs)) (edge (x .runs)) sent ≡ true
-  status-holes-well =
+  -- document 01's reader accepts the list that was written, with the edge
+  edge-well : holesWell partial (progress (x .runs)) (edge (x .runs)) sent ≡ true
+  edge-well =
       apart-well partial (progress (x .runs)) (edge (x .runs)) sent (progress-edge (x .runs) (fine .canonical)) sent-apart
       (λ p e. progress-no-holes (x .runs) (fine .canonical) .0 (sym (whole-sent d k room hs p) ∙ e))
       (λ p y ys e. sym (progress-first-hole (x .runs) y ys (fine .canonical) (sym (whole-sent d k room hs p) ∙ e)))
@@ -292,7 +296,21 @@ module _ (x : Transfer) (k : ℕ) (unasked : Bool) (room : ℕ) (fine : Transfer
       let e = progress-edge (x .runs) (fine .canonical) in
       (omega (arith, e, edge-fits .0), omega (arith, e, edge-fits .1))
 
-  -- bit 15, and the packet
+  -- In-Response-To, and bit 15
+  abbrev to : ℕ
+  to = responseSent (x .key .length) (x .runs)
+
+  to-fits : Held d to
+  to-fits =
+      ⊎-elim
+      (λ e.
+      let r = response-complete (x .key .length) (x .runs) e in
+      (omega (arith, r, fine .length-fits), omega (arith, r, fine .length-held)))
+      (λ e.
+      let r = response-not (x .key .length) (x .runs) e in
+      (omega (arith, r, edge-fits .0), omega (arith, r, edge-fits .1)))
+      (told (complete (x .key .length) (x .runs)))
+
   abbrev fifteen : Bool
   fifteen = unasked || complete (x .key .length) (x .runs)
 
@@ -304,43 +322,85 @@ module _ (x : Transfer) (k : ℕ) (unasked : Bool) (room : ℕ) (fine : Transfer
   unfolding statusPacket
   status-word = octets-word (statusFlags d partial fifteen) _ _ _ _ _ (flags-fit d partial fifteen)
 
-  -- the reader takes it
-  pub status-accepted : statusRefusal packet ≡ 0
+  -- its fields, and its holes
+  pub status-progress-read : progressOf packet ≡ progress (x .runs)
   unfolding statusPacket
-  status-accepted =
-      octets-accepted (x .key .id) d (progress (x .runs)) (edge (x .runs)) partial fifteen sent
-      (fine .width-is) (fine .id-fits) progress-fits edge-fits sent-below status-holes-well sent-few
+  status-progress-read =
+      progress-is (x .key .id) d (progress (x .runs)) to partial fifteen sent (fine .width-is) (fine .id-fits) progress-fits to-fits sent-below
 
-  -- its fields are those that were written
-  pub status-read : readStatus packet ≡ Success (record {
-    flags = statusFlags d partial fifteen;
-    id = x .key .id;
-    width = d;
-    timestamp = 0;
-    progress = progress (x .runs);
-    response = edge (x .runs);
-    holes = 8 + 2 * d;
-    count = length sent;
-  })
+  pub status-response-read : responseOf packet ≡ to
   unfolding statusPacket
-  status-read =
-      octets-read (x .key .id) d (progress (x .runs)) (edge (x .runs)) partial fifteen sent
-      (fine .width-is) (fine .id-fits) progress-fits edge-fits sent-below status-holes-well sent-few
+  status-response-read =
+      response-is (x .key .id) d (progress (x .runs)) to partial fifteen sent (fine .width-is) (fine .id-fits) progress-fits to-fits sent-below
 
-  -- and so are its holes
   pub status-holes-read : holeList packet ≡ sent
   unfolding statusPacket
   status-holes-read =
-      list-is (x .key .id) d (progress (x .runs)) (edge (x .runs)) partial fifteen sent (fine .width-is) (fine .id-fits) progress-fits edge-fits sent-below
+      list-is (x .key .id) d (progress (x .runs)) to partial fifteen sent (fine .width-is) (fine .id-fits) progress-fits to-fits sent-below
 
   status-code : statusOf (wordOf packet) ≡ 0
   status-code = ap statusOf status-word ∙ flags-status d partial fifteen
 
-  -- each hole that was written is read by its index, and no other
-  pub status-hole-read : (index : ℕ) (default : Hole) → index < length sent → readHole index packet ≡ hole-read.Accepted (getD sent index default)
-  status-hole-read index default h =
-      hole-read-listed packet status-accepted status-code index default (rw status-holes-read h)
-      ∙ ap (λ (l : List Hole). hole-read.Accepted (getD l index default)) status-holes-read
+  -- where k is one that the writer takes
+  module _ (allowed : (k ≡ 0) ⊎ (k < length hs)) where
+    -- of a complete transfer there are no holes to write, and In-Response-To points to the last octet
+    complete-last : complete (x .key .length) (x .runs) ≡ true → 0 < x .key .length → LastAccepted partial fifteen (length sent) (progress (x .runs)) to
+    complete-last e l =
+        let none : length hs ≡ 0 = ap length (complete-no-holes (x .key .length) (x .runs) (fine .canonical) (fine .within) e) in
+        let end : progress (x .runs) ≡ x .key .length = complete-progress (x .key .length) (x .runs) (fine .canonical) (fine .within) .0 e in
+        record {
+          whole = none-whole d k room (length hs) allowed none;
+          unasked-told = or-iff unasked (complete (x .key .length) (x .runs)) .1 (inr e);
+          no-holes = omega (arith, holes-sent-count d k room hs);
+          last = omega (arith, response-complete (x .key .length) (x .runs) e);
+        }
 
-  pub status-hole-past : (index : ℕ) → length sent ≤ index → readHole index packet ≡ hole-read.Refused (refusalOf 19)
-  status-hole-past index h = hole-past-list packet status-accepted status-code index (rw status-holes-read h)
+    as-edge : to ≡ edge (x .runs) → HoleListAccepted partial (progress (x .runs)) to sent
+    as-edge e = rw e (holes-well-means partial (progress (x .runs)) (edge (x .runs)) sent edge-well)
+
+    -- an empty transfer has no last octet, and is at its edge
+    complete-accepted : complete (x .key .length) (x .runs) ≡ true → ListAccepted partial fifteen (progress (x .runs)) to sent
+    complete-accepted e =
+        ⊎-elim
+        (λ (z : x .key .length ≤ 0).
+        inr (as-edge (omega (arith, response-complete (x .key .length) (x .runs) e, edge-stops (x .key .length) (x .runs) (fine .within)))))
+        (λ (l : 0 < x .key .length). inl (complete-last e l))
+        (le-or-lt (x .key .length) 0)
+
+    -- "Reading a success STATUS accepts" the list that was written
+    pub status-list-well : listWell partial fifteen (progress (x .runs)) to sent ≡ true
+    status-list-well =
+        list-well-iff partial fifteen (progress (x .runs)) to sent .1
+        (⊎-elim complete-accepted (λ e. inr (as-edge (response-not (x .key .length) (x .runs) e))) (told (complete (x .key .length) (x .runs))))
+
+    -- the reader takes it
+    pub status-accepted : statusRefusal packet ≡ 0
+    unfolding statusPacket
+    status-accepted =
+        octets-accepted (x .key .id) d (progress (x .runs)) to partial fifteen sent
+        (fine .width-is) (fine .id-fits) progress-fits to-fits sent-below status-list-well sent-few
+
+    -- its fields are those that were written
+    pub status-read : readStatus packet ≡ Success (record {
+      flags = statusFlags d partial fifteen;
+      id = x .key .id;
+      width = d;
+      timestamp = 0;
+      progress = progress (x .runs);
+      response = to;
+      holes = 8 + 2 * d;
+      count = length sent;
+    })
+    unfolding statusPacket
+    status-read =
+        octets-read (x .key .id) d (progress (x .runs)) to partial fifteen sent
+        (fine .width-is) (fine .id-fits) progress-fits to-fits sent-below status-list-well sent-few
+
+    -- each hole that was written is read by its index, and no other
+    pub status-hole-read : (index : ℕ) (default : Hole) → index < length sent → readHole index packet ≡ hole-read.Accepted (getD sent index default)
+    status-hole-read index default h =
+        hole-read-listed packet status-accepted status-code index default (rw status-holes-read h)
+        ∙ ap (λ (l : List Hole). hole-read.Accepted (getD l index default)) status-holes-read
+
+    pub status-hole-past : (index : ℕ) → length sent ≤ index → readHole index packet ≡ hole-read.Refused (refusalOf 19)
+    status-hole-past index h = hole-past-list packet status-accepted status-code index (rw status-holes-read h)

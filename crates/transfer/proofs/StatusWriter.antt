@@ -16,10 +16,10 @@ use Rattle.refusals.specs.declared.Written.the-variants.{Size, Refused}
 use Rattle.refusals.proofs.WritingLaws.{written-refused, buffer-refused}
 use Rattle.runs.specs.declared.Hole.{Hole}
 use Rattle.runs.specs.Runs.{Run}
-use Rattle.runs.specs.Holes.{edge, holes, progress, complete}
+use Rattle.runs.specs.Holes.{holes, progress, complete}
 use Rattle.runs.proofs.CompareLaws.{le-or-lt}
 use Rattle.transfer.specs.declared.Key.{Key}
-use Rattle.transfer.specs.WriteStatus.{sizeRefusal, holeRoom, holesSent, partialSent, statusFlags, statusFields, pairs, statusOctets, statusPacket, transferRefused, transferWritten, transferBuffer}
+use Rattle.transfer.specs.WriteStatus.{sizeRefusal, holeRoom, holesSent, partialSent, statusFlags, statusFields, pairs, statusOctets, responseSent, statusPacket, transferRefused, transferWritten, transferBuffer}
 use Rattle.transfer.proofs.StatusSize.{status-fits, skip-there, hole-room-iff, status-octets-size}
 use Rattle.transfer.proofs.StatusPuts.{part-length, holes-put}
 
@@ -54,14 +54,14 @@ module _ (key : Key) (rs : List Run) (k : ℕ) (unasked : Bool) (old : List ℕ)
   module _ (w : Width d) (ok : number ≡ 0) where
     packet-is : (p u : Bool) (n : ℕ) → p ≡ partialSent d k (length old) (length hs) → u ≡ (unasked || complete (key .length) rs)
         → n ≡ min (length hs - k) (holeRoom d (length old))
-        → statusOctets (statusFlags d p u) (key .id) d (progress rs) (edge rs) (take n (drop k hs)) ≡ statusPacket key rs k unasked (length old)
+        → statusOctets (statusFlags d p u) (key .id) d (progress rs) (responseSent (key .length) rs) (take n (drop k hs)) ≡ statusPacket key rs k unasked (length old)
     unfolding statusPacket holesSent
     packet-is p u n e f g = rw (e, f, g, ← length-drop k hs, take-least)
 
     -- written: the fields are put first, which makes x of the buffer, then n holes after the first k, which makes y
     pub transfer-written : (p u : Bool) (n size : ℕ) (x y : List ℕ) → p ≡ partialSent d k (length old) (length hs)
         → u ≡ (unasked || complete (key .length) rs) → n ≡ min (length hs - k) (holeRoom d (length old)) → size ≡ 8 + 2 * d + 2 * d * n
-        → x ≡ put 0 (statusFields (statusFlags d p u) (key .id) d (progress rs) (edge rs)) old
+        → x ≡ put 0 (statusFields (statusFlags d p u) (key .id) d (progress rs) (responseSent (key .length) rs)) old
         → y ≡ put (8 + 2 * d) (pairs d (take n (drop k hs))) x
         → (Size size ≡ transferWritten key rs k unasked old) × (y ≡ transferBuffer key rs k unasked old)
     unfolding transferWritten transferBuffer
@@ -70,5 +70,5 @@ module _ (key : Key) (rs : List Run) (k : ℕ) (unasked : Bool) (old : List ℕ)
         let l : length (take n (drop k hs)) ≡ n = part-length hs k n (omega (arith, skip-there d (length hs) k (length old) ok)) in
         let r : 8 + 2 * d + 2 * d * length (take n (drop k hs)) ≤ length old = rw l (sent-room d (length hs) k (length old) w ok n (omega arith)) in (
           rw (ok, ← q, status-octets-size, l, s),
-          rw ok (holes-put (statusFlags d p u) (key .id) d (progress rs) (edge rs) (take n (drop k hs)) old x y r a b ∙ ap (λ (z : List ℕ). put 0 z old) q),
+          rw ok (holes-put (statusFlags d p u) (key .id) d (progress rs) (responseSent (key .length) rs) (take n (drop k hs)) old x y r a b ∙ ap (λ (z : List ℕ). put 0 z old) q),
         )

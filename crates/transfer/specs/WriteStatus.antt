@@ -1,6 +1,6 @@
 -- "Writing STATUS for an open Id takes a number k of holes to skip and whether it was unasked": the STATUS of one transfer.
 -- Assumes nothing.
-use Prim.Native.Nat.{ℕ, _+_, _*_, _-_, _/_, _^_}
+use Prim.Native.Nat.{ℕ, zero, suc, _+_, _*_, _-_, _/_, _^_}
 use mathlib.Core.Bool.{Bool, true, false, cond, not, _&&_, _||_}
 use mathlib.Core.List.{List, [], _∷_, _++_}
 use lib.ListN.{length, take, drop}
@@ -72,13 +72,22 @@ pairs d (h ∷ hs) = pair d h ++ pairs d hs
 unfoldable pub statusOctets : ℕ → ℕ → ℕ → ℕ → ℕ → List Hole → List ℕ
 statusOctets flags id d from to hs = statusFields flags id d from to ++ pairs d hs
 
--- the STATUS of a transfer: "Bit 15 is set if unasked or complete", "In-Response-To is the edge"
+-- "for a complete transfer In-Response-To is L - 1, or 0 where L is 0"
+unfoldable pub lastOffset : ℕ → ℕ
+lastOffset zero = 0
+lastOffset (suc n) = n
+
+-- "All other STATUS packets keep the edge"
+unfoldable pub responseSent : ℕ → List Run → ℕ
+responseSent L rs = cond (complete L rs) (lastOffset L) (edge rs)
+
+-- the STATUS of a transfer: "Bit 15 is set if unasked or complete"
 unfoldable pub statusPacket : Key → List Run → ℕ → Bool → ℕ → List ℕ
 statusPacket key rs k unasked room =
     let d = key .width in
     let hs = holes rs in
     statusOctets (statusFlags d (partialSent d k room (length hs)) (unasked || complete (key .length) rs)) (key .id) d
-    (progress rs) (edge rs) (holesSent d k room hs)
+    (progress rs) (responseSent (key .length) rs) (holesSent d k room hs)
 
 -- ---- the writer's answer, and the buffer at exit
 

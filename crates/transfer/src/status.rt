@@ -1,11 +1,11 @@
 // STATUS of one transfer, wherever its runs are kept: what is refused, how many holes are written, and each part of the packet.
 ghost use mathlib.Core.Path.{_≡_};
-ghost use mathlib.Core.Bool.{_||_};
+ghost use mathlib.Core.Bool.{cond, _||_};
 ghost use Prim.Native.Nat.{_+_, _*_, _-_, _≤_, _<_, min};
 ghost use lib.ListN.{length};
 ghost use Rattle.octets.specs.Numbers.{Width};
 ghost use Rattle.octets.specs.Put.{put};
-ghost use Rattle.transfer.specs.WriteStatus.{skipsTooMany, leastRoom, sizeRefusal, holeRoom, partialSent, bit, widthBits, statusFlags, statusFields, pair};
+ghost use Rattle.transfer.specs.WriteStatus.{skipsTooMany, leastRoom, sizeRefusal, holeRoom, partialSent, bit, widthBits, statusFlags, statusFields, pair, lastOffset};
 use crate::Key;
 use runs::Hole;
 
@@ -88,6 +88,16 @@ pub fn unasked_or_complete(unasked: bool, complete: bool) -> bool
     complete
 }
 
+// In-Response-To: the last offset of a complete transfer, 0 where it has none, and else the edge.
+pub fn response_sent(length: u64, complete: bool, edge: u64) -> u64
+    ensures { λ r. ⌜ r ≡ cond complete (lastOffset length) edge ⌝ }
+{
+    if !complete {
+        return edge;
+    }
+    if length == 0 { 0 } else { length - 1 }
+}
+
 fn width_bits(width: usize) -> u64
     ensures { λ r. ⌜ r ≡ widthBits width ⌝ }
 {
@@ -120,17 +130,24 @@ fn status_flags(width: usize, partial: bool, unasked: bool) -> u64
 }
 
 // What stands before the holes: the word with bit 14 and bit 15, the Id, Progress and In-Response-To.
-pub fn put_fields(out: &mut [u8], key: Key, progress: u64, edge: u64, partial: bool, unasked: bool)
+pub fn put_fields(
+    out: &mut [u8],
+    key: Key,
+    progress: u64,
+    response: u64,
+    partial: bool,
+    unasked: bool,
+)
     requires { ⌜ 8 + 2 * key .width ≤ length (now out) ⌝ }
     ensures { λ _. ⌜ now (out .exit)
-        ≡ put 0 (statusFields (statusFlags (key .width) partial unasked) (key .id) (key .width) progress edge) (now (out .entry)) ⌝ }
+        ≡ put 0 (statusFields (statusFlags (key .width) partial unasked) (key .id) (key .width) progress response) (now (out .entry)) ⌝ }
 {
     let width = key.width;
     let flags = status_flags(width, partial, unasked);
     octets::write_number(out, 0, 4, header::join(4, flags));
     octets::write_number(out, 4, 4, key.id);
     octets::write_number(out, 8, width, progress);
-    octets::write_number(out, 8 + width, width, edge);
+    octets::write_number(out, 8 + width, width, response);
 }
 
 // One hole, its start and its end.

@@ -231,13 +231,38 @@ pub const HOLES: &[Fault<Status>] = &[
         p.progress = rng.pick(&[0, p.in_response_to - 1, p.in_response_to / 2]);
         p.start.flags &= !INCOMPLETE;
     }),
-    // No hole and Progress above In-Response-To.
+    // No hole and Progress more than one above In-Response-To.
     (11, |p, rng| {
         p.holes.clear();
-        p.progress = rng.between(1, last(width(p.start.flags)));
-        p.in_response_to = rng.pick(&[0, p.progress - 1, p.progress / 2]);
+        p.progress = rng.between(2, last(width(p.start.flags)));
+        p.in_response_to = rng.pick(&[0, p.progress - 2, (p.progress - 2) / 2]);
+    }),
+    // Progress one above In-Response-To, with bit 15 clear, with bit 14 set, with both.
+    (11, |p, rng| {
+        p.holes.clear();
+        one_less(p, rng);
+        p.start.flags = p.start.flags & !(INCOMPLETE | UNASKED) | rng.pick(&[0, INCOMPLETE, INCOMPLETE | UNASKED]);
+    }),
+    // Progress one above In-Response-To, bit 15 set and bit 14 clear, with holes.
+    (11, |p, rng| {
+        two_holes(p, rng);
+        one_less(p, rng);
+        p.start.flags = p.start.flags & !INCOMPLETE | UNASKED;
+    }),
+    // Progress 0 and the largest In-Response-To, bit 15 set and bit 14 clear: nothing is one less than 0.
+    (11, |p, _| {
+        p.holes.clear();
+        p.progress = 0;
+        p.in_response_to = last(width(p.start.flags));
+        p.start.flags = p.start.flags & !INCOMPLETE | UNASKED;
     }),
 ];
+
+/// Any Progress but 0, and In-Response-To one less.
+fn one_less(p: &mut Status, rng: &mut Rng) {
+    p.progress = rng.between(1, last(width(p.start.flags)));
+    p.in_response_to = p.progress - 1;
+}
 
 /// Octets of which none makes a descriptor of 128 bits that is refused.
 fn half_pair(rng: &mut Rng, len: usize) -> Vec<u8> {

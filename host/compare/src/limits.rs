@@ -19,6 +19,7 @@ pub fn run(check: &mut Check) -> Step {
     metadata_paths(check)?;
     data(check)?;
     status(check)?;
+    last_octets(check)?;
     full_hole_lists(check)?;
     failure(check)?;
     truncated(check)?;
@@ -300,6 +301,32 @@ fn status(check: &mut Check) -> Step {
                     let octets = broken.octets(&mut check.rng);
                     read_all(check, &octets)?;
                 }
+            }
+        }
+    }
+    Ok(())
+}
+
+/// Progress and In-Response-To close to each other and to the ends of their numbers: each width, bits 14 and 15 both ways,
+/// with a hole and without.
+fn last_octets(check: &mut Check) -> Step {
+    for codes in 0..4 * 4 * 2 {
+        let start = |rng: &mut Rng| {
+            let mut start = Status::valid(rng).start;
+            start.flags = with_width(start.flags, codes % 4) & !(INCOMPLETE | UNASKED);
+            start.flags |= [0, INCOMPLETE, UNASKED, INCOMPLETE | UNASKED][codes as usize / 4 % 4];
+            start
+        };
+        let last = last(2 << (codes % 4));
+        let numbers = [0, 1, 2, 3, 4, 0xFF, 0x100, 0x101, last - 2, last - 1, last];
+        for progress in numbers {
+            for in_response_to in numbers {
+                let start = start(&mut check.rng);
+                let mut packet = Status::with_holes(&mut check.rng, start, codes as usize / 16);
+                packet.progress = progress;
+                packet.in_response_to = in_response_to;
+                let octets = packet.octets(&mut check.rng);
+                read_all(check, &octets)?;
             }
         }
     }

@@ -81,6 +81,7 @@ pub struct Status {
 
 pub const TIMESTAMP: u32 = 1 << (31 - 12);
 pub const INCOMPLETE: u32 = 1 << (31 - 14);
+pub const UNASKED: u32 = 1 << (31 - 15);
 pub const KIND: u32 = 3 << (31 - 11);
 pub const WIDTH: u32 = 3 << (31 - 9);
 pub const ENTRY_WIDTH: u16 = 3 << (15 - 9);
@@ -353,6 +354,14 @@ impl Status {
             1 if incomplete => rng.between(0, low),
             _ => low,
         };
+        if self.may_point_to_last() && self.progress > 0 && rng.one_in(2) {
+            self.in_response_to = self.progress - 1;
+        }
+    }
+
+    /// No holes, bit 14 clear and bit 15 set: In-Response-To may be one less than Progress.
+    fn may_point_to_last(&self) -> bool {
+        self.holes.is_empty() && self.start.flags & (INCOMPLETE | UNASKED) == UNASKED
     }
 
     /// A failure STATUS: any flags, a code that isn't 0, and anything after the Id.

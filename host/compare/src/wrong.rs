@@ -31,6 +31,16 @@ wrong! {
     TouchingHoles,
     /// A hole's end is its last offset.
     HoleEndInside,
+    /// In-Response-To one less than Progress is refused.
+    LastOctetRefused,
+    /// It is taken with bit 15 clear.
+    LastOctetAsked,
+    /// It is taken with bit 14 set.
+    LastOctetPartial,
+    /// It is taken with holes.
+    LastOctetWithHoles,
+    /// The largest number is taken for one less than 0.
+    LastOctetWraps,
     /// The index is taken modulo 2^60.
     IndexWraps,
     /// A flag without a rule is lost.
@@ -173,10 +183,53 @@ fn with_short_path(packet: &[u8]) -> Option<Vec<u8>> {
     Some([packet.get(..path_at)?, b"a\0"].concat())
 }
 
+/// The octets of a descriptor of a success STATUS, and where its holes stand.
+fn status_places(packet: &[u8]) -> (usize, usize) {
+    let width = 2 << (packet[1] >> 6);
+    (width, 8 + if packet[1] & 8 != 0 { 16 } else { 0 } + 2 * width)
+}
+
+/// A success STATUS that is refused for its hole list, read with `flags` of its second octet exchanged for `others`, where it
+/// then is taken with In-Response-To one less than Progress.
+fn last_octet_with(packet: &[u8], flags: u8, others: u8) -> Option<Packet> {
+    let mut exchanged = packet.to_vec();
+    exchanged[1] = exchanged[1] & !flags | others;
+    let read = Paper.read(&exchanged);
+    let taken = read.number == 0 && read.in_response_to < read.progress;
+    taken.then(|| Packet {
+        flags: read.flags & !(u64::from(flags | others) << 16) | u64::from(packet[1] & flags) << 16,
+        ..read
+    })
+}
+
+/// The same without its holes, which are counted all the same.
+fn last_octet_before_holes(packet: &[u8]) -> Option<Packet> {
+    let (width, at) = status_places(packet);
+    let read = Paper.read(packet.get(..at)?);
+    let taken = read.number == 0 && read.in_response_to < read.progress && (packet.len() - at) % (2 * width) == 0;
+    taken.then(|| Packet { hole_count: ((packet.len() - at) / (2 * width)) as u64, ..read })
+}
+
+/// Progress 0 with the largest In-Response-To, read as Progress 1 with In-Response-To 0.
+fn last_octet_wrapped(packet: &[u8]) -> Option<Packet> {
+    let (width, at) = status_places(packet);
+    let from = at - 2 * width;
+    let fields = packet.get(from..at)?;
+    let low = width.min(8); // of 128 bits the upper eight octets are zero
+    let (upper, lower) = fields[width..].split_at(width - low);
+    let zero = |octets: &[u8]| octets.iter().all(|&octet| octet == 0);
+    let wraps = zero(&fields[..width]) && zero(upper) && lower.iter().all(|&octet| octet == 0xFF);
+    let mut next = packet.to_vec();
+    next[from + width..at].fill(0);
+    next[from + width - 1] = 1;
+    let read = Paper.read(&next);
+    let taken = wraps && read.number == 0 && read.in_response_to < read.progress;
+    taken.then(|| Packet { progress: 0, in_response_to: u64::MAX >> (64 - 8 * low), ..read })
+}
+
 /// The packet with each end that is the next start lowered by one: the holes then don't touch.
 fn with_touching_holes_apart(packet: &[u8]) -> Vec<u8> {
-    let width = 2 << (packet[1] >> 6);
-    let at = 8 + if packet[1] & 8 != 0 { 16 } else { 0 } + 2 * width;
+    let (width, at) = status_places(packet);
     let mut apart = packet.to_vec();
     for end in (at + width..).step_by(2 * width).take_while(|end| end + 2 * width <= packet.len()) {
         if packet[end..end + width] == packet[end + width..end + 2 * width] && packet[end + width - 1] > 0 {
@@ -215,6 +268,11 @@ impl Codec for Wrong {
                 let read = Paper.read(&set);
                 wrong(read.number == 0, Packet { flags: read.flags & !0x020000, ..read })
             }
+            Wrong::LastOctetRefused => wrong(right.in_response_to < right.progress, refused(11, 0)),
+            Wrong::LastOctetAsked if right.number == 11 => last_octet_with(packet, 0, 1).unwrap_or(right),
+            Wrong::LastOctetPartial if right.number == 11 => last_octet_with(packet, 2, 0).unwrap_or(right),
+            Wrong::LastOctetWithHoles if right.number == 11 => last_octet_before_holes(packet).unwrap_or(right),
+            Wrong::LastOctetWraps if right.number == 11 => last_octet_wrapped(packet).unwrap_or(right),
             Wrong::TouchingHoles if right.number == 11 => Paper.read(&with_touching_holes_apart(packet)),
             Wrong::FlagLost => Packet { flags: right.flags & !(1 << (31 - 13)), ..right },
             Wrong::PayloadPlace => wrong(right.payload_at != 0, Packet { payload_at: right.payload_at + 1, ..right }),

@@ -125,6 +125,11 @@ pub fn list_incomplete(word: u64) -> bool {
     word_bits(word, 14, 14) == 1
 }
 
+/// STATUS: bit 15 says "that the STATUS was sent unasked".
+pub fn sent_unasked(word: u64) -> bool {
+    word_bits(word, 15, 15) == 1
+}
+
 /// STATUS: "bits 24 to 31 are the status code".
 pub fn status_code(word: u64) -> u64 {
     word_bits(word, 24, 31)

@@ -250,7 +250,11 @@ fn success(word: u64, header: Header, mut fields: Fields) -> Result<Success, Ref
     let in_response_to = fields.descriptor(width)?;
     let rest = fields.rest();
     let holes = whole_pairs(&fields.packet[rest.clone()], width)?;
-    if !hole_list_allowed(&holes, progress, in_response_to, list_incomplete(word)) {
+    // Document 02: "The reader also takes In-Response-To equal to Progress - 1 when there are no holes, bit 14 is clear
+    // and bit 15 is set."
+    let last_octet = holes.is_empty() && !list_incomplete(word) && sent_unasked(word);
+    let points_to_last = last_octet && progress.checked_sub(1) == Some(in_response_to);
+    if !points_to_last && !hole_list_allowed(&holes, progress, in_response_to, list_incomplete(word)) {
         return Err(Refusal::HoleList);
     }
     Ok(Success { header, width, timestamp, progress, in_response_to, holes_at: rest.start, holes })

@@ -2,7 +2,7 @@
 
 use crate::layout::{status_flags, STATUS};
 use crate::refusal::Refusal;
-use crate::table::Table;
+use crate::table::{Table, Transfer};
 use crate::write::{copy_out, first_octets, push};
 
 impl Table {
@@ -30,14 +30,26 @@ impl Table {
         let flags = status_flags(d, list_incomplete, unasked || transfer.state().complete);
 
         let mut packet = first_octets(STATUS, flags, id);
-        // "Progress is the lowest offset not received (the edge if there are no holes); In-Response-To is the edge."
+        // "Progress is the lowest offset not received (the edge if there are no holes)"
         push(&mut packet, transfer.received.lowest_missing(), d);
-        push(&mut packet, transfer.received.edge(), d);
+        push(&mut packet, transfer.in_response_to(), d);
         for &(start, end) in &after[..fit] {
             push(&mut packet, start, d);
             push(&mut packet, end, d);
         }
         assert_eq!(packet.len(), size(fit));
         copy_out(&packet, out)
+    }
+}
+
+impl Transfer {
+    /// Document 02: "for a complete transfer In-Response-To is L - 1, or 0 where L is 0. [...] All other STATUS packets
+    /// keep the edge."
+    pub fn in_response_to(&self) -> u64 {
+        match (self.state().complete, self.length) {
+            (false, _) => self.received.edge(),
+            (true, 0) => 0,
+            (true, length) => length - 1,
+        }
     }
 }

@@ -166,9 +166,9 @@ fn longest_packet() {
     assert_eq!(refused(&packet), Refusal::TooLong);
 }
 
-/// The two STATUS of "Passes to be tried".
+/// The two STATUS of "Passes to be tried", the second as document 02 mends it.
 #[test]
-fn status_of_document_01() {
+fn status_of_the_passes() {
     let packet = hex("44 00 00 00 00 00 00 07 03 E8 0B B8 03 E8 07 D0");
     let want = Success {
         header: Header { flags: 0, id: 7 },
@@ -187,13 +187,13 @@ fn status_of_document_01() {
     assert_eq!(refused(&packet[..12]), Refusal::HoleList);
     assert_eq!(refused(&packet[..11]), Refusal::Truncated);
 
-    let packet = hex("44 01 00 00 00 00 00 07 0B B8 0B B8");
+    let packet = hex("44 01 00 00 00 00 00 07 0B B8 0B B7");
     let want = Success {
         header: Header { flags: 0x01_00_00, id: 7 },
         width: 2,
         timestamp: 8..8,
         progress: 3_000,
-        in_response_to: 3_000,
+        in_response_to: 2_999,
         holes_at: 12,
         holes: vec![],
     };
@@ -225,6 +225,29 @@ fn hole_lists() {
     }
     // Progress above In-Response-To.
     assert_eq!(refused(&hex("44 02 00 00 00 00 00 07 00 33 00 32")), Refusal::HoleList);
+}
+
+/// In-Response-To one less than Progress: with no holes, bit 14 clear and bit 15 set.
+#[test]
+fn last_status() {
+    let status = |flags: &str, rest: &str| read(&hex(&format!("44 {flags} 00 00 00 00 00 07 {rest}")));
+    let no = Err(Refusal::HoleList);
+    assert!(status("01", "00 32 00 31").is_ok());
+    assert!(status("01", "00 01 00 00").is_ok());
+    assert!(status("01", "FF FF FF FE").is_ok());
+    assert!(status("01", "00 32 00 32").is_ok());
+    assert!(status("01", "00 00 00 00").is_ok());
+    for flags in ["00", "02", "03"] {
+        assert_eq!(status(flags, "00 32 00 31"), no);
+        assert_eq!(status(flags, "00 01 00 00"), no);
+    }
+    assert_eq!(status("01", "00 32 00 30"), no);
+    assert_eq!(status("01", "00 31 00 32"), no);
+    assert_eq!(status("01", "00 32 00 31 00 32 00 33"), no);
+    assert_eq!(status("01", "00 32 00 31 00 30 00 31"), no);
+    // Nothing is one less than 0.
+    assert_eq!(status("01", "00 00 FF FF"), no);
+    assert_eq!(status("81", "00 00 00 00 00 00 00 00 FF FF FF FF FF FF FF FF"), no);
 }
 
 #[test]

@@ -49,7 +49,7 @@ fn page_with_a_hole() {
     assert_eq!(status(&table, 0, false, 15), Err(Refusal::Buffer));
     // "Then 1,000 to 1,999 arrives: complete"
     assert_eq!(table.record(&data(7, 2, 1_000, 1_000)), complete(3_000));
-    assert_eq!(status(&table, 0, false, 12), Ok(hex("44 01 00 00 00 00 00 07 0B B8 0B B8")));
+    assert_eq!(status(&table, 0, false, 12), Ok(hex("44 01 00 00 00 00 00 07 0B B8 0B B7")));
 }
 
 /// "One packet came twice, another never came, the sum matched"
@@ -68,6 +68,17 @@ fn empty_file() {
     assert_eq!(opened, Ok(Opened { state: State { edge: 0, complete: true }, already_open: false }));
     assert_eq!(table.record(&data(7, 2, 0, 1)), Err(Refusal::PastEnd));
     assert_eq!(status(&table, 0, false, 12), Ok(hex("44 01 00 00 00 00 00 07 00 00 00 00")));
+}
+
+/// "for a complete transfer In-Response-To is L - 1 [...] All other STATUS packets keep the edge."
+#[test]
+fn last_octet() {
+    assert_eq!(status(&received(1, &[(0, 1)]), 0, false, 12), Ok(hex("44 01 00 00 00 00 00 07 00 01 00 00")));
+    assert_eq!(status(&received(2, &[(0, 2)]), 0, true, 12), Ok(hex("44 01 00 00 00 00 00 07 00 02 00 01")));
+    assert_eq!(status(&received(2, &[(0, 1)]), 0, true, 12), Ok(hex("44 01 00 00 00 00 00 07 00 01 00 01")));
+    assert_eq!(status(&received(2, &[]), 0, true, 12), Ok(hex("44 01 00 00 00 00 00 07 00 00 00 00")));
+    let longest = received(65_535, &[(0, 60_000), (60_000, 5_535)]);
+    assert_eq!(status(&longest, 0, false, 12), Ok(hex("44 01 00 00 00 00 00 07 FF FF FF FE")));
 }
 
 /// "L = 65,535 at width 16 opens; 65,536 is refused with 9."

@@ -61,7 +61,7 @@ fn sample_lines() {
         ('D', data(0, 2_500, 501), &["refused 14 code=9"]),
         ('O', hex(PAGE), &["open id=7 width=16 length=3000 edge=3000 complete=0 already-open"]),
         ('D', data(0, 1_000, 1_000), &["record id=7 offset=1000 length=1000 edge=3000 complete=1"]),
-        ('S', hex("00000007 0000000000000000 00 0000000c"), &["status 44010000000000070bb80bb8"]),
+        ('S', hex("00000007 0000000000000000 00 0000000c"), &["status 44010000000000070bb80bb7"]),
         ('C', hex("00000007"), &["close id=7"]),
         ('C', hex("00000007"), &["refused 12 code=6"]),
         (
@@ -250,7 +250,7 @@ fn packets_off_the_dish() {
         (
             'P',
             data(ASKED, 1_000, 1_000),
-            &["record id=7 offset=1000 length=1000 edge=3000 complete=1", "send 44010000000000070bb80bb8"],
+            &["record id=7 offset=1000 length=1000 edge=3000 complete=1", "send 44010000000000070bb80bb7"],
         ),
         ('P', data(ASKED, 3_000, 1), &["refused 14 code=9", "send 4400000900000007"]),
         ('P', data(ASKED, 0, 0), &["refused 10 code=1", "send 4400000100000007"]),

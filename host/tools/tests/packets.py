@@ -17,7 +17,7 @@ def page_packets():
         data(7, 16, 2000, page[2000:], WANTED | END_OF_DATA),
         success(7, 16, 1000, 3000, [(1000, 2000)]),
         data(7, 16, 1000, page[1000:2000], WANTED),
-        success(7, 16, 3000, 3000, flags=UNASKED),
+        success(7, 16, 3000, 2999, flags=UNASKED),
         failure(8, 6),
         data(9, 16, 5, b"\x00"),
     ]

@@ -19,6 +19,9 @@ progress-of-requires c κs = search needs
 edge-of-requires : tie.Need-edge-of-requires
 edge-of-requires c κs = search needs
 
+response-sent-requires : tie.Need-response-sent-requires
+response-sent-requires c κs = search needs
+
 put-fields-requires : tie.Need-put-fields-requires
 put-fields-requires c κs = search needs
 
@@ -27,12 +30,13 @@ same-length c = search needs
 
 returns : tie.Need-returns
 returns c =
-    let e = c .before .before .before .before in
+    let r = c .before .before .before .before in
+    let e = r .before in
     let p = e .before in
     let u = p .before in
     let a = u .before .before .before .before .args in
-    front-put (a .key) (runsIn (now (a .area)) (a .rows)) (a .partial) (a .unasked) _ _ _ _ (now (a .out)) _
-    (u .before .is-complete .ensures) (u .unasked-or-complete .ensures) (p .progress-of .ensures) (e .edge-of .ensures)
+    front-put (a .key) (runsIn (now (a .area)) (a .rows)) (a .partial) (a .unasked) _ _ _ _ _ (now (a .out)) _
+    (u .before .is-complete .ensures) (u .unasked-or-complete .ensures) (p .progress-of .ensures) (e .edge-of .ensures) (r .response-sent .ensures)
     (c .before .before .put-fields .ensures)
 
 pub put-front-spec : {M : Type 1} → statement M
@@ -43,6 +47,7 @@ put-front-spec =
     unasked-or-complete-requires
     progress-of-requires
     edge-of-requires
+    response-sent-requires
     put-fields-requires
     same-length
     returns)

@@ -1,7 +1,7 @@
 -- `packet_status::list_refusal` meets its contract: whole pairs, and the judgement of the hole list.
 -- Assumes nothing.
-use Prim.Native.Nat.{_+_, _*_, _-_, _%_, _≤_}
-use mathlib.Core.Bool.{Bool, not}
+use Prim.Native.Nat.{_+_, _*_, _-_, _/_, _%_, _≤_}
+use mathlib.Core.Bool.{Bool, not, _||_}
 use mathlib.Core.Path.{_≡_, sym, ap, _∙_}
 use borrow.Author.Tests.{eq-eqb, ne-eqb}
 use denote.Ref.{now}
@@ -10,11 +10,12 @@ use lib.ListN.{length}
 use Rattle.octets.specs.Numbers.{Width}
 use Rattle.octets.proofs.NumberLaws.{width-some}
 use Rattle.refusals.specs.Refusals.{when}
-use Rattle.header.specs.FirstWord.{descriptorOctets, timestampOctets, partialOf}
+use Rattle.header.specs.FirstWord.{descriptorOctets, timestampOctets}
 use Rattle.header.specs.Start.{wordOf}
 use Rattle.header.proofs.FirstWordLaws.{octets-le, octets-width}
-use Rattle.packet_status.specs.HoleList.{holesWell}
-use Rattle.packet_status.specs.Status.{holesAt, progressOf, responseOf, listOctets, holeList, listRefusal}
+use Rattle.packet_status.specs.HoleList.{holesOf, holesWell, pointsToLast, listWell}
+use Rattle.packet_status.specs.Status.{holesAt, listOctets, holeCount, holeList, listRefusal}
+use Rattle.packet_status.proofs.HoleListLaws.{length-holes}
 use Rattle.packet_status.proofs.StatusLaws.{list-fits, fields-there, pairs-none}
 use borrow.Author.Needs.{needs}
 use native.Mathlib.Omega.{arith}
@@ -81,62 +82,97 @@ returns c =
     let s = now (start .args .p) in
     rw (ne-eqb (listOctets s % (2 * descriptorOctets (wordOf s))) 0 (λ z. c .if1 .taken (rest (c .before) ∙ z)))
 
+mul-count : tie.Need-mul-count
+mul-count c = let k = known (c .before) in omega arith
+
+div-count : tie.Need-div-count
+div-count c = omega (arith, width-some (known (c .before) .4))
+
 descriptor-requires : tie.Need-descriptor-requires
 descriptor-requires c κs =
-    let k = known (c .before) in
-    let start = c .before .before .before .before .before .before in
+    let timestamp-place = c .before .before .before in
+    let k = known timestamp-place in
+    let start = timestamp-place .before .before .before .before .before in
     (k .4, rw (k .1, k .2) (start .pre .progress-none))
 
 add-descriptor : tie.Need-add-descriptor
-add-descriptor c = let k = known (c .before .before) in omega arith
+add-descriptor c = let k = known (c .before .before .before .before) in omega arith
 
 descriptor-requires-2 : tie.Need-descriptor-requires-2
 descriptor-requires-2 c κs =
-    let k = known (c .before .before) in
-    let start = c .before .before .before .before .before .before .before in
+    let timestamp-place = c .before .before .before .before in
+    let k = known timestamp-place in
+    let start = timestamp-place .before .before .before .before .before in
     (k .4, rw (k .1, k .2) (start .pre .response-none))
 
-mul-holes-well : tie.Need-mul-holes-well
-mul-holes-well c = let k = known (c .before .before .before) in omega arith
+points-to-last-requires : tie.Need-points-to-last-requires
+points-to-last-requires c κs = search needs
 
-div-holes-well : tie.Need-div-holes-well
-div-holes-well c = omega (arith, width-some (known (c .before .before .before) .4))
+-- the judgement of the packet's list, by what the code judges it from
+judged : (c : tie.After-descriptor2)
+    → let t = c .before .before .before .before .before in
+    let s = now (t .before .before .before .before .before .args .p) in
+    let h = t .before .before .split .result in
+    let d = t .before .descriptor-octets .result in
+    let holes = 8 + t .timestamp-octets .result + 2 * d in
+    let n = (length s - holes) / (2 * d) in
+    let from = c .before .descriptor .result in
+    let top = c .descriptor2 .result in
+    listRefusal s
+    ≡ when (not (pointsToLast (eqb (h .partial) 1) (eqb (h .wanted) 1) n from top || holesWell (eqb (h .partial) 1) from top (holesOf d n holes s))) 11
+unfolding listRefusal listWell holeList
+judged c =
+    let else-place = c .before .before .before .before in
+    let t = else-place .before in
+    let s = now (t .before .before .before .before .before .args .p) in
+    let split = t .before .before .split .ensures in
+    let k = known t in
+    rw (
+      eq-eqb (listOctets s % (2 * descriptorOctets (wordOf s))) 0 (sym (rest t) ∙ else-place .if1 .left),
+      length-holes (descriptorOctets (wordOf s)) (holeCount s) (holesAt (wordOf s)) s,
+      split .partial-is,
+      split .wanted-is,
+      c .before .descriptor .ensures,
+      c .descriptor2 .ensures,
+      k .0,
+      k .1,
+      k .2,
+    )
+
+-- whether In-Response-To points to the last octet, by the same
+last : (c : tie.After-points-to-last)
+    → let t = c .before .before .before .before .before .before in
+    let s = now (t .before .before .before .before .before .args .p) in
+    let h = t .before .before .split .result in
+    let d = t .before .descriptor-octets .result in
+    let n = (length s - (8 + t .timestamp-octets .result + 2 * d)) / (2 * d) in
+    pointsToLast (eqb (h .partial) 1) (eqb (h .wanted) 1) n (c .before .before .descriptor .result) (c .before .descriptor2 .result)
+    ≡ c .points-to-last .result
+last c = sym (c .points-to-last .ensures)
+
+returns-2 : tie.Need-returns-2
+returns-2 c = sym (judged (c .before .before) ∙ rw (last (c .before) ∙ c .if2 .taken))
 
 holes-well-requires : tie.Need-holes-well-requires
 holes-well-requires c κs =
-    let before-place = c .before .before .before in
-    let start = before-place .before .before .before .before .before .before in
-    let k = known (before-place .before) in
+    let timestamp-place = c .before .before .before .before .before .before .before in
+    let start = timestamp-place .before .before .before .before .before in
+    let k = known timestamp-place in
     (k .4, rw (k .1, k .2) (list-fits (now (start .args .p)) (k .3)), rw (k .1, k .2) (pairs-none (now (start .args .p)) (start .pre)))
 
--- the judgement is that of the packet's list
-list : (c : tie.After-holes-well)
-    → let s = now (c .before .before .before .before .before .before .before .before .before .before .args .p) in
-    c .holes-well .result ≡ holesWell (eqb (partialOf (wordOf s)) 1) (progressOf s) (responseOf s) (holeList s)
-unfolding holeList
-list c =
-    let descriptor2-place = c .before .before in
-    let descriptor-place = descriptor2-place .before in
-    let before-place = descriptor-place .before in
-    let split-place = before-place .before .before .before in
-    let k = known (before-place .before) in
-    c .holes-well .ensures ∙ simp (descriptor-place .descriptor .ensures, descriptor2-place .descriptor2 .ensures, split-place .split .ensures .partial-is, k .0, k .1, k .2)
-
--- and it gives the refusal
-judged : (c : tie.After-holes-well) → listRefusal (now (c .before .before .before .before .before .before .before .before .before .before .args .p)) ≡ when (not (c .holes-well .result)) 11
-unfolding listRefusal
-judged c =
-    let before-place = c .before .before .before .before in
-    let start = before-place .before .before .before .before .before .before in
-    let s = now (start .args .p) in
-    rw (eq-eqb (listOctets s % (2 * descriptorOctets (wordOf s))) 0 (sym (rest (before-place .before)) ∙ before-place .if1 .left))
-    (ap (λ (b : Bool). when (not b) 11) (sym (list c)))
-
-returns-2 : tie.Need-returns-2
-returns-2 c = sym (judged (c .before) ∙ rw (c .if2 .taken))
+-- where it does not
+otherwise : (c : tie.After-holes-well)
+    → let s = now (c .before .before .before .before .before .before .before .before .before .before .before .before .before .args .p) in
+    listRefusal s ≡ when (not (c .holes-well .result)) 11
+otherwise c =
+    let last-place = c .before .before in
+    judged (last-place .before) ∙ rw (last last-place ∙ c .before .if2 .left) (ap (λ (b : Bool). when (not b) 11) (sym (c .holes-well .ensures)))
 
 returns-3 : tie.Need-returns-3
-returns-3 c = sym (judged (c .before) ∙ rw (c .if2 .left))
+returns-3 c = sym (otherwise (c .before) ∙ rw (c .if3 .taken))
+
+returns-4 : tie.Need-returns-4
+returns-4 c = sym (otherwise (c .before) ∙ rw (c .if3 .left))
 
 pub list-refusal-spec : {M : Type 1} → statement M
 list-refusal-spec =
@@ -153,11 +189,13 @@ list-refusal-spec =
     mul-if1
     rem-if1
     returns
+    mul-count
+    div-count
     descriptor-requires
     add-descriptor
     descriptor-requires-2
-    mul-holes-well
-    div-holes-well
-    holes-well-requires
+    points-to-last-requires
     returns-2
-    returns-3)
+    holes-well-requires
+    returns-3
+    returns-4)

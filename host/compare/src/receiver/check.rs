@@ -163,7 +163,7 @@ impl Check<'_> {
             width: d as u64,
             timestamp_at: 8,
             progress: transfer.received.lowest_missing(),
-            in_response_to: transfer.received.edge(),
+            in_response_to: transfer.in_response_to(),
             holes_at: holes_at as u64,
             hole_count: written as u64,
             ..Packet::default()

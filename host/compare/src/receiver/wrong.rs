@@ -124,6 +124,14 @@ wrong! {
     CompleteNotTold,
     /// Only 1 is unasked.
     UnaskedIsOne,
+    /// In-Response-To is the length where the transfer is complete.
+    LengthForLast,
+    /// In-Response-To is the highest offset received in every STATUS.
+    EdgeLessOne,
+    /// In-Response-To is 2^w - 1 where the length is 0.
+    EmptyWraps,
+    /// In-Response-To is L - 1 in every unasked STATUS.
+    LastOctetWhenUnasked,
     /// Progress is where the first hole written starts.
     ProgressAfterSkip,
     /// A buffer that is too small is written to.

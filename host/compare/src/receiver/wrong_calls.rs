@@ -359,6 +359,8 @@ impl Wrong {
                 Written { size: fixed as u64, ..Written::default() }
             })
         };
+        let low = d.min(8); // of 128 bits the upper eight octets stay zero
+        let respond = |out: &mut [u8], to: u64| out[fixed - low..fixed].copy_from_slice(&to.to_be_bytes()[8 - low..]);
         match self {
             NoRoomNoHole => return without_holes(fixed, 20).unwrap_or(right),
             AllSkipped if ask.skip == holes.len() as u64 => return without_holes(fixed, 19).unwrap_or(right),
@@ -378,6 +380,10 @@ impl Wrong {
             }
             SkippedNotTold if all_fit => out[1] &= !2,
             CompleteNotTold if accepted && ask.unasked == 0 => out[1] &= !1,
+            LengthForLast if accepted && transfer.state().complete => respond(out, transfer.length),
+            EdgeLessOne if accepted => respond(out, transfer.received.edge().saturating_sub(1)),
+            EmptyWraps if accepted && transfer.length == 0 => respond(out, u64::MAX),
+            LastOctetWhenUnasked if accepted && ask.unasked != 0 => respond(out, transfer.length.saturating_sub(1)),
             ProgressAfterSkip if accepted && ask.skip > 0 => out.copy_within(fixed..fixed + d, 8),
             BufferTouched if right.number == 20 && !out.is_empty() => out[0] ^= 0x44,
             OctetAfter if accepted && out.len() > size => out[size] = 0,

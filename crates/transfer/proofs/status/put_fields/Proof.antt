@@ -45,7 +45,7 @@ returns c =
     let word = first .before in
     let flags = word .before .before in
     let a = flags .before .before .args in
-    fields-put (statusFlags (a .key .width) (a .partial) (a .unasked)) (a .key .id) (a .key .width) (a .progress) (a .edge)
+    fields-put (statusFlags (a .key .width) (a .partial) (a .unasked)) (a .key .id) (a .key .width) (a .progress) (a .response)
     (word .join .result) (flags .status-flags .result) (now (a .out)) _ _ _ _ (omega arith)
     (flags .status-flags .ensures) (word .join .ensures) (first .write-number .ensures) (second .write-number2 .ensures)
     (third .write-number3 .ensures) (write-number4-place .write-number4 .ensures)

@@ -5,7 +5,7 @@ ghost use lib.ListN.{length};
 ghost use Rattle.octets.specs.Numbers.{Width};
 ghost use Rattle.header.specs.Descriptor.{descriptorRefusal};
 ghost use Rattle.packet_status.specs.HoleList.{holeAt, holesOf, holesAfter, startsWell, holesWell, pointsToLast};
-ghost use Rattle.packet_status.specs.Status.{descriptorsRefusal, DescriptorsFine, listRefusal, successRefusal, statusRefusal, successOf, readStatus, holeRefusal, readHole};
+ghost use Rattle.packet_status.specs.Status.{descriptorsRefusal, DescriptorsFine, listRefusal, successRefusal, statusRefusal, successOf, readStatus, holeRefusal, indexedHole, readHole};
 ghost use Rattle.packet_status.specs.WriteFailure.{failureWriteRefusal, failureWritten, failureBuffer};
 use refusals::Refusal;
 use refusals::Written;
@@ -288,6 +288,17 @@ fn hole_refusal(p: &[u8], index: u64) -> u64
     0
 }
 
+// The hole with this index, of a success STATUS whose list has it.
+pub fn listed_hole(p: &[u8], index: usize) -> Hole
+    requires { ⌜ holeRefusal index (now p) ≡ 0 ⌝ }
+    ensures { λ r. ⌜ r ≡ indexedHole index (now (p .entry)) ⌝ }
+{
+    let w = header::word(p);
+    let d = header::descriptor_octets(w);
+    let holes = 8 + header::timestamp_octets(w) + 2 * d;
+    hole_at(p, holes + index * (2 * d), d)
+}
+
 // One pair of the hole list of a success STATUS.
 pub fn read_hole(p: &[u8], index: u64) -> HoleRead
     ensures { λ r. ⌜ r ≡ readHole index (now (p .entry)) ⌝ }
@@ -296,10 +307,7 @@ pub fn read_hole(p: &[u8], index: u64) -> HoleRead
     if n != 0 {
         return HoleRead::Refused(refusals::refuse(n));
     }
-    let w = header::word(p);
-    let d = header::descriptor_octets(w);
-    let holes = 8 + header::timestamp_octets(w) + 2 * d;
-    HoleRead::Accepted(hole_at(p, holes + (index as usize) * (2 * d), d))
+    HoleRead::Accepted(listed_hole(p, index as usize))
 }
 
 // The refusal of a failure STATUS to be written into `room` octets; 0 for none.

@@ -571,7 +571,7 @@ static void unwritten_words(void)
 static void width_128(void)
 {
     static const uint8_t hole[72] = {0x44, 0xC0, [7] = 7, [38] = 0x0B, 0xB8, [70] = 0x07, 0xD0};
-    static const uint8_t whole[40] = {0x44, 0xC1, [7] = 7, [22] = 0x0B, 0xB8, [38] = 0x0B, 0xB8};
+    static const uint8_t whole[40] = {0x44, 0xC1, [7] = 7, [22] = 0x0B, 0xB8, [38] = 0x0B, 0xB7};
     struct saratoga_recorded complete = {.edge = 3000, .complete = 1};
     uint8_t *area = empty_area(AREA), *want = lend(NULL, AREA), packet[25] = {0x43, 0xC0, [7] = 7, [24] = 'a'};
     const struct numbered_word words[] = {{0, 1}, {1, 7}, {2, 16}, {3, 3000}, {4, 1}, {65, 2000}, {1089, 3000}};

@@ -224,7 +224,7 @@ def descriptors_of_128_bits(program, place):
     check(got == (["0 taken-up id=9 width=128 length=3000 edge=3000 complete=0",
                    "1 record id=9 offset=0 length=2000 edge=3000 complete=1",
                    "1 complete id=9 length=3000 file=00000009.page " + META,
-                   "1 send " + success(9, 128, 3000, 3000, flags=UNASKED).hex()], "", 0), got)
+                   "1 send " + success(9, 128, 3000, 2999, flags=UNASKED).hex()], "", 0), got)
     check(content(place, "00000009.page") == text, "the page isn't the original")
 
 

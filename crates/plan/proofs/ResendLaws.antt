@@ -60,6 +60,10 @@ module _ (m : ℕ) (s : List ℕ) (f : ResendFine m s) where
   accepted : ListAccepted (partialTold s) (unaskedTold s) (progressOf s) (responseOf s) (holeList s)
   accepted = success-fine s (status-fine s (f .read) .success (f .success)) .list
 
+  -- a STATUS has its first word
+  pub long : 8 ≤ length s
+  long = status-fine s (f .read) .typed .long
+
   pub full : (i : ℕ) → i < length (holeList s) → nth (holeList s) i .start < nth (holeList s) i .end
   full i l = ⊎-elim (λ a. absurd (omega (arith, l, a .no-holes))) (λ a. a .less i l) accepted
 

@@ -5,12 +5,13 @@ ghost use Prim.Native.Nat.{_+_, _-_, _<_, _≤_, min};
 ghost use mathlib.Core.Bool.{not};
 ghost use lib.ListN.{length};
 ghost use lib.Dec.{eqb};
+ghost use Rattle.header.specs.FirstWord.{descriptorOctets};
+ghost use Rattle.header.specs.Start.{wordOf};
 ghost use Rattle.packet_status.specs.Status.{holeList};
 ghost use Rattle.plan.specs.Pieces.{piece, pieceCount, planOf};
-ghost use Rattle.refusals.specs.Refusals.{_▹_, when};
+ghost use Rattle.refusals.specs.Refusals.{when};
 ghost use Rattle.plan.specs.Planning.{allowed, resendRefusal, planRefusal, judgedOf, plannedOf, cursorAt, advanced, pieceAt, nextCursor, Readable};
 ghost use Rattle.plan.specs.Checking.{fits, checkStart, checkStep, passed};
-use packet_status::StatusRead;
 
 // Octets to send: the first one's offset, and how many. struct saratoga_piece.
 #[repr(C)]
@@ -61,37 +62,44 @@ fn largest_refusal(largest: u64) -> u64
     0
 }
 
-// Judges a STATUS that was read, by its code, and the largest payload.
-fn judge_read(code: u64, largest: u64, holes: usize) -> Judged
-    ensures { λ r. ⌜ r ≡ judgedOf (when (not (eqb code 0)) 11 ▹ when (not (allowed largest)) 21) holes ⌝ }
+// Refusal 11 of a STATUS with this code, by which it is a failure; 0 for none.
+fn failure_refusal(code: u64) -> u64
+    ensures { λ r. ⌜ r ≡ when (not (eqb code 0)) 11 ⌝ }
 {
-    let n = largest_refusal(largest);
     if code != 0 {
-        return Judged {
-            number: 11,
-            holes: 0,
-        };
+        return 11;
     }
+    0
+}
+
+// The refusal of a packet that has to be a success STATUS, and of the largest payload; 0 for none.
+fn resend_refusal(status: &[u8], largest: u64) -> u64
+    ensures { λ r. ⌜ r ≡ resendRefusal largest (now (status .entry)) ⌝ }
+{
+    let unread = packet_status::status_refusal(status);
+    if unread != 0 {
+        return unread;
+    }
+    let h = header::split(header::word(status));
+    let failure = failure_refusal(h.status);
+    let payload = largest_refusal(largest);
+    refusals::first(failure, payload)
+}
+
+// The same, with the number of holes to fill.
+fn judge(status: &[u8], largest: u64) -> Judged
+    ensures { λ r. ⌜ r ≡ judgedOf (resendRefusal largest (now (status .entry))) (length (holeList (now (status .entry)))) ⌝ }
+{
+    let n = resend_refusal(status, largest);
     if n != 0 {
         return Judged {
             number: n,
             holes: 0,
         };
     }
-    Judged { number: 0, holes }
-}
-
-// Judges a packet that has to be a success STATUS, and the largest payload.
-fn judge(status: &[u8], largest: u64) -> Judged
-    ensures { λ r. ⌜ r ≡ judgedOf (resendRefusal largest (now (status .entry))) (length (holeList (now (status .entry)))) ⌝ }
-{
-    match packet_status::read_status(status) {
-        StatusRead::Refused(r) => Judged {
-            number: r.number,
-            holes: 0,
-        },
-        StatusRead::Failure(f) => judge_read(f.status, largest, 0),
-        StatusRead::Success(f) => judge_read(0, largest, f.count),
+    Judged {
+        number: 0,
+        holes: packet_status::hole_count(status),
     }
 }
 
@@ -103,19 +111,38 @@ fn pieces_of(start: u64, end: u64, largest: u64) -> u64
     (end - start - 1) / largest + 1
 }
 
-// How many pieces all holes take. There are fewer than octets, so the sum does not run over.
-fn count_pieces(status: &[u8], holes: usize, largest: u64) -> u64
-    requires { ⌜ (resendRefusal largest (now status) ≡ 0) × (holes ≡ length (holeList (now status))) ⌝ }
+// How many pieces all holes take, of a STATUS with descriptors of d octets. There are fewer than octets, so the sum does not run
+// over.
+fn count_of_width(status: &[u8], holes: usize, largest: u64, d: usize) -> u64
+    requires { ⌜ (resendRefusal largest (now status) ≡ 0) × (holes ≡ length (holeList (now status))) × (d ≡ descriptorOctets (wordOf (now status))) ⌝ }
     ensures { λ r. ⌜ r ≡ length (planOf largest (holeList (now (status .entry)))) ⌝ }
 {
     let mut count: u64 = 0;
     let mut i: usize = 0;
     while i < holes {
-        let h = packet_status::listed_hole(status, i);
+        let h = packet_status::hole_of_width(status, i, d);
         count = count + pieces_of(h.start, h.end, largest);
         i = i + 1;
     }
     count
+}
+
+// The same for every width. Each is a literal, for which the compiler makes one load of each number.
+fn count_pieces(status: &[u8], holes: usize, largest: u64) -> u64
+    requires { ⌜ (resendRefusal largest (now status) ≡ 0) × (holes ≡ length (holeList (now status))) ⌝ }
+    ensures { λ r. ⌜ r ≡ length (planOf largest (holeList (now (status .entry)))) ⌝ }
+{
+    let d = header::descriptor_octets(header::word(status));
+    if d == 2 {
+        return count_of_width(status, holes, largest, 2);
+    }
+    if d == 4 {
+        return count_of_width(status, holes, largest, 4);
+    }
+    if d == 8 {
+        return count_of_width(status, holes, largest, 8);
+    }
+    count_of_width(status, holes, largest, 16)
 }
 
 // How many pieces the plan for a STATUS has.

@@ -1,115 +1,70 @@
--- `plan::count_pieces` meets its contract: the pieces counted, and those of the holes that are left, are those of the plan.
--- There are never more than octets below the next hole, so the sum does not run over.
+-- `plan::count_pieces` meets its contract: the packet has one of the four widths.
 -- Assumes nothing.
-use Prim.Native.Nat.{suc, _+_, _-_, _^_, _≤_, _<_}
 use mathlib.Core.Path.{_≡_, sym, ap, _∙_}
 use denote.Ref.{now}
 use native.Mathlib.Omega.{arith}
-use mathlib.Core.List.{[]}
-use lib.ListN.{length, drop, drop-of-length-le}
-use Rattle.packet_status.specs.Status.{holeList}
-use Rattle.packet_status.proofs.AcceptedLaws.{nth}
-use Rattle.packet_status.proofs.StatusLaws.{hole-fine, listed-hole}
-use Rattle.runs.specs.declared.Hole.{Hole}
-use Rattle.plan.specs.Pieces.{pieceCount, planOf}
-use Rattle.plan.proofs.PieceLaws.{hole, count-below, length-dropped}
-use Rattle.plan.proofs.ResendLaws.{resend-fine, full, apart, readable}
 use borrow.Author.Needs.{needs}
+use Rattle.octets.proofs.NumberLaws.{width-wide}
+use Rattle.header.specs.FirstWord.{descriptorOctets}
+use Rattle.header.specs.Start.{wordOf}
+use Rattle.header.proofs.FirstWordLaws.{octets-width}
+use Rattle.plan.proofs.ResendLaws.{resend-fine, long}
 use Rattle.plan.proofs.count_pieces.Statement.{statement}
 use Rattle.plan.proofs.count_pieces.Tie as tie
 
-abbrev Inv-loop : tie.InvT-loop
-Inv-loop s holes m count₀ i₀ count i =
-    (i ≤ holes)
-    × (count + length (planOf m (drop i (holeList s))) ≡ length (planOf m (holeList s)))
-    × (i < holes → count ≤ nth (holeList s) i .start)
-
-abbrev μ-loop : tie.MeasureT-loop
-μ-loop s holes m count₀ i₀ count i = holes - i
-
-loop-holds : tie.Need-loop-holds Inv-loop μ-loop
-loop-holds c = (omega arith, omega arith, λ l. omega arith)
-
--- the index is one of the list's
-within : (c : tie.In-loop Inv-loop μ-loop) → c .before .loop .i < length (holeList (now (c .before .before .before .args .status)))
-within c = omega (arith, c .before .before .before .pre .1)
-
-listed-hole-requires : tie.Need-listed-hole-requires Inv-loop μ-loop
-listed-hole-requires c κs =
-    let start = c .before .before .before in
+word-requires : tie.Need-word-requires
+word-requires c κs =
+    let start = c .before in
     let s = now (start .args .status) in
-    readable (start .args .largest) s (resend-fine (start .args .largest) s (start .pre .0)) (c .before .loop .i) (within c)
+    omega (arith, long (start .args .largest) s (resend-fine (start .args .largest) s (start .pre .0)))
 
--- the hole that is read is the list's
-read : (c : tie.After-listed-hole Inv-loop μ-loop)
-    → c .listed-hole .result ≡ nth (holeList (now (c .before .before .before .before .args .status))) (c .before .before .loop .i)
-read c =
-    let start = c .before .before .before .before in
-    let s = now (start .args .status) in
-    let m = start .args .largest in
-    let i = c .before .before .loop .i in
-    let e = readable m s (resend-fine m s (start .pre .0)) i (within (c .before)) in
-    c .listed-hole .ensures ∙ sym (listed-hole i s (hole 0 0) (hole-fine i s e .below))
+descriptor-octets-requires : tie.Need-descriptor-octets-requires
+descriptor-octets-requires c κs = search needs
 
--- it is not empty, and m is not 0
-fine : (c : tie.After-listed-hole Inv-loop μ-loop)
-    → (c .listed-hole .result .start < c .listed-hole .result .end) × (0 < c .before .before .before .before .args .largest)
-fine c =
-    let start = c .before .before .before .before in
-    let s = now (start .args .status) in
-    let m = start .args .largest in
-    let f = resend-fine m s (start .pre .0) in
-    (rw (read c) (full m s f (c .before .before .loop .i) (within (c .before))), f .some)
+-- the packet's width
+width : (c : tie.After-descriptor-octets) → c .descriptor-octets .result ≡ descriptorOctets (wordOf (now (c .before .before .before .args .status)))
+width c = c .descriptor-octets .ensures ∙ ap descriptorOctets (c .before .word .ensures)
 
-pieces-of-requires : tie.Need-pieces-of-requires Inv-loop μ-loop
-pieces-of-requires c κs = fine c
+count-of-width-requires : tie.Need-count-of-width-requires
+count-of-width-requires c κs = let at = c .before in let p = at .before .before .before .pre in (p .0, p .1, omega (arith, width at))
 
--- with its pieces the sum stays at or below its end
-below : (c : tie.After-pieces-of Inv-loop μ-loop) → c .before .before .before .loop .count + c .pieces-of .result ≤ c .before .listed-hole .result .end
-below c =
-    let p = c .before in
-    let l = p .before .before .loop in
-    let h = p .listed-hole .result in
-    let m = p .before .before .before .before .args .largest in
-    let f = fine p in
-    let a : l .count ≤ h .start = rw (read p) (l .inv .2 (omega arith)) in
-    omega (arith, c .pieces-of .ensures, count-below m (h .start) (h .end) (f .1) (f .0))
+returns : tie.Need-returns
+returns c = c .count-of-width .ensures
 
-add-count : tie.Need-add-count Inv-loop μ-loop
-add-count c = let k : c .before .listed-hole .result .end < 2 ^ 64 = c .before .listed-hole .ok .1 .1 .1 .0 .1 in record { fits = omega (arith, below c) }
+count-of-width-requires-2 : tie.Need-count-of-width-requires-2
+count-of-width-requires-2 c κs = let at = c .before .before in let p = at .before .before .before .pre in (p .0, p .1, omega (arith, width at))
 
-add-i : tie.Need-add-i Inv-loop μ-loop
-add-i c = search needs
+returns-2 : tie.Need-returns-2
+returns-2 c = c .count-of-width2 .ensures
 
-loop-less : tie.Need-loop-less Inv-loop μ-loop
-loop-less c = omega arith
+count-of-width-requires-3 : tie.Need-count-of-width-requires-3
+count-of-width-requires-3 c κs = let at = c .before .before .before in let p = at .before .before .before .pre in (p .0, p .1, omega (arith, width at))
 
-loop-again : tie.Need-loop-again Inv-loop μ-loop
-loop-again c =
-    let p = c .before in
-    let l = p .before .before .loop in
-    let start = p .before .before .before .before in
-    let s = now (start .args .status) in
-    let m = start .args .largest in
-    let i = l .i in
-    let one : i + 1 ≡ suc i = omega arith in
-    let counted : c .pieces-of .result ≡ pieceCount m (nth (holeList s) i) = c .pieces-of .ensures ∙ ap (λ (h : Hole). pieceCount m h) (read p) in
-    let d = length-dropped m (holeList s) i (within (p .before)) in (
-      omega arith,
-      rw one (omega (arith, counted, d, l .inv .1)),
-      λ k. rw one (omega (arith, below c, ap (λ (h : Hole). h .end) (read p), apart m s (resend-fine m s (start .pre .0)) i (omega (arith, start .pre .1)))),
-    )
+returns-3 : tie.Need-returns-3
+returns-3 c = c .count-of-width3 .ensures
 
-returns : tie.Need-returns Inv-loop μ-loop
-unfolding planOf
-returns c =
-    let start = c .before .before .before in
-    let s = now (start .args .status) in
-    let l = c .before .loop in
-    let n : length (holeList s) ≤ l .i = omega (arith, start .pre .1) in
-    let z : drop (l .i) (holeList s) ≡ [] = drop-of-length-le (holeList s) n in
-    let e : l .count + length (planOf (start .args .largest) (drop (l .i) (holeList s))) ≡ length (planOf (start .args .largest) (holeList s)) = l .inv .1 in
-    omega (arith, rw z at e)
+-- no other width is left
+count-of-width-requires-4 : tie.Need-count-of-width-requires-4
+count-of-width-requires-4 c κs =
+    let at = c .before .before .before in
+    let start = at .before .before .before in
+    let w = width at in
+    (start .pre .0, start .pre .1, sym (width-wide (octets-width (wordOf (now (start .args .status)))) (λ e. omega arith) (λ e. omega arith) (λ e. omega arith)))
+
+returns-4 : tie.Need-returns-4
+returns-4 c = c .count-of-width4 .ensures
 
 pub count-pieces-spec : {M : Type 1} → statement M
-count-pieces-spec = tie.close (tie.spec Inv-loop μ-loop loop-holds listed-hole-requires pieces-of-requires add-count add-i loop-less loop-again returns)
+count-pieces-spec =
+    tie.close
+    (tie.spec
+    word-requires
+    descriptor-octets-requires
+    count-of-width-requires
+    returns
+    count-of-width-requires-2
+    returns-2
+    count-of-width-requires-3
+    returns-3
+    count-of-width-requires-4
+    returns-4)

@@ -1,46 +1,41 @@
--- `plan::judge` meets its contract: a return for each case of what was read. Assumes nothing.
-use mathlib.Core.Path.{sym, ap, _∙_}
+-- `plan::judge` meets its contract: the refusal, or the number of holes.
+-- Assumes nothing.
+use mathlib.Core.Path.{_≡_, sym, ap, _∙_}
 use denote.Ref.{now}
-use Rattle.plan.proofs.JudgeLaws.{judgedRead, judged-status}
+use native.Mathlib.Omega.{arith}
 use borrow.Author.Needs.{needs}
+use lib.ListN.{length}
+use Rattle.packet_status.specs.Status.{holeList}
+use Rattle.packet_status.proofs.StatusLaws.{length-list}
+use Rattle.plan.specs.Planning.{resendRefusal, judgedOf}
+use Rattle.plan.proofs.JudgeLaws.{judged-refused}
+use Rattle.plan.proofs.ResendLaws.{resend-fine}
 use Rattle.plan.proofs.judge.Statement.{statement}
 use Rattle.plan.proofs.judge.Tie as tie
 
-read-status-requires : tie.Need-read-status-requires
-read-status-requires c κs = search needs
-
-enum-known-r : tie.Need-enum-known-r
-enum-known-r c = search needs
-
-enum-known-f : tie.Need-enum-known-f
-enum-known-f c = search needs
-
-judge-read-requires : tie.Need-judge-read-requires
-judge-read-requires c κs = search needs
-
-enum-known-f-2 : tie.Need-enum-known-f-2
-enum-known-f-2 c = search needs
-
-judge-read-requires-2 : tie.Need-judge-read-requires-2
-judge-read-requires-2 c κs = search needs
+resend-refusal-requires : tie.Need-resend-refusal-requires
+resend-refusal-requires c κs = search needs
 
 returns : tie.Need-returns
 returns c =
-    let start = c .before .before .before .before .before in
-    let m = start .args .largest in
-    ap (judgedRead m) (sym (c .before .r .given .1) ∙ c .before .before .before .read-status .ensures) ∙ judged-status m (now (start .args .status))
+    let place = c .before in
+    let s = now (place .before .before .args .status) in
+    rw (sym (place .resend-refusal .ensures)) (judged-refused (place .resend-refusal .result) (length (holeList s)) (λ e. omega arith))
+
+-- nothing is refused
+none : (c : tie.Else1) → let a = c .before .before .before .args in resendRefusal (a .largest) (now (a .status)) ≡ 0
+none c = omega (arith, c .before .resend-refusal .ensures)
+
+hole-count-requires : tie.Need-hole-count-requires
+hole-count-requires c κs =
+    let a = c .before .before .before .args in
+    let f = resend-fine (a .largest) (now (a .status)) (none c) in
+    (f .read, f .success)
 
 returns-2 : tie.Need-returns-2
 returns-2 c =
-    let start = c .before .before .before .before .before .before in
-    let m = start .args .largest in
-    c .judge-read .ensures ∙ ap (judgedRead m) (sym (c .before .before .f .given .1) ∙ c .before .before .before .before .read-status .ensures) ∙ judged-status m (now (start .args .status))
-
-returns-3 : tie.Need-returns-3
-returns-3 c =
-    let start = c .before .before .before .before .before .before in
-    let m = start .args .largest in
-    c .judge-read2 .ensures ∙ ap (judgedRead m) (sym (c .before .before .f2 .given .1) ∙ c .before .before .before .before .read-status .ensures) ∙ judged-status m (now (start .args .status))
+    let a = c .before .before .before .before .args in
+    rw (none (c .before), c .hole-count .ensures, length-list (now (a .status)))
 
 pub judge-spec : {M : Type 1} → statement M
-judge-spec = tie.close (tie.spec read-status-requires enum-known-r enum-known-f judge-read-requires enum-known-f-2 judge-read-requires-2 returns returns-2 returns-3)
+judge-spec = tie.close (tie.spec resend-refusal-requires returns hole-count-requires returns-2)

@@ -60,7 +60,7 @@ module _ (hs : List Hole) (m : ℕ) where
   count-all [] k = refl
   count-all (p ∷ ps) k = count-all ps (checkStep hs m k p) ∙ count-step hs m k p
 
-  all-more : (ps qs : List Piece) (k : Check) → checkAll hs m k (ps ++ qs) ≡ checkAll hs m (checkAll hs m k ps) qs
+  pub all-more : (ps qs : List Piece) (k : Check) → checkAll hs m k (ps ++ qs) ≡ checkAll hs m (checkAll hs m k ps) qs
   all-more [] qs k = refl
   all-more (p ∷ ps) qs k = all-more ps qs (checkStep hs m k p)
 

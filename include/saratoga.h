@@ -44,6 +44,7 @@ extern "C" {
 #define SARATOGA_METADATA_OCTETS 1118 /* of the longest METADATA that is written */
 #define SARATOGA_STATUS_OCTETS 2088   /* of the longest STATUS that is written: room for any, with 64 holes */
 #define SARATOGA_FAILURE_OCTETS 8     /* of a failure STATUS */
+#define SARATOGA_PAYLOAD_OCTETS 65000 /* of the longest piece that may be planned */
 
 /* Packet types. */
 #define SARATOGA_TYPE_BEACON 0
@@ -159,8 +160,8 @@ extern "C" {
 #define SARATOGA_REFUSED_TABLE_FULL 17   /* 0x03: a new Id, and 16 are open */
 #define SARATOGA_REFUSED_OPEN_OTHER 18   /* 0x09: Id open with another width or length */
 #define SARATOGA_REFUSED_INDEX 19        /* 0x00: no hole has that index, or that many can't be skipped */
-#define SARATOGA_REFUSED_BUFFER 20       /* 0x00: buffer too small, or the area to be made fresh */
-#define SARATOGA_REFUSED_FIELD 21        /* 0x00: a field to be written exceeds its bits, or failure code 0 */
+#define SARATOGA_REFUSED_BUFFER 20       /* 0x00: buffer too small, or the area to be made fresh, or too few records */
+#define SARATOGA_REFUSED_FIELD 21        /* 0x00: a field over its bits, failure code 0, or a largest payload not 1 to 65,000 */
 #define SARATOGA_REFUSED_AREA 22         /* 0x00: area too short, or its used words hold no transfer table */
 #define SARATOGA_REFUSED_BEACON 26       /* 0x00: BEACON with a pairing 0 1, or a last flags octet that isn't 0 */
 
@@ -316,6 +317,48 @@ struct saratoga_packet saratoga_read(const uint8_t *packet, size_t packet_len);
  * is not below the number of holes).
  */
 struct saratoga_hole saratoga_read_hole(const uint8_t *packet, size_t packet_len, uint64_t index);
+
+/* Octets to send again: `length` of them from `offset` on. */
+struct saratoga_piece {
+    uint64_t offset, length;
+};
+
+/* A plan of `count` pieces. */
+struct saratoga_planned {
+    uint64_t number, code;
+    uint64_t count;
+};
+
+/* `passes` is 1 or 0. */
+struct saratoga_checked {
+    uint64_t number, code;
+    uint64_t passes;
+};
+
+/*
+ * Plans what to send again after a success STATUS: the pieces that fill its holes, none longer than `largest`, in the first
+ * `count` records of `pieces`; those past the plan stay. Each hole is cut from its low end, into pieces of `largest` octets but
+ * perhaps its last. A STATUS that lists no hole has a plan of no piece. Where the hole list is not complete (bit 14), the plan is
+ * for the holes that are listed.
+ *
+ * Order of refusals: those of saratoga_read, with 4 for any type but STATUS; 11 (a failure STATUS), 21 (`largest` is not 1 to
+ * 65,000), 20 (the plan has more than `piece_count` pieces).
+ */
+struct saratoga_planned saratoga_plan(const uint8_t *status, size_t status_len, uint64_t largest,
+                                      struct saratoga_piece *pieces, size_t piece_count);
+
+/* How many records saratoga_plan needs. It refuses the same, but for 20. */
+struct saratoga_planned saratoga_plan_count(const uint8_t *status, size_t status_len, uint64_t largest);
+
+/*
+ * Checks any list of pieces, whoever made it. It passes exactly when the pieces rise, none is empty or longer than `largest`,
+ * each lies in one hole that the STATUS lists, no two overlap, and together they cover every listed hole. `piece_count` is the
+ * length of the list itself: a record past the plan is one piece too many.
+ *
+ * Order of refusals: as of saratoga_plan_count. A list that does not pass is not refused.
+ */
+struct saratoga_checked saratoga_check_plan(const uint8_t *status, size_t status_len, uint64_t largest,
+                                            const struct saratoga_piece *pieces, size_t piece_count);
 
 /*
  * Writes BEACON into `out`; octets after the packet stay. `flags` is bits 8 to 31 as a 24-bit number, put together from the

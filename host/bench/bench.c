@@ -18,9 +18,9 @@
 #include "receivers.h"
 
 enum { AREA = SARATOGA_AREA_OCTETS, PAYLOAD = 1000, ROOM = SARATOGA_STATUS_OCTETS };
-enum { CALLS = 256, PART = 16, REPEATS_MOST = 1001, CASES_MOST = 24 };
+enum { CALLS = 256, PART = 16, REPEATS_MOST = 1001, CASES_MOST = 32, PIECES_MOST = 32000 };
 enum receiver { OURS, MEMORY, PLAIN_AREA, MAP, RECEIVERS };
-enum operation { READ, OPEN, RECORD, STATUS, CLOSE };
+enum operation { READ, OPEN, RECORD, STATUS, CLOSE, PLAN, CHECK };
 
 static const char *const receiver_names[RECEIVERS] = {"ours", "A", "B", "C"};
 
@@ -34,6 +34,9 @@ struct call {
     uint8_t *packet;
     size_t size;
     uint64_t id;
+    uint64_t largest;              /* of a plan */
+    struct saratoga_piece *pieces; /* the plan */
+    size_t piece_count;
 };
 
 struct bench_case {
@@ -48,6 +51,7 @@ struct bench_case {
 static struct bench_case *cases[CASES_MOST];
 static size_t case_count;
 static uint8_t status_room[ROOM];
+static struct saratoga_piece plan_room[PIECES_MOST], plain_room[PIECES_MOST];
 static unsigned long compared;
 static uint8_t refusals_seen[27];
 
@@ -156,6 +160,21 @@ static size_t beacon_packet(uint8_t *p, size_t endpoint)
     return 4 + endpoint;
 }
 
+/* STATUS with holes of this length, so far from one to the next, the first from `from` on. */
+static size_t status_packet(uint8_t *p, size_t width, size_t holes, uint64_t from, uint64_t length, uint64_t spacing)
+{
+    size_t i, at = 8 + 2 * width;
+    put(p, UINT64_C(0x44000000) | width_flags(width), 4);
+    put(p + 4, 7, 4);
+    put(p + 8, from, width);
+    put(p + 8 + width, from + (holes - 1) * spacing + length, width);
+    for (i = 0; i < holes; i++, at += 2 * width) {
+        put(p + at, from + i * spacing, width);
+        put(p + at + width, from + i * spacing + length, width);
+    }
+    return at;
+}
+
 /* The size stands in 64 bits, or in 128 where the packet's own descriptors have so many. */
 static size_t metadata_packet(uint8_t *p, uint64_t flags, uint64_t id, uint64_t size, size_t path)
 {
@@ -192,6 +211,39 @@ static void compare_read(const uint8_t *packet, size_t size)
     same("read", "A", &ours, &plain, sizeof ours);
     refusals_seen[ours.number] = 1;
     compared++;
+}
+
+/* Ours and plain C on a list of pieces. */
+static void compare_check(const uint8_t *packet, size_t size, uint64_t largest, const struct saratoga_piece *list, size_t count)
+{
+    struct saratoga_checked ours = saratoga_check_plan(packet, size, largest, list, count);
+    struct saratoga_checked plain = plain_check_plan(packet, size, largest, list, count);
+    same("check", "A", &ours, &plain, sizeof ours);
+    refusals_seen[ours.number] = 1;
+    compared++;
+}
+
+/* The plan into `room` records and its count, then the check of it and of the same with one record changed. */
+static void compare_plan(const uint8_t *packet, size_t size, uint64_t largest, size_t room)
+{
+    struct saratoga_planned ours = saratoga_plan_count(packet, size, largest), plain = plain_plan_count(packet, size, largest);
+    size_t count;
+    same("plan count", "A", &ours, &plain, sizeof ours);
+    memset(plan_room, 0xA5, sizeof plan_room);
+    memset(plain_room, 0xA5, sizeof plain_room);
+    ours = saratoga_plan(packet, size, largest, plan_room, room);
+    plain = plain_plan(packet, size, largest, plain_room, room);
+    same("plan", "A", &ours, &plain, sizeof ours);
+    same("plan", "A: pieces", plan_room, plain_room, sizeof plan_room);
+    refusals_seen[ours.number] = 1;
+    compared += 2;
+    count = (size_t)ours.count;
+    compare_check(packet, size, largest, plan_room, count);
+    if (count > 0) {
+        uint64_t *changed = below(2) ? &plan_room[below(count)].length : &plan_room[below(count)].offset;
+        *changed = below(2) ? *changed + 1 : below(2) ? *changed - 1 : random_number();
+        compare_check(packet, size, largest, plan_room, count);
+    }
 }
 
 static void compare_open(struct tables *t, const uint8_t *packet, size_t size)
@@ -342,9 +394,14 @@ static void compare_random(unsigned long calls)
                 if (below(3) == 0)
                     packet[below(size)] ^= (uint8_t)(1 << below(8));
                 compare_read(packet, size);
+                compare_plan(packet, size, 1 + below(2000), below(PIECES_MOST + 1));
             }
         } else if (choice < 86) {
             compare_close(t, below(20) ? below(18) : random_number());
+        } else if (choice < 89) {
+            uint64_t length = 1 + below(3000);
+            size = status_packet(packet, (size_t)4 << below(3), 1 + below(64), below(1000), length, length + 1 + below(50));
+            compare_plan(packet, size, below(9) ? 1 + below(2000) : 64999 + below(3), below(3) ? PIECES_MOST : below(100));
         } else if (choice < 95) {
             size = random_packet(packet, below(2) ? OPEN : RECORD);
             compare_read(packet, size);
@@ -483,8 +540,37 @@ static void open_and_close_cases(void)
         open_call(already, id_of(below(16)));
 }
 
+/*
+ * STATUS packets with holes of two pieces and a half, in 64 bits; or so many holes that only 16 bits have room for them, of two
+ * octets each, planned in pieces of one. Planned, and the plans checked.
+ */
+static void plan_case(enum operation operation, size_t holes)
+{
+    int many = holes > 1000;
+    size_t width = many ? 2 : 8, calls = many ? PART : CALLS, i;
+    uint64_t largest = many ? 1 : 1000, length = many ? 2 : 2500, spacing = many ? 4 : 10000;
+    char name[64];
+    struct bench_case *c;
+    snprintf(name, sizeof name, "%s, %d hole%s", operation == PLAN ? "plan" : "check a plan", (int)holes,
+             holes == 1 ? "" : "s");
+    c = new_case(name, operation);
+    for (i = 0; i < calls; i++) {
+        struct call *call = &c->calls[c->count++];
+        call->packet = allocated(8 + 2 * width * (1 + holes));
+        call->size = status_packet(call->packet, width, holes, 1 + 7 * i, length, spacing);
+        call->largest = largest;
+        call->piece_count = holes * (many ? 2 : 3);
+        call->pieces = allocated(call->piece_count * sizeof *call->pieces);
+        if (plain_plan(call->packet, call->size, largest, call->pieces, call->piece_count).count != call->piece_count) {
+            fprintf(stderr, "bench: %s is no case\n", name);
+            exit(1);
+        }
+    }
+}
+
 static void make_cases(void)
 {
+    static const size_t holes[3] = {1, 64, 16000};
     static const size_t runs[3] = {1, 8, 63};
     size_t i;
     read_case(2, 0);
@@ -505,6 +591,8 @@ static void make_cases(void)
     status_case(16, 1, 64);
     status_case(16, 16, 64);
     open_and_close_cases();
+    for (i = 0; i < 6; i++)
+        plan_case(i < 3 ? PLAN : CHECK, holes[i % 3]);
 }
 
 static void compare_case(const struct bench_case *c, struct tables *t)
@@ -529,55 +617,74 @@ static void compare_case(const struct bench_case *c, struct tables *t)
             break;
         case CLOSE:
             compare_close(t, call->id);
+            break;
+        case PLAN:
+            compare_plan(call->packet, call->size, call->largest, call->piece_count);
+            break;
+        case CHECK:
+            compare_check(call->packet, call->size, call->largest, call->pieces, call->piece_count);
         }
     }
 }
 
 /* Running: the calls of a case from `from` up to, not including, `to`, straight to the functions of one receiver. */
 
-#define RUNNER(receiver, reader, ...)                                                                              \
-    static uint64_t receiver##_run(const struct bench_case *c, struct tables *t, size_t from, size_t to)           \
-    {                                                                                                              \
-        const struct call *call = c->calls + from, *end = c->calls + to;                                           \
-        uint64_t sum = 0;                                                                                          \
-        (void)t;                                                                                                   \
-        switch (c->operation) {                                                                                    \
-        case READ:                                                                                                 \
-            for (; call < end; call++)                                                                             \
-                sum += reader(call->packet, call->size).payload_len;                                               \
-            break;                                                                                                 \
-        case OPEN:                                                                                                 \
-            for (; call < end; call++)                                                                             \
-                sum += receiver##_open(__VA_ARGS__, call->packet, call->size).number;                              \
-            break;                                                                                                 \
-        case RECORD:                                                                                               \
-            for (; call < end; call++)                                                                             \
-                sum += receiver##_record(__VA_ARGS__, call->packet, call->size).edge;                              \
-            break;                                                                                                 \
-        case STATUS:                                                                                               \
-            for (; call < end; call++)                                                                             \
-                sum += receiver##_write_status(__VA_ARGS__, call->id, 0, 0, status_room, ROOM).size;               \
-            break;                                                                                                 \
-        case CLOSE:                                                                                                \
-            for (; call < end; call++)                                                                             \
-                sum += receiver##_close(__VA_ARGS__, call->id).number;                                             \
-        }                                                                                                          \
-        return sum;                                                                                                \
+#define RUNNER(receiver, codec, ...)                                                                                        \
+    static uint64_t receiver##_run(const struct bench_case *c, struct tables *t, size_t from, size_t to)                    \
+    {                                                                                                                       \
+        const struct call *call = c->calls + from, *end = c->calls + to;                                                    \
+        uint64_t sum = 0;                                                                                                   \
+        (void)t;                                                                                                            \
+        switch (c->operation) {                                                                                             \
+        case READ:                                                                                                          \
+            for (; call < end; call++)                                                                                      \
+                sum += codec##_read(call->packet, call->size).payload_len;                                                  \
+            break;                                                                                                          \
+        case OPEN:                                                                                                          \
+            for (; call < end; call++)                                                                                      \
+                sum += receiver##_open(__VA_ARGS__, call->packet, call->size).number;                                       \
+            break;                                                                                                          \
+        case RECORD:                                                                                                        \
+            for (; call < end; call++)                                                                                      \
+                sum += receiver##_record(__VA_ARGS__, call->packet, call->size).edge;                                       \
+            break;                                                                                                          \
+        case STATUS:                                                                                                        \
+            for (; call < end; call++)                                                                                      \
+                sum += receiver##_write_status(__VA_ARGS__, call->id, 0, 0, status_room, ROOM).size;                        \
+            break;                                                                                                          \
+        case CLOSE:                                                                                                         \
+            for (; call < end; call++)                                                                                      \
+                sum += receiver##_close(__VA_ARGS__, call->id).number;                                                      \
+            break;                                                                                                          \
+        case PLAN:                                                                                                          \
+            for (; call < end; call++)                                                                                      \
+                sum += codec##_plan(call->packet, call->size, call->largest, plan_room, PIECES_MOST).count;                 \
+            break;                                                                                                          \
+        case CHECK:                                                                                                         \
+            for (; call < end; call++)                                                                                      \
+                sum += codec##_check_plan(call->packet, call->size, call->largest, call->pieces, call->piece_count).passes; \
+        }                                                                                                                   \
+        return sum;                                                                                                         \
     }
 
-RUNNER(saratoga, saratoga_read, t->ours, AREA)
-RUNNER(memory, plain_read, t->memory)
-RUNNER(area, plain_read, t->plain, AREA)
-RUNNER(map, plain_read, t->map)
+RUNNER(saratoga, saratoga, t->ours, AREA)
+RUNNER(memory, plain, t->memory)
+RUNNER(area, plain, t->plain, AREA)
+RUNNER(map, plain, t->map)
 
 static uint64_t (*const runners[RECEIVERS])(const struct bench_case *, struct tables *, size_t, size_t) = {
     saratoga_run, memory_run, area_run, map_run};
 static volatile uint64_t kept;
 
-/* Reading is the same plain C in (A), (B) and (C). */
+/* What needs no table: the same plain C in (A), (B) and (C). */
+static int without_table(const struct bench_case *c)
+{
+    return c->operation == READ || c->operation == PLAN || c->operation == CHECK;
+}
+
 static int measured(const struct bench_case *c, enum receiver receiver)
 {
-    return c->operation != READ || receiver <= MEMORY;
+    return !without_table(c) || receiver <= MEMORY;
 }
 
 static double now(void)
@@ -662,7 +769,7 @@ static void print_time(double time)
 
 static void measure(size_t repeats)
 {
-    double clock, worst_record = 0, worst_read = 0, worst_few = 0;
+    double clock, worst_record = 0, worst_read = 0, worst_few = 0, worst_plan = 0;
     struct tables *t = allocated(sizeof *t);
     size_t i, k, r;
     make_tables(t);
@@ -696,8 +803,12 @@ static void measure(size_t repeats)
             worst_few = ratio[MAP];
         if (cases[i]->operation == READ && ratio[MEMORY] > worst_read)
             worst_read = ratio[MEMORY];
+        if (cases[i]->operation >= PLAN && ratio[MEMORY] > worst_plan)
+            worst_plan = ratio[MEMORY];
     }
     printf("aim: reading DATA at most 1.2 times plain C: %.2f, %s\n", worst_read, worst_read <= 1.2 ? "met" : "not met");
+    printf("aim: plans and their check at most 1.5 times plain C: %.2f, %s\n", worst_plan,
+           worst_plan <= 1.5 ? "met" : "not met");
     printf("aim: recording at most 1.5 times (B): %.2f, %s\n", worst_record, worst_record <= 1.5 ? "met" : "not met");
     printf("aim: recording with 1 and 8 runs in one open transfer at most 1.5 times (C): %.2f, %s\n", worst_few,
            worst_few <= 1.5 ? "met" : "not met");

@@ -1,7 +1,7 @@
 /*
  * The receivers beside ours, with the calls and the answers of saratoga.h.
  *
- * plain_read  reads a packet in plain C.
+ * plain_...   reads a packet, plans what to send again and checks a plan, in plain C.
  * memory_...  (A) keeps its table in its own memory and trusts it.
  * area_...    (B) keeps it in the lent area of docs/AREA.md and judges its used words at each call, as ours does.
  * map_...     (C) keeps the runs in ordered maps in memory (std::map) and trusts them.
@@ -16,6 +16,11 @@ extern "C" {
 #endif
 
 struct saratoga_packet plain_read(const uint8_t *packet, size_t packet_len);
+struct saratoga_planned plain_plan(const uint8_t *status, size_t status_len, uint64_t largest,
+                                   struct saratoga_piece *pieces, size_t piece_count);
+struct saratoga_planned plain_plan_count(const uint8_t *status, size_t status_len, uint64_t largest);
+struct saratoga_checked plain_check_plan(const uint8_t *status, size_t status_len, uint64_t largest,
+                                         const struct saratoga_piece *pieces, size_t piece_count);
 
 struct memory_table;
 struct memory_table *memory_new(void);

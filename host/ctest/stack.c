@@ -29,7 +29,11 @@ static uint64_t width_bits;
 static uint64_t width_flags(void) { return width_bits << 22; }
 static uint64_t properties(void) { return width_bits << 6; }
 static uint64_t free_flags(void) { return 0x0F4000 | width_bits << 12; }
-enum { LENGTH = 60000 };
+enum { LENGTH = 60000, PIECES = 4000 };
+
+/* A plan, and how many pieces it has. */
+static struct saratoga_piece pieces[PIECES];
+static size_t piece_count;
 
 static void accepted(uint64_t number)
 {
@@ -71,6 +75,7 @@ static void use_full(void) { memcpy(area, full, AREA); }
 static void for_metadata(void) { make_metadata(15); }
 static void for_data(void) { make_data(10, 0, PAYLOAD); }
 static void for_status(void) { size = saratoga_write_status(full, AREA, 10, 0, 1, packet, sizeof packet).size; }
+static void for_check(void) { for_status(); piece_count = saratoga_plan(packet, size, 3, pieces, PIECES).count; }
 static void for_beacon(void) { size = saratoga_write_beacon(free_flags(), 1, path, PATH, packet, sizeof packet).size; }
 static void for_failure(void) { size = saratoga_write_failure(10, 6, packet, sizeof packet).size; }
 static void for_nothing(void) { size = 0; }
@@ -94,6 +99,11 @@ static void no_table(void) { use_full(); area[0] = 17; make_data(80, 0, 5); }
 /* The calls. */
 static void read_packet(void) { saratoga_read(packet, size); }
 static void read_hole(void) { saratoga_read_hole(packet, size, RUNS - 1); }
+static void plan(void) { saratoga_plan(packet, size, 3, pieces, PIECES); }
+static void plan_too_long(void) { saratoga_plan(packet, size, 1, pieces, RUNS); }
+static void plan_count(void) { saratoga_plan_count(packet, size, 3); }
+static void check_plan(void) { saratoga_check_plan(packet, size, 3, pieces, piece_count); }
+static void check_other(void) { saratoga_check_plan(packet, size, 2, pieces, piece_count); }
 static void write_metadata(void)
 {
     saratoga_write_metadata(width_flags() | SARATOGA_CHECKSUM_MD5, 7, checksum, 16, properties(), 1, 0, 0, path, PATH, out,
@@ -132,6 +142,14 @@ static const struct way {
     {"saratoga_read", for_nothing, read_packet},
     {"saratoga_read_hole", for_status, read_hole},
     {"saratoga_read_hole", for_data, read_hole},
+    {"saratoga_plan", for_status, plan},
+    {"saratoga_plan", for_status, plan_too_long},
+    {"saratoga_plan", for_data, plan},
+    {"saratoga_plan_count", for_status, plan_count},
+    {"saratoga_plan_count", for_failure, plan_count},
+    {"saratoga_check_plan", for_check, check_plan},
+    {"saratoga_check_plan", for_check, check_other},
+    {"saratoga_check_plan", for_data, check_plan},
     {"saratoga_write_beacon", for_nothing, write_beacon},
     {"saratoga_write_metadata", for_nothing, write_metadata},
     {"saratoga_write_data", for_nothing, write_data},

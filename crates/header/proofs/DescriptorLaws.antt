@@ -9,7 +9,7 @@ use lib.Dec.{ltb}
 use borrow.Author.Tests.{le-ltb, ltb-false, not-false}
 use Rattle.octets.specs.Numbers.{Octets, upperZero}
 use Rattle.octets.proofs.NumberLaws.{part-octets}
-use Rattle.octets.proofs.UpperLaws.{small-lt}
+use Rattle.octets.proofs.UpperLaws.{small-lt, wide-value}
 use Rattle.refusals.specs.Refusals.{when}
 use Rattle.refusals.proofs.RefusalLaws.{first-none, rest-none, failed}
 use Rattle.header.specs.Descriptor.{descriptorAt, descriptorRefusal}
@@ -29,3 +29,7 @@ module _ (d at : ℕ) (s : List ℕ) where
 
   pub descriptor-lt : Octets s → descriptorRefusal d at s ≡ 0 → descriptorAt d at s < 2 ^ 64
   descriptor-lt o e = small-lt (take d (drop at s)) (part-octets s at d o (descriptor-there e)) (descriptor-small e)
+
+-- a descriptor of 16 octets is that of the last eight
+pub descriptor-wide : (at : ℕ) (s : List ℕ) → descriptorRefusal 16 at s ≡ 0 → descriptorAt 16 at s ≡ descriptorAt 8 (at + 8) s
+descriptor-wide at s e = wide-value s at 8 (descriptor-there 16 at s e) (descriptor-small 16 at s e)

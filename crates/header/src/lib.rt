@@ -106,13 +106,21 @@ pub fn descriptor_refusal(s: &[u8], at: usize, d: usize) -> u64
     5
 }
 
-// The value of the descriptor of d octets from `at` on, which is not refused.
+// The value of the descriptor of d octets from `at` on, which is not refused: of 16 octets the last eight.
 pub fn descriptor(s: &[u8], at: usize, d: usize) -> u64
     requires { ⌜ Width d × (descriptorRefusal d at (now s) ≡ 0) ⌝ }
     ensures { λ r. ⌜ r ≡ descriptorAt d at (now (s .entry)) ⌝ }
 {
-    let n = octets::read_number(s, at, d);
-    n.value
+    if d == 2 {
+        return octets::read_two(s, at);
+    }
+    if d == 4 {
+        return octets::read_four(s, at);
+    }
+    if d == 8 {
+        return octets::read_eight(s, at);
+    }
+    octets::read_eight(s, at + 8)
 }
 
 // Where the first word ends, and where the Id.

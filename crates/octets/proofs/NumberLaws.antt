@@ -27,6 +27,12 @@ width-narrow four n = omega arith
 width-narrow eight n = omega arith
 width-narrow sixteen n = absurd (n refl)
 
+pub width-wide : {d : ℕ} → Width d → (d ≡ 2 → ⊥) → (d ≡ 4 → ⊥) → (d ≡ 8 → ⊥) → d ≡ 16
+width-wide two a b c = absurd (a refl)
+width-wide four a b c = absurd (b refl)
+width-wide eight a b c = absurd (c refl)
+width-wide sixteen a b c = refl
+
 pub width-some : {d : ℕ} → Width d → 2 ≤ d
 width-some two = omega arith
 width-some four = omega arith

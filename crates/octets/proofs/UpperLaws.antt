@@ -92,11 +92,17 @@ module _ (s : List ℕ) (at n : ℕ) (h : at + (n + 8) ≤ length s) where
   unfolding upperZero
   upper-test = rw upper-part (sym (zero-value (take n (drop at s))))
 
+  lower-value : beValue (take n (drop at s)) ≡ 0 → beValue (take (n + 8) (drop at s)) ≡ beValue (take 8 (drop (at + n) s))
+  lower-value z = parts-value s at n 8 h ∙ rw (z, zero-mul, zero-add)
+
+  pub wide-value : upperZero (take (n + 8) (drop at s)) ≡ true → beValue (take (n + 8) (drop at s)) ≡ beValue (take 8 (drop (at + n) s))
+  wide-value u = lower-value (eqb-true _ _ (sym upper-test ∙ u))
+
   pub wide-small : beValue (take n (drop at s)) ≡ 0
       → record { small = true; value = beValue (take 8 (drop (at + n) s)) } ≡ numberIn (take (n + 8) (drop at s))
   wide-small z =
       sym (number-small (take (n + 8) (drop at s)) (upper-test ∙ eq-eqb _ 0 z)
-      ∙ ap {B = Number} (λ v. record { small = true; value = v }) (parts-value s at n 8 h ∙ rw (z, zero-mul, zero-add)))
+      ∙ ap {B = Number} (λ v. record { small = true; value = v }) (lower-value z))
 
   pub wide-large : (beValue (take n (drop at s)) ≡ 0 → ⊥) → record { small = false; value = 0 } ≡ numberIn (take (n + 8) (drop at s))
   wide-large z = sym (number-large (take (n + 8) (drop at s)) (upper-test ∙ ne-eqb _ 0 z))

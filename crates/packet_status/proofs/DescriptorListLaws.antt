@@ -7,9 +7,11 @@ use mathlib.Core.List.{List}
 use mathlib.Core.Logic.{_⊎_, inl, inr, ⊎-elim, _↔_}
 use native.Mathlib.Nat.{suc-mul, mul-le-mul-right, lt-of-lt-of-le}
 use native.Mathlib.Omega.{arith}
-use lib.ListN.{length, take, drop}
+use lib.ListN.{length, take, drop, length-drop}
 use borrow.Author.Tests.{le-ltb}
+use lib.Seq.{length-take-le}
 use Rattle.octets.specs.Numbers.{upperZero}
+use Rattle.octets.proofs.UpperLaws.{upper-none}
 use Rattle.refusals.specs.Refusals.{_▹_}
 use Rattle.refusals.proofs.RefusalLaws.{first-none, rest-none}
 use Rattle.refusals.proofs.LimitLaws.{when-all, chain-all}
@@ -100,3 +102,13 @@ module _ (d : ℕ) (s : List ℕ) where
       (λ e f. let z = descriptors-none-iff .1 f in omega arith),
       (λ f. ⊎-elim (λ z. absurd (f (descriptors-none-iff .0 z))) (λ e. e) (descriptors-all (λ m. (m ≡ 0) ⊎ (m ≡ 5)) n at h (inl refl) (inr refl))),
     )
+
+    -- at most eight octets have no upper ones
+    pub narrow-none : d ≤ 8 → descriptorsRefusal d n at s ≡ 0
+    narrow-none small =
+        descriptors-none-iff .1
+        (λ i l.
+        let part = drop (at + i * d) s in
+        let m : suc i * d ≤ n * d = mul-le-mul-right d l in
+        let there : d ≤ length part = omega (arith, suc-mul i d, length-drop (at + i * d) s) in
+        upper-none (take d part) (omega (arith, length-take-le d part there)))

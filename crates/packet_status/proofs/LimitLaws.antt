@@ -132,6 +132,14 @@ module _ (s : List ℕ) where
       (chains.when-all P (eqb (statusOf w) 0) (successRefusal s) (λ e. omega arith)
       (success-all P (λ e. omega arith) (λ e. omega arith) (λ e. omega arith) (λ e. omega arith)))
 
+  -- no number above 11 is given
+  pub status-le : statusRefusal s ≤ 11
+  unfolding statusRefusal
+  status-le =
+      let P : ℕ → Type 0 = λ m. m ≤ 11 in
+      chains.chain-all P (typeRefusal 4 s) _ (omega (arith, header.type-le 4 s))
+      (chains.when-all P (eqb (statusOf w) 0) (successRefusal s) (omega arith) (success-all P (omega arith) (omega arith) (omega arith) (omega arith)))
+
   -- "a failure STATUS is then accepted": nothing that follows is judged
   pub failure-start : (statusOf w ≡ 0 → ⊥) → statusRefusal s ≡ typeRefusal 4 s
   unfolding statusRefusal

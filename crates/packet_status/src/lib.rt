@@ -3,9 +3,11 @@ ghost use mathlib.Core.Path.{_≡_};
 ghost use Prim.Native.Nat.{_+_, _*_, _<_, _≤_};
 ghost use lib.ListN.{length};
 ghost use Rattle.octets.specs.Numbers.{Width};
+ghost use Rattle.header.specs.FirstWord.{descriptorOctets, statusOf};
+ghost use Rattle.header.specs.Start.{wordOf};
 ghost use Rattle.header.specs.Descriptor.{descriptorRefusal};
 ghost use Rattle.packet_status.specs.HoleList.{holeAt, holesOf, holesAfter, startsWell, holesWell, pointsToLast};
-ghost use Rattle.packet_status.specs.Status.{descriptorsRefusal, DescriptorsFine, listRefusal, successRefusal, statusRefusal, successOf, readStatus, holeRefusal, readHole};
+ghost use Rattle.packet_status.specs.Status.{descriptorsRefusal, DescriptorsFine, listRefusal, successRefusal, statusRefusal, holeCount, successOf, readStatus, holeRefusal, indexedHole, readHole};
 ghost use Rattle.packet_status.specs.WriteFailure.{failureWriteRefusal, failureWritten, failureBuffer};
 use refusals::Refusal;
 use refusals::Written;
@@ -53,7 +55,7 @@ fn hole_at(s: &[u8], at: usize, d: usize) -> Hole
 }
 
 // Whether the n holes from `from` on come one after the other, the first above prev, and none ends above top.
-fn holes_after(s: &[u8], from: usize, d: usize, n: usize, prev: u64, top: u64) -> bool
+fn holes_rise(s: &[u8], from: usize, d: usize, n: usize, prev: u64, top: u64) -> bool
     requires { ⌜ Width d × (from + n * (2 * d) ≤ length (now s)) × (descriptorsRefusal d (2 * n) from (now s) ≡ 0) ⌝ }
     ensures { λ r. ⌜ r ≡ holesAfter prev top (holesOf d n from (now (s .entry))) ⌝ }
 {
@@ -76,6 +78,23 @@ fn holes_after(s: &[u8], from: usize, d: usize, n: usize, prev: u64, top: u64) -
         left -= 1;
     }
     true
+}
+
+// The same. Each width is a literal, for which the compiler makes one load of each number.
+fn holes_after(s: &[u8], from: usize, d: usize, n: usize, prev: u64, top: u64) -> bool
+    requires { ⌜ Width d × (from + n * (2 * d) ≤ length (now s)) × (descriptorsRefusal d (2 * n) from (now s) ≡ 0) ⌝ }
+    ensures { λ r. ⌜ r ≡ holesAfter prev top (holesOf d n from (now (s .entry))) ⌝ }
+{
+    if d == 2 {
+        return holes_rise(s, from, 2, n, prev, top);
+    }
+    if d == 4 {
+        return holes_rise(s, from, 4, n, prev, top);
+    }
+    if d == 8 {
+        return holes_rise(s, from, 8, n, prev, top);
+    }
+    holes_rise(s, from, 16, n, prev, top)
 }
 
 // Whether a list may start so: from Progress on where it is partial, else at Progress.
@@ -168,7 +187,7 @@ fn list_refusal(p: &[u8]) -> u64
 }
 
 // The refusal of the first of the n descriptors of d octets from `from` on that is refused; 0 for none.
-fn descriptors_refusal(s: &[u8], from: usize, d: usize, n: usize) -> u64
+fn each_refusal(s: &[u8], from: usize, d: usize, n: usize) -> u64
     requires { ⌜ Width d × (from + n * d ≤ length (now s)) ⌝ }
     ensures { λ r. ⌜ r ≡ descriptorsRefusal d n from (now (s .entry)) ⌝ }
 {
@@ -183,6 +202,17 @@ fn descriptors_refusal(s: &[u8], from: usize, d: usize, n: usize) -> u64
         count -= 1;
     }
     0
+}
+
+// The same. At most eight octets have no upper ones, so that narrow descriptors need not be looked at.
+fn descriptors_refusal(s: &[u8], from: usize, d: usize, n: usize) -> u64
+    requires { ⌜ Width d × (from + n * d ≤ length (now s)) ⌝ }
+    ensures { λ r. ⌜ r ≡ descriptorsRefusal d n from (now (s .entry)) ⌝ }
+{
+    if d != 16 {
+        return 0;
+    }
+    each_refusal(s, from, d, n)
 }
 
 // Refusals 1, 5 and 11 of a success STATUS; 0 for none.
@@ -249,6 +279,17 @@ fn success_fields(p: &[u8]) -> SuccessStatus
     }
 }
 
+// How many holes a success STATUS lists that is not refused.
+pub fn hole_count(p: &[u8]) -> usize
+    requires { ⌜ (statusRefusal (now p) ≡ 0) × (statusOf (wordOf (now p)) ≡ 0) ⌝ }
+    ensures { λ r. ⌜ r ≡ holeCount (now (p .entry)) ⌝ }
+{
+    let w = header::word(p);
+    let d = header::descriptor_octets(w);
+    let holes = 8 + header::timestamp_octets(w) + 2 * d;
+    (p.len() - holes) / (2 * d)
+}
+
 // Reads a packet that has to be STATUS. Of a failure STATUS nothing after the Id is read.
 pub fn read_status(p: &[u8]) -> StatusRead
     ensures { λ r. ⌜ r ≡ readStatus (now (p .entry)) ⌝ }
@@ -288,6 +329,33 @@ fn hole_refusal(p: &[u8], index: u64) -> u64
     0
 }
 
+// The hole with this index, of a success STATUS whose list has it and whose descriptors have d octets.
+pub fn hole_of_width(p: &[u8], index: usize, d: usize) -> Hole
+    requires { ⌜ (holeRefusal index (now p) ≡ 0) × (d ≡ descriptorOctets (wordOf (now p))) ⌝ }
+    ensures { λ r. ⌜ r ≡ indexedHole index (now (p .entry)) ⌝ }
+{
+    let holes = 8 + header::timestamp_octets(header::word(p)) + 2 * d;
+    hole_at(p, holes + index * (2 * d), d)
+}
+
+// The same for every width. Each is a literal, for which the compiler makes one load of each number.
+pub fn listed_hole(p: &[u8], index: usize) -> Hole
+    requires { ⌜ holeRefusal index (now p) ≡ 0 ⌝ }
+    ensures { λ r. ⌜ r ≡ indexedHole index (now (p .entry)) ⌝ }
+{
+    let d = header::descriptor_octets(header::word(p));
+    if d == 2 {
+        return hole_of_width(p, index, 2);
+    }
+    if d == 4 {
+        return hole_of_width(p, index, 4);
+    }
+    if d == 8 {
+        return hole_of_width(p, index, 8);
+    }
+    hole_of_width(p, index, 16)
+}
+
 // One pair of the hole list of a success STATUS.
 pub fn read_hole(p: &[u8], index: u64) -> HoleRead
     ensures { λ r. ⌜ r ≡ readHole index (now (p .entry)) ⌝ }
@@ -296,10 +364,7 @@ pub fn read_hole(p: &[u8], index: u64) -> HoleRead
     if n != 0 {
         return HoleRead::Refused(refusals::refuse(n));
     }
-    let w = header::word(p);
-    let d = header::descriptor_octets(w);
-    let holes = 8 + header::timestamp_octets(w) + 2 * d;
-    HoleRead::Accepted(hole_at(p, holes + (index as usize) * (2 * d), d))
+    HoleRead::Accepted(listed_hole(p, index as usize))
 }
 
 // The refusal of a failure STATUS to be written into `room` octets; 0 for none.

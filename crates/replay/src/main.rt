@@ -79,12 +79,13 @@ fn replay(fd: i32, area: &mut [u8], body: &mut [u8], lent: &mut [u8], out: &mut 
     }
 }
 
-// One octet more than a packet may have is kept of a body, so that the reader itself refuses what is too long.
+// Of a body the pieces of a `K` are kept, and of a packet one octet more than it may have, so that the reader itself refuses what is too
+// long.
 fn run(fd: i32) {
     let mut area = [0u8; area::AREA_OCTETS];
-    let mut body = io::large_buffer();
+    let mut body = [0u8; 131088];
     let mut lent = [0u8; 65535];
-    let mut out = [0u8; 262144];
+    let mut out = [0u8; 524288];
     replay(fd, &mut area, &mut body, &mut lent, &mut out);
 }
 

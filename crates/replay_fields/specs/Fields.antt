@@ -8,7 +8,7 @@ use Rattle.octets.specs.Numbers.{beDigits}
 use Rattle.transfer.specs.declared.Reached.{Reached}
 use Rattle.text.specs.Decimal.{decimalOf}
 use Rattle.text.specs.Hex.{hexOf}
-use Rattle.replay_fields.specs.LineWords.{w-edge, w-complete}
+use Rattle.replay_fields.specs.LineWords.{comma, w-edge, w-complete}
 
 -- a name and a number in decimal
 abbrev pub field : List ℕ → ℕ → List ℕ
@@ -21,6 +21,14 @@ octetsField name s = name ++ hexOf s
 -- a name and the last d octets of a number in hex
 abbrev pub numberField : List ℕ → ℕ → ℕ → List ℕ
 numberField name d v = name ++ hexOf (beDigits d v)
+
+-- `1000-2000`, `1000+400`: two numbers with a sign between them
+abbrev pub pairText : List ℕ → ℕ → ℕ → List ℕ
+pairText sign a b = decimalOf a ++ field sign b
+
+-- what has this index in a list, after a comma where it is not the first
+abbrev pub inList : ℕ → List ℕ → List ℕ
+inList i text = cond (eqb i 0) text (comma ++ text)
 
 -- the bits of a descriptor, by its octets: 2, 4, 8 or 16
 abbrev pub bitsOf : ℕ → ℕ

@@ -119,6 +119,10 @@ w-status = 32 ∷ 115 ∷ 116 ∷ 97 ∷ 116 ∷ 117 ∷ 115 ∷ 61 ∷ []
 abbrev pub dash : List ℕ
 dash = 45 ∷ []
 
+-- "+"
+abbrev pub plus : List ℕ
+plus = 43 ∷ []
+
 -- ","
 abbrev pub comma : List ℕ
 comma = 44 ∷ []
@@ -198,3 +202,15 @@ w-free = 32 ∷ 102 ∷ 114 ∷ 101 ∷ 101 ∷ 61 ∷ []
 -- " endpoint="
 abbrev pub w-endpoint : List ℕ
 w-endpoint = 32 ∷ 101 ∷ 110 ∷ 100 ∷ 112 ∷ 111 ∷ 105 ∷ 110 ∷ 116 ∷ 61 ∷ []
+
+-- " plan count="
+abbrev pub w-plan : List ℕ
+w-plan = 32 ∷ 112 ∷ 108 ∷ 97 ∷ 110 ∷ 32 ∷ 99 ∷ 111 ∷ 117 ∷ 110 ∷ 116 ∷ 61 ∷ []
+
+-- " pieces="
+abbrev pub w-pieces : List ℕ
+w-pieces = 32 ∷ 112 ∷ 105 ∷ 101 ∷ 99 ∷ 101 ∷ 115 ∷ 61 ∷ []
+
+-- " check passes="
+abbrev pub w-check : List ℕ
+w-check = 32 ∷ 99 ∷ 104 ∷ 101 ∷ 99 ∷ 107 ∷ 32 ∷ 112 ∷ 97 ∷ 115 ∷ 115 ∷ 101 ∷ 115 ∷ 61 ∷ []

@@ -1,9 +1,10 @@
-// The parts of a line: a name with a number in decimal, with octets in hex, or with the last octets of a number in hex.
+// The parts of a line: a name with a number in decimal, with octets in hex, or with the last octets of a number in hex; and a pair of
+// numbers in a list.
 ghost use mathlib.Core.Path.{_≡_};
 ghost use Prim.Native.Nat.{_≤_};
 ghost use lib.ListN.{length, take, drop};
 ghost use Rattle.text.specs.Added.{Added};
-ghost use Rattle.replay_fields.specs.Fields.{field, octetsField, numberField, bitsOf, flagOf, reachedText};
+ghost use Rattle.replay_fields.specs.Fields.{field, octetsField, numberField, pairText, inList, bitsOf, flagOf, reachedText};
 use transfer::Reached;
 
 // A name and a number.
@@ -31,6 +32,27 @@ pub fn put_number(out: &mut [u8], at: usize, name: &[u8], d: usize, v: u64) -> u
 {
     let next = text::put_text(out, at, name);
     text::put_number(out, next, d, v)
+}
+
+// Two numbers, with a sign between them.
+fn put_pair(out: &mut [u8], at: usize, sign: &[u8], a: u64, b: u64) -> usize
+    requires { ⌜ at ≤ length (now out) ⌝ }
+    ensures { λ r. ⌜ Added (now (out .entry)) at (pairText (now (sign .entry)) a b) (now (out .exit)) r ⌝ }
+{
+    let next = text::put_decimal(out, at, a);
+    put_field(out, next, sign, b)
+}
+
+// The pair with this index in a list: after a comma, where it is not the first.
+pub fn put_in_list(out: &mut [u8], at: usize, index: u64, sign: &[u8], a: u64, b: u64) -> usize
+    requires { ⌜ at ≤ length (now out) ⌝ }
+    ensures { λ r. ⌜ Added (now (out .entry)) at (inList index (pairText (now (sign .entry)) a b)) (now (out .exit)) r ⌝ }
+{
+    if index == 0 {
+        return put_pair(out, at, sign, a, b);
+    }
+    let next = text::push(out, at, 44);
+    put_pair(out, next, sign, a, b)
 }
 
 // The bits of a descriptor of so many octets.

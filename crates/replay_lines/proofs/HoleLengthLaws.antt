@@ -1,11 +1,9 @@
 -- How long the text of a hole list is at most: three octets for each octet of the list. With it the line of a success STATUS.
 -- Assumes nothing.
 use Prim.Native.Nat.{ℕ, zero, suc, _+_, _*_, _^_, _<_, _≤_}
-use mathlib.Core.Bool.{Bool, true, false, cond}
 use mathlib.Core.List.{List, _++_}
 use native.Mathlib.Nat.{mul-suc, mul-comm, div-mul-le-self, one-le-pow, pow-le-pow-right, lt-of-lt-of-le}
 use native.Mathlib.Omega.{arith}
-use lib.Dec.{eqb}
 use lib.ListN.{length, take, drop}
 use Rattle.octets.specs.Numbers.{beValue, Octets}
 use Rattle.octets.proofs.NumberLaws.{value-lt, octets-take, octets-drop}
@@ -17,8 +15,8 @@ use Rattle.packet_status.specs.Status.{holesAt, listOctets, holeCount, holeRefu
 use Rattle.packet_status.specs.declared.HoleRead.the-variants as hole-read
 use Rattle.text.proofs.LengthLaws.{AtMost, words, _and_, at-most, taken, decimal-octets}
 use Rattle.replay_fields.specs.LineWords.{comma, dash, newline, w-holes, w-progress, w-response, w-success, w-timestamp}
-use Rattle.replay_fields.proofs.LengthLaws.{fieldMost, field-most, octets-field-most}
-use Rattle.replay_lines.specs.Lines.{holeText, nextHole, holeAfter, holesText, successLine}
+use Rattle.replay_fields.proofs.LengthLaws.{fieldMost, field-most, octets-field-most, in-list-most}
+use Rattle.replay_lines.specs.Lines.{holeText, holeAfter, holesText, successLine}
 use Rattle.replay_lines.proofs.LengthLaws.{headMost, head-most}
 
 -- what d octets from any place on stand for
@@ -31,13 +29,6 @@ part-below s at d o =
 module _ (d : ℕ) (two : 2 ≤ d) (h : Hole) (s : h .start < 256 ^ d) (e : h .end < 256 ^ d) where
   hole-most : AtMost (comma ++ holeText h) (3 * (2 * d))
   hole-most = at-most (words comma and decimal-octets d (h .start) two s and words dash and decimal-octets d (h .end) two e) (omega arith)
-
-  next-most : (i : ℕ) → AtMost (nextHole i h) (3 * (2 * d))
-  next-most i = go (eqb i 0)
-    where
-      go : (b : Bool) → AtMost (cond b (holeText h) (comma ++ holeText h)) (3 * (2 * d))
-      go true = record { most = omega (arith, hole-most .most) }
-      go false = hole-most
 
 module _ (p : List ℕ) (o : Octets p) where
   -- the octets of a pair
@@ -52,7 +43,7 @@ module _ (p : List ℕ) (o : Octets p) where
       go zero =
           let d = descriptorOctets (wordOf p) in
           let at = holesAt (wordOf p) + i * (2 * d) in
-          next-most d (omega (arith, one-le-pow (widthOf (wordOf p)) 2 (omega arith))) (indexedHole i p) (part-below p at d o) (part-below p (at + d) d o) i
+          in-list-most i (hole-most d (omega (arith, one-le-pow (widthOf (wordOf p)) 2 (omega arith))) (indexedHole i p) (part-below p at d o) (part-below p (at + d) d o))
       go (suc n) = record { most = omega arith }
 
   first-most : (k : ℕ) → AtMost (holesText p k) (3 * pairOctets * k)

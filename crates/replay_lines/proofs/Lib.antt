@@ -1,2 +1,3 @@
+pub mod HoleLaws
 pub mod LengthLaws
 pub mod HoleLengthLaws

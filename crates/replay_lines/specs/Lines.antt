@@ -1,9 +1,7 @@
 -- The line of each answer: the number of its record, words and fields, and the line's end.
 -- Assumes nothing.
 use Prim.Native.Nat.{ℕ, zero, suc}
-use mathlib.Core.Bool.{cond}
 use mathlib.Core.List.{List, [], _++_}
-use lib.Dec.{eqb}
 use lib.ListN.{length, take, drop}
 use Rattle.runs.specs.declared.Hole.{Hole}
 use Rattle.refusals.specs.declared.Refusal.{Refusal}
@@ -16,10 +14,12 @@ use Rattle.packet_status.specs.declared.SuccessStatus.{SuccessStatus}
 use Rattle.packet_status.specs.declared.FailureStatus.{FailureStatus}
 use Rattle.packet_status.specs.declared.HoleRead.{HoleRead}
 use Rattle.packet_status.specs.declared.HoleRead.the-variants as hole-read
+use Rattle.packet_status.specs.declared.StatusRead.{StatusRead}
+use Rattle.packet_status.specs.declared.StatusRead.the-variants as status-read
 use Rattle.transfer.specs.declared.Reached.{Reached}
 use Rattle.text.specs.Decimal.{decimalOf}
-use Rattle.replay_fields.specs.LineWords.{comma, dash, newline, w-checksum, w-close, w-code, w-ctime, w-data, w-failure, w-flags, w-holes, w-length, w-metadata, w-mtime, w-offset, w-open, w-path, w-progress, w-properties, w-record, w-refused, w-response, w-size, w-status, w-success, w-timestamp, w-unknown, w-width}
-use Rattle.replay_fields.specs.Fields.{field, octetsField, numberField, bitsOf, reachedText}
+use Rattle.replay_fields.specs.LineWords.{dash, newline, w-checksum, w-close, w-code, w-ctime, w-data, w-failure, w-flags, w-holes, w-length, w-metadata, w-mtime, w-offset, w-open, w-path, w-progress, w-properties, w-record, w-refused, w-response, w-size, w-status, w-success, w-timestamp, w-unknown, w-width}
+use Rattle.replay_fields.specs.Fields.{field, octetsField, numberField, pairText, inList, bitsOf, reachedText}
 
 -- words alone, which end the line
 unfoldable pub plainLine : ℕ → List ℕ → List ℕ
@@ -92,15 +92,18 @@ dataLine n p d =
 
 -- `1000-2000`
 abbrev pub holeText : Hole → List ℕ
-holeText h = decimalOf (h .start) ++ field dash (h .end)
+holeText h = pairText dash (h .start) (h .end)
 
--- the hole with this index, after a comma where it is not the first
-abbrev pub nextHole : ℕ → Hole → List ℕ
-nextHole i h = cond (eqb i 0) (holeText h) (comma ++ holeText h)
-
+-- the hole with this index in the list
 unfoldable pub holeAfter : ℕ → HoleRead → List ℕ
-holeAfter i (hole-read.Accepted h) = nextHole i h
+holeAfter i (hole-read.Accepted h) = inList i (holeText h)
 holeAfter i (hole-read.Refused r) = []
+
+-- how many holes a packet lists, by what it was read as
+abbrev pub holesListed : StatusRead → ℕ
+holesListed (status-read.Success s) = s .count
+holesListed (status-read.Failure f) = 0
+holesListed (status-read.Refused r) = 0
 
 -- the first k holes
 unfoldable pub holesText : List ℕ → ℕ → List ℕ

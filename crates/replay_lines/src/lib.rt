@@ -1,23 +1,25 @@
 // The line of each answer. Each starts with the number of its record.
+ghost use mathlib.Core.Path.{_≡_};
 ghost use Prim.Native.Nat.{_≤_};
 ghost use lib.ListN.{length};
-ghost use Rattle.packet_status.specs.Status.{readHole};
+ghost use Rattle.packet_status.specs.Status.{readStatus, readHole};
 ghost use Rattle.text.specs.Added.{Added};
-ghost use Rattle.replay_lines.specs.Lines.{plainLine, refusedLine, closeLine, octetsLine, unknownLine, openedLine, recordLine, headText, entryText, metadataLine, dataLine, holeText, nextHole, holeAfter, holesText, successLine, failureLine};
+ghost use Rattle.replay_lines.specs.Lines.{plainLine, refusedLine, closeLine, octetsLine, unknownLine, openedLine, recordLine, headText, entryText, metadataLine, dataLine, holesListed, holeAfter, holesText, successLine, failureLine};
+ghost use Rattle.replay_lines.specs.Body.{badLine};
 use directory_entry::Entry;
 use packet_data::Data;
 use packet_metadata::Metadata;
 use packet_status::FailureStatus;
-use packet_status::HoleRead;
+use packet_status::StatusRead;
 use packet_status::SuccessStatus;
 use refusals::Refusal;
 use replay_fields::bits_of;
 use replay_fields::part;
 use replay_fields::put_field;
+use replay_fields::put_in_list;
 use replay_fields::put_number;
 use replay_fields::put_octets;
 use replay_fields::put_reached;
-use runs::Hole;
 use transfer::Reached;
 
 // Words alone; they end the line themselves.
@@ -27,6 +29,14 @@ pub fn put_plain(out: &mut [u8], at: usize, number: u64, words: &[u8]) -> usize
 {
     let next = text::put_decimal(out, at, number);
     text::put_text(out, next, words)
+}
+
+// A body that is not as long as its kind asks for.
+pub fn put_bad_length(out: &mut [u8], at: usize, number: u64) -> usize
+    requires { ⌜ at ≤ length (now out) ⌝ }
+    ensures { λ r. ⌜ Added (now (out .entry)) at (badLine number) (now (out .exit)) r ⌝ }
+{
+    put_plain(out, at, number, b" bad length\n")
 }
 
 // A refusal.
@@ -158,48 +168,39 @@ pub fn put_data(out: &mut [u8], at: usize, number: u64, p: &[u8], d: Data) -> us
     text::push(out, e, 10)
 }
 
-// A hole.
-fn put_pair(out: &mut [u8], at: usize, h: Hole) -> usize
-    requires { ⌜ at ≤ length (now out) ⌝ }
-    ensures { λ r. ⌜ Added (now (out .entry)) at (holeText h) (now (out .exit)) r ⌝ }
+// How many holes the packet p lists: none, where it is no success STATUS or is refused.
+fn hole_count(p: &[u8]) -> usize
+    ensures { λ r. ⌜ r ≡ holesListed (readStatus (now (p .entry))) ⌝ }
 {
-    let next = text::put_decimal(out, at, h.start);
-    put_field(out, next, b"-", h.end)
-}
-
-// A hole, after a comma where it is not the first.
-fn put_next_pair(out: &mut [u8], at: usize, index: u64, h: Hole) -> usize
-    requires { ⌜ at ≤ length (now out) ⌝ }
-    ensures { λ r. ⌜ Added (now (out .entry)) at (nextHole index h) (now (out .exit)) r ⌝ }
-{
-    if index == 0 {
-        return put_pair(out, at, h);
+    match packet_status::read_status(p) {
+        StatusRead::Success(s) => s.count,
+        StatusRead::Failure(_) => 0,
+        StatusRead::Refused(_) => 0,
     }
-    let next = text::push(out, at, 44);
-    put_pair(out, next, h)
 }
 
-// One hole of the packet p.
-fn put_hole(out: &mut [u8], at: usize, p: &[u8], index: u64) -> usize
-    requires { ⌜ at ≤ length (now out) ⌝ }
+// One hole of the packet p, which lists so many; no text where it lists none with this index.
+fn put_hole(out: &mut [u8], at: usize, p: &[u8], listed: usize, index: usize) -> usize
+    requires { ⌜ (at ≤ length (now out)) × (listed ≡ holesListed (readStatus (now p))) ⌝ }
     ensures { λ r. ⌜ Added (now (out .entry)) at (holeAfter index (readHole index (now (p .entry)))) (now (out .exit)) r ⌝ }
 {
-    let h = packet_status::read_hole(p, index);
-    match h {
-        HoleRead::Accepted(pair) => put_next_pair(out, at, index, pair),
-        HoleRead::Refused(_) => at,
+    if listed <= index {
+        return at;
     }
+    let h = packet_status::listed_hole(p, index);
+    put_in_list(out, at, index as u64, b"-", h.start, h.end)
 }
 
-// The first `count` holes of the packet p.
+// The first `count` holes of the packet p. It is judged once, and not at every hole.
 fn put_holes(out: &mut [u8], at: usize, p: &[u8], count: usize) -> usize
     requires { ⌜ at ≤ length (now out) ⌝ }
     ensures { λ r. ⌜ Added (now (out .entry)) at (holesText (now (p .entry)) count) (now (out .exit)) r ⌝ }
 {
+    let listed = hole_count(p);
     let mut next = at;
     let mut i = 0;
     while i < count {
-        next = put_hole(out, next, p, i as u64);
+        next = put_hole(out, next, p, listed, i);
         i += 1;
     }
     next

@@ -36,11 +36,12 @@ use Rattle.area.specs.Operations.{fromFound, fromTable, freshArea, closeArea, a
 use Rattle.area.proofs.JudgeLaws.{held-valid}
 use Rattle.text.proofs.LengthLaws.{AtMost, words, _and_, at-most, part-most}
 use Rattle.replay_fields.specs.LineWords.{w-bad}
+use Rattle.replay_lines.specs.Body.{numberAt, badLine}
 use Rattle.replay_lines.proofs.LengthLaws.{plain-most}
 use Rattle.replay_answers.specs.AnswerLines.{freshText, closeText, sentText}
 use Rattle.replay_answers.proofs.LengthLaws.{shortMost, refused-short, fresh-most, close-text-most, opening-most, recording-most, status-text-most, sent-most}
 use Rattle.replay_steps.specs.Deliver.{failureSent, refusalLines, openedCode, openedLines, wantedSent, recordedSent, recordedLines}
-use Rattle.replay_steps.specs.Records.{numberAt, badLine, freshLines, closeLines, writtenLine, statusLines, timeLines}
+use Rattle.replay_steps.specs.Records.{freshLines, closeLines, writtenLine, statusLines, timeLines}
 
 -- a line of words and numbers, and the octets of a buffer of m
 abbrev pub sentMost : ℕ → ℕ

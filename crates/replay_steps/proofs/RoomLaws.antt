@@ -24,6 +24,8 @@ use Rattle.replay_lines.proofs.LengthLaws.{plain-most, unknown-most, failure-mo
 use Rattle.replay_answers.specs.AnswerLines.{openText, recordText, readText}
 use Rattle.replay_answers.proofs.CaseLaws.{read-cases}
 use Rattle.replay_answers.proofs.LengthLaws.{open-most, record-text-most, read-most, success-line-most}
+use Rattle.replay_plan.specs.PlanRecords.{planLines, checkLines}
+use Rattle.replay_plan.proofs.LengthLaws.{plan-lines-most, check-lines-most}
 use Rattle.replay_steps.specs.Deliver.{deliverLines}
 use Rattle.replay_steps.specs.Room.{bodyMost, lentMost, outLeast, Room}
 use Rattle.replay_steps.specs.Records.{cutLine, freshLines, closeLines, statusLines, timeLines, recordLines}
@@ -43,9 +45,9 @@ module _ (n : ℕ) (body area room : List ℕ) (o : Octets body) (b : AtMost bod
 
   kind-most : (kind : ℕ) → AtMost (recordLines n kind body area room) outLeast
   unfolding recordLines
-  kind-most kind = go (eqb kind 0x46) (eqb kind 0x4f) (eqb kind 0x44) (eqb kind 0x52) (eqb kind 0x53) (eqb kind 0x43) (eqb kind 0x50) (eqb kind 0x57)
+  kind-most kind = go (eqb kind 0x46) (eqb kind 0x4f) (eqb kind 0x44) (eqb kind 0x52) (eqb kind 0x53) (eqb kind 0x43) (eqb kind 0x50) (eqb kind 0x57) (eqb kind 0x4c) (eqb kind 0x4b)
     where
-      go : (f o d q s c p w : Bool) → AtMost
+      go : (f o d q s c p w l k : Bool) → AtMost
           (cond f (freshLines n body area)
           (cond o (openText n (readMetadata body) (openArea area body .answer))
           (cond d (recordText n (readData body) (recordArea area body .answer))
@@ -54,16 +56,20 @@ module _ (n : ℕ) (body area room : List ℕ) (o : Octets body) (b : AtMost bod
           (cond c (closeLines n body area)
           (cond p (deliverLines n body (readPacket body) area room)
           (cond w (timeLines n body)
-          (unknownLine n kind))))))))) outLeast
-      go true o d q s c p w = at-most (fresh-lines-most n body area) (omega arith)
-      go false true d q s c p w = at-most (open-most n (readMetadata body) (openArea area body .answer)) (omega arith)
-      go false false true q s c p w = at-most (record-text-most n (readData body) (recordArea area body .answer)) (omega arith)
-      go false false false true s c p w = at-most (read-most n body o b) (omega arith)
-      go false false false false true c p w = at-most (status-lines-most r n body area) (omega arith)
-      go false false false false false true p w = at-most (close-lines-most n body area) (omega arith)
-      go false false false false false false true w = deliver-most
-      go false false false false false false false true = at-most (time-lines-most n body) (omega arith)
-      go false false false false false false false false = at-most (unknown-most n kind) (omega arith)
+          (cond l (planLines n body)
+          (cond k (checkLines n body)
+          (unknownLine n kind))))))))))) outLeast
+      go true o d q s c p w l k = at-most (fresh-lines-most n body area) (omega arith)
+      go false true d q s c p w l k = at-most (open-most n (readMetadata body) (openArea area body .answer)) (omega arith)
+      go false false true q s c p w l k = at-most (record-text-most n (readData body) (recordArea area body .answer)) (omega arith)
+      go false false false true s c p w l k = at-most (read-most n body o b) (omega arith)
+      go false false false false true c p w l k = at-most (status-lines-most r n body area) (omega arith)
+      go false false false false false true p w l k = at-most (close-lines-most n body area) (omega arith)
+      go false false false false false false true w l k = deliver-most
+      go false false false false false false false true l k = at-most (time-lines-most n body) (omega arith)
+      go false false false false false false false false true k = at-most (plan-lines-most n body) (omega arith)
+      go false false false false false false false false false true = at-most (check-lines-most n body) (omega arith)
+      go false false false false false false false false false false = at-most (unknown-most n kind) (omega arith)
 
 -- the lines of a record of any number and kind, over any area, fit
 pub record-lines-fit : (n kind : ℕ) (body area room : List ℕ) → Octets body → length body ≤ bodyMost → length room ≤ lentMost

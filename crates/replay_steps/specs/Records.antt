@@ -4,20 +4,17 @@ use Prim.Native.Nat.{ℕ, min}
 use mathlib.Core.Bool.{Bool, not, cond}
 use mathlib.Core.List.{List, []}
 use lib.Dec.{eqb, ltb}
-use lib.ListN.{length, take, drop, getD}
-use Rattle.octets.specs.Numbers.{beValue}
+use lib.ListN.{length, take, getD}
 use Rattle.packet.specs.Read.{readPacket}
 use Rattle.packet_data.specs.Data.{readData}
 use Rattle.packet_metadata.specs.Metadata.{readMetadata}
 use Rattle.area.specs.Operations.{freshArea, openArea, recordArea, closeArea, areaStatusWritten, areaStatusBuffer}
 use Rattle.replay_lines.specs.Lines.{plainLine, unknownLine}
-use Rattle.replay_fields.specs.LineWords.{w-bad, w-cut}
+use Rattle.replay_lines.specs.Body.{numberAt, badLine}
+use Rattle.replay_fields.specs.LineWords.{w-cut}
+use Rattle.replay_plan.specs.PlanRecords.{planLines, checkLines}
 use Rattle.replay_answers.specs.AnswerLines.{freshText, closeText, openText, recordText, readText, statusText}
 use Rattle.replay_steps.specs.Deliver.{deliverLines, deliverArea}
-
--- the number that n octets from a place on stand for
-abbrev pub numberAt : ℕ → ℕ → List ℕ → ℕ
-numberAt at n s = beValue (take n (drop at s))
 
 -- "A record is one octet of kind, a length of four octets, big-endian, and a body"; 0 where the five are not there
 unfoldable pub bodyLength : List ℕ → ℕ
@@ -26,10 +23,6 @@ bodyLength head = cond (ltb (length head) 5) 0 (numberAt 1 4 head)
 -- "the last, where the input ends inside its record"
 abbrev pub cutLine : ℕ → List ℕ
 cutLine n = plainLine n w-cut
-
--- "A body of `F`, `S`, `C` or `W` with another length is answered `bad length`"
-abbrev pub badLine : ℕ → List ℕ
-badLine n = plainLine n w-bad
 
 -- `F`, body: "none"; "makes the table fresh"
 unfoldable pub freshLines : ℕ → List ℕ → List ℕ → List ℕ
@@ -63,7 +56,7 @@ statusLines n body area room =
 unfoldable pub timeLines : ℕ → List ℕ → List ℕ
 timeLines n body = cond (eqb (length body) 8) [] (badLine n)
 
--- the lines of a record, by its kind: `F` 46, `O` 4f, `D` 44, `R` 52, `S` 53, `C` 43, `P` 50, `W` 57 (hex)
+-- the lines of a record, by its kind: `F` 46, `O` 4f, `D` 44, `R` 52, `S` 53, `C` 43, `P` 50, `W` 57, `L` 4c, `K` 4b (hex)
 unfoldable pub recordLines : ℕ → ℕ → List ℕ → List ℕ → List ℕ → List ℕ
 recordLines n kind body area room =
     cond (eqb kind 0x46) (freshLines n body area)
@@ -74,9 +67,11 @@ recordLines n kind body area room =
     (cond (eqb kind 0x43) (closeLines n body area)
     (cond (eqb kind 0x50) (deliverLines n body (readPacket body) area room)
     (cond (eqb kind 0x57) (timeLines n body)
-    (unknownLine n kind))))))))
+    (cond (eqb kind 0x4c) (planLines n body)
+    (cond (eqb kind 0x4b) (checkLines n body)
+    (unknownLine n kind))))))))))
 
--- the area after it: `R`, `S`, `W` and a kind that there is not leave it
+-- the area after it: `R`, `S`, `W`, `L`, `K` and a kind that there is not leave it
 unfoldable pub areaAfter : ℕ → List ℕ → List ℕ → List ℕ
 areaAfter kind body area =
     cond (eqb kind 0x46) (freshAfter body area)

@@ -8,7 +8,7 @@ ghost use Rattle.packet_data.specs.Data.{readData};
 ghost use Rattle.packet_metadata.specs.Metadata.{readMetadata};
 ghost use Rattle.text.specs.Added.{Added};
 ghost use Rattle.replay_answers.specs.AnswerLines.{openText, recordText, readText};
-ghost use Rattle.replay_steps.specs.Records.{bodyLength, cutLine, badLine, freshLines, freshAfter, closeLines, closeAfter, writtenLine, statusLines, timeLines, recordLines, areaAfter};
+ghost use Rattle.replay_steps.specs.Records.{bodyLength, cutLine, freshLines, freshAfter, closeLines, closeAfter, writtenLine, statusLines, timeLines, recordLines, areaAfter};
 ghost use Rattle.replay_steps.specs.Room.{Room};
 use crate::deliver::deliver;
 use replay_answers::put_close;
@@ -35,19 +35,13 @@ pub fn cut_short(number: u64, out: &mut [u8]) -> usize
     replay_lines::put_plain(out, 0, number, b" cut short\n")
 }
 
-fn bad_length(number: u64, out: &mut [u8]) -> usize
-    ensures { λ r. ⌜ Added (now (out .entry)) 0 (badLine number) (now (out .exit)) r ⌝ }
-{
-    replay_lines::put_plain(out, 0, number, b" bad length\n")
-}
-
 // `F`: makes the table fresh.
 fn fresh(area: &mut [u8], number: u64, body: &[u8], out: &mut [u8]) -> usize
     ensures { λ r. ⌜ (Added (now (out .entry)) 0 (freshLines number (now (body .entry)) (now (area .entry))) (now (out .exit)) r)
         × (now (area .exit) ≡ freshAfter (now (body .entry)) (now (area .entry))) ⌝ }
 {
     if body.len() != 0 {
-        return bad_length(number, out);
+        return replay_lines::put_bad_length(out, 0, number);
     }
     let a = area_open::fresh(area);
     put_fresh(out, 0, number, a)
@@ -112,7 +106,7 @@ fn status(area: &[u8], number: u64, body: &[u8], lent: &mut [u8], out: &mut [u8]
     ensures { λ r. ⌜ Added (now (out .entry)) 0 (statusLines number (now (body .entry)) (now (area .entry)) (now (lent .entry))) (now (out .exit)) r ⌝ }
 {
     if body.len() != 17 {
-        return bad_length(number, out);
+        return replay_lines::put_bad_length(out, 0, number);
     }
     let id = octets::read_four(body, 0);
     let skip = octets::read_eight(body, 4);
@@ -127,7 +121,7 @@ fn close(area: &mut [u8], number: u64, body: &[u8], out: &mut [u8]) -> usize
         × (now (area .exit) ≡ closeAfter (now (body .entry)) (now (area .entry))) ⌝ }
 {
     if body.len() != 4 {
-        return bad_length(number, out);
+        return replay_lines::put_bad_length(out, 0, number);
     }
     let id = octets::read_four(body, 0);
     let a = area_open::close(area, id);
@@ -139,7 +133,7 @@ fn time(number: u64, body: &[u8], out: &mut [u8]) -> usize
     ensures { λ r. ⌜ Added (now (out .entry)) 0 (timeLines number (now (body .entry))) (now (out .exit)) r ⌝ }
 {
     if body.len() != 8 {
-        return bad_length(number, out);
+        return replay_lines::put_bad_length(out, 0, number);
     }
     0
 }
@@ -179,6 +173,12 @@ fn lines(
     }
     if kind == b'W' {
         return time(number, body, out);
+    }
+    if kind == b'L' {
+        return replay_plan::plan_record(number, body, out);
+    }
+    if kind == b'K' {
+        return replay_plan::check_record(number, body, out);
     }
     replay_lines::put_unknown(out, 0, number, kind as u64)
 }

@@ -2,3 +2,4 @@ pub mod PacketAnswers
 pub mod Answers
 pub mod TableAnswers
 pub mod Reported
+pub mod PlanAnswers

@@ -2,4 +2,5 @@
 // Every struct has fields of 64 bits alone. `number` is 0 where the call is accepted; a refusal leaves the area and every
 // lent buffer as they were.
 pub mod packets;
+pub mod plans;
 pub mod receiver;

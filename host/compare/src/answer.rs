@@ -1,6 +1,8 @@
 //! The answers as include/saratoga.h lays them out. On refusal all but `number` and `code` is 0.
 
 use paper::layout::Willingness;
+/// `struct saratoga_piece`
+pub use paper::plan::Piece;
 use paper::read;
 use paper::refusal::Refusal;
 use paper::table;
@@ -63,6 +65,24 @@ pub struct Packet {
     pub endpoint_len: u64,
 }
 
+/// `struct saratoga_planned`
+#[repr(C)]
+#[derive(Clone, Copy, Debug, Default, PartialEq, Eq)]
+pub struct Planned {
+    pub number: u64,
+    pub code: u64,
+    pub count: u64,
+}
+
+/// `struct saratoga_checked`
+#[repr(C)]
+#[derive(Clone, Copy, Debug, Default, PartialEq, Eq)]
+pub struct Checked {
+    pub number: u64,
+    pub code: u64,
+    pub passes: u64,
+}
+
 /// `struct saratoga_done`
 #[repr(C)]
 #[derive(Clone, Copy, Debug, Default, PartialEq, Eq)]
@@ -104,6 +124,24 @@ pub struct Listed {
     pub edge: u64,
     pub complete: u64,
     pub runs: u64,
+}
+
+impl From<Result<u64, Refusal>> for Planned {
+    fn from(answer: Result<u64, Refusal>) -> Planned {
+        match answer {
+            Ok(count) => Planned { count, ..Planned::default() },
+            Err(refusal) => Planned { number: refusal.number(), code: refusal.code(), ..Planned::default() },
+        }
+    }
+}
+
+impl From<Result<bool, Refusal>> for Checked {
+    fn from(answer: Result<bool, Refusal>) -> Checked {
+        match answer {
+            Ok(passes) => Checked { passes: passes.into(), ..Checked::default() },
+            Err(refusal) => Checked { number: refusal.number(), code: refusal.code(), ..Checked::default() },
+        }
+    }
 }
 
 impl From<Result<(), Refusal>> for Done {

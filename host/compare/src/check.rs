@@ -8,6 +8,7 @@ use paper::write::{BeaconFields, DataFields, MetadataFields};
 use crate::answer::{Hole, Packet, Written};
 use crate::codec::{Codec, Paper};
 use crate::lent::Lent;
+use crate::plan::Planner;
 use crate::receiver::Receiver;
 use crate::rng::Rng;
 use crate::tally::{Function, Tally};
@@ -23,10 +24,11 @@ pub enum Stop {
 
 pub type Step = Result<(), Stop>;
 
-/// A codec and a receiver under test, with the counts of the run.
+/// A codec, a receiver and a planner under test, with the counts of the run.
 pub struct Check<'a> {
     codec: &'a dyn Codec,
     pub receiver: &'a dyn Receiver,
+    pub planner: &'a dyn Planner,
     /// The receiver's calls aren't compared with the paper's: what they do is judged by the caller alone.
     pub alone: bool,
     pub rng: Rng,
@@ -39,10 +41,11 @@ pub struct Check<'a> {
 }
 
 impl<'a> Check<'a> {
-    pub fn new(codec: &'a dyn Codec, receiver: &'a dyn Receiver, seed: u64) -> Check<'a> {
+    pub fn new(codec: &'a dyn Codec, receiver: &'a dyn Receiver, planner: &'a dyn Planner, seed: u64) -> Check<'a> {
         Check {
             codec,
             receiver,
+            planner,
             alone: false,
             rng: Rng::new(seed),
             tally: Tally::default(),

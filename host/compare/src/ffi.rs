@@ -1,5 +1,5 @@
-//! The archive's functions: the declarations of include/saratoga.h, and a codec and a receiver that call them. Nothing
-//! checks these against the header but host/ctest, which compiles it.
+//! The archive's functions: the declarations of include/saratoga.h, and a codec, a receiver and a planner that call
+//! them. Nothing checks these against the header but host/ctest, which compiles it.
 
 use std::ptr::NonNull;
 
@@ -7,6 +7,10 @@ use paper::write::{BeaconFields, DataFields, MetadataFields};
 
 use crate::answer::{Hole, Packet, Written};
 use crate::codec::Codec;
+use crate::{
+    answer::{Checked, Piece, Planned},
+    plan::Planner,
+};
 use crate::{
     answer::{Done, Listed, Opened, Recorded},
     receiver::{Ask, Receiver},
@@ -71,22 +75,40 @@ extern "C" {
     fn saratoga_transfer_hole(area: *const u8, area_len: usize, id: u64, index: u64) -> Hole;
 }
 
+extern "C" {
+    fn saratoga_plan(
+        status: *const u8,
+        status_len: usize,
+        largest: u64,
+        pieces: *mut Piece,
+        piece_count: usize,
+    ) -> Planned;
+    fn saratoga_plan_count(status: *const u8, status_len: usize, largest: u64) -> Planned;
+    fn saratoga_check_plan(
+        status: *const u8,
+        status_len: usize,
+        largest: u64,
+        pieces: *const Piece,
+        piece_count: usize,
+    ) -> Checked;
+}
+
 /// The slice's start. An empty slice gets an address that nothing may be read from.
-fn start(octets: &[u8]) -> *const u8 {
-    match octets {
+fn start<T>(items: &[T]) -> *const T {
+    match items {
         [] => NonNull::dangling().as_ptr(),
-        _ => octets.as_ptr(),
+        _ => items.as_ptr(),
     }
 }
 
-fn start_mut(octets: &mut [u8]) -> *mut u8 {
-    match octets {
+fn start_mut<T>(items: &mut [T]) -> *mut T {
+    match items {
         [] => NonNull::dangling().as_ptr(),
-        _ => octets.as_mut_ptr(),
+        _ => items.as_mut_ptr(),
     }
 }
 
-/// The codec and the receiver in the archive.
+/// The codec, the receiver and the planner in the archive.
 pub struct Archive;
 
 // Each call is sound: a slice is valid for its length, and what is written is borrowed alone, so overlaps nothing.
@@ -180,5 +202,19 @@ impl Receiver for Archive {
 
     fn transfer_hole(&self, area: &[u8], id: u64, index: u64) -> Hole {
         unsafe { saratoga_transfer_hole(start(area), area.len(), id, index) }
+    }
+}
+
+impl Planner for Archive {
+    fn plan(&self, status: &[u8], largest: u64, pieces: &mut [Piece]) -> Planned {
+        unsafe { saratoga_plan(start(status), status.len(), largest, start_mut(pieces), pieces.len()) }
+    }
+
+    fn plan_count(&self, status: &[u8], largest: u64) -> Planned {
+        unsafe { saratoga_plan_count(start(status), status.len(), largest) }
+    }
+
+    fn check_plan(&self, status: &[u8], largest: u64, pieces: &[Piece]) -> Checked {
+        unsafe { saratoga_check_plan(start(status), status.len(), largest, start(pieces), pieces.len()) }
     }
 }

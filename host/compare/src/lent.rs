@@ -1,6 +1,8 @@
 //! Octets lent to a function, at any address, with random octets before and after them, so that a write outside shows
 //! too.
 
+use paper::plan::Piece;
+
 use crate::rng::Rng;
 
 /// Octets after the lent part, and at least so many before it.
@@ -47,5 +49,44 @@ impl Lent {
         }
         let at = self.all.iter().zip(&other.all).position(|(a, b)| a != b)?;
         Some((at as isize - self.start as isize, self.all[at], other.all[at]))
+    }
+}
+
+/// Records before and after the lent ones.
+const MARGIN_RECORDS: usize = 2;
+
+/// Records lent to a function, the same way.
+#[derive(Clone)]
+pub struct LentPieces {
+    all: Vec<Piece>,
+}
+
+impl LentPieces {
+    /// A copy of `pieces`.
+    pub fn copy(pieces: &[Piece], rng: &mut Rng) -> LentPieces {
+        let mut lent = LentPieces::random(pieces.len(), rng);
+        lent.pieces_mut().copy_from_slice(pieces);
+        lent
+    }
+
+    /// Random records.
+    pub fn random(count: usize, rng: &mut Rng) -> LentPieces {
+        let mut piece = || Piece { offset: rng.any(), length: rng.any() };
+        LentPieces { all: (0..count + 2 * MARGIN_RECORDS).map(|_| piece()).collect() }
+    }
+
+    pub fn pieces(&self) -> &[Piece] {
+        &self.all[MARGIN_RECORDS..self.all.len() - MARGIN_RECORDS]
+    }
+
+    pub fn pieces_mut(&mut self) -> &mut [Piece] {
+        let end = self.all.len() - MARGIN_RECORDS;
+        &mut self.all[MARGIN_RECORDS..end]
+    }
+
+    /// The first place where two differ, margins included, with both records. Places count from the first lent one.
+    pub fn difference(&self, other: &LentPieces) -> Option<(isize, Piece, Piece)> {
+        let at = self.all.iter().zip(&other.all).position(|(a, b)| a != b)?;
+        Some((at as isize - MARGIN_RECORDS as isize, self.all[at], other.all[at]))
     }
 }

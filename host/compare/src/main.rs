@@ -1,5 +1,5 @@
-//! Compares the archive libsaratoga.a with the codec and the receiver of host/paper: every field of every answer and
-//! every octet of every lent buffer and area, over many calls.
+//! Compares the archive libsaratoga.a with the codec, the receiver and the planner of host/paper: every field of every
+//! answer and every octet of every lent buffer, area and list, over many calls.
 
 #![deny(unsafe_code)]
 
@@ -18,6 +18,7 @@ mod limits;
 mod limits_width;
 mod limits_write;
 mod packets;
+mod plan;
 mod random;
 mod receiver;
 mod rng;
@@ -35,25 +36,28 @@ use std::time::{Duration, Instant, SystemTime, UNIX_EPOCH};
 use run::End;
 
 const HELP: &str = "\
-compare: compares libsaratoga.a with a codec and a receiver written from the papers alone
+compare: compares libsaratoga.a with a codec, a receiver and a planner written from the papers alone
 
-usage: compare [--seed N] [--calls N] [--receiver-calls N] [--seconds N] [--self-check] [--help]
+usage: compare [--seed N] [--calls N] [--receiver-calls N] [--plan-calls N] [--seconds N] [--self-check] [--help]
 
   --seed N             start the random numbers from N (else from the clock); the seed is printed
-  --calls N            make N calls on packets, 3,000,000 unless given; each limit is always tried, in some 620,000
+  --calls N            make N calls on packets, 3,000,000 unless given; each limit is always tried, in some 650,000
   --receiver-calls N   make N calls on areas, 1,000,000 unless given; each limit is always tried, in some 400,000
-  --seconds N          make calls for N seconds instead, a quarter of the time on packets
-  --self-check         compare with codecs and receivers that are wrong in one way each instead: each must be found
+  --plan-calls N       make N calls on plans, 1,000,000 unless given; each limit is always tried, in some 510,000
+  --seconds N          make calls for N seconds instead, a quarter of the time on packets and a quarter on plans
+  --self-check         compare with codecs, receivers and planners that are wrong in one way each instead: each must be
+                       found
   --help               print this
 
-A run fails with status 1 at the first answer or octet that differs, which it prints with the packet and the area, or
-where a refusal that can occur never did.
+A run fails with status 1 at the first answer or octet that differs, which it prints with the packet and the area or the
+list, or where a refusal that can occur never did.
 ";
 
 struct Options {
     seed: u64,
     calls: u64,
     receiver_calls: u64,
+    plan_calls: u64,
     seconds: Option<u64>,
     self_check: bool,
 }
@@ -95,10 +99,14 @@ fn compare(options: &Options) -> Result<(), String> {
     println!("compare: {} calls on packets agree, seed {seed}", packets.calls);
     let mut missing = packets.tally.missing(0);
     let mut tally = packets.tally;
-    let areas = run::receiver(&ffi::Archive, &ffi::Archive, seed, end(4, options.receiver_calls))?;
+    let areas = run::receiver(&ffi::Archive, &ffi::Archive, seed, end(3, options.receiver_calls))?;
     println!("compare: {} calls on areas agree, seed {seed}", areas.calls);
     missing.extend(areas.tally.missing(1));
     tally = tally.with(&areas.tally);
+    let plans = run::plans(&ffi::Archive, seed, end(4, options.plan_calls))?;
+    println!("compare: {} calls on plans agree, seed {seed}", plans.calls);
+    missing.extend(plans.tally.missing(2));
+    tally = tally.with(&plans.tally);
     missing.extend(tally.never().into_iter().map(|number| format!("{number} from any function")));
     print!("{tally}");
     match missing.is_empty() {
@@ -109,15 +117,21 @@ fn compare(options: &Options) -> Result<(), String> {
 
 fn self_check(options: &Options) -> Result<(), String> {
     let count = run::self_check(options.seed, options.calls)?;
-    println!("compare: all {count} wrong codecs and receivers are found, seed {}", options.seed);
+    println!("compare: all {count} wrong codecs, receivers and planners are found, seed {}", options.seed);
     Ok(())
 }
 
 /// What the command line asks for; none where that is help.
 fn options() -> Result<Option<Options>, String> {
     let clock = SystemTime::now().duration_since(UNIX_EPOCH).map_or(0, |time| time.as_nanos() as u64);
-    let mut options =
-        Options { seed: clock, calls: 3_000_000, receiver_calls: 1_000_000, seconds: None, self_check: false };
+    let mut options = Options {
+        seed: clock,
+        calls: 3_000_000,
+        receiver_calls: 1_000_000,
+        plan_calls: 1_000_000,
+        seconds: None,
+        self_check: false,
+    };
     let mut words = std::env::args().skip(1);
     while let Some(word) = words.next() {
         let mut number = || {
@@ -128,6 +142,7 @@ fn options() -> Result<Option<Options>, String> {
             "--seed" => options.seed = number()?,
             "--calls" => options.calls = number()?,
             "--receiver-calls" => options.receiver_calls = number()?,
+            "--plan-calls" => options.plan_calls = number()?,
             "--seconds" => options.seconds = Some(number()?),
             "--self-check" => options.self_check = true,
             "--help" | "-h" => return Ok(None),

@@ -317,12 +317,23 @@ impl Status {
     }
 
     pub fn with_holes(rng: &mut Rng, start: Start, count: usize) -> Status {
-        let octets = width(start.flags);
+        let holes = rising_holes(rng, width(start.flags), count);
+        Status::listing(rng, start, holes)
+    }
+
+    /// A success STATUS of width bits `code` that lists these holes.
+    pub fn of_holes(rng: &mut Rng, code: u32, holes: Vec<(u64, u64)>) -> Status {
+        let mut start = start(rng, 4, 0);
+        start.flags = with_width(start.flags, code);
+        Status::listing(rng, start, holes)
+    }
+
+    fn listing(rng: &mut Rng, start: Start, holes: Vec<(u64, u64)>) -> Status {
         let mut status = Status {
             timestamp: rng.octets(stamp_len(start.flags)),
             progress: 0,
             in_response_to: 0,
-            holes: rising_holes(rng, octets, count),
+            holes,
             extra: vec![],
             upper: Upper::default(),
             ending: Ending::Whole,

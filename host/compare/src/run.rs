@@ -5,6 +5,7 @@ use std::time::Instant;
 
 use crate::check::{Check, Step, Stop};
 use crate::codec::{Codec, Paper};
+use crate::plan::{self, Planner};
 use crate::receiver::{self, orders, pass, Receiver};
 use crate::tally::Tally;
 use crate::{limits, limits_width, limits_write, random, wrong};
@@ -34,7 +35,7 @@ pub struct Agreed {
 
 /// Compares `codec` with the paper's.
 pub fn packets(codec: &dyn Codec, seed: u64, end: End) -> Result<Agreed, String> {
-    run(Check::new(codec, &Paper, seed), seed, |check| {
+    run(Check::new(codec, &Paper, &Paper, seed), seed, |check| {
         limits_write::run(check)?;
         limits::run(check)?;
         limits_width::run(check)?;
@@ -44,7 +45,7 @@ pub fn packets(codec: &dyn Codec, seed: u64, end: End) -> Result<Agreed, String>
 
 /// Compares `receiver` with the paper's. The STATUS that it writes is read by `codec`.
 pub fn receiver(codec: &dyn Codec, receiver: &dyn Receiver, seed: u64, end: End) -> Result<Agreed, String> {
-    run(Check::new(codec, receiver, seed), seed, |check| {
+    run(Check::new(codec, receiver, &Paper, seed), seed, |check| {
         for _ in 0..50 {
             pass::case(check)?;
         }
@@ -55,9 +56,17 @@ pub fn receiver(codec: &dyn Codec, receiver: &dyn Receiver, seed: u64, end: End)
     })
 }
 
+/// Compares `planner` with the paper's.
+pub fn plans(planner: &dyn Planner, seed: u64, end: End) -> Result<Agreed, String> {
+    run(Check::new(&Paper, &Paper, planner, seed), seed, |check| {
+        plan::limits::run(check)?;
+        until(check, end, plan::cases::case)
+    })
+}
+
 /// Tries the two orders on `receiver`, without the paper's answers.
 fn orders_alone(receiver: &dyn Receiver, seed: u64, end: End) -> Result<Agreed, String> {
-    let mut check = Check::new(&Paper, receiver, seed);
+    let mut check = Check::new(&Paper, receiver, &Paper, seed);
     check.alone = true;
     run(check, seed, |check| until(check, end, orders::trial))
 }
@@ -83,7 +92,7 @@ fn until(check: &mut Check, end: End, case: fn(&mut Check) -> Step) -> Step {
     }
 }
 
-/// Runs the comparisons against each wrong codec and receiver, and prints what was found of it. All must be found; how
+/// Runs the comparisons against each wrong codec, receiver and planner, and prints what was found of it. All must be found; how
 /// many there are.
 pub fn self_check(seed: u64, calls: u64) -> Result<usize, String> {
     let end = End::after(calls);
@@ -96,7 +105,10 @@ pub fn self_check(seed: u64, calls: u64) -> Result<usize, String> {
     for wrong in receiver::wrong::OF_ORDERS {
         found("receiver by the two orders", wrong, orders_alone(wrong, seed, end), seed)?;
     }
-    Ok(wrong::ALL.len() + receiver::wrong::ALL.len())
+    for wrong in plan::wrong::ALL {
+        found("planner", wrong, plans(wrong, seed, end), seed)?;
+    }
+    Ok(wrong::ALL.len() + receiver::wrong::ALL.len() + plan::wrong::ALL.len())
 }
 
 fn found(what: &str, wrong: &dyn Debug, outcome: Result<Agreed, String>, seed: u64) -> Result<(), String> {

@@ -3,6 +3,8 @@
 use std::fmt;
 use std::ops::Range;
 
+use paper::plan::Conditions;
+
 /// The functions, in the order of the table's columns.
 #[derive(Clone, Copy)]
 pub enum Function {
@@ -21,9 +23,12 @@ pub enum Function {
     Transfer,
     Find,
     TransferHole,
+    Plan,
+    PlanCount,
+    CheckPlan,
 }
 
-const COLUMNS: usize = 15;
+const COLUMNS: usize = 18;
 /// 0, accepted, to 26.
 const ROWS: usize = 27;
 /// The numbers of a refusal; 23 to 25 are none.
@@ -46,7 +51,13 @@ const NAMES: [(&str, &str); COLUMNS] = [
     ("saratoga_transfer", "transfer"),
     ("saratoga_find", "find"),
     ("saratoga_transfer_hole", "hole"),
+    ("saratoga_plan", "plan"),
+    ("saratoga_plan_count", "plan_count"),
+    ("saratoga_check_plan", "check_plan"),
 ];
+
+/// The conditions of a plan, as they are told of.
+const CONDITIONS: [&str; 5] = ["rise", "sizes", "in one hole", "no overlap", "cover"];
 
 impl Function {
     pub fn name(self) -> &'static str {
@@ -72,14 +83,28 @@ const CAN_OCCUR: [&[usize]; COLUMNS] = [
     &[0, 12, 22],
     &[0, 12, 22],
     &[0, 12, 19, 22],
+    &[0, 1, 2, 3, 4, 5, 11, 20, 21],
+    &[0, 1, 2, 3, 4, 5, 11, 21],
+    &[0, 1, 2, 3, 4, 5, 11, 21],
 ];
 
-/// The functions of each comparison: those on packets, then those on areas.
-const PARTS: [Range<usize>; 2] = [0..6, 6..COLUMNS];
+/// The functions of each comparison: those on packets, those on areas, those on plans.
+const PARTS: [Range<usize>; 3] = [0..6, 6..15, 15..COLUMNS];
+const ON_PLANS: usize = 2;
 
 #[derive(Clone, Default)]
 pub struct Tally {
     counts: [[u64; COLUMNS]; ROWS],
+    lists: Lists,
+}
+
+/// How the lists of pieces that were checked came out.
+#[derive(Clone, Default)]
+struct Lists {
+    pass: u64,
+    /// Those that break one condition and no other.
+    break_one: [u64; 5],
+    break_more: u64,
 }
 
 impl Tally {
@@ -87,8 +112,23 @@ impl Tally {
         self.counts[number as usize][function as usize] += 1;
     }
 
+    /// Counts a list of pieces by the conditions that it meets.
+    pub fn add_list(&mut self, conditions: Conditions) {
+        let met = conditions.each();
+        match met.iter().filter(|&&met| !met).count() {
+            0 => self.lists.pass += 1,
+            1 => self.lists.break_one[met.iter().position(|&met| !met).expect("one is broken")] += 1,
+            _ => self.lists.break_more += 1,
+        }
+    }
+
     /// The counts of both.
     pub fn with(mut self, other: &Tally) -> Tally {
+        self.lists.pass += other.lists.pass;
+        self.lists.break_more += other.lists.break_more;
+        for (count, more) in self.lists.break_one.iter_mut().zip(other.lists.break_one) {
+            *count += more;
+        }
         for (row, more) in self.counts.iter_mut().zip(&other.counts) {
             for (count, more) in row.iter_mut().zip(more) {
                 *count += more;
@@ -97,13 +137,16 @@ impl Tally {
         self
     }
 
-    /// The numbers that a function of `part` can answer and never did.
+    /// The numbers that a function of `part` can answer and never did, and the lists that were never checked.
     pub fn missing(&self, part: usize) -> Vec<String> {
         let mut missing = vec![];
         for column in PARTS[part].clone() {
             for &number in CAN_OCCUR[column].iter().filter(|&&number| self.counts[number][column] == 0) {
                 missing.push(format!("{number} from {}", NAMES[column].0));
             }
+        }
+        if part == ON_PLANS {
+            missing.extend(self.lists.missing());
         }
         missing
     }
@@ -112,6 +155,23 @@ impl Tally {
     pub fn never(&self) -> Vec<String> {
         let never = NUMBERS.iter().filter(|&&number| self.counts[number] == [0; COLUMNS]);
         never.map(|number| number.to_string()).collect()
+    }
+}
+
+impl Lists {
+    fn missing(&self) -> Vec<String> {
+        let never = CONDITIONS.iter().zip(self.break_one).filter(|&(_, count)| count == 0);
+        let passes = (self.pass == 0).then(|| "a list that passes".to_string());
+        passes.into_iter().chain(never.map(|(name, _)| format!("a list that breaks `{name}` alone"))).collect()
+    }
+}
+
+impl fmt::Display for Lists {
+    fn fmt(&self, f: &mut fmt::Formatter) -> fmt::Result {
+        let alone: Vec<_> =
+            CONDITIONS.iter().zip(self.break_one).map(|(name, count)| format!("{name} {count}")).collect();
+        let alone = alone.join(", ");
+        write!(f, "lists: {} pass; one condition broken: {alone}; more: {}", self.pass, self.break_more)
     }
 }
 
@@ -145,7 +205,10 @@ impl fmt::Display for Tally {
                 }
             }
         }
-        Ok(())
+        match sum(&self.counts[0][PARTS[ON_PLANS].clone()]) {
+            0 => Ok(()),
+            _ => writeln!(f, "{}", self.lists),
+        }
     }
 }
 

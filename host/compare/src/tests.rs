@@ -1,7 +1,7 @@
-//! The comparisons themselves: they find every wrong codec and receiver, and agree with right ones.
+//! The comparisons themselves: they find every wrong codec, receiver and planner, and agree with right ones.
 
 use crate::codec::Paper;
-use crate::run::{packets, receiver, self_check, End};
+use crate::run::{packets, plans, receiver, self_check, End};
 
 #[test]
 fn wrong_ones_are_found() {
@@ -17,4 +17,7 @@ fn the_paper_agrees_with_itself() {
     assert_eq!(receiver.tally.missing(1), Vec::<String>::new());
     assert!(receiver.calls >= 250_000);
     assert_eq!(packets.tally.with(&receiver.tally).never(), Vec::<String>::new());
+    let plans = plans(&Paper, 1, End::after(700_000)).unwrap_or_else(|what| panic!("{what}"));
+    assert_eq!(plans.tally.missing(2), Vec::<String>::new());
+    assert!(plans.calls >= 700_000);
 }

@@ -1,5 +1,5 @@
-//! A second codec and a second receiver for Saratoga, written from the papers alone and for plainness, not speed. The
-//! archive is compared with them. Words in quotes are those of documents 01 and 02; "section" is the Saratoga draft,
+//! A second codec, a second receiver and a second planner for Saratoga, written from the papers alone and for plainness, not
+//! speed. The archive is compared with them. Words in quotes are those of documents 01 and 02; "section" is the Saratoga draft,
 //! version 09.
 
 #![forbid(unsafe_code)]
@@ -7,6 +7,7 @@
 pub mod area;
 pub mod layout;
 pub mod marks;
+pub mod plan;
 pub mod read;
 pub mod received;
 pub mod refusal;

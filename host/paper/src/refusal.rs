@@ -43,9 +43,10 @@ pub enum Refusal {
     OpenOther = 18,
     /// "k not allowed"; in reading a hole, none has the index asked for.
     Index = 19,
-    /// "buffer too small"
+    /// "buffer too small"; of a plan, "needs more records than were lent"
     Buffer = 20,
-    /// "a field to be written exceeds its bits (128 where width bits are 11), or failure code 0"
+    /// "a field to be written exceeds its bits (128 where width bits are 11), or failure code 0"; of a plan, "m (1 to
+    /// 65,000, else refusal 21)"
     Field = 21,
     /// "a lent desk area is no image of a desk as described"
     Area = 22,

@@ -1,32 +1,32 @@
 //! What each record does to the table, and its lines, still without the record's number.
 
 use paper::layout::{status_wanted, word_bits, BEACON, DATA, MAX_PACKET, METADATA};
+use paper::plan::{self, Piece};
 use paper::read::{read, read_types, Packet};
 use paper::refusal::Refusal;
 use paper::table::Table;
 use paper::write::write_failure;
 
 use crate::line;
-use crate::record::Record;
+use crate::record::{Record, PIECES};
 
 /// A line, or the refusal that is printed in its stead.
 type Line = Result<String, Refusal>;
 
 /// The lines of a record: one, for `P` sometimes a second, and for `W` none.
 pub fn lines(table: &mut Table, record: &Record) -> Vec<String> {
-    let body = record.body.as_deref();
+    let body = &record.body[..];
     match record.kind {
         b'F' => vec![fresh(table, body)],
-        b'O' => vec![print(packet(body).and_then(|packet| open(table, packet)))],
-        b'D' => vec![print(packet(body).and_then(|packet| recording(table, packet)))],
-        b'R' => vec![print(packet(body).and_then(plain_reading))],
+        b'O' => vec![print(open(table, body))],
+        b'D' => vec![print(recording(table, body))],
+        b'R' => vec![print(plain_reading(body))],
         b'S' => vec![status(table, body)],
         b'C' => vec![close(table, body)],
-        b'P' => match packet(body) {
-            Ok(packet) => off_the_dish(table, packet),
-            Err(refusal) => vec![line::refused(refusal)],
-        },
+        b'P' => off_the_dish(table, body),
         b'W' => time(body),
+        b'L' => vec![plan(body)],
+        b'K' => vec![check(body)],
         kind => vec![format!("unknown kind {kind:02x}")],
     }
 }
@@ -35,14 +35,9 @@ fn print(line: Line) -> String {
     line.unwrap_or_else(line::refused)
 }
 
-/// The packet in a body. "packet over 65,535 octets": 2.
-fn packet(body: Option<&[u8]>) -> Result<&[u8], Refusal> {
-    body.ok_or(Refusal::TooLong)
-}
-
 /// The body of a record that has exactly `N` octets.
-fn exactly<const N: usize>(body: Option<&[u8]>) -> Option<&[u8; N]> {
-    body.and_then(|body| body.try_into().ok())
+fn exactly<const N: usize>(body: &[u8]) -> Option<&[u8; N]> {
+    body.try_into().ok()
 }
 
 fn bad_length() -> String {
@@ -50,7 +45,7 @@ fn bad_length() -> String {
 }
 
 /// `F`: the table is fresh again.
-fn fresh(table: &mut Table, body: Option<&[u8]>) -> String {
+fn fresh(table: &mut Table, body: &[u8]) -> String {
     let Some([]) = exactly(body) else { return bad_length() };
     *table = Table::default();
     "fresh".to_string()
@@ -76,7 +71,7 @@ fn plain_reading(packet: &[u8]) -> Line {
 }
 
 /// `S`: writes STATUS. Id 4, k 8, unasked 1, room 4, of which at most 65,535 is used.
-fn status(table: &Table, body: Option<&[u8]>) -> String {
+fn status(table: &Table, body: &[u8]) -> String {
     let Some(body) = exactly::<17>(body) else { return bad_length() };
     let number = |octets: &[u8]| octets.iter().fold(0, |high, &low| 256 * high + u64::from(low));
     let (id, k, unasked, room) = (number(&body[..4]), number(&body[4..12]), body[12] != 0, number(&body[13..]));
@@ -93,18 +88,53 @@ fn written(table: &Table, id: u64, k: u64, unasked: bool, room: usize) -> Result
 }
 
 /// `C`: closing.
-fn close(table: &mut Table, body: Option<&[u8]>) -> String {
+fn close(table: &mut Table, body: &[u8]) -> String {
     let Some(&id) = exactly::<4>(body) else { return bad_length() };
     let id = u32::from_be_bytes(id);
     print(table.close(u64::from(id)).map(|()| format!("close id={id}")))
 }
 
 /// `W`: the time of the record after it, 8 octets. It has no line.
-fn time(body: Option<&[u8]>) -> Vec<String> {
+fn time(body: &[u8]) -> Vec<String> {
     match exactly::<8>(body) {
         Some(_) => vec![],
         None => vec![bad_length()],
     }
+}
+
+/// `L`: what to send again. The largest payload 8, then a packet.
+fn plan(body: &[u8]) -> String {
+    let Some((largest, packet)) = number(body) else { return bad_length() };
+    let mut lent = vec![Piece::default(); PIECES];
+    print(plan::plan(packet, largest, &mut lent).map(|count| line::plan(&lent[..count as usize])))
+}
+
+/// `K`: whether pieces are a plan.
+fn check(body: &[u8]) -> String {
+    let Some((largest, pieces, packet)) = listed(body) else { return bad_length() };
+    print(plan::check_plan(packet, largest, &pieces).map(|passes| format!("check passes={}", u8::from(passes))))
+}
+
+/// The parts of a `K`: the largest payload 8, n 8, n times offset 8 and length 8, then a packet.
+fn listed(body: &[u8]) -> Option<(u64, Vec<Piece>, &[u8])> {
+    let (largest, rest) = number(body)?;
+    let (count, mut rest) = number(rest)?;
+    if count > PIECES as u64 {
+        return None;
+    }
+    let mut pieces = vec![];
+    for _ in 0..count {
+        let (offset, after) = number(rest)?;
+        let (length, after) = number(after)?;
+        pieces.push(Piece { offset, length });
+        rest = after;
+    }
+    Some((largest, pieces, rest))
+}
+
+/// A number of 8 octets, and what follows it.
+fn number(octets: &[u8]) -> Option<(u64, &[u8])> {
+    octets.split_first_chunk().map(|(first, rest)| (u64::from_be_bytes(*first), rest))
 }
 
 /// The type of a packet, "Bits 2 to 7".

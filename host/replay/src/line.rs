@@ -1,6 +1,7 @@
 //! How answers are printed: numbers in decimal, octets in lowercase hex, a width in bits.
 
 use paper::layout::Willingness;
+use paper::plan::Piece;
 use paper::read::{Beacon, Data, Failure, Header, Metadata, Packet, Success};
 use paper::refusal::Refusal;
 use paper::table::{Opened, State};
@@ -96,6 +97,14 @@ fn success(packet: &[u8], success: &Success) -> String {
 fn failure(failure: &Failure) -> String {
     let Failure { header: Header { flags, id }, status } = failure;
     format!("failure id={id} status={status} flags={flags:06x}")
+}
+
+/// A piece is its offset and its length.
+pub fn plan(pieces: &[Piece]) -> String {
+    let count = pieces.len();
+    let pieces: Vec<String> = pieces.iter().map(|piece| format!("{}+{}", piece.offset, piece.length)).collect();
+    let pieces = pieces.join(",");
+    format!("plan count={count} pieces={pieces}")
 }
 
 /// A width of so many octets.

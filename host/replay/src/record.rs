@@ -4,10 +4,16 @@ use std::io::{self, Read};
 
 use paper::layout::MAX_PACKET;
 
+/// The records that `L` lends, and the most pieces that a `K` may list.
+pub const PIECES: usize = 4_096;
+
+/// Of a longer body so many octets are kept: a list of pieces, and a packet that is too long.
+const KEPT: usize = 16 + 16 * PIECES + MAX_PACKET + 1;
+
 pub struct Record {
     pub kind: u8,
-    /// None where it is longer than any packet; its octets were then passed over.
-    pub body: Option<Vec<u8>>,
+    /// At most `KEPT` octets; those after them were passed over.
+    pub body: Vec<u8>,
 }
 
 pub enum Next {
@@ -26,15 +32,9 @@ pub fn next(input: &mut impl Read) -> io::Result<Next> {
         [kind, a, b, c, d] => (kind, u32::from_be_bytes([a, b, c, d]) as usize),
         _ => return Ok(Next::CutShort),
     };
-    let (body, read) = if length <= MAX_PACKET {
-        let body = up_to(input, length)?;
-        let read = body.len();
-        (Some(body), read)
-    } else {
-        let passed_over = io::copy(&mut input.take(length as u64), &mut io::sink())?;
-        (None, passed_over as usize)
-    };
-    if read < length {
+    let body = up_to(input, length.min(KEPT))?;
+    let passed_over = io::copy(&mut input.take(length.saturating_sub(KEPT) as u64), &mut io::sink())?;
+    if body.len() + (passed_over as usize) < length {
         return Ok(Next::CutShort);
     }
     Ok(Next::Record(Record { kind, body }))

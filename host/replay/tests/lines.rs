@@ -46,6 +46,15 @@ fn data(flags: u32, offset: u16, len: usize) -> Vec<u8> {
     [&word.to_be_bytes()[..], &hex("00000007"), &offset.to_be_bytes(), &vec![0x61; len]].concat()
 }
 
+/// STATUS of transfer 7 at width 16, with the hole from 1,000 to 1,600.
+const HOLE: &str = "44000000 00000007 03e8 0640 03e80640";
+
+/// The body of a plan or of a check: a largest payload and other numbers, of 8 octets each, then a packet.
+fn plan(largest: u64, numbers: &[u64], packet: &str) -> Vec<u8> {
+    let numbers = [&[largest], numbers].concat();
+    [numbers.iter().flat_map(|number| number.to_be_bytes()).collect(), hex(packet)].concat()
+}
+
 const ASKED: u32 = 0x01_0000;
 const END: u32 = 0x00_8000;
 
@@ -79,8 +88,48 @@ fn sample_lines() {
         ),
         ('R', hex("44000006 00000007"), &["failure id=7 status=6 flags=000006"]),
         ('P', data(0, 0, 1), &["refused 12 code=6", "send 4400000600000007"]),
+        ('L', plan(400, &[], HOLE), &["plan count=2 pieces=1000+400,1400+200"]),
+        ('K', plan(400, &[2, 1_000, 400, 1_400, 200], HOLE), &["check passes=1"]),
         ('X', hex("01 02 03"), &["unknown kind 58"]),
         ('F', vec![], &["fresh"]),
+    ]);
+}
+
+#[test]
+fn plans() {
+    let complete = "44010000 00000007 0bb8 0bb7";
+    check_octets(&[
+        ('L', plan(65_000, &[], HOLE), &["plan count=1 pieces=1000+600"]),
+        ('L', plan(1_000, &[], complete), &["plan count=0 pieces="]),
+        ('L', plan(0, &[], "44000006 00000007"), &["refused 11 code=0"]),
+        ('L', plan(0, &[], HOLE), &["refused 21 code=0"]),
+        ('L', plan(65_001, &[], HOLE), &["refused 21 code=0"]),
+        ('L', plan(1, &[], "44000000 00000007 0000 1001 0000 1001"), &["refused 20 code=0"]),
+        ('L', plan(0, &[], ""), &["refused 1 code=0"]),
+        ('L', [plan(1, &[], ""), vec![0; 65_536]].concat(), &["refused 2 code=0"]),
+        ('L', vec![0; 7], &["bad length"]),
+        ('L', vec![], &["bad length"]),
+    ]);
+}
+
+#[test]
+fn checks() {
+    let most = |count: u64| [vec![count], (0..count).flat_map(|at| [at, 1]).collect()].concat();
+    let of = |count: u64| format!("44000000 00000007 0000 {count:04x} 0000 {count:04x}");
+    check_octets(&[
+        ('K', plan(400, &[3, 1_000, 1, 1_001, 399, 1_400, 200], HOLE), &["check passes=1"]),
+        ('K', plan(400, &[1, 1_000, 400], HOLE), &["check passes=0"]),
+        ('K', plan(400, &[2, 1_000, 400, 1_400, u64::MAX], HOLE), &["check passes=0"]),
+        ('K', plan(400, &[0], HOLE), &["check passes=0"]),
+        ('K', plan(65_001, &[0], HOLE), &["refused 21 code=0"]),
+        ('K', plan(400, &[0], ""), &["refused 1 code=0"]),
+        ('K', plan(400, &[2, 1_000, 400, 1_400], ""), &["bad length"]),
+        ('K', plan(400, &[u64::MAX], HOLE), &["bad length"]),
+        ('K', plan(400, &[], ""), &["bad length"]),
+        ('K', plan(1, &most(4_096), &of(4_096)), &["check passes=1"]),
+        ('K', plan(1, &most(4_097), &of(4_097)), &["bad length"]),
+        ('K', [plan(1, &most(4_096), ""), vec![0; 65_536]].concat(), &["refused 2 code=0"]),
+        ('K', [plan(1, &most(4_096), ""), vec![0; 200_000]].concat(), &["refused 2 code=0"]),
     ]);
 }
 
@@ -435,7 +484,7 @@ fn longest_packets() {
 
 #[test]
 fn every_other_kind_is_unknown() {
-    for kind in (0..=255).filter(|kind| !b"FODRSCPW".contains(kind)) {
+    for kind in (0..=255).filter(|kind| !b"FODRSCPWLK".contains(kind)) {
         let pass = [record(kind, b"F\0\0\0\0"), record(b'F', &[])].concat();
         assert_eq!(printed(&pass), format!("1 unknown kind {kind:02x}\n2 fresh\n"));
     }
@@ -479,7 +528,7 @@ fn cut_short_at_every_place() {
 #[test]
 fn cut_short_comes_before_all_else() {
     // Whatever the kind and the length would have given.
-    for kind in *b"FODRSCPWX" {
+    for kind in *b"FODRSCPWLKX" {
         for length in [1u32, 6, 18, 65_535, 65_536, u32::MAX] {
             let head = [&[kind][..], &length.to_be_bytes()].concat();
             for body in [0, length.min(70_000) as usize - 1] {

@@ -31,7 +31,9 @@ EVERY_LINE = """\
 13 unknown kind 58
 14 bad length
 15 beacon flags=000000 largest-width=16 bundles=0 streams=0 send=cannot receive=cannot free-width= free= endpoint=
-16 cut short
+16 plan count=2 pieces=1000+400,1400+200
+17 check passes=1
+18 cut short
 """
 
 LATE = """\
@@ -72,7 +74,7 @@ def tips(svg):
 class Drawn(unittest.TestCase):
     def test_every_line_of_replay_is_taken(self):
         svg = drawing(EVERY_LINE)
-        self.assertIn("16 records; 1 transfer, 0 complete; 1 refused (14); the pass is cut short", texts(svg))
+        self.assertIn("18 records; 1 transfer, 0 complete; 1 refused (14); the pass is cut short", texts(svg))
         self.assertIn("NOT complete: 1,000 of 3,000 octets received, nothing from 1,000 on", texts(svg))
         self.assertIn("closed", texts(svg))
 

@@ -12,6 +12,10 @@ from packets import (END_OF_DATA, INCOMPLETE, TIMESTAMP, WANTED, beacon, data, f
 passtext = loading.tool("passtext")
 
 
+def numbers(*values):
+    return struct.pack(f">{len(values)}Q", *values)
+
+
 def text_of(octets):
     return list(passtext.to_lines(octets))
 
@@ -81,6 +85,25 @@ class Forms(unittest.TestCase):
          record(b"R", bytes.fromhex("40004f01" "0000"))),
         ("read beacon largest-width=16 send=cannot receive=cannot free-width=128 free=1 endpoint=p",
          record(b"R", bytes.fromhex("40007000" + 31 * "0" + "1") + b"p")),
+        ("plan largest=400 id=7 width=16 progress=1000 in-response-to=1600 holes=1000-1600",
+         record(b"L", numbers(400) + success(7, 16, 1000, 1600, [(1000, 1600)]))),
+        ("plan largest=18446744073709551615 id=7 width=64 progress=3 in-response-to=3 holes= unasked",
+         record(b"L", numbers(2**64 - 1) + success(7, 64, 3, 3, flags=0x010000))),
+        ("check largest=400 pieces=1000+400,1400+200 id=7 width=16 progress=1000 in-response-to=1600 holes=1000-1600",
+         record(b"K", numbers(400, 2, 1000, 400, 1400, 200) + success(7, 16, 1000, 1600, [(1000, 1600)]))),
+        ("check largest=1 pieces=18446744073709551615+18446744073709551615 id=7 width=32 progress=0 in-response-to=1 holes=0-1",
+         record(b"K", numbers(1, 1, 2**64 - 1, 2**64 - 1) + success(7, 32, 0, 1, [(0, 1)]))),
+        ("check largest=0 pieces= id=7 width=16 progress=0 in-response-to=0 holes=",
+         record(b"K", numbers(0, 0) + success(7, 16, 0, 0))),
+        # Numbers or pieces that are cut, and packets that are no success STATUS.
+        ("packet L 00000000000001", record(b"L", bytes(6) + b"\1")),
+        ("packet L 0000000000000190", record(b"L", numbers(400))),
+        ("packet L 00000000000001904400000600000007", record(b"L", numbers(400) + failure(7, 6))),
+        ("packet K", record(b"K")),
+        ("packet K 0000000000000190", record(b"K", numbers(400))),
+        ("packet K 00000000000001900000000000000001", record(b"K", numbers(400, 1))),
+        ("packet K 0000000000000190ffffffffffffffff" + success(7, 16, 0, 0).hex(),
+         record(b"K", numbers(400, 2**64 - 1) + success(7, 16, 0, 0))),
         # A pairing 0 1, a free space that is cut, and a BEACON that no table takes.
         ("packet R 40040000", record(b"R", bytes.fromhex("40040000"))),
         ("packet R 40007000" + 15 * "00", record(b"R", bytes.fromhex("40007000") + bytes(15))),
@@ -140,7 +163,9 @@ class RoundTrip(unittest.TestCase):
                 octet = chance.choice((0, 1, 64, 128, 255, chance.randrange(256)))
                 packet[chance.randrange(min(len(packet), 30))] = octet
             packet = packet[:chance.randrange(len(packet) + 1)] if chance.random() < 0.3 else packet
-            self.same(record(bytes([chance.choice(b"FODRSCPX\0#")]), bytes(packet)))
+            kind = bytes([chance.choice(b"FODRSCPLKX\0#")])
+            before = {b"L": numbers(9), b"K": numbers(9, chance.choice((0, 1, 2)), 5, 6)}.get(kind, b"")
+            self.same(record(kind, before + bytes(packet)))
 
     def test_any_octets(self):
         chance = random.Random(612)
@@ -203,6 +228,15 @@ class Errors(unittest.TestCase):
                                                            "%25 is the % itself")
         self.wrong("read success id=7 width=16 progress=0 in-response-to=9 holes=3",
                    "holes=3: a hole is START-END")
+        self.wrong("plan id=7 width=16 progress=0 in-response-to=9 holes=0-9", "plan needs largest=")
+        self.wrong("check largest=9 id=7 width=16 progress=0 in-response-to=9 holes=0-9", "check needs pieces=")
+        self.wrong("check largest=9 pieces=3 id=7 width=16 progress=0 in-response-to=9 holes=0-9",
+                   "pieces=3: a piece is OFFSET+LENGTH")
+        self.wrong("check largest=9 pieces=0+18446744073709551616 id=7 width=16 progress=0 in-response-to=9 holes=0-9",
+                   "pieces=18446744073709551616 is over 64 bits")
+        self.wrong("plan largest=9 pieces=0+9 id=7 width=16 progress=0 in-response-to=9 holes=0-9",
+                   "plan has no 'pieces'; it has largest= id= timestamp= incomplete unasked flags= width= progress= "
+                   "in-response-to= holes=")
         self.wrong("packet PP 00", "PP is no kind: one character, or two hexadecimal digits")
         self.wrong("fresh now", "fresh takes nothing")
 

@@ -1,54 +1,61 @@
 -- `replay_lines::put_hole` meets its contract.
 -- Assumes nothing.
-use mathlib.Core.Path.{sym, ap, _∙_}
+use mathlib.Core.Path.{_≡_, ap, _∙_}
 use native.Mathlib.Omega.{arith}
 use denote.Ref.{now}
+use borrow.Author.Needs.{needs}
+use Rattle.packet_status.specs.Status.{holeRefusal}
+use Rattle.packet_status.specs.declared.HoleRead.the-variants as hole-read
+use Rattle.runs.specs.declared.Hole.{Hole}
 use Rattle.text.proofs.AddedLaws.{added-as, added-none}
 use Rattle.replay_lines.specs.Lines.{holeAfter}
-use borrow.Author.Needs.{needs}
+use Rattle.replay_lines.proofs.HoleLaws.{listed-hole, unlisted-hole, listed-text}
 use Rattle.replay_lines.proofs.put_hole.Statement.{statement}
 use Rattle.replay_lines.proofs.put_hole.Tie as tie
 
-read-hole-requires : tie.Need-read-hole-requires
-read-hole-requires c κs = search needs
+returns : tie.Need-returns
+returns c =
+    let start = c .before .before .before in
+    let a = start .args in
+    added-as (unlisted-hole (now (a .p)) (a .index) (omega (arith, start .pre .1, c .if1 .taken))) (added-none (now (a .out)) (a .at) (start .pre .0))
 
-enum-known-h : tie.Need-enum-known-h
-enum-known-h c = search needs
+-- the hole may be read
+known : (c : tie.Else1) → let a = c .before .before .before .args in holeRefusal (a .index) (now (a .p)) ≡ 0
+known c =
+    let start = c .before .before .before in
+    let a = start .args in
+    listed-hole (now (a .p)) (a .index) (omega (arith, start .pre .1, c .if1 .left))
 
-put-next-pair-requires : tie.Need-put-next-pair-requires
-put-next-pair-requires c κs = search needs
+listed-hole-requires : tie.Need-listed-hole-requires
+listed-hole-requires c κs = known c
 
-enum-told : tie.Need-enum-told
-enum-told c = search needs
+slice-aggregate-put-in-list : tie.Need-slice-aggregate-put-in-list
+slice-aggregate-put-in-list c = search needs
+
+put-in-list-requires : tie.Need-put-in-list-requires
+put-in-list-requires c κs = search needs
 
 same-length : tie.Need-same-length
 same-length c = search needs
 
-returns : tie.Need-returns
-unfolding holeAfter
-returns c =
-    let put-next-pair-place = c .before .before in
-    let h-place = put-next-pair-place .before .before .before in
-    let read-hole-place = h-place .before .before in
-    let start = read-hole-place .before .before .before in
-    added-as (ap (holeAfter (start .args .index)) (sym (h-place .h .given .1) ∙ read-hole-place .read-hole .ensures)) (put-next-pair-place .put-next-pair .ensures)
-
 returns-2 : tie.Need-returns-2
 unfolding holeAfter
 returns-2 c =
-    let read-hole-place = c .before .before in
-    let start = read-hole-place .before .before .before in
-    let a = start .args in
-    added-as (ap (holeAfter (a .index)) (sym (c .enum-told .given .1) ∙ read-hole-place .read-hole .ensures)) (added-none (now (a .out)) (a .at) (omega arith))
+    let put-in-list-place = c .before .before in
+    let listed-hole-place = put-in-list-place .before .before .before in
+    let else-place = listed-hole-place .before in
+    let a = else-place .before .before .before .args in
+    added-as
+    (ap (λ (h : Hole). holeAfter (a .index) (hole-read.Accepted h)) (listed-hole-place .listed-hole .ensures) ∙ listed-text (now (a .p)) (a .index) (known else-place))
+    (put-in-list-place .put-in-list .ensures)
 
 pub put-hole-spec : {M : Type 1} → statement M
 put-hole-spec =
     tie.close
     (tie.spec
-    read-hole-requires
-    enum-known-h
-    put-next-pair-requires
-    enum-told
-    same-length
     returns
+    listed-hole-requires
+    slice-aggregate-put-in-list
+    put-in-list-requires
+    same-length
     returns-2)

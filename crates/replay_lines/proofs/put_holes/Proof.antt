@@ -5,6 +5,7 @@ use mathlib.Core.Path.{_≡_}
 use native.Mathlib.Numerals.{add-one}
 use native.Mathlib.Omega.{arith}
 use denote.Ref.{now}
+use borrow.Author.Needs.{needs}
 use Rattle.text.specs.Added.{Added}
 use Rattle.text.proofs.AddedLaws.{_then_, added-none}
 use Rattle.replay_lines.specs.Lines.{holesText}
@@ -12,17 +13,22 @@ use Rattle.replay_lines.proofs.put_holes.Statement.{statement}
 use Rattle.replay_lines.proofs.put_holes.Tie as tie
 
 abbrev Inv-loop : tie.InvT-loop
-Inv-loop out₀ at p count next₀ i₀ out next i = (i ≤ count) × Added out₀ at (holesText p i) out next
+Inv-loop out₀ at p count listed next₀ i₀ out next i = (i ≤ count) × Added out₀ at (holesText p i) out next
 
 abbrev μ-loop : tie.MeasureT-loop
-μ-loop out₀ at p count next₀ i₀ out next i = count - i
+μ-loop out₀ at p count listed next₀ i₀ out next i = count - i
+
+hole-count-requires : tie.Need-hole-count-requires Inv-loop μ-loop
+hole-count-requires c κs = search needs
 
 loop-holds : tie.Need-loop-holds Inv-loop μ-loop
 unfolding holesText
-loop-holds c = (omega arith, added-none (now (c .before .before .args .out)) (c .before .before .args .at) (omega arith))
+loop-holds c =
+    let start = c .before .before .before in
+    (omega arith, added-none (now (start .args .out)) (start .args .at) (omega arith))
 
 put-hole-requires : tie.Need-put-hole-requires Inv-loop μ-loop
-put-hole-requires c κs = c .before .before .loop .inv .1 .within
+put-hole-requires c κs = (c .before .before .loop .inv .1 .within, c .before .before .before .hole-count .ensures)
 
 add-i : tie.Need-add-i Inv-loop μ-loop
 add-i c = omega arith
@@ -42,7 +48,7 @@ same-length c = c .before .loop .inv .1 .size
 
 returns : tie.Need-returns Inv-loop μ-loop
 returns c =
-    let e : c .before .loop .i ≡ c .before .before .before .before .args .count = omega arith in
+    let e : c .before .loop .i ≡ c .before .before .before .before .before .args .count = omega arith in
     rw e at (c .before .loop .inv .1)
 
 pub put-holes-spec : {M : Type 1} → statement M
@@ -51,6 +57,7 @@ put-holes-spec =
     (tie.spec
     Inv-loop
     μ-loop
+    hole-count-requires
     loop-holds
     put-hole-requires
     add-i

@@ -161,8 +161,8 @@ returns-8 c =
     of-kind (a .number) (now (a .body)) (now (a .area)) (now (a .lent)) (if8-place .if8 .taken)
     (time-place .time .ensures, refl)
 
-put-unknown-requires : tie.Need-put-unknown-requires
-put-unknown-requires c κs = search needs
+plan-record-requires : tie.Need-plan-record-requires
+plan-record-requires c κs = search needs
 
 same-length-17 : tie.Need-same-length-17
 same-length-17 c = search needs
@@ -170,8 +170,42 @@ same-length-17 c = search needs
 returns-9 : tie.Need-returns-9
 unfolding recordLines areaAfter
 returns-9 c =
+    let plan-record-place = c .before .before in
+    let if9-place = plan-record-place .before .before in
+    let start = if9-place .before .before .before .before .before .before .before .before .before .before .before .before .before in
+    let a = start .args in
+    of-kind (a .number) (now (a .body)) (now (a .area)) (now (a .lent)) (if9-place .if9 .taken)
+    (plan-record-place .plan-record .ensures, refl)
+
+check-record-requires : tie.Need-check-record-requires
+check-record-requires c κs = search needs
+
+same-length-18 : tie.Need-same-length-18
+same-length-18 c = search needs
+
+returns-10 : tie.Need-returns-10
+unfolding recordLines areaAfter
+returns-10 c =
+    let check-record-place = c .before .before in
+    let if10-place = check-record-place .before .before in
+    let start = if10-place .before .before .before .before .before .before .before .before .before .before .before .before .before .before in
+    let a = start .args in
+    of-kind (a .number) (now (a .body)) (now (a .area)) (now (a .lent)) (if10-place .if10 .taken)
+    (check-record-place .check-record .ensures, refl)
+
+put-unknown-requires : tie.Need-put-unknown-requires
+put-unknown-requires c κs = search needs
+
+same-length-19 : tie.Need-same-length-19
+same-length-19 c = search needs
+
+returns-11 : tie.Need-returns-11
+unfolding recordLines areaAfter
+returns-11 c =
     let put-unknown-place = c .before .before in
-    let if8-place = put-unknown-place .before .before in
+    let if10-place = put-unknown-place .before .before in
+    let if9-place = if10-place .before in
+    let if8-place = if9-place .before in
     let if7-place = if8-place .before in
     let if6-place = if7-place .before in
     let if5-place = if6-place .before in
@@ -189,7 +223,9 @@ returns-9 c =
     let n6 = ne-eqb (a .kind) 0x43 (if6-place .if6 .left) in
     let n7 = ne-eqb (a .kind) 0x50 (if7-place .if7 .left) in
     let n8 = ne-eqb (a .kind) 0x57 (if8-place .if8 .left) in
-    (rw (n1, n2, n3, n4, n5, n6, n7, n8) (put-unknown-place .put-unknown .ensures), rw (n1, n2, n3, n6, n7))
+    let n9 = ne-eqb (a .kind) 0x4c (if9-place .if9 .left) in
+    let n10 = ne-eqb (a .kind) 0x4b (if10-place .if10 .left) in
+    (rw (n1, n2, n3, n4, n5, n6, n7, n8, n9, n10) (put-unknown-place .put-unknown .ensures), rw (n1, n2, n3, n6, n7))
 
 pub lines-spec : {M : Type 1} → statement M
 lines-spec =
@@ -227,6 +263,12 @@ lines-spec =
     time-requires
     same-length-16
     returns-8
-    put-unknown-requires
+    plan-record-requires
     same-length-17
-    returns-9)
+    returns-9
+    check-record-requires
+    same-length-18
+    returns-10
+    put-unknown-requires
+    same-length-19
+    returns-11)

@@ -12,12 +12,13 @@ use lib.Seq.{length-take-le}
 use borrow.Author.Tests.{eq-eqb, ne-eqb}
 use borrow.Author.Needs.{needs}
 use Rattle.text.proofs.AddedLaws.{added-as}
-use Rattle.replay_steps.specs.Records.{numberAt, writtenLine, statusLines}
+use Rattle.replay_lines.specs.Body.{numberAt}
+use Rattle.replay_steps.specs.Records.{writtenLine, statusLines}
 use Rattle.replay_steps.proofs.records.status.Statement.{statement}
 use Rattle.replay_steps.proofs.records.status.Tie as tie
 
-bad-length-requires : tie.Need-bad-length-requires
-bad-length-requires c κs = search needs
+put-bad-length-requires : tie.Need-put-bad-length-requires
+put-bad-length-requires c κs = search needs
 
 same-length : tie.Need-same-length
 same-length c = search needs
@@ -25,11 +26,11 @@ same-length c = search needs
 returns : tie.Need-returns
 unfolding statusLines
 returns c =
-    let bad-length-place = c .before .before in
-    let if1-place = bad-length-place .before .before in
+    let put-bad-length-place = c .before .before in
+    let if1-place = put-bad-length-place .before .before in
     let start = if1-place .before .before .before .before .before in
     let a = start .args in
-    rw (ne-eqb (length (now (a .body))) 17 (if1-place .if1 .taken)) (bad-length-place .bad-length .ensures)
+    rw (ne-eqb (length (now (a .body))) 17 (if1-place .if1 .taken)) (put-bad-length-place .put-bad-length .ensures)
 
 read-four-requires : tie.Need-read-four-requires
 read-four-requires c κs = omega arith
@@ -91,7 +92,7 @@ pub status-spec : {M : Type 1} → statement M
 status-spec =
     tie.close
     (tie.spec
-    bad-length-requires
+    put-bad-length-requires
     same-length
     returns
     read-four-requires

@@ -10,8 +10,8 @@ use Rattle.replay_steps.specs.Records.{timeLines}
 use Rattle.replay_steps.proofs.records.time.Statement.{statement}
 use Rattle.replay_steps.proofs.records.time.Tie as tie
 
-bad-length-requires : tie.Need-bad-length-requires
-bad-length-requires c κs = search needs
+put-bad-length-requires : tie.Need-put-bad-length-requires
+put-bad-length-requires c κs = search needs
 
 same-length : tie.Need-same-length
 same-length c = search needs
@@ -19,11 +19,11 @@ same-length c = search needs
 returns : tie.Need-returns
 unfolding timeLines
 returns c =
-    let bad-length-place = c .before .before in
-    let if1-place = bad-length-place .before .before in
+    let put-bad-length-place = c .before .before in
+    let if1-place = put-bad-length-place .before .before in
     let start = if1-place .before .before .before in
     let a = start .args in
-    rw (ne-eqb (length (now (a .body))) 8 (if1-place .if1 .taken)) (bad-length-place .bad-length .ensures)
+    rw (ne-eqb (length (now (a .body))) 8 (if1-place .if1 .taken)) (put-bad-length-place .put-bad-length .ensures)
 
 returns-2 : tie.Need-returns-2
 unfolding timeLines
@@ -33,4 +33,4 @@ returns-2 c =
     rw (eq-eqb (length (now (a .body))) 8 (c .if1 .left)) (added-none (now (a .out)) 0 (omega arith))
 
 pub time-spec : {M : Type 1} → statement M
-time-spec = tie.close (tie.spec bad-length-requires same-length returns returns-2)
+time-spec = tie.close (tie.spec put-bad-length-requires same-length returns returns-2)

@@ -1,0 +1,4 @@
+pub mod Pieces
+pub mod GoodPlan
+pub mod Planning
+pub mod Checking

@@ -1,0 +1,313 @@
+// What to send again: the pieces that fill the holes of a STATUS, and the check of a list of pieces.
+// A list of pieces is walked by what C calls (crate saratoga); here is what there is to compute, on numbers and on a Piece by value.
+ghost use mathlib.Core.Path.{_≡_};
+ghost use Prim.Native.Nat.{_+_, _-_, _<_, _≤_, min};
+ghost use mathlib.Core.Bool.{not};
+ghost use lib.ListN.{length};
+ghost use lib.Dec.{eqb};
+ghost use Rattle.header.specs.FirstWord.{descriptorOctets};
+ghost use Rattle.header.specs.Start.{wordOf};
+ghost use Rattle.packet_status.specs.Status.{holeList};
+ghost use Rattle.plan.specs.Pieces.{piece, pieceCount, planOf};
+ghost use Rattle.refusals.specs.Refusals.{when};
+ghost use Rattle.plan.specs.Planning.{allowed, resendRefusal, planRefusal, judgedOf, plannedOf, cursorAt, advanced, pieceAt, nextCursor, Readable};
+ghost use Rattle.plan.specs.Checking.{fits, checkStart, checkStep, passed};
+
+// Octets to send: the first one's offset, and how many. struct saratoga_piece.
+#[repr(C)]
+pub struct Piece {
+    pub offset: u64,
+    pub length: u64,
+}
+
+// The refusal of a STATUS or of a largest payload, 0 for none, and the number of holes to fill.
+pub struct Judged {
+    pub number: u64,
+    pub holes: usize,
+}
+
+// The refusal of a plan, 0 for none; how many pieces it has, and of how many holes.
+pub struct Plan {
+    pub number: u64,
+    pub count: u64,
+    pub holes: usize,
+}
+
+// How far a plan or a check has come: the octets from `offset` to `end` are next, then the holes from the index `next` on, of
+// `count`. Where nothing is left, `offset` is `end`.
+pub struct Cursor {
+    pub offset: u64,
+    pub end: u64,
+    pub next: usize,
+    pub count: usize,
+}
+
+// A check under way: the refusal, 0 for none; whether all pieces so far are fine; and how far they have come.
+pub struct Check {
+    pub number: u64,
+    pub fine: bool,
+    pub cursor: Cursor,
+}
+
+// Refusal 21 of a largest payload; 0 for none.
+fn largest_refusal(largest: u64) -> u64
+    ensures { λ r. ⌜ r ≡ when (not (allowed largest)) 21 ⌝ }
+{
+    if largest == 0 {
+        return 21;
+    }
+    if 65000 < largest {
+        return 21;
+    }
+    0
+}
+
+// Refusal 11 of a STATUS with this code, by which it is a failure; 0 for none.
+fn failure_refusal(code: u64) -> u64
+    ensures { λ r. ⌜ r ≡ when (not (eqb code 0)) 11 ⌝ }
+{
+    if code != 0 {
+        return 11;
+    }
+    0
+}
+
+// The refusal of a packet that has to be a success STATUS, and of the largest payload; 0 for none.
+fn resend_refusal(status: &[u8], largest: u64) -> u64
+    ensures { λ r. ⌜ r ≡ resendRefusal largest (now (status .entry)) ⌝ }
+{
+    let unread = packet_status::status_refusal(status);
+    if unread != 0 {
+        return unread;
+    }
+    let h = header::split(header::word(status));
+    let failure = failure_refusal(h.status);
+    let payload = largest_refusal(largest);
+    refusals::first(failure, payload)
+}
+
+// The same, with the number of holes to fill.
+fn judge(status: &[u8], largest: u64) -> Judged
+    ensures { λ r. ⌜ r ≡ judgedOf (resendRefusal largest (now (status .entry))) (length (holeList (now (status .entry)))) ⌝ }
+{
+    let n = resend_refusal(status, largest);
+    if n != 0 {
+        return Judged {
+            number: n,
+            holes: 0,
+        };
+    }
+    Judged {
+        number: 0,
+        holes: packet_status::hole_count(status),
+    }
+}
+
+// How many pieces a hole takes.
+fn pieces_of(start: u64, end: u64, largest: u64) -> u64
+    requires { ⌜ (start < end) × (0 < largest) ⌝ }
+    ensures { λ r. ⌜ r ≡ pieceCount largest (record { start = start; end = end }) ⌝ }
+{
+    (end - start - 1) / largest + 1
+}
+
+// How many pieces all holes take, of a STATUS with descriptors of d octets. There are fewer than octets, so the sum does not run
+// over.
+fn count_of_width(status: &[u8], holes: usize, largest: u64, d: usize) -> u64
+    requires { ⌜ (resendRefusal largest (now status) ≡ 0) × (holes ≡ length (holeList (now status))) × (d ≡ descriptorOctets (wordOf (now status))) ⌝ }
+    ensures { λ r. ⌜ r ≡ length (planOf largest (holeList (now (status .entry)))) ⌝ }
+{
+    let mut count: u64 = 0;
+    let mut i: usize = 0;
+    while i < holes {
+        let h = packet_status::hole_of_width(status, i, d);
+        count = count + pieces_of(h.start, h.end, largest);
+        i = i + 1;
+    }
+    count
+}
+
+// The same for every width. Each is a literal, for which the compiler makes one load of each number.
+fn count_pieces(status: &[u8], holes: usize, largest: u64) -> u64
+    requires { ⌜ (resendRefusal largest (now status) ≡ 0) × (holes ≡ length (holeList (now status))) ⌝ }
+    ensures { λ r. ⌜ r ≡ length (planOf largest (holeList (now (status .entry)))) ⌝ }
+{
+    let d = header::descriptor_octets(header::word(status));
+    if d == 2 {
+        return count_of_width(status, holes, largest, 2);
+    }
+    if d == 4 {
+        return count_of_width(status, holes, largest, 4);
+    }
+    if d == 8 {
+        return count_of_width(status, holes, largest, 8);
+    }
+    count_of_width(status, holes, largest, 16)
+}
+
+// How many pieces the plan for a STATUS has.
+pub fn count_plan(status: &[u8], largest: u64) -> Plan
+    ensures { λ r. ⌜ r ≡ plannedOf (resendRefusal largest (now (status .entry))) largest (holeList (now (status .entry))) ⌝ }
+{
+    let j = judge(status, largest);
+    if j.number != 0 {
+        return Plan {
+            number: j.number,
+            count: 0,
+            holes: 0,
+        };
+    }
+    Plan {
+        number: 0,
+        count: count_pieces(status, j.holes, largest),
+        holes: j.holes,
+    }
+}
+
+// The same for a list of `room` records.
+pub fn plan_within(status: &[u8], largest: u64, room: usize) -> Plan
+    ensures { λ r. ⌜ r ≡ plannedOf (planRefusal largest room (now (status .entry))) largest (holeList (now (status .entry))) ⌝ }
+{
+    let p = count_plan(status, largest);
+    if (room as u64) < p.count {
+        return Plan {
+            number: 20,
+            count: 0,
+            holes: 0,
+        };
+    }
+    p
+}
+
+// The cursor at the low end of the hole with this index, of `count`.
+pub fn cursor_at(status: &[u8], count: usize, index: usize) -> Cursor
+    requires { ⌜ Readable (now status) count ⌝ }
+    ensures { λ r. ⌜ r ≡ cursorAt (holeList (now (status .entry))) count index ⌝ }
+{
+    if count <= index {
+        return Cursor {
+            offset: 0,
+            end: 0,
+            next: index,
+            count,
+        };
+    }
+    let h = packet_status::listed_hole(status, index);
+    Cursor {
+        offset: h.start,
+        end: h.end,
+        next: index + 1,
+        count,
+    }
+}
+
+// The cursor `n` octets further on, in the hole or at its end.
+fn advance(status: &[u8], c: Cursor, n: u64) -> Cursor
+    requires { ⌜ Readable (now status) (c .count) × (c .offset + n ≤ c .end) ⌝ }
+    ensures { λ r. ⌜ r ≡ advanced (holeList (now (status .entry))) n c ⌝ }
+{
+    let offset = c.offset + n;
+    if offset < c.end {
+        return Cursor {
+            offset,
+            end: c.end,
+            next: c.next,
+            count: c.count,
+        };
+    }
+    cursor_at(status, c.count, c.next)
+}
+
+// How long the piece is that begins at an offset.
+fn piece_length(offset: u64, end: u64, largest: u64) -> u64
+    requires { ⌜ offset ≤ end ⌝ }
+    ensures { λ r. ⌜ r ≡ min largest (end - offset) ⌝ }
+{
+    let left = end - offset;
+    if left < largest {
+        return left;
+    }
+    largest
+}
+
+// The piece that is next.
+pub fn piece_at(c: Cursor, largest: u64) -> Piece
+    requires { ⌜ c .offset ≤ c .end ⌝ }
+    ensures { λ r. ⌜ r ≡ pieceAt largest c ⌝ }
+{
+    Piece {
+        offset: c.offset,
+        length: piece_length(c.offset, c.end, largest),
+    }
+}
+
+// The cursor after that piece.
+pub fn next_cursor(status: &[u8], c: Cursor, largest: u64) -> Cursor
+    requires { ⌜ Readable (now status) (c .count) × (c .offset ≤ c .end) ⌝ }
+    ensures { λ r. ⌜ r ≡ nextCursor (holeList (now (status .entry))) largest c ⌝ }
+{
+    advance(status, c, piece_length(c.offset, c.end, largest))
+}
+
+// Whether a piece begins at `at`, is neither empty nor longer than `largest`, and does not go past `end`.
+fn piece_fits(at: u64, end: u64, largest: u64, offset: u64, length: u64) -> bool
+    ensures { λ r. ⌜ r ≡ fits largest at end (piece offset length) ⌝ }
+{
+    if offset != at {
+        return false;
+    }
+    if length == 0 {
+        return false;
+    }
+    if largest < length {
+        return false;
+    }
+    if end < at {
+        return false;
+    }
+    length <= end - at
+}
+
+// A check before the first piece.
+pub fn check_start(status: &[u8], largest: u64) -> Check
+    ensures { λ r. ⌜ r ≡ checkStart (resendRefusal largest (now (status .entry))) (holeList (now (status .entry))) ⌝ }
+{
+    let j = judge(status, largest);
+    Check {
+        number: j.number,
+        fine: j.number == 0,
+        cursor: cursor_at(status, j.holes, 0),
+    }
+}
+
+// A check after one more piece.
+pub fn check_step(status: &[u8], k: Check, largest: u64, p: Piece) -> Check
+    requires { ⌜ Readable (now status) (k .cursor .count) ⌝ }
+    ensures { λ r. ⌜ r ≡ checkStep (holeList (now (status .entry))) largest k p ⌝ }
+{
+    let c = k.cursor;
+    if k.fine {
+        if piece_fits(c.offset, c.end, largest, p.offset, p.length) {
+            return Check {
+                number: k.number,
+                fine: true,
+                cursor: advance(status, c, p.length),
+            };
+        }
+    }
+    Check {
+        number: k.number,
+        fine: false,
+        cursor: c,
+    }
+}
+
+// Whether all pieces were fine, and nothing is left.
+pub fn check_passed(k: Check) -> bool
+    ensures { λ r. ⌜ r ≡ passed k ⌝ }
+{
+    if k.fine {
+        return k.cursor.offset == k.cursor.end;
+    }
+    false
+}

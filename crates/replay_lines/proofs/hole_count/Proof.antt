@@ -1,0 +1,31 @@
+-- `replay_lines::hole_count` meets its contract: a return for each case of what was read.
+-- Assumes nothing.
+use mathlib.Core.Path.{sym, ap, _∙_}
+use borrow.Author.Needs.{needs}
+use Rattle.replay_lines.specs.Lines.{holesListed}
+use Rattle.replay_lines.proofs.hole_count.Statement.{statement}
+use Rattle.replay_lines.proofs.hole_count.Tie as tie
+
+read-status-requires : tie.Need-read-status-requires
+read-status-requires c κs = search needs
+
+enum-known-s : tie.Need-enum-known-s
+enum-known-s c = search needs
+
+enum-told : tie.Need-enum-told
+enum-told c = search needs
+
+enum-told-2 : tie.Need-enum-told-2
+enum-told-2 c = search needs
+
+returns : tie.Need-returns
+returns c = ap holesListed (sym (c .before .s .given .1) ∙ c .before .before .before .read-status .ensures)
+
+returns-2 : tie.Need-returns-2
+returns-2 c = ap holesListed (sym (c .enum-told .given .1) ∙ c .before .before .read-status .ensures)
+
+returns-3 : tie.Need-returns-3
+returns-3 c = ap holesListed (sym (c .enum-told2 .given .1) ∙ c .before .before .read-status .ensures)
+
+pub hole-count-spec : {M : Type 1} → statement M
+hole-count-spec = tie.close (tie.spec read-status-requires enum-known-s enum-told enum-told-2 returns returns-2 returns-3)

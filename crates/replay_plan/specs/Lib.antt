@@ -1,0 +1,2 @@
+pub mod PlanLines
+pub mod PlanRecords

@@ -1,0 +1,26 @@
+-- `saratoga::checked_answer` meets its contract. Assumes nothing.
+use mathlib.Core.Path.{_≡_, sym, _∙_}
+use mathlib.Core.Bool.{true, false}
+use Rattle.plan.specs.Checking.{passed}
+use borrow.Author.Needs.{needs}
+use Rattle.saratoga.proofs.plans.checked_answer.Statement.{statement}
+use Rattle.saratoga.proofs.plans.checked_answer.Tie as tie
+
+refuse-requires : tie.Need-refuse-requires
+refuse-requires c κs = search needs
+
+check-passed-requires : tie.Need-check-passed-requires
+check-passed-requires c κs = search needs
+
+returns : tie.Need-returns
+returns c =
+    let e : passed (c .before .before .before .args .k) ≡ true = sym (c .before .check-passed .ensures) ∙ c .if1 .taken in
+    rw (c .before .before .refuse .ensures, e)
+
+returns-2 : tie.Need-returns-2
+returns-2 c =
+    let e : passed (c .before .before .before .args .k) ≡ false = sym (c .before .check-passed .ensures) ∙ c .if1 .left in
+    rw (c .before .before .refuse .ensures, e)
+
+pub checked-answer-spec : {M : Type 1} → statement M
+checked-answer-spec = tie.close (tie.spec refuse-requires check-passed-requires returns returns-2)

@@ -6,6 +6,7 @@
 # make stack    prints the stack that each function needs
 # make bench    measures the library beside plain C and prints the ratios; docs/BENCHMARKS.md
 # make bench-instructions   the same in instructions, by callgrind
+# make bench-descriptors    reading a descriptor now, at earlier commits and in plain C, in time and instructions; needs the history
 # make link     builds the link program, target/link/saratoga-link (docs/LINK.md)
 # make plan     builds the sending house's planner, target/plan/saratoga-plan (docs/PLAN.md)
 # make install  header, archive, pkg-config file, replay, the tools, the link program and the planner, with man pages, below
@@ -19,8 +20,8 @@ BENCH_FLAGS = -O2 -Wall -Wextra -Iinclude
 
 PASS ?= host/passes/page611.pass
 
-.PHONY: test lib replay-program front replay compare soak stack bench-program bench bench-instructions link plan
-.PHONY: install uninstall clean help
+.PHONY: test lib replay-program front replay compare soak stack bench-program bench bench-instructions bench-descriptors
+.PHONY: link plan install uninstall clean help
 
 help:
 	@sed -n '/^[^#]/q; s/^# //p' Makefile
@@ -55,6 +56,9 @@ bench: bench-program
 
 bench-instructions: bench-program
 	host/bench/instructions
+
+bench-descriptors:
+	CC='$(CC)' REPEATS='$(REPEATS)' host/bench/descriptors/run
 
 link: lib
 	mkdir -p target/link

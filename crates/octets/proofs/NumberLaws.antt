@@ -1,9 +1,9 @@
--- Numbers and their octets: the value of digits, the digits of a value, bounds, and one step of each loop.
+-- Numbers and their octets: the value of digits, the digits of a value, bounds, and one step of the writing loop.
 -- Assumes nothing.
 use Prim.Native.Nat.{ℕ, zero, suc, _+_, _*_, _-_, _/_, _%_, _^_, _<_, _≤_}
 use mathlib.Core.Path.{_≡_, refl, sym, ap, _∙_}
 use mathlib.Core.List.{List, [], _∷_, _++_, append-nil}
-use native.Mathlib.Nat.{div-add-mod', div-lt-iff-lt-mul, pow-suc, le-of-lt, not-suc-le-zero, pow-le-pow-right, lt-of-lt-of-le, add-zero, zero-add, add-suc, suc-add, mul-suc, suc-mul, div-mul-le-self, one-le-pow, eq-zero-or-pos, le-trans}
+use native.Mathlib.Nat.{div-add-mod', div-lt-iff-lt-mul, pow-suc, le-of-lt, not-suc-le-zero, add-zero, zero-add, add-suc, suc-add, mul-suc, suc-mul, div-mul-le-self, one-le-pow, eq-zero-or-pos, le-trans}
 use native.Mathlib.Omega.{arith}
 use mathlib.Core.Logic.{⊎-elim}
 use borrow.Author.Tests.{lt-ltb, le-ltb, ne-eqb}
@@ -11,7 +11,7 @@ use lib.Dec.{ltb, eqb}
 use lib.Pow.{pow-add}
 use lib.Arith.{digits-lt, digits-div, digits-mod, lt-one}
 use lib.ListN.{length, getD, take, drop, set, length-drop, take-append-drop}
-use lib.Seq.{drop-cons, set-split, drop-at, length-take-le, getD-drop}
+use lib.Seq.{set-split, drop-at, length-take-le, getD-drop}
 use Rattle.octets.specs.Numbers.{beFrom, beValue, beOnto, beDigits, Octets, Width}
 use Rattle.octets.specs.Numbers.Width.{two, four, eight, sixteen}
 
@@ -32,6 +32,12 @@ width-wide two a b c = absurd (a refl)
 width-wide four a b c = absurd (b refl)
 width-wide eight a b c = absurd (c refl)
 width-wide sixteen a b c = refl
+
+pub width-two : {d : ℕ} → Width d → d ≤ 8 → (d ≡ 8 → ⊥) → (d ≡ 4 → ⊥) → d ≡ 2
+width-two two l a b = refl
+width-two four l a b = absurd (b refl)
+width-two eight l a b = absurd (a refl)
+width-two sixteen l a b = absurd (omega arith)
 
 pub width-some : {d : ℕ} → Width d → 2 ≤ d
 width-some two = omega arith
@@ -82,12 +88,8 @@ pub digits-value : (xs : List ℕ) → Octets xs → beDigits (length xs) (beVal
 digits-value xs o = (rw zero-add at (onto-from 0 0 xs [] o)) ∙ append-nil xs
 
 -- a value of d octets is below 256 ^ d
-pub value-step : (i v x : ℕ) → v < 256 ^ i → x < 256 → v * 256 + x < 256 ^ suc i
+value-step : (i v x : ℕ) → v < 256 ^ i → x < 256 → v * 256 + x < 256 ^ suc i
 value-step i v x h hx = rw pow-suc (digits-lt h hx)
-
-pub fits-step : (i v x : ℕ) → i < 8 → v < 256 ^ i → x < 256 → v * 256 + x < 2 ^ 64
-fits-step i v x h hv hx =
-    lt-of-lt-of-le (value-step i v x hv hx) (pow-le-pow-right {n = 256} (omega arith) {i = suc i} {j = 8} h)
 
 from-lt : (i v : ℕ) (xs : List ℕ) → v < 256 ^ i → Octets xs → beFrom v xs < 256 ^ (i + length xs)
 from-lt i v [] h o = rw add-zero h
@@ -96,6 +98,10 @@ from-lt i v (x ∷ xs) h o =
 
 pub value-lt : (xs : List ℕ) → Octets xs → beValue xs < 256 ^ length xs
 value-lt xs o = rw zero-add at (from-lt 0 0 xs (omega arith) o)
+
+-- a number of n octets, where n are asked
+pub of-width : (s : List ℕ) (at d n r : ℕ) → d ≡ n → r ≡ beValue (take n (drop at s)) → r ≡ beValue (take d (drop at s))
+of-width s at d n r e h = rw e h
 
 -- a part of octets
 pub octets-take : (n : ℕ) (xs : List ℕ) → Octets xs → Octets (take n xs)
@@ -120,15 +126,6 @@ module _ (s : List ℕ) (at d : ℕ) (o : Octets s) (h : at + d ≤ length s) wh
 
   pub part-digits : beDigits d (beValue (take d (drop at s))) ≡ take d (drop at s)
   part-digits = rw part-length at (digits-value (take d (drop at s)) part-octets)
-
--- reading: one octet more of those that are left
-pub read-step : (s : List ℕ) (at d i v : ℕ) → i < d → at + d ≤ length s
-    → beFrom v (take (d - i) (drop (at + i) s)) ≡ beFrom (v * 256 + getD s (at + i) 0) (take (d - (i + 1)) (drop (at + (i + 1)) s))
-read-step s at d i v h k =
-    let e : d - i ≡ suc (d - (i + 1)) = omega arith in
-    let a : at + (i + 1) ≡ suc (at + i) = omega arith in
-    let l : at + i < length s = omega arith in
-    rw (e, a, drop-cons s (at + i) 0)
 
 -- writing: one octet more, from the last to the first
 drop-set : (s : List ℕ) (j x : ℕ) → j < length s → drop j (set s j x) ≡ x ∷ drop (suc j) s

@@ -44,3 +44,8 @@ pub four-octets : (s : List ℕ) (at : ℕ) → at + 4 ≤ length s
 four-octets s at h =
     let a : at + 2 + 1 ≡ at + 3 = omega arith in
     parts-value s at 2 2 h ∙ rw (two-octets s at (omega arith), two-octets s (at + 2) (omega arith), a) (omega arith)
+
+-- eight octets from two halves of four
+pub two-halves : (s : List ℕ) (at low high : ℕ) → at + 8 ≤ length s → low ≡ beValue (take 4 (drop (at + 4) s)) → high ≡ beValue (take 4 (drop at s))
+    → low + high * 4294967296 ≡ beValue (take 8 (drop at s))
+two-halves s at low high h l u = rw (l, u) (omega (arith, parts-value s at 4 4 h))

@@ -20,30 +20,25 @@ pub fn read_number(s: &[u8], at: usize, d: usize) -> Number
     if d == 16 {
         return read_sixteen(s, at);
     }
-    if d == 8 {
-        return Number {
-            small: true,
-            value: read_eight(s, at),
-        };
-    }
     Number {
         small: true,
-        value: read_short(s, at, d),
+        value: read_narrow(s, at, d),
     }
 }
 
-// The number that at most eight octets stand for.
-fn read_short(s: &[u8], at: usize, d: usize) -> u64
-    requires { ⌜ (d ≤ 8) × (at + d ≤ length (now s)) ⌝ }
+// The number that two, four or eight octets stand for, with no loop: one load for each width. Each begins with its own last octet;
+// what all of them began with, the compiler would read before the tests, and then the rest octet by octet.
+fn read_narrow(s: &[u8], at: usize, d: usize) -> u64
+    requires { ⌜ Width d × (d ≤ 8) × (at + d ≤ length (now s)) ⌝ }
     ensures { λ r. ⌜ r ≡ beValue (take d (drop at (now (s .entry)))) ⌝ }
 {
-    let mut v: u64 = 0;
-    let mut i = 0;
-    while i < d {
-        v = v * 256 + s[at + i] as u64;
-        i += 1;
+    if d == 8 {
+        return read_eight(s, at);
     }
-    v
+    if d == 4 {
+        return read_four(s, at);
+    }
+    read_two(s, at)
 }
 
 // The number that the two octets from `at` on stand for.
@@ -51,14 +46,14 @@ pub fn read_two(s: &[u8], at: usize) -> u64
     requires { ⌜ at + 2 ≤ length (now s) ⌝ }
     ensures { λ r. ⌜ r ≡ beValue (take 2 (drop at (now (s .entry)))) ⌝ }
 {
-    join_four(0, 0, s[at], s[at + 1])
+    join_four(s[at + 1], s[at], 0, 0)
 }
 
-// The number of four octets, the highest first.
+// The number of four octets, the lowest first.
 fn join_four(a: u8, b: u8, c: u8, d: u8) -> u64
-    ensures { λ r. ⌜ r ≡ a * 16777216 + b * 65536 + c * 256 + d ⌝ }
+    ensures { λ r. ⌜ r ≡ a + b * 256 + c * 65536 + d * 16777216 ⌝ }
 {
-    (a as u64) * 16777216 + (b as u64) * 65536 + (c as u64) * 256 + d as u64
+    a as u64 + (b as u64) * 256 + (c as u64) * 65536 + (d as u64) * 16777216
 }
 
 // The number that the four octets from `at` on stand for.
@@ -66,15 +61,17 @@ pub fn read_four(s: &[u8], at: usize) -> u64
     requires { ⌜ at + 4 ≤ length (now s) ⌝ }
     ensures { λ r. ⌜ r ≡ beValue (take 4 (drop at (now (s .entry)))) ⌝ }
 {
-    join_four(s[at], s[at + 1], s[at + 2], s[at + 3])
+    join_four(s[at + 3], s[at + 2], s[at + 1], s[at])
 }
 
-// The number that the eight octets from `at` on stand for, with no loop: the compiler makes few loads of it.
+// The number that the eight octets from `at` on stand for.
 pub fn read_eight(s: &[u8], at: usize) -> u64
     requires { ⌜ at + 8 ≤ length (now s) ⌝ }
     ensures { λ r. ⌜ r ≡ beValue (take 8 (drop at (now (s .entry)))) ⌝ }
 {
-    read_four(s, at) * 4294967296 + read_four(s, at + 4)
+    let low = read_four(s, at + 4);
+    let high = read_four(s, at);
+    low + high * 4294967296
 }
 
 // What sixteen octets tell: the number of the last eight, where the upper eight are zero.
@@ -112,7 +109,7 @@ fn read_low_four(s: &[u8], at: usize) -> u64
     requires { ⌜ at + 4 ≤ length (now s) ⌝ }
     ensures { λ r. ⌜ r ≡ leValue (take 4 (drop at (now (s .entry)))) ⌝ }
 {
-    join_four(s[at + 3], s[at + 2], s[at + 1], s[at])
+    join_four(s[at], s[at + 1], s[at + 2], s[at + 3])
 }
 
 // The number that the eight octets from `at` on stand for, the lowest first: one load.

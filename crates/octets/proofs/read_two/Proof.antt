@@ -6,11 +6,11 @@ use native.Mathlib.Omega.{arith}
 use Rattle.octets.proofs.read_two.Statement.{statement}
 use Rattle.octets.proofs.read_two.Tie as tie
 
-shared-slice-read-join-four : tie.Need-shared-slice-read-join-four
-shared-slice-read-join-four c = search needs
-
 add-join-four : tie.Need-add-join-four
 add-join-four c = search needs
+
+shared-slice-read-join-four : tie.Need-shared-slice-read-join-four
+shared-slice-read-join-four c = search needs
 
 shared-slice-read-join-four-2 : tie.Need-shared-slice-read-join-four-2
 shared-slice-read-join-four-2 c = search needs
@@ -27,8 +27,8 @@ pub read-two-spec : {M : Type 1} → statement M
 read-two-spec =
     tie.close
     (tie.spec
-    shared-slice-read-join-four
     add-join-four
+    shared-slice-read-join-four
     shared-slice-read-join-four-2
     join-four-requires
     returns)

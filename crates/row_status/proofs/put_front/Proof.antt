@@ -1,11 +1,11 @@
--- `area_status::put_front` meets its contract: the fields are those of the runs in the rows.
+-- `row_status::put_front` meets its contract: the fields are those of the runs in the rows.
 -- Assumes nothing.
 use borrow.Author.Needs.{needs}
 use denote.Ref.{now}
 use Rattle.run_rows.specs.Rows.{runsIn}
-use Rattle.area_status.proofs.WriteStatusLaws.{front-put}
-use Rattle.area_status.proofs.put_front.Statement.{statement}
-use Rattle.area_status.proofs.put_front.Tie as tie
+use Rattle.row_status.proofs.FrontLaws.{front-put}
+use Rattle.row_status.proofs.put_front.Statement.{statement}
+use Rattle.row_status.proofs.put_front.Tie as tie
 
 is-complete-requires : tie.Need-is-complete-requires
 is-complete-requires c κs = search needs
@@ -35,7 +35,7 @@ returns c =
     let p = e .before in
     let u = p .before in
     let a = u .before .before .before .before .args in
-    front-put (a .key) (runsIn (now (a .area)) (a .rows)) (a .partial) (a .unasked) _ _ _ _ _ (now (a .out)) _
+    front-put (a .key) (runsIn (now (a .buf)) (a .rows)) (a .partial) (a .unasked) _ _ _ _ _ (now (a .out)) _
     (u .before .is-complete .ensures) (u .unasked-or-complete .ensures) (p .progress-of .ensures) (e .edge-of .ensures) (r .response-sent .ensures)
     (c .before .before .put-fields .ensures)
 

@@ -1,4 +1,4 @@
--- `area_status::put_holes` meets its contract: the width is one of the four.
+-- `row_status::put_holes` meets its contract: the width is one of the four.
 -- Assumes nothing.
 use Prim.Native.Nat.{ℕ}
 use mathlib.Core.Path.{_≡_, refl}
@@ -6,8 +6,8 @@ use native.Mathlib.Omega.{arith}
 use borrow.Author.Needs.{needs}
 use Rattle.octets.specs.Numbers.{Width}
 use Rattle.octets.specs.Numbers.Width.{two, four, eight, sixteen}
-use Rattle.area_status.proofs.put_holes.Statement.{statement}
-use Rattle.area_status.proofs.put_holes.Tie as tie
+use Rattle.row_status.proofs.put_holes.Statement.{statement}
+use Rattle.row_status.proofs.put_holes.Tie as tie
 
 put-pairs-requires : tie.Need-put-pairs-requires
 put-pairs-requires c κs =

@@ -1,4 +1,4 @@
--- `area_status::write_rows` meets its contract: a refusal leaves the buffer, and else the packet stands in it.
+-- `row_status::write_rows` meets its contract: a refusal leaves the buffer, and else the packet stands in it.
 -- Assumes nothing.
 use Prim.Native.Nat.{ℕ, _+_, _*_, _-_, _≤_, min}
 use mathlib.Core.Path.{_≡_, refl, ap, _∙_}
@@ -12,8 +12,8 @@ use Rattle.run_rows.specs.Rows.{runsIn}
 use Rattle.transfer.specs.WriteStatus.{sizeRefusal, holeRoom, transferRefused}
 use Rattle.transfer.proofs.StatusSize.{skip-there}
 use Rattle.transfer.proofs.StatusWriter.{sent-room, transfer-refused, transfer-written}
-use Rattle.area_status.proofs.write_rows.Statement.{statement}
-use Rattle.area_status.proofs.write_rows.Tie as tie
+use Rattle.row_status.proofs.write_rows.Statement.{statement}
+use Rattle.row_status.proofs.write_rows.Tie as tie
 
 hole-count-requires : tie.Need-hole-count-requires
 hole-count-requires c κs = search needs
@@ -27,7 +27,7 @@ refuse-requires c κs = search needs
 -- the refusal, by the transfer's holes
 number : (c : tie.After-size-refusal)
     → let a = c .before .before .before .before .args in
-    c .size-refusal .result ≡ transferRefused (a .key) (runsIn (now (a .area)) (a .rows)) (a .skip) (a .unasked) (now (a .out))
+    c .size-refusal .result ≡ transferRefused (a .key) (runsIn (now (a .buf)) (a .rows)) (a .skip) (a .unasked) (now (a .out))
 number c =
     let a = c .before .before .before .before .args in
     c .size-refusal .ensures ∙ ap (λ (n : ℕ). sizeRefusal (a .key .width) n (a .skip) (length (now (a .out)))) (c .before .hole-count .ensures)
@@ -36,28 +36,28 @@ returns : tie.Need-returns
 returns c =
     let s = c .before .before in
     let a = s .before .before .before .before .args in
-    let k = transfer-refused (a .key) (runsIn (now (a .area)) (a .rows)) (a .skip) (a .unasked) (now (a .out)) (s .size-refusal .result) (number s) (omega arith) in
+    let k = transfer-refused (a .key) (runsIn (now (a .buf)) (a .rows)) (a .skip) (a .unasked) (now (a .out)) (s .size-refusal .result) (number s) (omega arith) in
     (rw (c .refuse .ensures) (k .0), k .1)
 
 -- where there is none, the holes that are skipped and those that are written are there, and these have room
 none : (c : tie.Else1)
-    → let a = c .before .before .before .before .before .args in transferRefused (a .key) (runsIn (now (a .area)) (a .rows)) (a .skip) (a .unasked) (now (a .out)) ≡ 0
+    → let a = c .before .before .before .before .before .args in transferRefused (a .key) (runsIn (now (a .buf)) (a .rows)) (a .skip) (a .unasked) (now (a .out)) ≡ 0
 none c = omega (arith, number (c .before))
 
 count-is : (c : tie.After-holes-to-send)
     → let a = c .before .before .before .before .before .before .args in
-    c .holes-to-send .result ≡ min (length (holes (runsIn (now (a .area)) (a .rows))) - a .skip) (holeRoom (a .key .width) (length (now (a .out))))
+    c .holes-to-send .result ≡ min (length (holes (runsIn (now (a .buf)) (a .rows))) - a .skip) (holeRoom (a .key .width) (length (now (a .out))))
 count-is c = c .holes-to-send .ensures ∙ rw (c .before .before .before .hole-count .ensures)
 
 known : (c : tie.After-holes-to-send)
     → let a = c .before .before .before .before .before .before .args in
-    (a .skip + c .holes-to-send .result ≤ length (holes (runsIn (now (a .area)) (a .rows))))
+    (a .skip + c .holes-to-send .result ≤ length (holes (runsIn (now (a .buf)) (a .rows))))
     × (8 + 2 * a .key .width + 2 * a .key .width * c .holes-to-send .result ≤ length (now (a .out)))
 known c =
     let before-place = c .before .before .before .before .before in
     let s = before-place .before in
     let a = s .args in
-    let n = length (holes (runsIn (now (a .area)) (a .rows))) in
+    let n = length (holes (runsIn (now (a .buf)) (a .rows))) in
     let z = none (c .before) in
     let t : a .skip ≤ n = skip-there (a .key .width) n (a .skip) (length (now (a .out))) z in
     let e = count-is c in (
@@ -111,7 +111,7 @@ returns-2 c =
     let s = h .before .before .before .before .before .before in
     let a = s .args in
     let p = before-place .partial-sent in
-    transfer-written (a .key) (runsIn (now (a .area)) (a .rows)) (a .skip) (a .unasked) (now (a .out)) (s .pre .1) (none (h .before))
+    transfer-written (a .key) (runsIn (now (a .buf)) (a .rows)) (a .skip) (a .unasked) (now (a .out)) (s .pre .1) (none (h .before))
     (p .result) _ (h .holes-to-send .result) _ _ _
     (p .ensures ∙ rw (h .before .before .before .hole-count .ensures)) refl (count-is h) refl
     (put-front-place .put-front .ensures) (put-holes-place .put-holes .ensures)

@@ -1,4 +1,4 @@
--- `area_status::put_pairs` meets its contract. The loop's invariant: the holes that are left, put into the buffer as it is now, are
+-- `row_status::put_pairs` meets its contract. The loop's invariant: the holes that are left, put into the buffer as it is now, are
 -- all of them put into the buffer as it was. The measure is how many are left.
 -- Assumes nothing.
 use Prim.Native.Nat.{_+_, _*_, _≤_}
@@ -13,17 +13,17 @@ use Rattle.run_rows.specs.Rows.{runsIn}
 use Rattle.run_rows.proofs.RowsLaws.{length-runs}
 use Rattle.transfer.specs.WriteStatus.{pairs}
 use Rattle.transfer.proofs.StatusPuts.{one-less, pairs-step, pairs-end}
-use Rattle.area_status.proofs.put_pairs.Statement.{statement}
-use Rattle.area_status.proofs.put_pairs.Tie as tie
+use Rattle.row_status.proofs.put_pairs.Statement.{statement}
+use Rattle.row_status.proofs.put_pairs.Tie as tie
 
 abbrev Inv-loop : tie.InvT-loop
-Inv-loop area rows width first count out₀ from at₀ j₀ left₀ out at j left =
-    (length out ≡ length out₀) × (at + 2 * width * left ≤ length out₀) × (j + left ≤ length (holes (runsIn area rows)))
-    × (put at (pairs width (take left (drop j (holes (runsIn area rows))))) out
-    ≡ put from (pairs width (take count (drop first (holes (runsIn area rows))))) out₀)
+Inv-loop buf rows width first count out₀ from at₀ j₀ left₀ out at j left =
+    (length out ≡ length out₀) × (at + 2 * width * left ≤ length out₀) × (j + left ≤ length (holes (runsIn buf rows)))
+    × (put at (pairs width (take left (drop j (holes (runsIn buf rows))))) out
+    ≡ put from (pairs width (take count (drop first (holes (runsIn buf rows))))) out₀)
 
 abbrev μ-loop : tie.MeasureT-loop
-μ-loop area rows width first count out₀ from at₀ j₀ left₀ out at j left = left
+μ-loop buf rows width first count out₀ from at₀ j₀ left₀ out at j left = left
 
 loop-holds : tie.Need-loop-holds Inv-loop μ-loop
 loop-holds c = let s = c .before .before in (refl, s .pre .2, s .pre .1, refl)
@@ -53,7 +53,7 @@ add-j c =
     let before-place = c .before .before .before .before .before .before .before .before in
     let s = before-place .before in
     let r = s .args .rows in
-    omega (arith, length-runs (now (s .args .area)) (r .starts) (r .stops) (r .count), holes-few (runsIn (now (s .args .area)) r) (s .pre .0 .canonical), s .pre .0 .fit .starts-fit)
+    omega (arith, length-runs (now (s .args .buf)) (r .starts) (r .stops) (r .count), holes-few (runsIn (now (s .args .buf)) r) (s .pre .0 .canonical), s .pre .0 .fit .starts-fit)
 
 sub-left : tie.Need-sub-left Inv-loop μ-loop
 sub-left c = omega arith
@@ -72,7 +72,7 @@ loop-again c =
       put-hole-place .put-hole .kept .0 ∙ l .inv .0,
       omega (arith, one-less (2 * a .width) (l .left) (omega arith)),
       omega arith,
-      pairs-step (a .width) (holes (runsIn (now (a .area)) (a .rows))) (hole-at-place .hole-at .result) (l .j) (l .left) (l .at) (l .out) _ _
+      pairs-step (a .width) (holes (runsIn (now (a .buf)) (a .rows))) (hole-at-place .hole-at .result) (l .j) (l .left) (l .at) (l .out) _ _
           (omega arith) (l .inv .2) (omega arith) (hole-at-place .hole-at .ensures) (put-hole-place .put-hole .ensures) (l .inv .3),
     )
 
@@ -83,7 +83,7 @@ returns : tie.Need-returns Inv-loop μ-loop
 returns c =
     let l = c .before .loop in
     let a = c .before .before .before .before .args in
-    pairs-end (a .width) (holes (runsIn (now (a .area)) (a .rows))) (l .j) (l .left) (l .at) (l .out) _ (omega arith) (l .inv .3)
+    pairs-end (a .width) (holes (runsIn (now (a .buf)) (a .rows))) (l .j) (l .left) (l .at) (l .out) _ (omega arith) (l .inv .3)
 
 pub put-pairs-spec : {M : Type 1} → statement M
 put-pairs-spec =

@@ -1,0 +1,6 @@
+pub mod BitLaws
+pub mod MarkedRunsLaws
+pub mod MarkLaws
+pub mod LoopLaws
+pub mod WalkLaws
+pub mod FoundLaws

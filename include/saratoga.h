@@ -445,11 +445,16 @@ struct saratoga_opened {
     uint64_t already_open; /* 1 where the Id was open with the same width and length, else 0 */
 };
 
-/* A recorded packet: the transfer as it stands with it. */
+/*
+ * A recorded packet: the transfer as it stands with it, and how many of the runs stored before the packet overlaps or
+ * touches. The transfer then has that many runs less, and one more. A repeat absorbs 1, the run that it lies in. Over the
+ * recordings accepted since the transfer was opened, the numbers add up to how many these are, less the runs that it has.
+ */
 struct saratoga_recorded {
     uint64_t number, code;
     uint64_t edge;
     uint64_t complete; /* 1 where every octet was received, else 0 */
+    uint64_t absorbed; /* at most 64 */
 };
 
 /* An open transfer. */

@@ -16,15 +16,17 @@ struct Transfer {
     uint64_t edge() const { return runs.empty() ? 0 : runs.rbegin()->second; }
     uint64_t progress() const { return runs.empty() || runs.begin()->first != 0 ? 0 : runs.begin()->second; }
 
-    // Adds the offsets from `from` up to, not including, `to`. Whether there is room.
-    bool add(uint64_t from, uint64_t to)
+    // Adds the offsets from `from` up to, not including, `to`. Whether there is room; and how many runs were absorbed.
+    bool add(uint64_t from, uint64_t to, uint64_t *absorbed)
     {
         auto after = runs.upper_bound(to), first = after;
+        *absorbed = 0;
         while (first != runs.begin()) {
             auto before = std::prev(first);
             if (before->second < from)
                 break;
             first = before;
+            ++*absorbed;
         }
         if (first == after) {
             if (runs.size() == RUNS)
@@ -113,7 +115,7 @@ saratoga_recorded map_record(map_table *table, const uint8_t *packet, size_t pac
     refused = data_misfit(&d, t.width, t.length);
     if (refused)
         return refused_with<saratoga_recorded>(refused);
-    if (!t.add(d.offset, d.offset + d.payload))
+    if (!t.add(d.offset, d.offset + d.payload, &a.absorbed))
         return refused_with<saratoga_recorded>(16);
     a.edge = t.edge();
     a.complete = t.length <= t.progress();

@@ -30,6 +30,7 @@ static void same_recorded(const char *what, struct saratoga_recorded got, struct
     SAME(code);
     SAME(edge);
     SAME(complete);
+    SAME(absorbed);
 }
 
 static void same_listed(const char *what, struct saratoga_listed got, struct saratoga_listed want)
@@ -126,10 +127,11 @@ static void record_as(const char *what, uint8_t *area, size_t len, uint64_t id, 
     free(before);
 }
 
-/* Records octets of Id 7 at width 16, in an area of AREA octets: the edge, and whether it is complete. */
-static void received(const char *what, uint8_t *area, uint64_t offset, size_t payload, uint64_t edge, uint64_t complete)
+/* Records octets of Id 7 at width 16, in an area of AREA octets: the edge, whether it is complete, and the runs absorbed. */
+static void received(const char *what, uint8_t *area, uint64_t offset, size_t payload, uint64_t edge, uint64_t complete,
+                     uint64_t absorbed)
 {
-    struct saratoga_recorded want = {.edge = edge, .complete = complete};
+    struct saratoga_recorded want = {.edge = edge, .complete = complete, .absorbed = absorbed};
     record_as(what, area, AREA, 7, 2, offset, payload, 0, want);
 }
 
@@ -190,15 +192,15 @@ static void page_with_a_hole(void)
     static const uint8_t whole[] = {0x44, 0x01, 0, 0, 0, 0, 0, 7, 0x0B, 0xB8, 0x0B, 0xB7};
     uint8_t *area = fresh_area(AREA);
     open_as("page", area, AREA, 7, 2, 3000, (struct saratoga_opened){0, 0, 0, 0, 0});
-    received("0 to 999", area, 0, 1000, 1000, 0);
-    received("2,000 to 2,999", area, 2000, 1000, 3000, 0);
+    received("0 to 999", area, 0, 1000, 1000, 0, 0);
+    received("2,000 to 2,999", area, 2000, 1000, 3000, 0, 0);
     status_as("one hole", area, AREA, 7, 0, 0, 16, hole, (struct saratoga_written){.size = 16});
     status_as("one hole in more room", area, AREA, 7, 0, 0, 99, hole, (struct saratoga_written){.size = 16});
     status_as("one hole in 15 octets", area, AREA, 7, 0, 0, 15, hole, REFUSED(written, SARATOGA_REFUSED_BUFFER, 0));
     status_as("one hole, one skipped", area, AREA, 7, 1, 0, 15, hole, REFUSED(written, SARATOGA_REFUSED_INDEX, 0));
-    received("0 to 999 again", area, 0, 1000, 3000, 0);
+    received("0 to 999 again", area, 0, 1000, 3000, 0, 1);
     open_as("page again", area, AREA, 7, 2, 3000, (struct saratoga_opened){.edge = 3000, .already_open = 1});
-    received("1,000 to 1,999", area, 1000, 1000, 3000, 1);
+    received("1,000 to 1,999", area, 1000, 1000, 3000, 1, 2);
     status_as("whole", area, AREA, 7, 0, 0, 12, whole, (struct saratoga_written){.size = 12});
     status_as("whole in 11 octets", area, AREA, 7, 0, 0, 11, whole, REFUSED(written, SARATOGA_REFUSED_BUFFER, 0));
     open_as("whole page again", area, AREA, 7, 2, 3000,
@@ -230,8 +232,8 @@ static void runs_and_holes(void)
     static const uint8_t from_5[] = {0x44, 0x01, 0, 0, 0, 0, 0, 7, 0, 0, 0, 10, 0, 0, 0, 5};
     uint8_t *area = fresh_area(AREA);
     open_as("touching packets", area, AREA, 7, 2, 3000, (struct saratoga_opened){0, 0, 0, 0, 0});
-    received("0 to 9", area, 0, 10, 10, 0);
-    received("10 to 19", area, 10, 10, 20, 0);
+    received("0 to 9", area, 0, 10, 10, 0, 0);
+    received("10 to 19", area, 10, 10, 20, 0, 1);
     list_as("one run", area, AREA, 0,
             (struct saratoga_listed){.id = 7, .width = 2, .length = 3000, .edge = 20, .runs = 1});
     status_as("no hole", area, AREA, 7, 0, 0, 99, one_run, (struct saratoga_written){.size = 12});
@@ -240,7 +242,7 @@ static void runs_and_holes(void)
 
     area = empty_area(AREA);
     open_as("only 5 to 9", area, AREA, 7, 2, 3000, (struct saratoga_opened){0, 0, 0, 0, 0});
-    received("5 to 9", area, 5, 5, 10, 0);
+    received("5 to 9", area, 5, 5, 10, 0, 0);
     status_as("hole from 0", area, AREA, 7, 0, UINT64_MAX, 99, from_5, (struct saratoga_written){.size = 16});
     free(area);
     printf("ctest: runs and holes\n");
@@ -254,7 +256,7 @@ static void sixty_four_runs(void)
     uint64_t run;
     open_as("64 runs", area, AREA, 7, 2, 3000, (struct saratoga_opened){0, 0, 0, 0, 0});
     for (run = 0; run < 64; run++)
-        received("a run", area, 10 * run + 5, 1, 10 * run + 6, 0);
+        received("a run", area, 10 * run + 5, 1, 10 * run + 6, 0, 0);
     record_as("a 65th run", area, AREA, 7, 2, 2000, 1, 0, REFUSED(recorded, SARATOGA_REFUSED_RUNS, 0x03));
     record_as("a 65th run between", area, AREA, 7, 2, 7, 1, 0, REFUSED(recorded, SARATOGA_REFUSED_RUNS, 0x03));
     record_as("a 65th run, end of data", area, AREA, 7, 2, 2998, 1, 1,
@@ -272,11 +274,15 @@ static void sixty_four_runs(void)
     status_as("the last hole", area, AREA, 7, 63, 0, 16, packet, (struct saratoga_written){.size = 16});
     status_as("64 skipped", area, AREA, 7, 64, 0, 16, packet, REFUSED(written, SARATOGA_REFUSED_INDEX, 0));
 
-    received("one that touches", area, 6, 1, 636, 0);
-    received("one that joins two", area, 7, 8, 636, 0);
-    received("one apart again", area, 2000, 1, 2001, 0);
+    /* In all 67 recordings, which absorb 3 runs and leave 64; then one over all of them. */
+    received("one that touches", area, 6, 1, 636, 0, 1);
+    received("one that joins two", area, 7, 8, 636, 0, 2);
+    received("one apart again", area, 2000, 1, 2001, 0, 0);
     list_as("64 runs", area, AREA, 0,
             (struct saratoga_listed){.id = 7, .width = 2, .length = 3000, .edge = 2001, .runs = 64});
+    received("one over all", area, 0, 2500, 2500, 0, 64);
+    list_as("one run", area, AREA, 0,
+            (struct saratoga_listed){.id = 7, .width = 2, .length = 3000, .edge = 2500, .runs = 1});
     free(area);
     printf("ctest: 64 runs\n");
 }
@@ -351,7 +357,8 @@ static void recording_refused(void)
     record_as("over the end", area, AREA, 7, 2, 99, 2, 1, REFUSED(recorded, SARATOGA_REFUSED_PAST_END, 0x09));
     record_as("an early end of data", area, AREA, 7, 2, 98, 1, 1, REFUSED(recorded, SARATOGA_REFUSED_EARLY_END, 0x01));
     record_as("end of data", area, AREA, 7, 2, 99, 1, 1, (struct saratoga_recorded){.edge = 100});
-    record_as("the last octet without it", area, AREA, 7, 2, 99, 1, 0, (struct saratoga_recorded){.edge = 100});
+    record_as("the last octet without it", area, AREA, 7, 2, 99, 1, 0,
+              (struct saratoga_recorded){.edge = 100, .absorbed = 1});
     free(area);
     printf("ctest: recordings refused\n");
 }
@@ -436,7 +443,7 @@ static void example_with(uint8_t other)
     same_octets("the example of docs/AREA.md", area, want, len);
 
     record_as("the octets between", area, len, 7, 2, 1000, 1000, 0,
-              (struct saratoga_recorded){.edge = 3000, .complete = 1});
+              (struct saratoga_recorded){.edge = 3000, .complete = 1, .absorbed = 2});
     PUT_WORDS(want, joined);
     same_octets("the second run's place keeps its numbers", area, want, len);
     close_as("Id 7", area, len, 7, (struct saratoga_done){0, 0});
@@ -468,7 +475,8 @@ static void unused_kept(const uint8_t *octets, size_t word, uint64_t value)
     list_as(what, area, AREA, 0,
             (struct saratoga_listed){.id = 7, .width = 2, .length = 3000, .edge = 3000, .runs = 2});
     list_as(what, area, AREA, 2, REFUSED(listed, SARATOGA_REFUSED_NOT_OPEN, 0x06));
-    record_as(what, area, AREA, 7, 2, 1000, 1000, 0, (struct saratoga_recorded){.edge = 3000, .complete = 1});
+    record_as(what, area, AREA, 7, 2, 1000, 1000, 0,
+              (struct saratoga_recorded){.edge = 3000, .complete = 1, .absorbed = 2});
     PUT_WORDS(want, joined);
     same_octets(what, area, want, AREA);
     close_as(what, area, AREA, 7, (struct saratoga_done){0, 0});
@@ -542,10 +550,10 @@ static void unwritten_words(void)
     put_word(area, 0, 0);
     for (id = 9; id >= 5; id--)
         open_as(what, area, AREA, id, 2, 3000, (struct saratoga_opened){0, 0, 0, 0, 0});
-    received(what, area, 2000, 500, 2500, 0);
-    received(what, area, 100, 100, 2500, 0);
-    received(what, area, 0, 1000, 2500, 0);
-    received(what, area, 2500, 500, 3000, 0);
+    received(what, area, 2000, 500, 2500, 0, 0);
+    received(what, area, 100, 100, 2500, 0, 0);
+    received(what, area, 0, 1000, 2500, 0, 1);
+    received(what, area, 2500, 500, 3000, 0, 1);
     close_as(what, area, AREA, 5, (struct saratoga_done){0, 0});
     same_listed(what, saratoga_transfer(area, AREA, 1),
                 (struct saratoga_listed){.id = 7, .width = 2, .length = 3000, .edge = 3000, .runs = 2});
@@ -557,7 +565,7 @@ static void unwritten_words(void)
         fail(what, "end", saratoga_transfer_hole(area, AREA, 7, 0).end, 2000);
     same_written(what, saratoga_write_status(area, AREA, 7, 0, 0, out, 16), (struct saratoga_written){.size = 16});
     same_octets(what, out, hole, 16);
-    received(what, area, 1000, 1000, 3000, 1);
+    received(what, area, 1000, 1000, 3000, 1, 2);
     for (id = 6; id <= 9; id++)
         close_as(what, area, AREA, id, (struct saratoga_done){0, 0});
     same_done(what, saratoga_fresh(area, AREA), (struct saratoga_done){0, 0});
@@ -571,8 +579,8 @@ static void unwritten_words(void)
 static void width_128(void)
 {
     static const uint8_t hole[72] = {0x44, 0xC0, [7] = 7, [38] = 0x0B, 0xB8, [70] = 0x07, 0xD0};
-    static const uint8_t whole[40] = {0x44, 0xC1, [7] = 7, [22] = 0x0B, 0xB8, [38] = 0x0B, 0xB8};
-    struct saratoga_recorded complete = {.edge = 3000, .complete = 1};
+    static const uint8_t whole[40] = {0x44, 0xC1, [7] = 7, [22] = 0x0B, 0xB8, [38] = 0x0B, 0xB7};
+    struct saratoga_recorded complete = {.edge = 3000, .complete = 1, .absorbed = 1};
     uint8_t *area = empty_area(AREA), *want = lend(NULL, AREA), packet[25] = {0x43, 0xC0, [7] = 7, [24] = 'a'};
     const struct numbered_word words[] = {{0, 1}, {1, 7}, {2, 16}, {3, 3000}, {4, 1}, {65, 2000}, {1089, 3000}};
     open_as("width 128", area, AREA, 7, 16, 3000, (struct saratoga_opened){0, 0, 0, 0, 0});
@@ -634,8 +642,8 @@ static void asked_alone(void)
     uint8_t *area = empty_area(AREA), *before, *short_area;
     open_as(what, area, AREA, 7, 2, 3000, (struct saratoga_opened){0, 0, 0, 0, 0});
     open_as(what, area, AREA, 9, 8, 10, (struct saratoga_opened){0, 0, 0, 0, 0});
-    received(what, area, 10, 90, 100, 0);
-    received(what, area, 200, 100, 300, 0);
+    received(what, area, 10, 90, 100, 0, 0);
+    received(what, area, 200, 100, 300, 0, 0);
     before = lend(area, AREA);
     same_recorded(what, saratoga_try_record(area, AREA, data, sizeof data), (struct saratoga_recorded){.edge = 1003});
     same_octets(what, area, before, AREA);

@@ -279,8 +279,11 @@ static void take_data(uint64_t number, const struct peer *peer, const uint8_t *p
     }
     struct transfer *t = transfer_of(read->id);
     hear(t, peer);
-    say(number, "record id=%" PRIu64 " offset=%" PRIu64 " length=%" PRIu64 " edge=%" PRIu64 " complete=%" PRIu64,
-        read->id, read->offset, read->payload_len, recorded.edge, recorded.complete);
+    count_recording(t, &recorded);
+    say(number,
+        "record id=%" PRIu64 " offset=%" PRIu64 " length=%" PRIu64 " edge=%" PRIu64 " complete=%" PRIu64
+        " absorbed=%" PRIu64,
+        read->id, read->offset, read->payload_len, recorded.edge, recorded.complete, recorded.absorbed);
 
     /* 4. and 5. Sync and area, before anything is said, and else now and then. */
     int wanted = (read->flags & SARATOGA_FLAG_STATUS_WANTED) != 0;

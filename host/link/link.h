@@ -49,6 +49,11 @@ struct options {
 extern struct options options;
 extern volatile sig_atomic_t stopped;
 
+/* How much work a pass makes: the recordings that were accepted, and the runs that they absorbed. */
+struct work {
+    uint64_t recordings, absorbed;
+};
+
 /* What the program keeps of an open transfer beside the table. */
 struct transfer {
     int used;
@@ -60,6 +65,8 @@ struct transfer {
     int delivered;                 /* and was reported, or taken away */
     int told;                      /* that its page can't get its name */
     uint64_t heard;                /* when a packet of it last came; greater is later */
+    struct work work;              /* since it was opened, or since the program began */
+    struct work saved_work;        /* as it was when the area was last saved */
     int has_sender;                /* known which; not after a restart, nor of a pass */
     uint8_t sender[16];            /* the address that its packets come from */
     size_t meta_len;
@@ -130,6 +137,7 @@ struct transfer *transfer_of(uint64_t id);
 struct transfer *new_transfer(uint64_t id);
 void heard(struct transfer *t);
 struct saratoga_listed listed(uint64_t id);
+void count_recording(struct transfer *t, const struct saratoga_recorded *recorded);
 struct saratoga_recorded would_record(const uint8_t *packet, size_t packet_len, int *adds);
 struct saratoga_opened would_open(const uint8_t *packet, size_t packet_len);
 void table_changed(void);

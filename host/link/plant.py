@@ -208,7 +208,8 @@ def full_table(program, place):
     check(status == 0, told)
     closed = [line.split(" ", 1)[1] for line in lines if " close " in line]
     # Id 0 was heard last, so 1 goes; 16 is complete, so it goes next; then 2.
-    check(closed == [f"close id={ident} to-make-room" for ident in (1, 16, 2)], closed)
+    check(closed == [f"close id={ident} to-make-room recordings={took} absorbed=0 runs={took}"
+                     for ident, took in ((1, 0), (16, 1), (2, 0))], closed)
     packets = [data(ident, 16, 0, text[:5]) for ident in range(3, 16)] + [metadata(19, 16, 20)]
     lines, told, status = run(program, place, "--make-room", "-", octets=records(packets))
     check("kept as" in told and content(place, "00000000.aside") == text[:5], told)
@@ -335,10 +336,11 @@ def what_is_known(program, place):
     lines, told, status = run(program, place, "-", octets=records([packet, data(31, 32, 0, b"12345")]))
     check((told, status) == ("", 0) and harmless(lines), (lines, told))
     known = f"mtime=2026-11-14T04:00:00Z ctime=2136-02-07T06:28:15Z checksum=2:{digest.hex()} path={shown}"
-    check(f"2 complete id=31 length=5 file=0000001f.page {known}" in lines, lines)
+    check(f"2 complete id=31 length=5 recordings=1 absorbed=0 runs=1 file=0000001f.page {known}" in lines, lines)
     check(content(place, "0000001f.meta").decode() == "saratoga-meta 1\nid=31\nwidth=32\nlength=5\nproperties=0040\n" +
           known.replace(" ", "\n") + "\n", content(place, "0000001f.meta"))
-    check(run(program, place, "-q", "-")[0] == [f"0 complete id=31 length=5 file=0000001f.page {known}"], "restarted")
+    check(run(program, place, "-q", "-")[0] ==
+          [f"0 complete id=31 length=5 recordings=0 absorbed=0 runs=1 file=0000001f.page {known}"], "restarted")
     # The longest path, each octet of it to be escaped, and the longest checksum.
     packet = metadata(32, 64, 0, b"\xff" * 1023, flags=0xFF, checksum=b"\xfe" * 60, mtime=2**32 - 1, ctime=2**32 - 1)
     lines, told, status = run(program, place, "-", octets=records([packet, packet]))

@@ -50,6 +50,25 @@ void heard(struct transfer *t)
     t->heard = ++last;
 }
 
+void count_recording(struct transfer *t, const struct saratoga_recorded *recorded)
+{
+    t->work.recordings++;
+    t->work.absorbed += recorded->absorbed;
+}
+
+/* Work goes with the area: it is kept where the area is saved, and where that is taken back, so is the work. */
+static void keep_work(void)
+{
+    for (size_t i = 0; i < SARATOGA_TRANSFERS; i++)
+        transfers[i].saved_work = transfers[i].work;
+}
+
+static void take_work_back(void)
+{
+    for (size_t i = 0; i < SARATOGA_TRANSFERS; i++)
+        transfers[i].work = transfers[i].saved_work;
+}
+
 /* An open transfer by its Id; number 12 where it isn't open. */
 struct saratoga_listed listed(uint64_t id)
 {
@@ -61,8 +80,8 @@ struct saratoga_listed listed(uint64_t id)
  * nothing leaves every octet of the area as it is, and no other does.
  *
  * A program that needs the answer alone asks saratoga_try_record, and copies nothing. That doesn't tell whether anything
- * is added, and to look through the holes (saratoga_transfer_hole, which judges the area at each call) takes longer than
- * the copy.
+ * is added: a repeat absorbs one run, and so does a packet that makes a run longer. To look through the holes
+ * (saratoga_transfer_hole, which judges the area at each call) takes longer than the copy.
  */
 struct saratoga_recorded would_record(const uint8_t *packet, size_t packet_len, int *adds)
 {
@@ -132,11 +151,13 @@ int save(void)
     if (failed || replace_file("area", area, sizeof area) != 0) {
         room_is_lacking("area", errno);
         memcpy(area, saved, sizeof area);
+        take_work_back();
         unsaved = 0;
         forget_closed();
         return 0;
     }
     memcpy(saved, area, sizeof area);
+    keep_work();
     unsaved = 0;
     forget_closed();
     there_is_room();
@@ -153,10 +174,13 @@ int save_if_due(void)
 /* Ends an open transfer. What it had is set aside. Gives 0 where the closing can't be saved: then it is still open. */
 int end_transfer(uint64_t number, struct transfer *t, const char *why)
 {
+    struct saratoga_listed one = listed(t->id);
+    struct work work = t->work;
     close_in_area(t->id);
     if (!save())
         return 0;
-    say(number, "close id=%" PRIu64 " %s", t->id, why);
+    say(number, "close id=%" PRIu64 " %s recordings=%" PRIu64 " absorbed=%" PRIu64 " runs=%" PRIu64, t->id, why,
+        work.recordings, work.absorbed, one.runs);
     set_aside(t);
     forget(t);
     return 1;
@@ -192,7 +216,9 @@ int deliver(uint64_t number, struct transfer *t)
     cut_point("between the page's name and its report");
     t->delivered = 1;
     meta_for_report(meta, t);
-    report("%" PRIu64 " complete id=%" PRIu64 " length=%" PRIu64 " file=%s %s", number, t->id, one.length, page, meta);
+    report("%" PRIu64 " complete id=%" PRIu64 " length=%" PRIu64 " recordings=%" PRIu64 " absorbed=%" PRIu64
+           " runs=%" PRIu64 " file=%s %s",
+           number, t->id, one.length, t->work.recordings, t->work.absorbed, one.runs, page, meta);
     return 1;
 }
 

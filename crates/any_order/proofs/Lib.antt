@@ -3,3 +3,4 @@ pub mod TableOrder
 pub mod Sorting
 pub mod AreaOrder
 pub mod Example
+pub mod AbsorbedLaws

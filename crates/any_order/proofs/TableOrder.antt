@@ -100,7 +100,7 @@ call-valid t (opening p) v = open-valid t (p .octets) (p .are-octets) v
 call-valid t (recording p) v = record-valid t (p .octets) v
 
 -- an opening: no runs change, what was open stays so, and what it brings is open
-open-runs : (t : List Transfer) (p : Packet) (i : ℕ) → runsOf (opened t p) i ≡ runsOf t i
+pub open-runs : (t : List Transfer) (p : Packet) (i : ℕ) → runsOf (opened t p) i ≡ runsOf t i
 open-runs t p i =
     open-cases (λ (o : Outcome Opened). runsOf (o .table) i ≡ runsOf t i) t (p .octets) (λ r. refl) (λ m e f. refl)
     (λ m e f l. runs-add i (keyOf m) t f)
@@ -147,7 +147,7 @@ grown-is : (t : List Transfer) (p : Packet) (d : Data) → readData (p .octets) 
 unfolding grown extended idRead offsetRead stopRead
 grown-is t p d e = ap (λ (r : DataRead). insert (offsetRead r) (stopRead r) (runsOf t (idRead r))) e
 
-id-is : (p : Packet) (d : Data) → readData (p .octets) ≡ data-read.Accepted d → idIn p ≡ d .id
+pub id-is : (p : Packet) (d : Data) → readData (p .octets) ≡ data-read.Accepted d → idIn p ≡ d .id
 unfolding idRead
 id-is p d e = ap idRead e
 

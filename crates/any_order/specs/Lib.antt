@@ -1,2 +1,3 @@
 pub mod Order
 pub mod Demand3
+pub mod Absorbed

@@ -14,7 +14,7 @@ use Rattle.refusals.specs.Refusals.{refusalOf}
 use Rattle.refusals.specs.declared.Refusal.{Refusal}
 use Rattle.runs.proofs.CompareLaws.{le-or-lt}
 use Rattle.transfer.specs.Transfers.{Transfer}
-use Rattle.table.specs.Tables.{Valid}
+use Rattle.table.specs.Tables.{Valid, runsOf}
 use Rattle.table.specs.Outcome.{Outcome}
 use Rattle.table.specs.Open.{openPacket}
 use Rattle.table.specs.Record.{recordPacket}
@@ -31,7 +31,7 @@ use Rattle.area.specs.Layout.{areaOctets}
 use Rattle.area.specs.Places.{readTable}
 use Rattle.area.specs.Judge.{judged, tableOf}
 use Rattle.area.specs.Stored.{storedIn, freshIn}
-use Rattle.area.specs.Operations.{OnArea, leaves, onFound, onTable, fromFound, fromTable, openArea, recordArea, closeArea, freshArea}
+use Rattle.area.specs.Operations.{OnArea, leaves, onFound, onTable, fromFound, fromTable, openArea, recordArea, closeArea, freshArea, runsHeld}
 use Rattle.area.proofs.JudgeLaws.{held-valid}
 use Rattle.area.proofs.StoredLaws.{stored-held, held-stored, stored-past, length-stored}
 use Rattle.area.proofs.AreaLaws.{held-long, stored-octets, judged-held, judged-unheld, length-fresh, fresh-past, fresh-octets, fresh-held}
@@ -80,6 +80,10 @@ module _ {A : Type 0} (refused : A) (answer : List Transfer → A) (a : List ℕ
   pub from-unjudged : judged a ≡ false → fromTable refused answer a ≡ refused
   unfolding fromTable fromFound
   from-unjudged e = ap (fromFound refused answer) (judged-unheld a e)
+
+pub runs-held : (a : List ℕ) (t : List Transfer) (id : ℕ) → tableOf a ≡ some t → runsHeld a id ≡ length (runsOf t id)
+unfolding runsHeld
+runs-held a t id e = from-held 0 (λ u. length (runsOf u id)) a t e
 
 -- ---- "Desk and buffers keep what they held": on refusal the area at exit is the area at entry
 module _ (a : List ℕ) (o : Octets a) where

@@ -1,7 +1,7 @@
 -- What opening and recording tell on areas: "a page is reported complete exactly when every octet of its stated length was
--- received", by the table that the area holds after the call. And a repeat changes no octet.
+-- received", by the table that the area holds after the call; and how many runs a packet absorbed. And a repeat changes no octet.
 -- Assumes nothing.
-use Prim.Native.Nat.{ℕ}
+use Prim.Native.Nat.{ℕ, _+_}
 use mathlib.Core.Path.{_≡_, sym, ap, _∙_}
 use mathlib.Core.Bool.{true}
 use mathlib.Core.List.{List}
@@ -17,23 +17,24 @@ use Rattle.packet_data.specs.Data.{readData}
 use Rattle.packet_data.specs.declared.Data.{Data}
 use Rattle.packet_data.specs.declared.DataRead.the-variants as data-read
 use Rattle.transfer.specs.declared.Reached.{Reached}
+use Rattle.transfer.specs.declared.Receipt.{Receipt}
 use Rattle.transfer.specs.Transfers.{Transfer}
 use Rattle.table.specs.Open.{openPacket}
-use Rattle.table.specs.Record.{recordPacket, recordAccepted}
+use Rattle.table.specs.Record.{absorbedIn, recordPacket, recordAccepted}
 use Rattle.table.specs.Told.{Told}
 use Rattle.table.specs.declared.Opened.{Opened}
 use Rattle.table.specs.declared.Opened.the-variants as opened
 use Rattle.table.specs.declared.Recorded.{Recorded}
 use Rattle.table.specs.declared.Recorded.the-variants as recorded
-use Rattle.table.proofs.ToldLaws.{open-told, record-told}
-use Rattle.table.proofs.RepeatLaws.{record-repeat}
+use Rattle.table.proofs.ToldLaws.{open-told, Recording, record-told}
+use Rattle.table.proofs.RepeatLaws.{withOne, record-repeat}
 use Rattle.area.specs.Judge.{tableOf}
 use Rattle.area.specs.Stored.{storedIn}
-use Rattle.area.specs.Operations.{OnArea, leaves, openArea, recordArea}
+use Rattle.area.specs.Operations.{OnArea, leaves, openArea, recordArea, runsHeld}
 use Rattle.area.proofs.JudgeLaws.{held-valid}
 use Rattle.area.proofs.StoredLaws.{held-stored}
 use Rattle.area.proofs.AreaLaws.{stored-octets}
-use Rattle.area.proofs.OperationLaws.{on-cases, record-held, open-leaves, record-leaves}
+use Rattle.area.proofs.OperationLaws.{on-cases, record-held, open-leaves, record-leaves, runs-held}
 
 -- the area holds a table, and x tells of the Id's transfer in it
 pub record AreaTold (a : List ℕ) (id : ℕ) (x : Reached) : Type 0 where
@@ -41,24 +42,46 @@ pub record AreaTold (a : List ℕ) (id : ℕ) (x : Reached) : Type 0 where
   pub held : tableOf a ≡ some table
   pub told : Told table id x
 
-module _ (a packet : List ℕ) (x : Reached) where
-  -- an accepted recording tells of the packet's Id
-  pub area-record-told : recordArea a packet .answer ≡ recorded.Accepted x
-      → (d : Data) × (readData packet ≡ data-read.Accepted d) × AreaTold (recordArea a packet .area) (d .id) x
+-- an accepted recording leaves the area b of the area a: x tells of the packet's Id in b, and how many of its runs in a were absorbed
+pub record AreaRecording (a b packet : List ℕ) (x : Receipt) : Type 0 where
+  pub before : List Transfer
+  pub held : tableOf a ≡ some before
+  pub brought : Data
+  pub read : readData packet ≡ data-read.Accepted brought
+  pub told : AreaTold b (brought .id) (x .reached)
+  pub number : x .absorbed ≡ absorbedIn before brought
+  pub counted : runsHeld b (brought .id) + x .absorbed ≡ runsHeld a (brought .id) + 1
+
+module _ (a packet : List ℕ) (x : Receipt) where
+  pub area-record-told : recordArea a packet .answer ≡ recorded.Accepted x → AreaRecording a (recordArea a packet .area) packet x
   area-record-told = by-table
     where
       Goal : OnArea Recorded → Type 0
-      Goal o = o .answer ≡ recorded.Accepted x → (d : Data) × (readData packet ≡ data-read.Accepted d) × AreaTold (recordArea a packet .area) (d .id) x
+      Goal o = o .answer ≡ recorded.Accepted x → AreaRecording a (recordArea a packet .area) packet x
+
+      recording : (t : List Transfer) → tableOf a ≡ some t → Recording t (recordPacket t packet .table) packet x
+          → AreaRecording a (recordArea a packet .area) packet x
+      recording t h r =
+          let after : tableOf (recordArea a packet .area) ≡ some (recordPacket t packet .table) = record-leaves a t h packet in
+          let d : Data = r .brought in
+          record {
+            before = t;
+            held = h;
+            brought = d;
+            read = r .read;
+            told = record { table = recordPacket t packet .table; held = after; told = r .told };
+            number = r .number;
+            counted = rw (runs-held (recordArea a packet .area) (recordPacket t packet .table) (d .id) after, runs-held a t (d .id) h) (r .counted);
+          }
 
       by-table : Goal (recordArea a packet)
       by-table =
           unfold recordArea in
           on-cases (recorded.Refused (refusalOf 22)) (λ t. recordPacket t packet) a Goal
           (λ e. absurd (let z : _≡_ {A = ℕ} 0 1 = cc in omega arith))
-          (λ t h e.
-          let r = record-told t packet x (held-valid a t h) e in
-          (r .0, r .1, record { table = recordPacket t packet .table; held = record-leaves a t h packet; told = r .2 }))
+          (λ t h e. recording t h (record-told t packet x (held-valid a t h) e))
 
+module _ (a packet : List ℕ) (x : Reached) where
   -- and so does an opening, of a transfer that is new or that was open already
   pub area-open-told : Octets packet → (openArea a packet .answer ≡ opened.New x) ⊎ (openArea a packet .answer ≡ opened.AlreadyOpen x)
       → (m : Metadata) × (readMetadata packet ≡ metadata-read.Accepted m) × AreaTold (openArea a packet .area) (m .id) x
@@ -77,13 +100,17 @@ module _ (a packet : List ℕ) (x : Reached) where
           let r = open-told t packet x (held-valid a t h) e in
           (r .0, r .1, record { table = openPacket t packet .table; held = open-leaves a t h packet octets; told = r .2 }))
 
--- ---- "A repeat adds nothing and is accepted": recording an accepted packet again answers the same and changes no octet
+-- ---- "A repeat adds nothing and is accepted": recording an accepted packet again changes no octet, the transfer has come as far, and
+-- one run is absorbed
+abbrev repeated : OnArea Recorded → OnArea Recorded
+repeated o = record { answer = withOne (o .answer); area = o .area }
+
 pub area-record-repeat : (a packet : List ℕ) → Octets a → recordAccepted (recordArea a packet .answer) ≡ true
-    → recordArea (recordArea a packet .area) packet ≡ recordArea a packet
+    → recordArea (recordArea a packet .area) packet ≡ repeated (recordArea a packet)
 area-record-repeat a packet o = by-table
   where
     Goal : OnArea Recorded → Type 0
-    Goal x = recordAccepted (x .answer) ≡ true → recordArea (x .area) packet ≡ x
+    Goal x = recordAccepted (x .answer) ≡ true → recordArea (x .area) packet ≡ repeated x
 
     again : (t : List Transfer) → tableOf a ≡ some t → Goal (leaves a (recordPacket t packet))
     again t h e =
@@ -91,11 +118,11 @@ area-record-repeat a packet o = by-table
         let b = storedIn a u in
         let on : recordArea a packet ≡ leaves a (recordPacket t packet) = record-held a packet t h in
         let held : tableOf b ≡ some u = ap (λ (x : OnArea Recorded). tableOf (x .area)) (sym on) ∙ record-leaves a t h packet in
-        let same : recordPacket u packet ≡ recordPacket t packet = record-repeat t packet (held-valid a t h) e in
+        let same : recordPacket u packet ≡ record { answer = withOne (recordPacket t packet .answer); table = u } = record-repeat t packet (held-valid a t h) e in
         let next : recordArea b packet ≡ leaves b (recordPacket u packet) = record-held b packet u held in
         next
         ∙ ap (leaves b) same
-        ∙ ap (λ (c : List ℕ). record { answer = recordPacket t packet .answer; area = c }) (held-stored b u (stored-octets a u o) held)
+        ∙ ap (λ (c : List ℕ). record { answer = withOne (recordPacket t packet .answer); area = c }) (held-stored b u (stored-octets a u o) held)
 
     by-table : Goal (recordArea a packet)
     by-table =

@@ -10,6 +10,7 @@ use Rattle.refusals.specs.Refusals.{refusalOf}
 use Rattle.refusals.specs.declared.Written.{Written}
 use Rattle.refusals.specs.declared.Written.the-variants as written
 use Rattle.transfer.specs.Transfers.{Transfer}
+use Rattle.table.specs.Tables.{runsOf}
 use Rattle.table.specs.Outcome.{Outcome}
 use Rattle.table.specs.Open.{openPacket}
 use Rattle.table.specs.Record.{recordPacket}
@@ -75,3 +76,7 @@ areaStatusWritten a id k unasked old = fromTable (written.Refused (refusalOf 22)
 
 unfoldable pub areaStatusBuffer : List ℕ → ℕ → ℕ → Bool → List ℕ → List ℕ
 areaStatusBuffer a id k unasked old = fromTable old (λ t. statusBuffer t id k unasked old) a
+
+-- how many runs the area holds for an Id; none where it holds no table, or the Id is not open in it
+unfoldable pub runsHeld : List ℕ → ℕ → ℕ
+runsHeld a id = fromTable 0 (λ t. length (runsOf t id)) a

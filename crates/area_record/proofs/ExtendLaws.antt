@@ -1,6 +1,6 @@
 -- The runs of a place with new offsets: what the cuts found are the places of the splice, and what the splice leaves is the insertion.
 -- Assumes nothing.
-use Prim.Native.Nat.{ℕ, _^_, _≤_, _<_}
+use Prim.Native.Nat.{ℕ, _-_, _^_, _≤_, _<_}
 use mathlib.Core.Path.{_≡_, refl, sym, ap, ap₂, subst, _∙_}
 use mathlib.Core.Bool.{true}
 use mathlib.Core.List.{List}
@@ -10,13 +10,13 @@ use lib.Seq.{getD-set-same}
 use borrow.Author.Tests.{lt-ltb, le-ltb}
 use Rattle.octets.specs.Numbers.{Octets}
 use Rattle.refusals.specs.Refusals.{refusalOf}
-use Rattle.runs.specs.Runs.{Run, run, Canonical, insert}
+use Rattle.runs.specs.Runs.{Run, run, Canonical, insert, absorbed}
 use Rattle.runs.specs.Splice.{lowOf, highOf}
 use Rattle.words.specs.Words.{wordAt, putWord, splicedRow}
 use Rattle.run_rows.specs.Rows.{runsIn, RowsFit, CutTo, CutBelow}
 use Rattle.run_rows.specs.declared.Rows.{Rows}
 use Rattle.run_rows.proofs.RowsLaws.{length-runs}
-use Rattle.run_rows.proofs.CutLaws.{insert-cut}
+use Rattle.run_rows.proofs.CutLaws.{insert-cut, absorbed-cut}
 use Rattle.transfer.specs.declared.Key.{Key}
 use Rattle.transfer.specs.declared.Reached.{Reached}
 use Rattle.transfer.specs.Transfers.{Transfer, TransferFine, reached}
@@ -28,7 +28,7 @@ use Rattle.area.specs.Stored.{storedIn}
 use Rattle.area.proofs.PlaceLaws.{length-transfers, transfer-at, rows-fit, read-holds, holds-read, Few}
 use Rattle.area.proofs.JudgeLaws.{judged-passed}
 use Rattle.area.proofs.StoredLaws.{fine-at, valid-few}
-use Rattle.area_record.specs.Record.{runsAfter, splicedArea, runsGiven}
+use Rattle.area_record.specs.Record.{runsAfter, splicedArea, runsGiven, offsetsGiven}
 use Rattle.area_record.proofs.SplicedRowLaws.{spliced, spliced-length}
 use Rattle.area_record.proofs.SplicedAreaLaws.{spliced-holds, spliced-stored}
 
@@ -45,12 +45,13 @@ pub record Left (a : List ℕ) (p : ℕ) (rs : List Run) (b : List ℕ) (r : Row
   pub stored : Octets b → b ≡ storedIn a (withRuns (readTable a) p rs)
 
 -- then the answer is right
-pub left-done : (a : List ℕ) (p : ℕ) (rs : List Run) (b : List ℕ) (r : Rows) (k : Key) (q : Reached) → Left a p rs b r → Octets b
-    → q ≡ reached k (runsIn b r) → record { answer = Accepted q; area = b } ≡ runsGiven a (readTable a) p k rs
+pub left-done : (a : List ℕ) (p : ℕ) (rs : List Run) (b : List ℕ) (r : Rows) (k : Key) (q : Reached) (n m : ℕ) → Left a p rs b r → Octets b
+    → q ≡ reached k (runsIn b r) → m ≡ n
+    → record { answer = Accepted (record { reached = q; absorbed = n }); area = b } ≡ runsGiven a (readTable a) p k rs m
 unfolding runsGiven
-left-done a p rs b r k q l o y =
-    rw (le-ltb runPlaces (length rs) (l .few))
-    (ap₂ (λ (z : Reached) (m : List ℕ). record { answer = Accepted z; area = m }) (y ∙ ap (reached k) (l .runs)) (l .stored o))
+left-done a p rs b r k q n m l o y z =
+    rw (le-ltb runPlaces (length rs) (l .few), z)
+    (ap₂ (λ (x : Reached) (c : List ℕ). record { answer = Accepted (record { reached = x; absorbed = n }); area = c }) (y ∙ ap (reached k) (l .runs)) (l .stored o))
 
 -- ---- an area that holds a table, and a place of it
 module _ (a : List ℕ) (p : ℕ) (e : judged a ≡ true) (there : p < length (readTable a)) where
@@ -96,33 +97,37 @@ module _ (a : List ℕ) (p : ℕ) (e : judged a ≡ true) (there : p < length (r
     canonical = let x : TransferFine (nth (readTable a) p) = fine-at 0 (readTable a) p (judged-passed a e .1 .fine) there in rw runs-here (x .canonical)
 
     -- the cuts
-    module _ (from to i j : ℕ) (le : from ≤ to) (u : CutTo a (r .starts) (r .count) to j) (v : CutBelow a (r .stops) j from i) where
+    module _ (from to i j : ℕ) (some : from < to) (u : CutTo a (r .starts) (r .count) to j) (v : CutBelow a (r .stops) j from i) where
       abbrev new : List Run
       new = insert from to rs
 
       inserted : (lo hi : ℕ) → lo ≡ lowOf from (runsIn a r) i j → hi ≡ highOf to (runsIn a r) i j → new ≡ spliced rs i j (run lo hi)
       inserted lo hi f g =
-          subst (λ (l : List Run). insert from to l ≡ spliced l i j (run lo hi)) runs-here (rw (f, g) (insert-cut a r from to i j u v canonical le))
+          subst (λ (l : List Run). insert from to l ≡ spliced l i j (run lo hi)) runs-here (rw (f, g) (insert-cut a r from to i j u v canonical (omega arith)))
 
       length-new : length new ≡ runsAfter (r .count) i j
       length-new =
           let c : r .count ≡ length rs = known .count in
           ap length (inserted _ _ refl refl) ∙ spliced-length rs i j _ (omega (arith, u .inside, v .inside)) ∙ ap (λ (n : ℕ). runsAfter n i j) (sym c)
 
+      -- the runs between the cuts are absorbed
+      pub between-absorbed : absorbed from to rs ≡ j - i
+      between-absorbed = subst (λ (l : List Run). absorbed from to l ≡ j - i) runs-here (absorbed-cut a r from to i j u v canonical some)
+
       -- refused, since there would be too many
       pub extend-over : (k : Key) → runPlaces < runsAfter (r .count) i j
-          → record { answer = Refused (refusalOf 16); area = a } ≡ runsGiven a (readTable a) p k new
+          → record { answer = Refused (refusalOf 16); area = a } ≡ offsetsGiven a p k from to
       unfolding runsGiven
       extend-over k h = rw (lt-ltb runPlaces (length new) (omega (arith, length-new)))
 
       -- the answer where there is room, which the runs after the splice decide
       pub extend-answer : (k : Key) (lo hi : ℕ) (q : Reached) → lo ≡ lowOf from (runsIn a r) i j → hi ≡ highOf to (runsIn a r) i j
           → runsAfter (r .count) i j ≤ runPlaces → q ≡ reached k (spliced (runsIn a r) i j (run lo hi))
-          → Accepted q ≡ runsGiven a (readTable a) p k new .answer
+          → Accepted (record { reached = q; absorbed = j - i }) ≡ offsetsGiven a p k from to .answer
       unfolding runsGiven
       extend-answer k lo hi q f g room y =
-          rw (le-ltb runPlaces (length new) (omega (arith, length-new)))
-          (ap Accepted (y ∙ ap (λ (l : List Run). reached k (spliced l i j (run lo hi))) runs-here ∙ ap (reached k) (sym (inserted lo hi f g))))
+          rw (le-ltb runPlaces (length new) (omega (arith, length-new)), between-absorbed)
+          (ap (λ (x : Reached). Accepted (record { reached = x; absorbed = j - i })) (y ∙ ap (λ (l : List Run). reached k (spliced l i j (run lo hi))) runs-here ∙ ap (reached k) (sym (inserted lo hi f g))))
 
       -- what is left of the area where there is room
       module _ (lo hi : ℕ) (f : lo ≡ lowOf from (runsIn a r) i j) (g : hi ≡ highOf to (runsIn a r) i j) (lo-fits : lo < 2 ^ 64) (hi-fits : hi < 2 ^ 64)

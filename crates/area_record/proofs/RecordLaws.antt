@@ -14,13 +14,16 @@ use Rattle.refusals.specs.Refusals.{refusalOf}
 use Rattle.refusals.proofs.RefusalLaws.{stays}
 use Rattle.packet_data.specs.Data.{dataRefusal, dataOf, readData}
 use Rattle.packet_data.specs.declared.Data.{Data}
-use Rattle.runs.specs.Runs.{Run, insert}
+use Rattle.packet_data.specs.declared.DataRead.the-variants as data-read
+use Rattle.packet_data.proofs.DataLaws.{data-accepted}
+use Rattle.runs.specs.Runs.{Run, insert, absorbed}
 use Rattle.runs.proofs.CompareLaws.{le-or-lt}
 use Rattle.transfer.specs.declared.Key.{Key}
 use Rattle.transfer.specs.Transfers.{Transfer}
-use Rattle.transfer.specs.Record.{stopOf, keyRefusal, extended, runsRefusal}
+use Rattle.transfer.specs.Record.{stopOf, keyRefusal, extended, absorbedBy, runsRefusal}
+use Rattle.transfer.proofs.FieldLaws.{data-some}
 use Rattle.table.specs.Tables.{keys, find}
-use Rattle.table.specs.Record.{dataJudged, recordRefusal, grown, recordAs, recordData, recordRead, recordPacket}
+use Rattle.table.specs.Record.{dataJudged, recordRefusal, grown, absorbedIn, recordAs, recordData, recordRead, recordPacket}
 use Rattle.table.specs.declared.Recorded.{Recorded}
 use Rattle.table.specs.declared.Recorded.the-variants.{Refused}
 use Rattle.area.specs.Layout.{runPlaces}
@@ -34,7 +37,7 @@ use Rattle.area.proofs.FindLaws.{set-at}
 use Rattle.area.proofs.AreaLaws.{judged-held}
 use Rattle.area.proofs.KeptLaws.{place-free, kept-placed, kept-found, kept-runs, free-missing, kept-transfer}
 use Rattle.area.proofs.OperationLaws.{on-judged, on-unjudged}
-use Rattle.area_record.specs.Record.{runsGiven}
+use Rattle.area_record.specs.Record.{runsGiven, offsetsGiven}
 
 -- an answer with its area, part by part
 pub both : {x y : Recorded} {l : List ℕ} {o : OnArea Recorded} → x ≡ y → record { answer = y; area = l } ≡ o → (x ≡ o .answer) × (l ≡ o .area)
@@ -50,6 +53,10 @@ as-refused : (n : ℕ) (k : Option Key) (rs : List Run) (t : List Transfer) (d :
 unfolding recordAs
 as-refused zero k rs t d z = absurd (z refl)
 as-refused (suc n) k rs t d z = refl
+
+-- what was read brings some offset
+pub fields-some : (s : List ℕ) (d : Data) → dataRefusal s ≡ 0 → d ≡ dataOf s → 0 < d .length
+fields-some s d f is = data-some s d (data-accepted s f ∙ ap data-read.Accepted (sym is))
 
 -- ---- the whole: 22, the reader's refusal, or the packet's fields
 pub record-unheld : (a s : List ℕ) → judged a ≡ false → record { answer = Refused (refusalOf 22); area = a } ≡ recordArea a s
@@ -97,16 +104,20 @@ module _ (a : List ℕ) (e : judged a ≡ true) where
       abbrev rest : List Run
       rest = insert (d .offset) (stopOf d) (nth table p .runs)
 
+      absorbed-is : absorbedIn table d ≡ absorbed (d .offset) (stopOf d) (nth table p .runs)
+      unfolding absorbedIn absorbedBy
+      absorbed-is = ap (absorbed (d .offset) (stopOf d)) (kept-runs s)
+
       grown-is : grown table d ≡ rest
       unfolding grown extended
       grown-is = ap (insert (d .offset) (stopOf d)) (kept-runs s)
 
-      pub fields-extended : m ≡ 0 → Octets a → runsGiven a table p k rest ≡ leaves a (recordData table d)
+      pub fields-extended : m ≡ 0 → Octets a → offsetsGiven a p k (d .offset) (stopOf d) ≡ leaves a (recordData table d)
       unfolding recordData recordRefusal dataJudged recordAs runsRefusal runsGiven
       fields-extended z o =
           let y : keyRefusal k d ≡ 0 = sym j ∙ z in
           rw (found, y, grown-is)
           (⊎-elim
-          (λ (l : length rest ≤ runPlaces). rw (le-ltb runPlaces (length rest) l, set-at (d .id) rest (kept-placed s) (s .inside) (s .same)))
+          (λ (l : length rest ≤ runPlaces). rw (le-ltb runPlaces (length rest) l, absorbed-is, set-at (d .id) rest (kept-placed s) (s .inside) (s .same)))
           (λ (l : runPlaces < length rest). rw (lt-ltb runPlaces (length rest) l) (refused 16 o))
           (le-or-lt (length rest) runPlaces))

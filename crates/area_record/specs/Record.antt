@@ -6,14 +6,15 @@ use mathlib.Core.List.{List}
 use lib.ListN.{length}
 use lib.Dec.{ltb}
 use Rattle.refusals.specs.Refusals.{refusalOf}
-use Rattle.runs.specs.Runs.{Run}
+use Rattle.runs.specs.Runs.{Run, insert, absorbed}
 use Rattle.words.specs.Words.{putWord, splicedRow}
 use Rattle.transfer.specs.declared.Key.{Key}
-use Rattle.transfer.specs.Transfers.{Transfer, reached}
+use Rattle.transfer.specs.Transfers.{Transfer}
+use Rattle.transfer.specs.Record.{receipt}
 use Rattle.table.specs.declared.Recorded.{Recorded}
 use Rattle.table.specs.declared.Recorded.the-variants.{Accepted, Refused}
 use Rattle.area.specs.Layout.{runPlaces, countField, headAt, runAt}
-use Rattle.area.specs.Places.{withRuns}
+use Rattle.area.specs.Places.{nth, readTable, withRuns}
 use Rattle.area.specs.Stored.{storedIn}
 use Rattle.area.specs.Operations.{OnArea}
 
@@ -26,10 +27,16 @@ unfoldable pub splicedArea : List ℕ → ℕ → ℕ → ℕ → ℕ → ℕ �
 splicedArea a p n i j lo hi =
     putWord (headAt p countField) (runsAfter n i j) (splicedRow (splicedRow a (runAt 0 p 0) n i j lo) (runAt 1 p 0) n i j hi)
 
--- the area a holds the table t, and the transfer at place p, whose key is k, is to have the runs rs. 16: "the received set would
--- have more than 64 runs", and the area stays; else they are stored
-unfoldable pub runsGiven : List ℕ → List Transfer → ℕ → Key → List Run → OnArea Recorded
-runsGiven a t p k rs =
+-- the area a holds the table t, and the transfer at place p, whose key is k, is to have the runs rs, n of its runs absorbed. 16: "the
+-- received set would have more than 64 runs", and the area stays; else they are stored
+unfoldable pub runsGiven : List ℕ → List Transfer → ℕ → Key → List Run → ℕ → OnArea Recorded
+runsGiven a t p k rs n =
     cond (ltb runPlaces (length rs))
     (record { answer = Refused (refusalOf 16); area = a })
-    (record { answer = Accepted (reached k rs); area = storedIn a (withRuns t p rs) })
+    (record { answer = Accepted (receipt k rs n); area = storedIn a (withRuns t p rs) })
+
+-- the transfer at place p, whose key is k, is to have the offsets from `from` on too, with `to` the first after them
+abbrev pub offsetsGiven : List ℕ → ℕ → Key → ℕ → ℕ → OnArea Recorded
+offsetsGiven a p k from to =
+    let rs = nth (readTable a) p .runs in
+    runsGiven a (readTable a) p k (insert from to rs) (absorbed from to rs)

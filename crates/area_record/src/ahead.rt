@@ -1,21 +1,21 @@
 // What recording would answer, the area only read: nothing is spliced, the runs that a splice would leave are looked at where they are.
 ghost use mathlib.Core.Path.{_≡_};
 ghost use mathlib.Core.Bool.{true};
-ghost use Prim.Native.Nat.{_≤_, _<_};
+ghost use Prim.Native.Nat.{_<_};
 ghost use lib.ListN.{length};
-ghost use Rattle.runs.specs.Runs.{insert};
 ghost use Rattle.run_rows.specs.Rows.{runsIn, RowsFit};
 ghost use Rattle.table.specs.Record.{recordData};
-ghost use Rattle.area.specs.Places.{nth, readTable};
+ghost use Rattle.area.specs.Places.{readTable};
 ghost use Rattle.area.specs.Judge.{judged};
 ghost use Rattle.area.specs.Operations.{recordArea};
-ghost use Rattle.area_record.specs.Record.{runsGiven};
+ghost use Rattle.area_record.specs.Record.{offsetsGiven};
 ghost use Rattle.area_record.specs.Ahead.{edgeWith, progressWith};
 use packet_data::Data;
 use run_rows::Rows;
 use table::Recorded;
 use transfer::Key;
 use transfer::Reached;
+use transfer::Receipt;
 
 // The edge, where the runs up to j gave way to one that stops at `hi`.
 fn edge_with(area: &[u8], rows: Rows, j: usize, hi: u64) -> u64
@@ -45,9 +45,8 @@ fn progress_with(area: &[u8], rows: Rows, i: usize, lo: u64, hi: u64) -> u64
 // The offsets from `from` on, with `to` the first after them, as if they were added at a place, whose key is given; 16 where they
 // would make too many runs.
 fn try_extend(area: &[u8], place: usize, key: Key, from: u64, to: u64) -> Recorded
-    requires { ⌜ (judged (now area) ≡ true) × (place < length (readTable (now area))) × (from ≤ to) ⌝ }
-    ensures { λ r. ⌜ r ≡ runsGiven (now (area .entry)) (readTable (now (area .entry))) place key
-        (insert from to (nth (readTable (now (area .entry))) place .runs)) .answer ⌝ }
+    requires { ⌜ (judged (now area) ≡ true) × (place < length (readTable (now area))) × (from < to) ⌝ }
+    ensures { λ r. ⌜ r ≡ offsetsGiven (now (area .entry)) place key from to .answer ⌝ }
 {
     let rows = area::rows_at(area, place);
     let n = rows.count;
@@ -62,12 +61,14 @@ fn try_extend(area: &[u8], place: usize, key: Key, from: u64, to: u64) -> Record
     let edge = edge_with(area, rows, j, hi);
     let progress = progress_with(area, rows, i, lo, hi);
     let complete = key.length <= progress;
-    Recorded::Accepted(Reached { edge, complete })
+    let reached = Reached { edge, complete };
+    let absorbed = (j - i) as u64;
+    Recorded::Accepted(Receipt { reached, absorbed })
 }
 
 // The fields of a packet, as if they were recorded in an area that holds a table.
 fn try_fields(area: &[u8], d: Data) -> Recorded
-    requires { ⌜ judged (now area) ≡ true ⌝ }
+    requires { ⌜ (judged (now area) ≡ true) × (0 < d .length) ⌝ }
     ensures { λ r. ⌜ r ≡ recordData (readTable (now (area .entry))) d .answer ⌝ }
 {
     let place = area::find_place(area, d.id);

@@ -3,13 +3,12 @@ ghost use mathlib.Core.Path.{_≡_};
 ghost use mathlib.Core.Bool.{true};
 ghost use Prim.Native.Nat.{_≤_, _<_};
 ghost use lib.ListN.{length};
-ghost use Rattle.runs.specs.Runs.{insert};
 ghost use Rattle.table.specs.Record.{recordData};
 ghost use Rattle.area.specs.Layout.{transferPlaces, runPlaces, areaOctets};
-ghost use Rattle.area.specs.Places.{nth, readTable};
+ghost use Rattle.area.specs.Places.{readTable};
 ghost use Rattle.area.specs.Judge.{judged};
 ghost use Rattle.area.specs.Operations.{leaves, recordArea};
-ghost use Rattle.area_record.specs.Record.{runsAfter, splicedArea, runsGiven};
+ghost use Rattle.area_record.specs.Record.{runsAfter, splicedArea, offsetsGiven};
 
 pub mod ahead;
 
@@ -17,6 +16,7 @@ use packet_data::Data;
 use run_rows::Rows;
 use table::Recorded;
 use transfer::Key;
+use transfer::Receipt;
 
 // Of the n runs at a place, those from i up to j give way to one from `lo` to `hi`.
 fn put_runs(area: &mut [u8], place: usize, n: usize, i: usize, j: usize, lo: u64, hi: u64)
@@ -32,11 +32,9 @@ fn put_runs(area: &mut [u8], place: usize, n: usize, i: usize, j: usize, lo: u64
 // The offsets from `from` on, with `to` the first after them, added at a place, whose key is given; or refused with 16 before
 // anything is written. Of its runs, those from i up to j are absorbed.
 fn extend(area: &mut [u8], place: usize, key: Key, from: u64, to: u64) -> Recorded
-    requires { ⌜ (judged (now area) ≡ true) × (place < length (readTable (now area))) × (from ≤ to) ⌝ }
-    ensures { λ r. ⌜ (r ≡ runsGiven (now (area .entry)) (readTable (now (area .entry))) place key
-        (insert from to (nth (readTable (now (area .entry))) place .runs)) .answer)
-        × (now (area .exit) ≡ runsGiven (now (area .entry)) (readTable (now (area .entry))) place key
-        (insert from to (nth (readTable (now (area .entry))) place .runs)) .area) ⌝ }
+    requires { ⌜ (judged (now area) ≡ true) × (place < length (readTable (now area))) × (from < to) ⌝ }
+    ensures { λ r. ⌜ (r ≡ offsetsGiven (now (area .entry)) place key from to .answer)
+        × (now (area .exit) ≡ offsetsGiven (now (area .entry)) place key from to .area) ⌝ }
 {
     let rows = area::rows_at(area, place);
     let n = rows.count;
@@ -54,12 +52,14 @@ fn extend(area: &mut [u8], place: usize, key: Key, from: u64, to: u64) -> Record
         stops: rows.stops,
         count: after,
     };
-    Recorded::Accepted(area::reached_in(area, grown, key))
+    let reached = area::reached_in(area, grown, key);
+    let absorbed = (j - i) as u64;
+    Recorded::Accepted(Receipt { reached, absorbed })
 }
 
 // The fields of a packet recorded in an area that holds a table: 12, then what the key of its Id says, then its runs.
 fn record_fields(area: &mut [u8], d: Data) -> Recorded
-    requires { ⌜ judged (now area) ≡ true ⌝ }
+    requires { ⌜ (judged (now area) ≡ true) × (0 < d .length) ⌝ }
     ensures { λ r. ⌜ (r ≡ leaves (now (area .entry)) (recordData (readTable (now (area .entry))) d) .answer)
         × (now (area .exit) ≡ leaves (now (area .entry)) (recordData (readTable (now (area .entry))) d) .area) ⌝ }
 {

@@ -21,6 +21,7 @@ use Rattle.table.specs.Record.{recordPacket, recordAccepted}
 use Rattle.table.specs.Close.{closeId}
 use Rattle.table.specs.WriteStatus.{statusWritten, statusBuffer}
 use Rattle.transfer.specs.declared.Reached.{Reached}
+use Rattle.transfer.specs.declared.Receipt.{Receipt}
 use Rattle.table.specs.declared.Opened.the-variants as opened
 use Rattle.table.specs.declared.Recorded.the-variants as recorded
 use Rattle.table.specs.declared.Finished.the-variants as finished
@@ -92,6 +93,10 @@ buffer n = replicate n 255
 abbrev pub upTo : ℕ → Bool → Reached
 upTo edge complete = record { edge = edge; complete = complete }
 
+-- and recording "how many stored runs the packet swallowed" too
+abbrev pub joining : ℕ → Bool → ℕ → Receipt
+joining edge complete n = record { reached = upTo edge complete; absorbed = n }
+
 pub record Passes : Type 0 where
   -- "Id 7, width 16, L = 3,000, octets 0 to 999 and 2,000 to 2,999 received, asked for:
   -- 44 00 00 00 00 00 00 07 03 E8 0B B8 03 E8 07 D0"
@@ -106,7 +111,7 @@ pub record Passes : Type 0 where
       × (statusBuffer twoParts 7 0 false (buffer 15) ≡ buffer 15)
   -- "Then 1,000 to 1,999 arrives: complete, 44 01 00 00 00 00 00 07 0B B8", and now "ends in 0B B8 0B B7"
   pub completed :
-      (recordPacket twoParts middle .answer ≡ recorded.Accepted (upTo 3000 true))
+      (recordPacket twoParts middle .answer ≡ recorded.Accepted (joining 3000 true 2))
       × (statusWritten (takes twoParts middle) 7 0 false (buffer 12) ≡ written.Size 12)
       × (statusBuffer (takes twoParts middle) 7 0 false (buffer 12)
       ≡ 68 ∷ 1 ∷ 0 ∷ 0 ∷ 0 ∷ 0 ∷ 0 ∷ 7 ∷ 11 ∷ 184 ∷ 11 ∷ 183 ∷ [])
@@ -130,12 +135,12 @@ pub record Passes : Type 0 where
   pub runs-full :
       (length (runsOf (scattered 64) 7) ≡ 64)
       × (recordPacket (scattered 64) (zeros 7 0 192 1) .answer ≡ recorded.Refused (refusalOf 16))
-      × (recordPacket (scattered 64) (zeros 7 0 190 1) .answer ≡ recorded.Accepted (upTo 191 false))
+      × (recordPacket (scattered 64) (zeros 7 0 190 1) .answer ≡ recorded.Accepted (joining 191 false 1))
   -- "Offset 2^64 - 1 with one octet, L = 2^64 - 1: 14, and no wrapped sum"; the octet before it is taken
   pub last-offset :
       (openPacket [] (metadata 7 2 (2 ^ 64 - 1)) .answer ≡ opened.New (upTo 0 false))
       × (recordPacket longest (zeros 7 2 (2 ^ 64 - 1) 1) .answer ≡ recorded.Refused (refusalOf 14))
-      × (recordPacket longest (zeros 7 2 (2 ^ 64 - 2) 1) .answer ≡ recorded.Accepted (upTo (2 ^ 64 - 1) false))
+      × (recordPacket longest (zeros 7 2 (2 ^ 64 - 2) 1) .answer ≡ recorded.Accepted (joining (2 ^ 64 - 1) false 0))
   -- "A 17th Id: 17; after one is closed it opens"
   pub table-full :
       (length (numbered 16) ≡ 16)

@@ -30,16 +30,16 @@ use Rattle.table.specs.declared.Recorded.the-variants as recorded
 use Rattle.text.proofs.LengthLaws.{AtMost, words, at-most, part-most}
 use Rattle.replay_fields.specs.LineWords.{w-already, w-fresh, w-new, w-send, w-written}
 use Rattle.replay_lines.specs.Lines.{refusedLine, successLine}
-use Rattle.replay_lines.proofs.LengthLaws.{plain-most, refused-most, close-most, openedMost, opened-most, record-most, failure-most, octets-most, metadataMost, metadata-most, data-most}
+use Rattle.replay_lines.proofs.LengthLaws.{plain-most, refused-most, close-most, opened-most, recordMost, record-most, failure-most, octets-most, metadataMost, metadata-most, data-most}
 use Rattle.replay_beacon.proofs.LengthLaws.{beacon-most}
 use Rattle.replay_lines.proofs.HoleLengthLaws.{successMost, success-most}
 use Rattle.replay_answers.specs.AnswerLines.{freshText, closeText, openingText, openText, recordingText, recordText, readText, statusText, sentText}
 use Rattle.replay_answers.proofs.CaseLaws.{read-cases}
 
--- ---- lines of words and numbers alone: none is longer than that of an opening
+-- ---- lines of words and numbers alone: none is longer than that of a recording
 
 abbrev pub shortMost : ℕ
-shortMost = openedMost w-already
+shortMost = recordMost
 
 pub refused-short : (n : ℕ) (x : Refusal) → AtMost (refusedLine n x) shortMost
 refused-short n x = at-most (refused-most n x) (omega arith)
@@ -57,7 +57,7 @@ close-text-most n id (finished.Refused x) = refused-short n x
 pub opening-most : (n : ℕ) (m : Metadata) (a : Opened) → AtMost (openingText n m a) shortMost
 unfolding openingText
 opening-most n m (opened.New x) = at-most (opened-most n m x w-new) (omega arith)
-opening-most n m (opened.AlreadyOpen x) = opened-most n m x w-already
+opening-most n m (opened.AlreadyOpen x) = at-most (opened-most n m x w-already) (omega arith)
 opening-most n m (opened.Refused x) = refused-short n x
 
 pub open-most : (n : ℕ) (m : MetadataRead) (a : Opened) → AtMost (openText n m a) shortMost
@@ -67,7 +67,7 @@ open-most n (metadata-read.Refused x) a = refused-short n x
 
 pub recording-most : (n : ℕ) (d : Data) (a : Recorded) → AtMost (recordingText n d a) shortMost
 unfolding recordingText
-recording-most n d (recorded.Accepted x) = at-most (record-most n d x) (omega arith)
+recording-most n d (recorded.Accepted x) = record-most n d x
 recording-most n d (recorded.Refused x) = refused-short n x
 
 pub record-text-most : (n : ℕ) (d : DataRead) (a : Recorded) → AtMost (recordText n d a) shortMost

@@ -15,6 +15,10 @@ w-edge = 32 ∷ 101 ∷ 100 ∷ 103 ∷ 101 ∷ 61 ∷ []
 abbrev pub w-complete : List ℕ
 w-complete = 32 ∷ 99 ∷ 111 ∷ 109 ∷ 112 ∷ 108 ∷ 101 ∷ 116 ∷ 101 ∷ 61 ∷ []
 
+-- " absorbed="
+abbrev pub w-absorbed : List ℕ
+w-absorbed = 32 ∷ 97 ∷ 98 ∷ 115 ∷ 111 ∷ 114 ∷ 98 ∷ 101 ∷ 100 ∷ 61 ∷ []
+
 -- " refused "
 abbrev pub w-refused : List ℕ
 w-refused = 32 ∷ 114 ∷ 101 ∷ 102 ∷ 117 ∷ 115 ∷ 101 ∷ 100 ∷ 32 ∷ []

@@ -10,8 +10,9 @@ use Rattle.packet_data.specs.Data.{payloadOf}
 use Rattle.packet_data.specs.declared.Data.{Data}
 use Rattle.packet_status.specs.declared.FailureStatus.{FailureStatus}
 use Rattle.transfer.specs.declared.Reached.{Reached}
+use Rattle.transfer.specs.declared.Receipt.{Receipt}
 use Rattle.text.proofs.LengthLaws.{AtMost, words, _and_, taken, part-most, decimalMost, decimal-most}
-use Rattle.replay_fields.specs.LineWords.{newline, w-checksum, w-close, w-code, w-ctime, w-data, w-failure, w-flags, w-length, w-metadata, w-mtime, w-offset, w-open, w-path, w-properties, w-record, w-refused, w-size, w-status, w-timestamp, w-unknown, w-width}
+use Rattle.replay_fields.specs.LineWords.{newline, w-absorbed, w-checksum, w-close, w-code, w-ctime, w-data, w-failure, w-flags, w-length, w-metadata, w-mtime, w-offset, w-open, w-path, w-properties, w-record, w-refused, w-size, w-status, w-timestamp, w-unknown, w-width}
 use Rattle.replay_fields.specs.Fields.{bitsOf}
 use Rattle.replay_fields.proofs.LengthLaws.{fieldMost, field-most, octets-field-most, number-field-most, reachedMost, reached-most}
 use Rattle.replay_lines.specs.Lines.{plainLine, refusedLine, closeLine, octetsLine, unknownLine, openedLine, recordLine, headText, entryText, metadataLine, dataLine, failureLine}
@@ -60,16 +61,17 @@ opened-most n m x last =
     and words last
 
 abbrev pub recordMost : ℕ
-recordMost = decimalMost + (fieldMost w-record + (fieldMost w-offset + (fieldMost w-length + (reachedMost + 1))))
+recordMost = decimalMost + (fieldMost w-record + (fieldMost w-offset + (fieldMost w-length + (reachedMost + (fieldMost w-absorbed + 1)))))
 
-pub record-most : (n : ℕ) (d : Data) (x : Reached) → AtMost (recordLine n d x) recordMost
+pub record-most : (n : ℕ) (d : Data) (x : Receipt) → AtMost (recordLine n d x) recordMost
 unfolding recordLine
 record-most n d x =
     decimal-most n
     and field-most w-record (d .id)
     and field-most w-offset (d .offset)
     and field-most w-length (d .length)
-    and reached-most x
+    and reached-most (x .reached)
+    and field-most w-absorbed (x .absorbed)
     and words newline
 
 abbrev pub failureMost : ℕ

@@ -17,8 +17,9 @@ use Rattle.packet_status.specs.declared.FailureStatus.{FailureStatus}
 use Rattle.packet_status.specs.declared.HoleRead.{HoleRead}
 use Rattle.packet_status.specs.declared.HoleRead.the-variants as hole-read
 use Rattle.transfer.specs.declared.Reached.{Reached}
+use Rattle.transfer.specs.declared.Receipt.{Receipt}
 use Rattle.text.specs.Decimal.{decimalOf}
-use Rattle.replay_fields.specs.LineWords.{comma, dash, newline, w-checksum, w-close, w-code, w-ctime, w-data, w-failure, w-flags, w-holes, w-length, w-metadata, w-mtime, w-offset, w-open, w-path, w-progress, w-properties, w-record, w-refused, w-response, w-size, w-status, w-success, w-timestamp, w-unknown, w-width}
+use Rattle.replay_fields.specs.LineWords.{w-absorbed, comma, dash, newline, w-checksum, w-close, w-code, w-ctime, w-data, w-failure, w-flags, w-holes, w-length, w-metadata, w-mtime, w-offset, w-open, w-path, w-progress, w-properties, w-record, w-refused, w-response, w-size, w-status, w-success, w-timestamp, w-unknown, w-width}
 use Rattle.replay_fields.specs.Fields.{field, octetsField, numberField, bitsOf, reachedText}
 
 -- words alone, which end the line
@@ -51,15 +52,16 @@ openedLine n m x last =
     ++ (reachedText x
     ++ last))))
 
--- `4 record id=7 offset=0 length=1000 edge=1000 complete=0`
-unfoldable pub recordLine : ℕ → Data → Reached → List ℕ
+-- `4 record id=7 offset=0 length=1000 edge=1000 complete=0 absorbed=0`
+unfoldable pub recordLine : ℕ → Data → Receipt → List ℕ
 recordLine n d x =
     decimalOf n
     ++ (field w-record (d .id)
     ++ (field w-offset (d .offset)
     ++ (field w-length (d .length)
-    ++ (reachedText x
-    ++ newline))))
+    ++ (reachedText (x .reached)
+    ++ (field w-absorbed (x .absorbed)
+    ++ newline)))))
 
 -- `8 metadata id=7 flags=000000 width=16`: how the line of a packet that was read begins
 abbrev pub headText : ℕ → List ℕ → ℕ → ℕ → ℕ → List ℕ

@@ -19,6 +19,7 @@ use replay_fields::put_octets;
 use replay_fields::put_reached;
 use runs::Hole;
 use transfer::Reached;
+use transfer::Receipt;
 
 // Words alone; they end the line themselves.
 pub fn put_plain(out: &mut [u8], at: usize, number: u64, words: &[u8]) -> usize
@@ -91,7 +92,7 @@ pub fn put_opened(
 }
 
 // DATA d recorded.
-pub fn put_recorded(out: &mut [u8], at: usize, number: u64, d: Data, x: Reached) -> usize
+pub fn put_recorded(out: &mut [u8], at: usize, number: u64, d: Data, x: Receipt) -> usize
     requires { ⌜ at ≤ length (now out) ⌝ }
     ensures { λ r. ⌜ Added (now (out .entry)) at (recordLine number d x) (now (out .exit)) r ⌝ }
 {
@@ -99,8 +100,9 @@ pub fn put_recorded(out: &mut [u8], at: usize, number: u64, d: Data, x: Reached)
     let b = put_field(out, a, b" record id=", d.id);
     let c = put_field(out, b, b" offset=", d.offset);
     let e = put_field(out, c, b" length=", d.length as u64);
-    let f = put_reached(out, e, x);
-    text::push(out, f, 10)
+    let f = put_reached(out, e, x.reached);
+    let g = put_field(out, f, b" absorbed=", x.absorbed);
+    text::push(out, g, 10)
 }
 
 // How the line of a packet that was read begins: a name with its Id, the flags and the width.

@@ -1,6 +1,7 @@
--- What saratoga_record and saratoga_open answer of a transfer is what the area that they leave has received.
+-- What saratoga_record and saratoga_open answer of a transfer is what the area that they leave has received; and the runs that a
+-- packet absorbed, as saratoga_record tells them.
 -- Assumes nothing.
-use Prim.Native.Nat.{ℕ}
+use Prim.Native.Nat.{ℕ, _+_}
 use mathlib.Core.Path.{_≡_, refl}
 use mathlib.Core.Bool.{true, false, true≢false, false≢true}
 use mathlib.Core.List.{List}
@@ -21,8 +22,8 @@ use Rattle.table.specs.declared.Opened.{Opened}
 use Rattle.table.specs.declared.Opened.the-variants as opened
 use Rattle.table.specs.declared.Recorded.{Recorded}
 use Rattle.table.specs.declared.Recorded.the-variants as recorded
-use Rattle.area.specs.Operations.{openArea, recordArea}
-use Rattle.area.proofs.ToldLaws.{AreaTold, area-open-told, area-record-told}
+use Rattle.area.specs.Operations.{openArea, recordArea, runsHeld}
+use Rattle.area.proofs.ToldLaws.{AreaTold, area-open-told, AreaRecording, area-record-told}
 use Rattle.saratoga.specs.TableAnswers.{openedAnswer, recordedAnswer}
 use Rattle.saratoga.specs.Reported.{Reported}
 
@@ -50,7 +51,19 @@ module _ (a packet : List ℕ) where
       go : (r : Recorded) → recordArea a packet .answer ≡ r → recordAccepted r ≡ true
           → (d : Data) × (readData packet ≡ data-read.Accepted d)
           × Reported (recordArea a packet .area) (d .id) (recordedAnswer r .edge) (recordedAnswer r .complete)
-      go (recorded.Accepted x) e h = let q = area-record-told a packet x e in (q .0, q .1, reported (recordArea a packet .area) (q .0 .id) x (q .2))
+      go (recorded.Accepted x) e h = let q = area-record-told a packet x e in (q .brought, q .read, reported (recordArea a packet .area) (q .brought .id) (x .reached) (q .told))
+      go (recorded.Refused r) e h = absurd (false≢true h)
+
+  -- document 02: "runs after equal runs before plus one minus that number"
+  pub record-counts : recordAccepted (recordArea a packet .answer) ≡ true
+      → (d : Data) × (readData packet ≡ data-read.Accepted d)
+      × (runsHeld (recordArea a packet .area) (d .id) + recordedAnswer (recordArea a packet .answer) .absorbed ≡ runsHeld a (d .id) + 1)
+  record-counts = go (recordArea a packet .answer) refl
+    where
+      go : (r : Recorded) → recordArea a packet .answer ≡ r → recordAccepted r ≡ true
+          → (d : Data) × (readData packet ≡ data-read.Accepted d)
+          × (runsHeld (recordArea a packet .area) (d .id) + recordedAnswer r .absorbed ≡ runsHeld a (d .id) + 1)
+      go (recorded.Accepted x) e h = let q = area-record-told a packet x e in (q .brought, q .read, q .counted)
       go (recorded.Refused r) e h = absurd (false≢true h)
 
   -- an accepted opening, of a transfer that is new or that was open already
@@ -70,13 +83,14 @@ module _ (a packet : List ℕ) where
       go (opened.AlreadyOpen x) e h = told x (inr e)
       go (opened.Refused r) e h = absurd (false≢true h)
 
-  -- a refused call reports no page complete
-  pub record-refused-none : recordAccepted (recordArea a packet .answer) ≡ false → recordedAnswer (recordArea a packet .answer) .complete ≡ 0
+  -- a refused call reports no page complete, and no run absorbed
+  pub record-refused-none : recordAccepted (recordArea a packet .answer) ≡ false
+      → (recordedAnswer (recordArea a packet .answer) .complete ≡ 0) × (recordedAnswer (recordArea a packet .answer) .absorbed ≡ 0)
   record-refused-none = go (recordArea a packet .answer)
     where
-      go : (r : Recorded) → recordAccepted r ≡ false → recordedAnswer r .complete ≡ 0
+      go : (r : Recorded) → recordAccepted r ≡ false → (recordedAnswer r .complete ≡ 0) × (recordedAnswer r .absorbed ≡ 0)
       go (recorded.Accepted x) h = absurd (true≢false h)
-      go (recorded.Refused r) h = refl
+      go (recorded.Refused r) h = (refl, refl)
 
   pub open-refused-none : openAccepted (openArea a packet .answer) ≡ false → openedAnswer (openArea a packet .answer) .complete ≡ 0
   open-refused-none = go (openArea a packet .answer)

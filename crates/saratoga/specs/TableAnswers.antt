@@ -31,8 +31,9 @@ openedAnswer (opened.AlreadyOpen x) = record { number = 0; code = 0; edge = x .e
 openedAnswer (opened.Refused r) = record { number = r .number; code = r .code; edge = 0; complete = 0; «already_open» = 0 }
 
 abbrev pub recordedAnswer : Recorded → RecordedAnswer
-recordedAnswer (recorded.Accepted x) = record { number = 0; code = 0; edge = x .edge; complete = bit (x .complete) }
-recordedAnswer (recorded.Refused r) = record { number = r .number; code = r .code; edge = 0; complete = 0 }
+recordedAnswer (recorded.Accepted x) =
+    record { number = 0; code = 0; edge = x .reached .edge; complete = bit (x .reached .complete); absorbed = x .absorbed }
+recordedAnswer (recorded.Refused r) = record { number = r .number; code = r .code; edge = 0; complete = 0; absorbed = 0 }
 
 abbrev pub listedAnswer : Listed → ListedAnswer
 listedAnswer (listed.Open x) = record

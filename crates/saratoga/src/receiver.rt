@@ -37,6 +37,7 @@ pub struct RecordedAnswer {
     pub code: u64,
     pub edge: u64,
     pub complete: u64,
+    pub absorbed: u64,
 }
 
 // struct saratoga_listed.
@@ -103,17 +104,19 @@ fn recorded_answer(a: Recorded) -> RecordedAnswer
     ensures { λ r. ⌜ r ≡ recordedAnswer a ⌝ }
 {
     match a {
-        Recorded::Accepted(reached) => RecordedAnswer {
+        Recorded::Accepted(x) => RecordedAnswer {
             number: 0,
             code: 0,
-            edge: reached.edge,
-            complete: one_if(reached.complete),
+            edge: x.reached.edge,
+            complete: one_if(x.reached.complete),
+            absorbed: x.absorbed,
         },
         Recorded::Refused(refusal) => RecordedAnswer {
             number: refusal.number,
             code: refusal.code,
             edge: 0,
             complete: 0,
+            absorbed: 0,
         },
     }
 }

@@ -1,6 +1,6 @@
 -- What recording does, case by case, and when it is accepted.
 -- Assumes nothing.
-use Prim.Native.Nat.{ℕ, zero, suc, _<_, _≤_}
+use Prim.Native.Nat.{ℕ, zero, suc, _+_, _<_, _≤_}
 use mathlib.Core.Path.{_≡_, refl, ap, _∙_}
 use mathlib.Core.List.{List}
 use mathlib.Core.Option.{Option, none, some}
@@ -8,24 +8,24 @@ use lib.ListN.{length}
 use Rattle.refusals.specs.Refusals.{_▹_, refusalOf}
 use Rattle.refusals.specs.declared.Refusal.{Refusal}
 use Rattle.refusals.proofs.RefusalLaws.{first-none, rest-none}
-use Rattle.transfer.proofs.ExtendLaws.{extended-canonical, key-stop, runs-few, few-runs}
+use Rattle.transfer.proofs.ExtendLaws.{extended-canonical, extended-count, key-stop, runs-few, few-runs}
 use Rattle.packet_data.specs.Data.{readData}
 use Rattle.packet_data.specs.declared.Data.{Data}
 use Rattle.packet_data.specs.declared.DataRead.{DataRead}
 use Rattle.packet_data.specs.declared.DataRead.the-variants as data-read
 use Rattle.transfer.specs.declared.Key.{Key}
-use Rattle.transfer.specs.Transfers.{Transfer, reached}
+use Rattle.transfer.specs.Transfers.{Transfer}
 use Rattle.runs.specs.Runs.{Canonical}
 use Rattle.table.specs.Tables.{keys, find, runsOf, setRuns}
-use Rattle.table.specs.Record.{dataJudged, recordRefusal, grown, recordAs, recordData, recordRead, recordPacket}
-use Rattle.transfer.specs.Record.{stopOf, runsRefusal}
+use Rattle.table.specs.Record.{dataJudged, recordRefusal, grown, absorbedIn, recordAs, recordData, recordRead, recordPacket}
+use Rattle.transfer.specs.Record.{stopOf, receipt, runsRefusal}
 use Rattle.table.specs.declared.Recorded.the-variants.{Accepted, Refused}
 use Rattle.table.specs.Outcome.{Outcome}
 use Rattle.table.specs.declared.Recorded.{Recorded}
 
 -- accepted, with the runs grown
 abbrev pub recordedAs : List Transfer → Data → Key → Outcome Recorded
-recordedAs t d k = record { answer = Accepted (reached k (grown t d)); table = setRuns (d .id) (grown t d) t }
+recordedAs t d k = record { answer = Accepted (receipt k (grown t d) (absorbedIn t d)); table = setRuns (d .id) (grown t d) t }
 
 -- refused, and the table stays; or the Id is open with k, nothing of 12 to 15 is given, and there is room
 pub record-cases : (P : Outcome Recorded → Type 0) (t : List Transfer) (packet : List ℕ)
@@ -67,3 +67,9 @@ judged-stop k d e = key-stop k d e
 pub grown-canonical : (t : List Transfer) (d : Data) → 0 < d .length → Canonical (runsOf t (d .id)) → Canonical (grown t d)
 unfolding grown
 grown-canonical t d p c = extended-canonical (runsOf t (d .id)) d p c
+
+-- and are counted by what the packet absorbs
+pub grown-count : (t : List Transfer) (d : Data) → 0 < d .length → Canonical (runsOf t (d .id))
+    → length (grown t d) + absorbedIn t d ≡ length (runsOf t (d .id)) + 1
+unfolding grown absorbedIn
+grown-count t d p c = extended-count (runsOf t (d .id)) d p c

@@ -1,7 +1,7 @@
--- What opening and recording answer is what the table that they leave has received.
+-- What opening and recording answer is what the table that they leave has received, and how many runs went into it.
 -- Assumes nothing.
-use Prim.Native.Nat.{ℕ}
-use mathlib.Core.Path.{_≡_, ap, _∙_}
+use Prim.Native.Nat.{ℕ, _<_}
+use mathlib.Core.Path.{_≡_, refl, ap, _∙_}
 use mathlib.Core.List.{List, []}
 use mathlib.Core.Logic.{_⊎_, ⊎-elim}
 use native.Mathlib.Omega.{arith}
@@ -12,14 +12,17 @@ use Rattle.packet_data.specs.Data.{readData}
 use Rattle.packet_data.specs.declared.Data.{Data}
 use Rattle.packet_data.specs.declared.DataRead.the-variants as data-read
 use Rattle.transfer.specs.declared.Reached.{Reached}
+use Rattle.transfer.specs.declared.Receipt.{Receipt}
 use Rattle.transfer.specs.Transfers.{Transfer, keyOf, reached}
+use Rattle.transfer.specs.Record.{receipt}
+use Rattle.runs.specs.Runs.{Canonical}
 use Rattle.transfer.proofs.FieldLaws.{data-some}
 use Rattle.transfer.proofs.ReachedLaws.{reached-tells}
-use Rattle.table.specs.Tables.{Valid, find, runsOf}
+use Rattle.table.specs.Tables.{Valid, find, runsOf, setRuns}
 use Rattle.table.specs.Outcome.{Outcome}
 use Rattle.table.specs.Open.{openPacket}
-use Rattle.table.specs.Record.{grown, recordPacket}
-use Rattle.table.specs.Told.{Told}
+use Rattle.table.specs.Record.{grown, absorbedIn, recordPacket}
+use Rattle.table.specs.Told.{Told, Counted}
 use Rattle.table.specs.declared.Opened.{Opened}
 use Rattle.table.specs.declared.Opened.the-variants as opened
 use Rattle.table.specs.declared.Recorded.{Recorded}
@@ -27,28 +30,38 @@ use Rattle.table.specs.declared.Recorded.the-variants as recorded
 use Rattle.table.proofs.TableLaws.{find-add-same, runs-add-same, keys-set, runs-set-same}
 use Rattle.table.proofs.FineLaws.{runs-canonical}
 use Rattle.table.proofs.OpenLaws.{open-cases}
-use Rattle.table.proofs.RecordLaws.{record-cases, grown-canonical}
+use Rattle.table.proofs.RecordLaws.{record-cases, grown-canonical, grown-count}
 
--- an accepted recording tells of the packet's Id in the table after it
-pub record-told : (t : List Transfer) (packet : List ℕ) (x : Reached) → Valid t → recordPacket t packet .answer ≡ recorded.Accepted x
-    → (d : Data) × (readData packet ≡ data-read.Accepted d) × Told (recordPacket t packet .table) (d .id) x
+-- an accepted recording tells of the packet's Id in the table after it, and of the runs that were there before it
+pub record Recording (t u : List Transfer) (packet : List ℕ) (x : Receipt) : Type 0 where
+  pub brought : Data
+  pub read : readData packet ≡ data-read.Accepted brought
+  pub told : Told u (brought .id) (x .reached)
+  pub number : x .absorbed ≡ absorbedIn t brought
+  pub counted : Counted t u (brought .id) (x .absorbed)
+
+pub record-told : (t : List Transfer) (packet : List ℕ) (x : Receipt) → Valid t → recordPacket t packet .answer ≡ recorded.Accepted x
+    → Recording t (recordPacket t packet .table) packet x
 record-told t packet x v a =
-    record-cases
-    (λ (o : Outcome Recorded). o .answer ≡ recorded.Accepted x → (d : Data) × (readData packet ≡ data-read.Accepted d) × Told (o .table) (d .id) x)
-    t packet
+    record-cases (λ (o : Outcome Recorded). o .answer ≡ recorded.Accepted x → Recording t (o .table) packet x) t packet
     (λ r q. absurd (let z : _≡_ {A = ℕ} 0 1 = cc in omega arith))
     (λ d k e f j l q.
-    let is : reached k (grown t d) ≡ x = cc in (
-      d,
-      e,
-      rw (← is)
-          (record {
-            key = k;
-            found = ap (find (d .id)) (keys-set (d .id) (grown t d) t) ∙ f;
-            tells = rw (runs-set-same (d .id) (grown t d) t k f)
-                (reached-tells k (grown t d) (grown-canonical t d (data-some packet d e) (runs-canonical (d .id) t v)));
-          }),
-    ))
+    let is : receipt k (grown t d) (absorbedIn t d) ≡ x = cc in
+    let some : 0 < d .length = data-some packet d e in
+    let canonical : Canonical (runsOf t (d .id)) = runs-canonical (d .id) t v in
+    let has : runsOf (setRuns (d .id) (grown t d) t) (d .id) ≡ grown t d = runs-set-same (d .id) (grown t d) t k f in
+    rw (← is)
+    (record {
+      brought = d;
+      read = e;
+      told = record {
+        key = k;
+        found = ap (find (d .id)) (keys-set (d .id) (grown t d) t) ∙ f;
+        tells = rw has (reached-tells k (grown t d) (grown-canonical t d some canonical));
+      };
+      number = refl;
+      counted = rw has (grown-count t d some canonical);
+    }))
     a
 
 -- and so does an opening: a transfer that is new, or that was open already

@@ -1,6 +1,7 @@
 // The transfer table: open transfers by Id. What opening, recording, closing and STATUS answer; specs/ says what each means.
 use refusals::Refusal;
 use transfer::Reached;
+use transfer::Receipt;
 
 // What opening answers.
 pub enum Opened {
@@ -11,7 +12,7 @@ pub enum Opened {
 
 // What recording answers.
 pub enum Recorded {
-    Accepted(Reached),
+    Accepted(Receipt),
     Refused(Refusal),
 }
 

@@ -14,9 +14,11 @@ use Rattle.refusals.proofs.RefusalLaws.{first-none, rest-none, failed}
 use Rattle.packet_data.specs.declared.Data.{Data}
 use Rattle.runs.specs.Runs.{Run, Member, Canonical}
 use Rattle.runs.proofs.InsertLaws.{insert-member, insert-canonical, insert-stops}
+use Rattle.runs.proofs.CountLaws.{insert-count}
+use Rattle.runs.proofs.RepeatLaws.{insert-known, absorbed-known}
 use Rattle.transfer.specs.declared.Key.{Key}
 use Rattle.transfer.specs.Transfers.{TransferFine}
-use Rattle.transfer.specs.Record.{stopOf, keyRefusal, extended, runsRefusal}
+use Rattle.transfer.specs.Record.{stopOf, keyRefusal, extended, absorbedBy, runsRefusal}
 
 -- "Recording DATA adds the offsets from offset to offset + payload length - 1"
 pub extended-member : (rs : List Run) (d : Data) (o : ℕ)
@@ -27,6 +29,21 @@ extended-member rs d o = insert-member (d .offset) (d .offset + d .length) rs o
 pub extended-canonical : (rs : List Run) (d : Data) → 0 < d .length → Canonical rs → Canonical (extended rs d)
 unfolding extended
 extended-canonical rs d p h = insert-canonical (d .offset) (d .offset + d .length) rs (omega arith) h
+
+-- the runs after, and those that the packet absorbed, are the runs before and one more
+pub extended-count : (rs : List Run) (d : Data) → 0 < d .length → Canonical rs → length (extended rs d) + absorbedBy rs d ≡ length rs + 1
+unfolding extended absorbedBy
+extended-count rs d p h = insert-count (d .offset) (stopOf d) rs (omega arith) h
+
+-- offsets that were all received change nothing, and lie in one run
+module _ (rs : List Run) (d : Data) (p : 0 < d .length) (h : Canonical rs) (known : (o : ℕ) → d .offset ≤ o → o < stopOf d → Member rs o) where
+  pub extended-known : extended rs d ≡ rs
+  unfolding extended
+  extended-known = insert-known (d .offset) (stopOf d) rs (omega arith) h known
+
+  pub one-absorbed : absorbedBy rs d ≡ 1
+  unfolding absorbedBy
+  one-absorbed = absorbed-known (d .offset) (stopOf d) rs (omega arith) h known
 
 -- where 14 is not given, the packet ends within the length
 pub key-stop : (k : Key) (d : Data) → keyRefusal k d ≡ 0 → stopOf d ≤ k .length

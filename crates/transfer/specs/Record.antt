@@ -7,8 +7,10 @@ use lib.ListN.{length}
 use lib.Dec.{ltb, eqb}
 use Rattle.refusals.specs.Refusals.{_▹_, when}
 use Rattle.packet_data.specs.declared.Data.{Data}
-use Rattle.runs.specs.Runs.{Run, insert}
+use Rattle.runs.specs.Runs.{Run, insert, absorbed}
 use Rattle.transfer.specs.declared.Key.{Key}
+use Rattle.transfer.specs.declared.Receipt.{Receipt}
+use Rattle.transfer.specs.Transfers.{reached}
 
 -- "offset + payload length": the first offset after those that the packet brings
 abbrev pub stopOf : Data → ℕ
@@ -25,6 +27,14 @@ keyRefusal k d =
 -- "Recording DATA adds the offsets from offset to offset + payload length - 1"
 unfoldable pub extended : List Run → Data → List Run
 extended rs d = insert (d .offset) (stopOf d) rs
+
+-- document 02: "how many stored runs the packet swallowed: those that overlap or touch it"
+unfoldable pub absorbedBy : List Run → Data → ℕ
+absorbedBy rs d = absorbed (d .offset) (stopOf d) rs
+
+-- what an accepted recording tells of a transfer that then has the runs rs: how far it has come, and that n runs were absorbed
+abbrev pub receipt : Key → List Run → ℕ → Receipt
+receipt k rs n = record { reached = reached k rs; absorbed = n }
 
 -- 16: "the received set would have more than 64 runs"
 unfoldable pub runsRefusal : List Run → ℕ

@@ -21,6 +21,12 @@ pub struct Reached {
     pub complete: bool,
 }
 
+// What an accepted recording tells: how far the transfer has come, and how many of its stored runs the packet absorbed.
+pub struct Receipt {
+    pub reached: Reached,
+    pub absorbed: u64,
+}
+
 // The key that METADATA opens.
 pub fn key_of(m: Metadata) -> Key
     ensures { λ r. ⌜ r ≡ keyOf m ⌝ }

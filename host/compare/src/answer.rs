@@ -110,6 +110,7 @@ pub struct Recorded {
     pub code: u64,
     pub edge: u64,
     pub complete: u64,
+    pub absorbed: u64,
 }
 
 /// `struct saratoga_listed`
@@ -167,10 +168,15 @@ impl From<Result<table::Opened, Refusal>> for Opened {
     }
 }
 
-impl From<Result<table::State, Refusal>> for Recorded {
-    fn from(answer: Result<table::State, Refusal>) -> Recorded {
+impl From<Result<table::Recorded, Refusal>> for Recorded {
+    fn from(answer: Result<table::Recorded, Refusal>) -> Recorded {
         match answer {
-            Ok(state) => Recorded { edge: state.edge, complete: state.complete.into(), ..Recorded::default() },
+            Ok(recorded) => Recorded {
+                edge: recorded.state.edge,
+                complete: recorded.state.complete.into(),
+                absorbed: recorded.absorbed as u64,
+                ..Recorded::default()
+            },
             Err(refusal) => Recorded { number: refusal.number(), code: refusal.code(), ..Recorded::default() },
         }
     }

@@ -5,7 +5,7 @@ use crate::layout::largest;
 use crate::read::Hole;
 use crate::received::Received;
 use crate::refusal::Refusal;
-use crate::table::{Listed, Opened, State, Table, Transfer, MAX_RUNS, MAX_TRANSFERS};
+use crate::table::{Listed, Opened, Recorded, Table, Transfer, MAX_RUNS, MAX_TRANSFERS};
 
 // The words of the layout: the number of open transfers, a head for each, the starts of their runs, and the stops.
 const COUNT: usize = 0;
@@ -105,12 +105,12 @@ pub fn open(area: &mut [u8], packet: &[u8]) -> Result<Opened, Refusal> {
 }
 
 /// Recording.
-pub fn record(area: &mut [u8], packet: &[u8]) -> Result<State, Refusal> {
+pub fn record(area: &mut [u8], packet: &[u8]) -> Result<Recorded, Refusal> {
     change(area, |table| table.record(packet))
 }
 
 /// What recording would answer, the area only read.
-pub fn try_record(area: &[u8], packet: &[u8]) -> Result<State, Refusal> {
+pub fn try_record(area: &[u8], packet: &[u8]) -> Result<Recorded, Refusal> {
     take_up(area)?.try_record(packet)
 }
 

@@ -25,6 +25,13 @@ impl Received {
         self.runs.insert(first, after);
     }
 
+    /// "how many stored runs the packet swallowed: those that overlap or touch it"
+    pub fn absorbed(&self, start: u64, end: u64) -> usize {
+        let overlaps = |(run, stop): (u64, u64)| run < end && start < stop;
+        let touches = |(run, stop): (u64, u64)| stop == start || end == run;
+        self.runs().filter(|&run| overlaps(run) || touches(run)).count()
+    }
+
     /// "A **run** is a longest unbroken stretch of received offsets"
     pub fn runs(&self) -> impl Iterator<Item = (u64, u64)> + '_ {
         self.runs.iter().map(|(&start, &stop)| (start, stop))

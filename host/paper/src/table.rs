@@ -38,6 +38,13 @@ pub struct Opened {
     pub already_open: bool,
 }
 
+/// "Each accepted recording reports how many stored runs the packet swallowed".
+#[derive(Clone, Copy, Debug, PartialEq, Eq)]
+pub struct Recorded {
+    pub state: State,
+    pub absorbed: usize,
+}
+
 /// An open transfer, for a program that takes up an area again.
 #[derive(Clone, Copy, Debug, PartialEq, Eq)]
 pub struct Listed {
@@ -84,7 +91,7 @@ impl Table {
 
     /// "**Recording** DATA adds the offsets from offset to offset + payload length - 1. A repeat adds nothing and is
     /// accepted." "Recording: the reader's, then 12, 13, 14, 15, 16."
-    pub fn record(&mut self, packet: &[u8]) -> Result<State, Refusal> {
+    pub fn record(&mut self, packet: &[u8]) -> Result<Recorded, Refusal> {
         let Packet::Data(data) = read_types(packet, &[DATA])? else { unreachable!("only DATA is taken") };
         let transfer = self.transfers.get_mut(&data.header.id).ok_or(Refusal::NotOpen)?;
         if data.width != transfer.width {
@@ -105,12 +112,13 @@ impl Table {
         if received.run_count() > MAX_RUNS {
             return Err(Refusal::Runs);
         }
+        let absorbed = transfer.received.absorbed(data.offset, end as u64);
         transfer.received = received;
-        Ok(transfer.state())
+        Ok(Recorded { state: transfer.state(), absorbed })
     }
 
     /// What recording would answer; nothing is recorded.
-    pub fn try_record(&self, packet: &[u8]) -> Result<State, Refusal> {
+    pub fn try_record(&self, packet: &[u8]) -> Result<Recorded, Refusal> {
         self.clone().record(packet)
     }
 

@@ -5,8 +5,11 @@ use paper::received::Received;
 
 /// Adds a stretch to both, and compares all that they say.
 fn add(received: &mut Received, marks: &mut Marks, length: u64, start: u64, end: u64) {
+    let (before, absorbed) = (received.run_count(), received.absorbed(start, end));
     received.add(start, end);
     marks.add(start, end);
+    // "runs after equal runs before plus one minus that number"
+    assert_eq!(marks.runs().len(), before + 1 - absorbed);
     assert_eq!(received.runs().collect::<Vec<_>>(), marks.runs());
     assert_eq!(received.run_count(), marks.runs().len());
     assert_eq!(received.edge(), marks.edge());

@@ -4,7 +4,7 @@ mod common;
 
 use common::{data, hex, last_data, metadata};
 use paper::refusal::Refusal;
-use paper::table::{Opened, State, Table};
+use paper::table::{Opened, Recorded, State, Table};
 
 /// A table with transfer 7 open.
 fn with(width: usize, length: u64) -> Table {
@@ -31,12 +31,12 @@ fn status(table: &Table, skip: u64, unasked: bool, room: usize) -> Result<Vec<u8
     answer.map(|size| out[..size].to_vec())
 }
 
-fn edge(edge: u64) -> Result<State, Refusal> {
-    Ok(State { edge, complete: false })
+fn edge(edge: u64, absorbed: usize) -> Result<Recorded, Refusal> {
+    Ok(Recorded { state: State { edge, complete: false }, absorbed })
 }
 
-fn complete(edge: u64) -> Result<State, Refusal> {
-    Ok(State { edge, complete: true })
+fn complete(edge: u64, absorbed: usize) -> Result<Recorded, Refusal> {
+    Ok(Recorded { state: State { edge, complete: true }, absorbed })
 }
 
 /// "Id 7, width 16, L = 3,000, octets 0 to 999 and 2,000 to 2,999 received"
@@ -48,7 +48,7 @@ fn page_with_a_hole() {
     // "The same in a buffer of 15 octets: refusal 20."
     assert_eq!(status(&table, 0, false, 15), Err(Refusal::Buffer));
     // "Then 1,000 to 1,999 arrives: complete"
-    assert_eq!(table.record(&data(7, 2, 1_000, 1_000)), complete(3_000));
+    assert_eq!(table.record(&data(7, 2, 1_000, 1_000)), complete(3_000, 2));
     assert_eq!(status(&table, 0, false, 12), Ok(hex("44 01 00 00 00 00 00 07 0B B8 0B B7")));
 }
 
@@ -56,7 +56,7 @@ fn page_with_a_hole() {
 #[test]
 fn a_repeat_makes_no_page_complete() {
     let mut table = received(3_000, &[(0, 1_000), (2_000, 1_000)]);
-    assert_eq!(table.record(&data(7, 2, 0, 1_000)), edge(3_000));
+    assert_eq!(table.record(&data(7, 2, 0, 1_000)), edge(3_000, 1));
     assert_eq!(status(&table, 0, true, 99), Ok(hex("44 01 00 00 00 00 00 07 03 E8 0B B8 03 E8 07 D0")));
 }
 
@@ -93,7 +93,7 @@ fn longest_file_at_width_16() {
 #[test]
 fn touching_packets() {
     let mut table = received(3_000, &[(0, 10)]);
-    assert_eq!(table.record(&data(7, 2, 10, 10)), edge(20));
+    assert_eq!(table.record(&data(7, 2, 10, 10)), edge(20, 1));
     assert_eq!(table.transfers[&7].received.run_count(), 1);
     assert_eq!(status(&table, 0, false, 99), Ok(hex("44 00 00 00 00 00 00 07 00 14 00 14")));
 }
@@ -114,10 +114,10 @@ fn sixty_four_runs() {
     assert_eq!(table.record(&data(7, 2, 1_000, 1)), Err(Refusal::Runs));
     assert_eq!(table.record(&data(7, 2, 7, 1)), Err(Refusal::Runs));
     assert_eq!(table, before);
-    assert_eq!(table.record(&data(7, 2, 5, 1)), edge(635));
-    assert_eq!(table.record(&data(7, 2, 6, 4)), edge(635));
+    assert_eq!(table.record(&data(7, 2, 5, 1)), edge(635, 1));
+    assert_eq!(table.record(&data(7, 2, 6, 4)), edge(635, 2));
     assert_eq!(table.transfers[&7].received.run_count(), 63);
-    assert_eq!(table.record(&data(7, 2, 1_000, 1)), edge(1_001));
+    assert_eq!(table.record(&data(7, 2, 1_000, 1)), edge(1_001, 0));
 }
 
 /// "Offset 2^64 - 1 with one octet, L = 2^64 - 1: 14, and no wrapped sum."
@@ -126,7 +126,7 @@ fn no_wrapped_sum() {
     let mut table = with(8, u64::MAX);
     assert_eq!(table.record(&data(7, 8, u64::MAX, 1)), Err(Refusal::PastEnd));
     assert_eq!(table.record(&data(7, 8, u64::MAX, 2)), Err(Refusal::PastEnd));
-    assert_eq!(table.record(&last_data(7, 8, u64::MAX - 1, 1)), edge(u64::MAX));
+    assert_eq!(table.record(&last_data(7, 8, u64::MAX - 1, 1)), edge(u64::MAX, 0));
 }
 
 /// "A 17th Id: 17; after one is closed it opens."
@@ -252,9 +252,9 @@ fn listing() {
 fn asked_before_recording() {
     let table = received(9, &[(1, 1), (3, 1)]);
     let before = table.clone();
-    let tried = |packet: &[u8]| table.try_record(packet).map(|state| (state.edge, state.complete));
-    assert_eq!(tried(&data(7, 2, 0, 9)), Ok((9, true)));
-    assert_eq!(tried(&data(7, 2, 4, 1)), Ok((5, false)));
+    let tried = |packet: &[u8]| table.try_record(packet).map(|told| (told.state.edge, told.state.complete, told.absorbed));
+    assert_eq!(tried(&data(7, 2, 0, 9)), Ok((9, true, 2)));
+    assert_eq!(tried(&data(7, 2, 4, 1)), Ok((5, false, 1)));
     assert_eq!(tried(&data(7, 2, 9, 1)), Err(Refusal::PastEnd));
     assert_eq!(tried(&data(8, 2, 0, 1)), Err(Refusal::NotOpen));
     assert_eq!(table, before);

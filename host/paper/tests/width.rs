@@ -6,7 +6,7 @@ mod common;
 use common::{data, hex, metadata};
 use paper::read::{read, read_hole, FreeSpace, Hole, Packet};
 use paper::refusal::Refusal;
-use paper::table::{State, Table};
+use paper::table::{Recorded, State, Table};
 use paper::write::{write_beacon, write_data, write_metadata, BeaconFields, DataFields, MetadataFields};
 
 /// 2,000 in 16 octets.
@@ -203,6 +203,11 @@ fn longest_hole_list() {
     assert_eq!(read(&packet), Err(Refusal::Width));
 }
 
+/// The answer to the first recording of a transfer: there is no run to absorb.
+fn first(edge: u64, complete: bool) -> Recorded {
+    Recorded { state: State { edge, complete }, absorbed: 0 }
+}
+
 #[test]
 fn transfers_of_128_bits() {
     let mut table = Table::default();
@@ -211,13 +216,13 @@ fn transfers_of_128_bits() {
     assert_eq!(table.record(&data(7, 8, 0, 1)), Err(Refusal::OtherWidth));
     assert_eq!(table.open(&metadata(7, 8, 2_000)), Err(Refusal::OpenOther));
     assert!(table.open(&metadata(7, 16, 2_000)).unwrap().already_open);
-    assert_eq!(table.record(&data(7, 16, 0, 2_000)), Ok(State { edge: 2_000, complete: true }));
+    assert_eq!(table.record(&data(7, 16, 0, 2_000)), Ok(first(2_000, true)));
     table.open(&metadata(8, 8, 2_000)).unwrap();
     assert_eq!(table.record(&data(8, 16, 0, 1)), Err(Refusal::OtherWidth));
     // L below 2^64 is all that can be.
     table.open(&metadata(9, 16, u64::MAX)).unwrap();
     assert_eq!(table.record(&data(9, 16, u64::MAX, 1)), Err(Refusal::PastEnd));
-    assert_eq!(table.record(&data(9, 16, u64::MAX - 1, 1)), Ok(State { edge: u64::MAX, complete: false }));
+    assert_eq!(table.record(&data(9, 16, u64::MAX - 1, 1)), Ok(first(u64::MAX, false)));
     // An offset over 64 bits is 5, before 12 and 14.
     let mut packet = data(10, 16, 0, 1);
     packet[15] = 1;

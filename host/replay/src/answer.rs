@@ -65,9 +65,9 @@ fn open(table: &mut Table, packet: &[u8]) -> Line {
 
 /// `D`: recording.
 fn recording(table: &mut Table, packet: &[u8]) -> Line {
-    let state = table.record(packet)?;
+    let recorded = table.record(packet)?;
     let Packet::Data(data) = read_types(packet, &[DATA])? else { unreachable!("only DATA is recorded") };
-    Ok(line::record(&data, state))
+    Ok(line::record(&data, recorded))
 }
 
 /// `R`: plain reading.

@@ -3,7 +3,7 @@
 use paper::layout::Willingness;
 use paper::read::{Beacon, Data, Failure, Header, Metadata, Packet, Success};
 use paper::refusal::Refusal;
-use paper::table::{Opened, State};
+use paper::table::{Opened, Recorded, State};
 
 pub fn refused(refusal: Refusal) -> String {
     format!("refused {} code={}", refusal.number(), refusal.code())
@@ -17,11 +17,11 @@ pub fn open(metadata: &Metadata, opened: Opened) -> String {
     format!("open id={id} width={width} length={size} {state} {whether_new}")
 }
 
-pub fn record(data: &Data, after: State) -> String {
+pub fn record(data: &Data, recorded: Recorded) -> String {
     let Data { header: Header { id, .. }, offset, payload, .. } = data;
     let length = payload.len();
-    let state = state(after);
-    format!("record id={id} offset={offset} length={length} {state}")
+    let state = state(recorded.state);
+    format!("record id={id} offset={offset} length={length} {state} absorbed={}", recorded.absorbed)
 }
 
 fn state(state: State) -> String {

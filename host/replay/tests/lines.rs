@@ -55,12 +55,12 @@ fn sample_lines() {
         ('F', vec![], &["fresh"]),
         ('O', hex(PAGE), &["open id=7 width=16 length=3000 edge=0 complete=0 new"]),
         ('O', hex(PAGE), &["open id=7 width=16 length=3000 edge=0 complete=0 already-open"]),
-        ('D', data(0, 0, 1_000), &["record id=7 offset=0 length=1000 edge=1000 complete=0"]),
-        ('D', data(0, 2_000, 1_000), &["record id=7 offset=2000 length=1000 edge=3000 complete=0"]),
+        ('D', data(0, 0, 1_000), &["record id=7 offset=0 length=1000 edge=1000 complete=0 absorbed=0"]),
+        ('D', data(0, 2_000, 1_000), &["record id=7 offset=2000 length=1000 edge=3000 complete=0 absorbed=0"]),
         ('S', hex("00000007 0000000000000000 00 0000ffff"), &["status 440000000000000703e80bb803e807d0"]),
         ('D', data(0, 2_500, 501), &["refused 14 code=9"]),
         ('O', hex(PAGE), &["open id=7 width=16 length=3000 edge=3000 complete=0 already-open"]),
-        ('D', data(0, 1_000, 1_000), &["record id=7 offset=1000 length=1000 edge=3000 complete=1"]),
+        ('D', data(0, 1_000, 1_000), &["record id=7 offset=1000 length=1000 edge=3000 complete=1 absorbed=2"]),
         ('S', hex("00000007 0000000000000000 00 0000000c"), &["status 44010000000000070bb80bb7"]),
         ('C', hex("00000007"), &["close id=7"]),
         ('C', hex("00000007"), &["refused 12 code=6"]),
@@ -149,7 +149,7 @@ fn descriptors_of_128_bits() {
             'P',
             data("000000000000000000000000000007ce"),
             &[
-                "record id=9 offset=1998 length=2 edge=2000 complete=0",
+                "record id=9 offset=1998 length=2 edge=2000 complete=0 absorbed=0",
                 concat!(
                     "send 44c0000000000009",
                     "00000000000000000000000000000000000000000000000000000000000007d0",
@@ -192,7 +192,7 @@ fn opening_and_closing_at_every_width() {
         (
             'D',
             "43800000 00000001  fffffffffffffffe 61",
-            &["record id=1 offset=18446744073709551614 length=1 edge=18446744073709551615 complete=0"],
+            &["record id=1 offset=18446744073709551614 length=1 edge=18446744073709551615 complete=0 absorbed=0"],
         ),
         (
             'S',
@@ -220,8 +220,8 @@ fn status_takes_k_unasked_and_room() {
         ('S', body(0, 0, 12), &["status 440000000000000700000000"]),
         ('S', body(0, 0, 11), &["refused 20 code=0"]),
         ('S', body(1, 0, 12), &["refused 19 code=0"]),
-        ('D', data(0, 5, 5), &["record id=7 offset=5 length=5 edge=10 complete=0"]),
-        ('D', data(0, 20, 1), &["record id=7 offset=20 length=1 edge=21 complete=0"]),
+        ('D', data(0, 5, 5), &["record id=7 offset=5 length=5 edge=10 complete=0 absorbed=0"]),
+        ('D', data(0, 20, 1), &["record id=7 offset=20 length=1 edge=21 complete=0 absorbed=0"]),
         ('S', body(0, 0, 20), &["status 44000000000000070000001500000005000a0014"]),
         // One doesn't fit; one is skipped; both with bit 14.
         ('S', body(0, 0, 19), &["status 44020000000000070000001500000005"]),
@@ -239,18 +239,18 @@ fn packets_off_the_dish() {
     check_octets(&[
         ('P', hex(PAGE), &["open id=7 width=16 length=3000 edge=0 complete=0 new"]),
         ('P', hex(PAGE), &["open id=7 width=16 length=3000 edge=0 complete=0 already-open"]),
-        ('P', data(0, 0, 1_000), &["record id=7 offset=0 length=1000 edge=1000 complete=0"]),
+        ('P', data(0, 0, 1_000), &["record id=7 offset=0 length=1000 edge=1000 complete=0 absorbed=0"]),
         (
             'P',
             data(ASKED, 2_000, 500),
-            &["record id=7 offset=2000 length=500 edge=2500 complete=0", "send 440000000000000703e809c403e807d0"],
+            &["record id=7 offset=2000 length=500 edge=2500 complete=0 absorbed=0", "send 440000000000000703e809c403e807d0"],
         ),
         ('P', data(ASKED | END, 1_000, 1_000), &["refused 15 code=1", "send 4400000100000007"]),
-        ('P', data(END, 2_500, 500), &["record id=7 offset=2500 length=500 edge=3000 complete=0"]),
+        ('P', data(END, 2_500, 500), &["record id=7 offset=2500 length=500 edge=3000 complete=0 absorbed=1"]),
         (
             'P',
             data(ASKED, 1_000, 1_000),
-            &["record id=7 offset=1000 length=1000 edge=3000 complete=1", "send 44010000000000070bb80bb7"],
+            &["record id=7 offset=1000 length=1000 edge=3000 complete=1 absorbed=2", "send 44010000000000070bb80bb7"],
         ),
         ('P', data(ASKED, 3_000, 1), &["refused 14 code=9", "send 4400000900000007"]),
         ('P', data(ASKED, 0, 0), &["refused 10 code=1", "send 4400000100000007"]),
@@ -330,7 +330,7 @@ fn beacons() {
             ('O', hex(PAGE), &page),
             ('R', hex(packet), &[line]),
             ('P', hex(packet), &[line]),
-            ('D', data(0, 0, 1_000), &["record id=7 offset=0 length=1000 edge=1000 complete=0"]),
+            ('D', data(0, 0, 1_000), &["record id=7 offset=0 length=1000 edge=1000 complete=0 absorbed=0"]),
         ]);
     }
     let longest = [hex("40000000"), vec![0xab; 65_531]].concat();
@@ -350,7 +350,7 @@ fn all_holes_are_sent() {
         pass.extend(record(b'P', &data(if i < 63 { 0 } else { ASKED }, 2 * i + 1, 1)));
         let (number, offset, edge) = (i + 2, 2 * i + 1, 2 * i + 2);
         if i < 64 {
-            expected += &format!("{number} record id=7 offset={offset} length=1 edge={edge} complete=0\n");
+            expected += &format!("{number} record id=7 offset={offset} length=1 edge={edge} complete=0 absorbed=0\n");
         }
     }
     let holes: String = (0..64).map(|i| format!("{:04x}{:04x}", 2 * i, 2 * i + 1)).collect();

@@ -19,7 +19,7 @@ EVERY_LINE = """\
 1 fresh
 2 open id=7 width=16 length=3000 edge=0 complete=0 new
 3 open id=7 width=16 length=3000 edge=0 complete=0 already-open
-4 record id=7 offset=0 length=1000 edge=1000 complete=0
+4 record id=7 offset=0 length=1000 edge=1000 complete=0 absorbed=0
 5 status 440000000000000703e80bb803e807d0
 6 close id=7
 7 refused 14 code=9
@@ -36,13 +36,13 @@ EVERY_LINE = """\
 
 LATE = """\
 1 open id=7 width=16 length=3000 edge=0 complete=0 new
-2 record id=7 offset=2000 length=1000 edge=3000 complete=0
-3 record id=7 offset=0 length=1000 edge=3000 complete=0
+2 record id=7 offset=2000 length=1000 edge=3000 complete=0 absorbed=0
+3 record id=7 offset=0 length=1000 edge=3000 complete=0 absorbed=0
 3 send 440000000000000703e80bb803e807d0
-4 record id=7 offset=0 length=1000 edge=3000 complete=0
-5 record id=7 offset=500 length=2000 edge=3000 complete=1
+4 record id=7 offset=0 length=1000 edge=3000 complete=0 absorbed=1
+5 record id=7 offset=500 length=2000 edge=3000 complete=1 absorbed=2
 6 open id=9 width=32 length=70000 edge=0 complete=0 new
-7 record id=9 offset=10 length=10 edge=20 complete=0
+7 record id=9 offset=10 length=10 edge=20 complete=0 absorbed=0
 8 refused 12 code=6
 """
 
@@ -81,6 +81,8 @@ class Drawn(unittest.TestCase):
         told = texts(svg)
         self.assertIn("Transfer 7: 3,000 octets, width 16", told)
         self.assertIn("complete at record 5", told)
+        self.assertIn("4 recordings, 3 runs absorbed, 1 left", told)
+        self.assertIn("1 recording, 0 runs absorbed, 1 left", told)
         self.assertIn("Transfer 9: 70,000 octets, width 32", told)
         self.assertIn("NOT complete: 10 of 70,000 octets received, 1 hole, nothing from 20 on", told)
         self.assertIn("the file goes on to 70,000", told)
@@ -121,9 +123,9 @@ class Drawn(unittest.TestCase):
             for number in range(2, 300):
                 start = chance.randrange(length)
                 stop = chance.randrange(start, min(length, start + max(length // 50, 1))) + 1
-                transfer.record(number, start, stop)
+                absorbed = transfer.record(number, start, stop)
                 lines.append(f"{number} record id=7 offset={start} length={stop - start} edge={transfer.edge} "
-                             f"complete={int(transfer.complete)}")
+                             f"complete={int(transfer.complete)} absorbed={absorbed}")
             svg = drawing("\n".join(lines))
             height = float(tree.fromstring(svg).get("height"))
             for box in tree.fromstring(svg).iter(SVG + "rect"):
@@ -164,7 +166,7 @@ class Drawn(unittest.TestCase):
                  "path=706167653631312e706c61\n2 open id=7 width=16 length=3000 edge=0 complete=0 new\n")
         self.assertIn("Transfer 7, page611.pla: 3,000 octets, width 16", texts(drawing(shown)))
         linked = ("1 open id=7 width=16 length=1 edge=0 complete=0 new\n"
-                  "2 record id=7 offset=0 length=1 edge=1 complete=1\n"
+                  "2 record id=7 offset=0 length=1 edge=1 complete=1 absorbed=0\n"
                   "2 complete id=7 length=1 file=00000007.page mtime=0 ctime=0 checksum= path=plant/page611.pla\n"
                   "3 lost id=7 offset=0 length=1\n4 too-large id=8 length=9 code=8\n4 too-many id=9 code=3\n"
                   "4 of-another-sender id=7 code=6\n5 close id=7 to-make-room\n")
@@ -202,9 +204,9 @@ class Drawn(unittest.TestCase):
             for number in range(2, count + 1):
                 start = chance.choice((0, length - 1, chance.randrange(length), number * length // (count + 1)))
                 stop = min(length, start + chance.choice((1, 1000)))
-                transfer.record(number, start, stop)
+                absorbed = transfer.record(number, start, stop)
                 lines.append(f"{number} record id=7 offset={start} length={stop - start} edge={transfer.edge} "
-                             f"complete={int(transfer.complete)}")
+                             f"complete={int(transfer.complete)} absorbed={absorbed}")
             svg = drawing("\n".join(lines), times)
             covered = []
             for box in boxes(svg, passplot.NEW):
@@ -223,8 +225,8 @@ class Drawn(unittest.TestCase):
         lines, runs = ["1 open id=7 width=32 length=60000000 edge=0 complete=0 new"], 60
         for number in range(2, 2 + runs):
             start = (number - 2) * 100000
-            lines.append(f"{number} record id=7 offset={start} length=99000 edge={start + 99000} complete=0")
-        lines.append(f"{2 + runs} record id=7 offset=59999999 length=1 edge=60000000 complete=0")
+            lines.append(f"{number} record id=7 offset={start} length=99000 edge={start + 99000} complete=0 absorbed=0")
+        lines.append(f"{2 + runs} record id=7 offset=59999999 length=1 edge=60000000 complete=0 absorbed=0")
         svg = drawing("\n".join(lines))
         low = [float(box.get("height")) for box in boxes(svg, passplot.HOLE) if float(box.get("height")) < 1]
         self.assertEqual(len(low), runs - 1)
@@ -237,7 +239,7 @@ class Drawn(unittest.TestCase):
         for ident in range(100):
             lines.append(f"{2 * ident + 1} open id={ident} width=16 length=10 edge=0 complete=0 new")
             lines.append(f"{2 * ident + 2} record id={ident} offset=0 length={ident % 2 * 5 + 5} "
-                         f"edge={ident % 2 * 5 + 5} complete={ident % 2}")
+                         f"edge={ident % 2 * 5 + 5} complete={ident % 2} absorbed=0")
             passed += record(b"P", metadata(ident, 16, 10, b"page%d" % ident)) + record(b"P", data(
                 ident, 16, 0, bytes(ident % 2 * 5 + 5)))
         svg = drawing("\n".join(lines), passed=passed)
@@ -273,8 +275,8 @@ class Drawn(unittest.TestCase):
                   time_record(start + 60 * 10**9), record(b"P", data(7, 16, 0, bytes(10))), record(b"W", bytes(7)),
                   record(b"P", data(7, 16, 10, bytes(10))), time_record(9)]
         lines = ("2 open id=7 width=16 length=20 edge=0 complete=0 new\n"
-                 "6 record id=7 offset=0 length=10 edge=10 complete=0\n7 bad length\n"
-                 "8 record id=7 offset=10 length=10 edge=20 complete=1\n")
+                 "6 record id=7 offset=0 length=10 edge=10 complete=0 absorbed=0\n7 bad length\n"
+                 "8 record id=7 offset=10 length=10 edge=20 complete=1 absorbed=1\n")
         self.assertEqual(passplot.times_in(passplot.read(lines.split("\n")), split(b"".join(passed))[0]),
                          {2: start, 6: start + 60 * 10**9})
         told = texts(drawing(lines, passed=b"".join(passed)))
@@ -307,12 +309,15 @@ class Errors(unittest.TestCase):
     def test_messages(self):
         self.wrong("hello", "no line of replay: it begins with the record's number")
         self.wrong("2 hello", "no line of replay: hello")
-        self.wrong("2 record id=8 offset=0 length=1 edge=1 complete=0", "transfer 8, which no line before opened")
-        self.wrong("2 record id=7 offset=0 length=10 edge=10 complete=1",
+        self.wrong("2 record id=8 offset=0 length=1 edge=1 complete=0 absorbed=0", "transfer 8, which no line before opened")
+        self.wrong("2 record id=7 offset=0 length=10 edge=10 complete=1 absorbed=0",
                    "edge=10 complete=1, but the records so far give edge=10 complete=0")
-        self.wrong("2 record id=7 offset=0 length=31 edge=31 complete=0",
+        self.wrong("2 record id=7 offset=0 length=31 edge=31 complete=0 absorbed=0",
                    "octets past the end of transfer 7, which has 30")
         self.wrong("2 record id=7 offset=0", "length= and a number are missing")
+        self.wrong("2 record id=7 offset=0 length=10 edge=10 complete=0", "absorbed= and a number are missing")
+        self.wrong("2 record id=7 offset=0 length=10 edge=10 complete=0 absorbed=1",
+                   "absorbed=1, but the records so far give absorbed=0")
         self.wrong("0 fresh", "record 0 after record 1")
         self.wrong("2 open id=7 width=16 length=30 edge=0 complete=0 new", "transfer 7 is open already")
         self.wrong("2 send 44", "send is followed by the octets of a STATUS")

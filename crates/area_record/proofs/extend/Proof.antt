@@ -3,15 +3,15 @@
 use native.Mathlib.Omega.{arith}
 use borrow.Author.Needs.{needs}
 use denote.Ref.{now}
-use Prim.Native.Nat.{_≤_}
-use mathlib.Core.Path.{refl, ap}
-use Rattle.runs.specs.Runs.{insert}
+use Prim.Native.Nat.{_-_, _≤_}
+use mathlib.Core.Path.{_≡_, refl, ap}
+use Rattle.runs.specs.Runs.{insert, absorbed}
 use Rattle.table.specs.declared.Recorded.the-variants.{Refused}
 use Rattle.area.specs.Layout.{runPlaces}
 use Rattle.area.specs.Places.{rowsAt, readTable, nth}
 use Rattle.area_record.specs.Record.{runsAfter}
 use Rattle.area_record.proofs.RecordLaws.{both}
-use Rattle.area_record.proofs.ExtendLaws.{PlaceKnown, known, Left, left-done, extend-over, extend-left}
+use Rattle.area_record.proofs.ExtendLaws.{PlaceKnown, known, Left, left-done, between-absorbed, extend-over, extend-left}
 use Rattle.area_record.proofs.extend.Statement.{statement}
 use Rattle.area_record.proofs.extend.Tie as tie
 
@@ -101,6 +101,19 @@ left c =
     (q .before .before .cut-to .ensures) (q .cut-below .ensures) (l .joined-start .result) (h .joined-stop .result) (l .joined-start .ensures)
     (h .joined-stop .ensures) (omega arith) (omega arith) (room e) _ (c .put-runs .ensures)
 
+-- the runs between the cuts were absorbed
+taken : (c : tie.After-put-runs)
+    → let q = c .before .before .before .before .before .before .before in
+    let s = q .before .before .before .before .before .before .before in
+    absorbed (s .args .from) (s .args .to) (nth (readTable (now (s .args .area))) (s .args .place) .runs)
+    ≡ q .before .before .cut-to .result - q .cut-below .result
+taken c =
+    let q = c .before .before .before .before .before .before .before in
+    let r = q .before .before .before .before in
+    let s = r .before .before .before in
+    between-absorbed (now (s .args .area)) (s .args .place) (s .pre .0) (s .pre .1) _ (r .rows-at .ensures) (s .args .from) (s .args .to) _ _ (s .pre .2)
+    (q .before .before .cut-to .ensures) (q .cut-below .ensures)
+
 reached-in-requires : tie.Need-reached-in-requires
 reached-in-requires c κs =
     let w = c .before .before .before in
@@ -113,12 +126,16 @@ reached-in-requires c κs =
 same-length-2 : tie.Need-same-length-2
 same-length-2 c = search needs
 
+sub-absorbed : tie.Need-sub-absorbed
+sub-absorbed c = search needs
+
 returns-2 : tie.Need-returns-2
 returns-2 c =
     let b = c .before .before in
     let s = b .before .before .before .before .before .before .before .before .before .before .before .before .before .before .before .before in
     both refl
-    (left-done (now (s .args .area)) (s .args .place) _ _ _ (s .args .key) _ (left (b .before .before)) (λ i. b .slice-known2 .given i .fits) (c .reached-in .ensures))
+    (left-done (now (s .args .area)) (s .args .place) _ _ _ (s .args .key) _ _ _ (left (b .before .before)) (λ i. b .slice-known2 .given i .fits)
+    (c .reached-in .ensures) (taken (b .before .before)))
 
 pub extend-spec : {M : Type 1} → statement M
 extend-spec =
@@ -137,5 +154,6 @@ extend-spec =
     joined-stop-requires
     put-runs-requires
     reached-in-requires
+    sub-absorbed
     same-length-2
     returns-2)

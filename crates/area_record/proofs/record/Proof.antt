@@ -13,7 +13,7 @@ use Rattle.table.specs.declared.Recorded.the-variants.{Refused}
 use Rattle.area.specs.Places.{readTable}
 use Rattle.area.specs.Judge.{judged}
 use Rattle.area.specs.Operations.{leaves}
-use Rattle.area_record.proofs.RecordLaws.{both, both-as, record-unheld, record-unread, record-read}
+use Rattle.area_record.proofs.RecordLaws.{fields-some, both, both-as, record-unheld, record-unread, record-read}
 use Rattle.area_record.proofs.record.Statement.{statement}
 use Rattle.area_record.proofs.record.Tie as tie
 
@@ -59,7 +59,11 @@ data-fields-requires : tie.Need-data-fields-requires
 data-fields-requires c κs = search needs
 
 record-fields-requires : tie.Need-record-fields-requires
-record-fields-requires c κs = passed (c .before .before .before)
+record-fields-requires c κs =
+    let f = c .before in
+    let e = f .before .before in
+    let s = e .before .before .before .before .before .before in
+    (passed e, fields-some (now (s .args .packet)) _ (omega arith) (f .data-fields .ensures))
 
 same-length-3 : tie.Need-same-length-3
 same-length-3 c = search needs

@@ -32,7 +32,7 @@ returns c =
     let f = c .before .before .before in
     let s = f .before .before .before in
     both (ap Refused (c .refuse .ensures))
-    (fields-missing (now (s .args .area)) (s .pre) (s .args .d) (f .find-place .result) (f .find-place .ensures) (not-true _ (c .before .if1 .taken)) (octets (f .before .before)))
+    (fields-missing (now (s .args .area)) (s .pre .0) (s .args .d) (f .find-place .result) (f .find-place .ensures) (not-true _ (c .before .if1 .taken)) (octets (f .before .before)))
 
 -- where the Id is open
 open-known : (c : tie.Else1)
@@ -48,7 +48,7 @@ key-at-requires : tie.Need-key-at-requires
 key-at-requires c κs =
     let before-place = c .before .before .before .before .before in
     let s = before-place .before in
-    kept-known (now (s .args .area)) (s .args .d .id) _ (open-known (c .before)) (s .pre)
+    kept-known (now (s .args .area)) (s .args .d .id) _ (open-known (c .before)) (s .pre .0)
 
 key-refusal-requires : tie.Need-key-refusal-requires
 key-refusal-requires c κs = search needs
@@ -67,7 +67,7 @@ returns-2 c =
     let f = e .before .before in
     let s = f .before .before .before in
     both (ap Refused (c .refuse2 .ensures))
-    (fields-refused (now (s .args .area)) (s .pre) (s .args .d) (f .find-place .result) (f .find-place .ensures) (open-known e) (k .key-at .result) (k .key-at .ensures)
+    (fields-refused (now (s .args .area)) (s .pre .0) (s .args .d) (f .find-place .result) (f .find-place .ensures) (open-known e) (k .key-at .result) (k .key-at .ensures)
     (r .key-refusal .result) (r .key-refusal .ensures) (omega arith) (octets (f .before .before)))
 
 add-extend : tie.Need-add-extend
@@ -82,7 +82,7 @@ extend-requires : tie.Need-extend-requires
 extend-requires c κs =
     let e = c .before .before .before .before .before in
     let k = open-known e in
-    (e .before .before .before .before .before .pre, omega (arith, k .inside), omega arith)
+    (e .before .before .before .before .before .pre .0, omega (arith, k .inside), omega arith)
 
 same-length-3 : tie.Need-same-length-3
 same-length-3 c = search needs
@@ -96,7 +96,7 @@ returns-3 c =
     let f = e .before .before in
     let s = f .before .before .before in
     both-as (x .«extend» .ensures)
-    (fields-extended (now (s .args .area)) (s .pre) (s .args .d) (f .find-place .result) (f .find-place .ensures) (open-known e) (k .key-at .result) (k .key-at .ensures)
+    (fields-extended (now (s .args .area)) (s .pre .0) (s .args .d) (f .find-place .result) (f .find-place .ensures) (open-known e) (k .key-at .result) (k .key-at .ensures)
     (r .key-refusal .result) (r .key-refusal .ensures) (omega arith) (octets (f .before .before)))
 
 pub record-fields-spec : {M : Type 1} → statement M

@@ -30,14 +30,21 @@ put-field-requires-3 c κs = c .before .before .before .before .put-field2 .ensu
 put-reached-requires : tie.Need-put-reached-requires
 put-reached-requires c κs = c .before .before .before .put-field3 .ensures .within
 
+slice-aggregate-put-field-4 : tie.Need-slice-aggregate-put-field-4
+slice-aggregate-put-field-4 c = search needs
+
+put-field-requires-4 : tie.Need-put-field-requires-4
+put-field-requires-4 c κs = c .before .before .before .before .put-reached .ensures .within
+
 push-requires : tie.Need-push-requires
-push-requires c κs = c .before .before .before .put-reached .ensures .within
+push-requires c κs = c .before .before .before .put-field4 .ensures .within
 
 returns : tie.Need-returns
 unfolding recordLine
 returns c =
     let push-place = c .before .before in
-    let put-reached-place = push-place .before .before .before .before in
+    let put-field4-place = push-place .before .before .before .before in
+    let put-reached-place = put-field4-place .before .before .before .before .before in
     let put-field3-place = put-reached-place .before .before .before .before in
     let put-field2-place = put-field3-place .before .before .before .before .before in
     let put-field-place = put-field2-place .before .before .before .before .before in
@@ -47,6 +54,7 @@ returns c =
     then put-field2-place .put-field2 .ensures
     then put-field3-place .put-field3 .ensures
     then put-reached-place .put-reached .ensures
+    then put-field4-place .put-field4 .ensures
     then push-place .push .ensures
 
 same-length : tie.Need-same-length
@@ -64,6 +72,8 @@ put-recorded-spec =
     slice-aggregate-put-field-3
     put-field-requires-3
     put-reached-requires
+    slice-aggregate-put-field-4
+    put-field-requires-4
     push-requires
     same-length
     returns)

@@ -59,6 +59,20 @@ wrong! {
     /// 12 before 5.
     IdBeforeUpper,
 
+    // The runs absorbed.
+    /// Runs that touch the packet are joined and not counted.
+    TouchingUncounted,
+    /// Each run is counted twice.
+    CountedTwice,
+    /// The new run is counted too.
+    NewRunCounted,
+    /// A repeat, which changes nothing, absorbs nothing.
+    RepeatUncounted,
+    /// A refused packet tells what it would have absorbed.
+    CountedOnRefusal,
+    /// What recording would absorb isn't told.
+    TryUncounted,
+
     // Opening.
     /// A 17th Id is opened.
     SeventeenIds,

@@ -141,6 +141,7 @@ impl Receiver for Wrong {
                 Recorded { edge: found.edge, complete: found.complete, ..right }
             }
             TryNeverSixteen if right.number == 16 => Recorded::default(),
+            TryUncounted => Recorded { absorbed: 0, ..right },
             _ => right,
         }
     }
@@ -297,6 +298,16 @@ impl Wrong {
                 let mut other = [&packet[..data.timestamp.end], &offset, &packet[data.payload]].concat();
                 other[1] ^= 0x40;
                 return Paper.record(area, &other);
+            }
+            TouchingUncounted if accepted => {
+                let overlapping = runs.iter().filter(|run| run.0 < end && start < run.1).count();
+                return Recorded { absorbed: overlapping as u64, ..right };
+            }
+            CountedTwice => return Recorded { absorbed: 2 * right.absorbed, ..right },
+            NewRunCounted if accepted => return Recorded { absorbed: right.absorbed + 1, ..right },
+            RepeatUncounted if accepted && union == transfer.received => return Recorded { absorbed: 0, ..right },
+            CountedOnRefusal if !accepted => {
+                return Recorded { absorbed: transfer.received.absorbed(start, end) as u64, ..right }
             }
             // What is recorded otherwise.
             TouchingApart if accepted && touches && !overlaps && runs.len() < 64 => {

@@ -92,6 +92,9 @@ inside c =
     let f = cuts c in
     omega (arith, length-runs (now (r .before .before .args .area)) (w .starts) (w .stops) (w .count))
 
+sub-absorbed : tie.Need-sub-absorbed
+sub-absorbed c = search needs
+
 returns-2 : tie.Need-returns-2
 returns-2 c =
     let v = c .before in
@@ -124,4 +127,5 @@ try-extend-spec =
     joined-stop-requires
     edge-with-requires
     progress-with-requires
+    sub-absorbed
     returns-2)

@@ -32,7 +32,7 @@ returns c =
     let s = f .before .before in
     ap Refused (c .refuse .ensures)
     ∙ ap (λ (o : OnArea Recorded). o .answer)
-    (fields-missing (now (s .args .area)) (s .pre) (s .args .d) (f .find-place .result) (f .find-place .ensures) (not-true _ (c .before .if1 .taken)) (octets (f .before)))
+    (fields-missing (now (s .args .area)) (s .pre .0) (s .args .d) (f .find-place .result) (f .find-place .ensures) (not-true _ (c .before .if1 .taken)) (octets (f .before)))
 
 -- where the Id is open
 open-known : (c : tie.Else1)
@@ -47,7 +47,7 @@ open-known c =
 key-at-requires : tie.Need-key-at-requires
 key-at-requires c κs =
     let s = c .before .before .before .before in
-    kept-known (now (s .args .area)) (s .args .d .id) _ (open-known c) (s .pre)
+    kept-known (now (s .args .area)) (s .args .d .id) _ (open-known c) (s .pre .0)
 
 key-refusal-requires : tie.Need-key-refusal-requires
 key-refusal-requires c κs = search needs
@@ -64,7 +64,7 @@ returns-2 c =
     let s = f .before .before in
     ap Refused (c .refuse2 .ensures)
     ∙ ap (λ (o : OnArea Recorded). o .answer)
-    (fields-refused (now (s .args .area)) (s .pre) (s .args .d) (f .find-place .result) (f .find-place .ensures) (open-known e) (k .key-at .result) (k .key-at .ensures)
+    (fields-refused (now (s .args .area)) (s .pre .0) (s .args .d) (f .find-place .result) (f .find-place .ensures) (open-known e) (k .key-at .result) (k .key-at .ensures)
     (r .key-refusal .result) (r .key-refusal .ensures) (omega arith) (octets (f .before)))
 
 add-try-extend : tie.Need-add-try-extend
@@ -79,7 +79,7 @@ try-extend-requires : tie.Need-try-extend-requires
 try-extend-requires c κs =
     let e = c .before .before .before in
     let k = open-known e in
-    (e .before .before .before .before .pre, omega (arith, k .inside), omega arith)
+    (e .before .before .before .before .pre .0, omega (arith, k .inside), omega arith)
 
 returns-3 : tie.Need-returns-3
 returns-3 c =
@@ -90,7 +90,7 @@ returns-3 c =
     let s = f .before .before in
     c .try-extend .ensures
     ∙ ap (λ (o : OnArea Recorded). o .answer)
-    (fields-extended (now (s .args .area)) (s .pre) (s .args .d) (f .find-place .result) (f .find-place .ensures) (open-known e) (k .key-at .result) (k .key-at .ensures)
+    (fields-extended (now (s .args .area)) (s .pre .0) (s .args .d) (f .find-place .result) (f .find-place .ensures) (open-known e) (k .key-at .result) (k .key-at .ensures)
     (r .key-refusal .result) (r .key-refusal .ensures) (omega arith) (octets (f .before)))
 
 pub try-fields-spec : {M : Type 1} → statement M

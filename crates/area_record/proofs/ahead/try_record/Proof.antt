@@ -14,7 +14,7 @@ use Rattle.table.specs.declared.Recorded.the-variants.{Refused}
 use Rattle.area.specs.Places.{readTable}
 use Rattle.area.specs.Judge.{judged}
 use Rattle.area.specs.Operations.{OnArea}
-use Rattle.area_record.proofs.RecordLaws.{record-unheld, record-unread, record-read}
+use Rattle.area_record.proofs.RecordLaws.{fields-some, record-unheld, record-unread, record-read}
 use Rattle.area_record.proofs.ahead.try_record.Statement.{statement}
 use Rattle.area_record.proofs.ahead.try_record.Tie as tie
 
@@ -56,7 +56,11 @@ data-fields-requires : tie.Need-data-fields-requires
 data-fields-requires c κs = search needs
 
 try-fields-requires : tie.Need-try-fields-requires
-try-fields-requires c κs = passed (c .before .before)
+try-fields-requires c κs =
+    let f = c in
+    let e = f .before .before in
+    let s = e .before .before .before .before .before in
+    (passed e, fields-some (now (s .args .packet)) _ (omega arith) (f .data-fields .ensures))
 
 returns-3 : tie.Need-returns-3
 returns-3 c =

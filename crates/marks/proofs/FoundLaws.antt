@@ -1,23 +1,23 @@
 -- The runs that the walk finds, stored one after the other: those that stand in the rows and those that are still to come are all runs.
 -- Assumes nothing.
-use Prim.Native.Nat.{ℕ, zero, suc, _+_, _*_, _-_, _^_, _≤_, _<_, min}
-use mathlib.Core.Path.{_≡_, refl, sym, ap, _∙_}
-use mathlib.Core.Bool.{Bool, true, false}
+use Prim.Native.Nat.{ℕ, _+_, _-_, _^_, _≤_, _<_}
+use mathlib.Core.Path.{_≡_, sym, ap, _∙_}
+use mathlib.Core.Bool.{true, false}
 use mathlib.Core.List.{List, [], _∷_, _++_, append-nil, append-assoc}
 use mathlib.Core.Logic.{⊎-elim}
 use native.Mathlib.Nat.{zero-add}
 use native.Mathlib.Omega.{arith}
-use lib.ListN.{length, getD, length-append, List·getD-append}
-use lib.Seq.{getD-append-seam, append-snoc}
+use lib.ListN.{length, length-append, List·getD-append}
+use lib.Seq.{getD-append-seam}
 use Rattle.words.specs.Words.{wordAt, putWord}
 use Rattle.words.proofs.RowLaws.{put-length, put-at, put-other}
 use Rattle.runs.specs.Runs.{Run, run, nthRun, Member}
 use Rattle.runs.proofs.CompareLaws.{le-or-lt}
 use Rattle.run_rows.specs.Rows.{runsFrom, runsIn}
-use Rattle.run_rows.proofs.RowsLaws.{length-runs, run-at, start-at, stop-at, runs-are}
+use Rattle.run_rows.proofs.RowsLaws.{length-runs, start-at, stop-at, runs-are}
 use Rattle.marks.specs.Marks.{marked, markCount}
 use Rattle.marks.specs.MarkedRuns.{runsWhere, markedRuns}
-use Rattle.marks.specs.Walk.{AllAre, FirstWith, runRows, RunsFound}
+use Rattle.marks.specs.Walk.{FirstWith, runRows, RunsFound}
 use Rattle.marks.proofs.MarkedRunsLaws.{where-holds, where-none, where-skip, where-run}
 
 -- ---- one more run stored

@@ -1,8 +1,8 @@
 -- What one turn of each loop that writes does, and its last.
 -- Assumes nothing.
-use Prim.Native.Nat.{ℕ, zero, suc, _+_, _*_, _-_, _≤_, _<_}
-use mathlib.Core.Path.{_≡_, refl, sym, ap, _∙_}
-use mathlib.Core.List.{List, [], _∷_}
+use Prim.Native.Nat.{ℕ, suc, _+_, _*_, _-_, _≤_, _<_}
+use mathlib.Core.Path.{_≡_, sym, _∙_}
+use mathlib.Core.List.{List, _∷_}
 use native.Mathlib.Omega.{arith}
 use native.Mathlib.Numerals.{add-one}
 use lib.ListN.{length, getD, set, replicate}
@@ -10,7 +10,7 @@ use lib.Bits.{bitOr}
 use Rattle.octets.specs.Numbers.{Octets}
 use Rattle.octets.specs.Put.{put}
 use Rattle.octets.proofs.PutLaws.{put-cons, put-nil}
-use Rattle.marks.specs.Marks.{markOctets, withMark, withMarks, cleared}
+use Rattle.marks.specs.Marks.{withMark, withMarks}
 use Rattle.marks.proofs.BitLaws.{or-ones}
 use Rattle.marks.proofs.MarkLaws.{marks-add, octet-set}
 

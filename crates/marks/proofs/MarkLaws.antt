@@ -1,8 +1,8 @@
 -- What setting marks does to every mark, and clearing them; and to the runs: the stretch that was set is inserted.
 -- Assumes nothing.
 use Prim.Native.Nat.{ℕ, zero, suc, _+_, _*_, _-_, _/_, _%_, _^_, _≤_, _<_}
-use mathlib.Core.Path.{_≡_, refl, sym, ap, _∙_}
-use mathlib.Core.Bool.{Bool, true, false, not}
+use mathlib.Core.Path.{_≡_, refl, sym, _∙_}
+use mathlib.Core.Bool.{true, false, not}
 use mathlib.Core.List.{List, []}
 use mathlib.Core.Logic.{_⊎_, inl, inr, ⊎-elim, _≢_, _↔_}
 use native.Mathlib.Nat.{add-zero, zero-add, mod-lt}
@@ -13,15 +13,12 @@ use lib.Dec.{eqb}
 use lib.Bits.{bitAnd, bitOr}
 use Rattle.octets.specs.Numbers.{Octets}
 use Rattle.octets.specs.Put.{put}
-use Rattle.runs.specs.Runs.{Run, run, Within, Member, Canonical, insert}
-use Rattle.runs.proofs.CompareLaws.{le-or-lt}
-use Rattle.marks.specs.Marks.{markOctets, markCount, bitOf, marked, withBit, withMark, withMarks, cleared}
-use Rattle.marks.specs.MarkedRuns.{runsWhere, markedRuns}
-use Rattle.marks.proofs.BitLaws.{read-bit, or-bit, with-bit-small, bit-set, bit-stays, ones-bit, zeros-bit, all-ones}
+use Rattle.runs.specs.Runs.{Member, Canonical, insert}
+use Rattle.runs.proofs.CompareLaws.{le-or-lt, same-or}
+use Rattle.marks.specs.Marks.{markOctets, markCount, marked, withBit, withMark, withMarks, cleared}
+use Rattle.marks.specs.MarkedRuns.{markedRuns}
+use Rattle.marks.proofs.BitLaws.{read-bit, or-bit, with-bit-small, bit-set, bit-stays, zeros-bit, all-ones}
 use Rattle.marks.proofs.MarkedRunsLaws.{where-canonical, where-only, where-holds, where-unique, where-insert}
-
-same-or : (a b : ℕ) → (a ≡ b) ⊎ (a ≡ b → ⊥)
-same-or a b = ⊎-elim (λ (p : a ≤ b). ⊎-elim (λ (q : b ≤ a). inl (omega arith)) (λ (q : a < b). inr (λ e. omega arith)) (le-or-lt b a)) (λ (p : b < a). inr (λ e. omega arith)) (le-or-lt a b)
 
 -- ---- one mark, by its bit in its octet
 

@@ -1,10 +1,10 @@
 -- The runs that a walk finds are the canonical list of the offsets that are marked; and what it finds step by step.
 -- Assumes nothing.
 use Prim.Native.Nat.{ℕ, zero, suc, _+_, _-_, _≤_, _<_}
-use mathlib.Core.Path.{_≡_, refl, sym, _∙_}
+use mathlib.Core.Path.{_≡_, refl}
 use mathlib.Core.Bool.{Bool, true, false, cond}
 use mathlib.Core.List.{List, [], _∷_}
-use mathlib.Core.Logic.{_⊎_, inl, inr, ⊎-elim, _↔_}
+use mathlib.Core.Logic.{_⊎_, inl, inr, ⊎-elim}
 use native.Mathlib.Omega.{arith}
 use lib.Dec.{eqb}
 use borrow.Author.Tests.{eqb-true, eqb-false}
@@ -13,7 +13,7 @@ use Rattle.runs.proofs.CompareLaws.{le-or-lt}
 use Rattle.runs.proofs.CanonicalLaws.{canonical-weaken, canonical-unique, stops-iff}
 use Rattle.runs.proofs.InsertLaws.{insert-holds, insert-only, insert-canonical}
 use Rattle.marks.specs.MarkedRuns.{lengthened, runsWhere}
-use Rattle.marks.specs.Walk.{AllAre, FirstWith}
+use Rattle.marks.specs.Walk.{AllAre}
 
 -- ---- one offset before the runs after it
 

@@ -1,10 +1,9 @@
 -- `marks::first` meets its contract: a mark that is not as wanted is passed over, and after the last mark of an octet the octets after it.
 -- Assumes nothing.
-use Prim.Native.Nat.{ℕ, _+_, _*_, _-_, _≤_}
+use Prim.Native.Nat.{_-_, _≤_}
 use mathlib.Core.Path.{_≡_, sym, _∙_}
-use mathlib.Core.Bool.{Bool, not}
+use mathlib.Core.Bool.{not}
 use native.Mathlib.Omega.{arith}
-use borrow.Author.Needs.{needs}
 use denote.Ref.{now}
 use Rattle.marks.specs.Marks.{marked, markCount}
 use Rattle.marks.specs.Walk.{AllAre}

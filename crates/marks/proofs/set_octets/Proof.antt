@@ -1,6 +1,6 @@
 -- `marks::set_octets` meets its contract. The loop's invariant: the marks that are left, set in the octets as they are now, make all of
 -- them set. Assumes nothing.
-use Prim.Native.Nat.{_+_, _*_, _-_, _≤_}
+use Prim.Native.Nat.{_*_, _-_, _≤_}
 use mathlib.Core.Path.{_≡_, refl, _∙_}
 use native.Mathlib.Omega.{arith}
 use lib.ListN.{length, length-set}

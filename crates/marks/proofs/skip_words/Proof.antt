@@ -1,14 +1,13 @@
 -- `marks::skip_words` meets its contract: a word that is blank is passed over.
 -- Assumes nothing.
-use Prim.Native.Nat.{_+_, _*_, _-_, _≤_}
-use mathlib.Core.Path.{_≡_, _∙_}
+use Prim.Native.Nat.{_*_, _-_, _≤_}
 use mathlib.Core.Bool.{not}
 use native.Mathlib.Omega.{arith}
 use borrow.Author.Needs.{needs}
 use denote.Ref.{now}
 use Rattle.marks.specs.Marks.{marked, markCount}
 use Rattle.marks.specs.Walk.{AllAre}
-use Rattle.marks.proofs.WalkLaws.{all-none, word-blank, words-step}
+use Rattle.marks.proofs.WalkLaws.{all-none, words-step}
 use Rattle.marks.proofs.skip_words.Statement.{statement}
 use Rattle.marks.proofs.skip_words.Tie as tie
 

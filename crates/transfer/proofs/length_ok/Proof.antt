@@ -1,14 +1,14 @@
--- `area::length_ok` meets its contract: a return for each width, and one for every other number.
+-- `transfer::length_ok` meets its contract: a return for each width, and one for every other number.
 -- Assumes nothing.
 use Prim.Native.Nat.{_^_}
 use mathlib.Core.Path.{_≡_, refl, sym}
 use mathlib.Core.Bool.{Bool, true, false, cond}
 use lib.Dec.{eqb}
 use borrow.Author.Tests.{lt-ltb, ne-eqb}
-use Rattle.area.specs.Judge.{lengthTest}
+use Rattle.transfer.specs.Transfers.{lengthTest}
 use native.Mathlib.Omega.{arith}
-use Rattle.area.proofs.length_ok.Statement.{statement}
-use Rattle.area.proofs.length_ok.Tie as tie
+use Rattle.transfer.proofs.length_ok.Statement.{statement}
+use Rattle.transfer.proofs.length_ok.Tie as tie
 
 returns : tie.Need-returns
 unfolding lengthTest

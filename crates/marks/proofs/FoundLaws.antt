@@ -12,12 +12,15 @@ use lib.Seq.{getD-append-seam}
 use Rattle.words.specs.Words.{wordAt, putWord}
 use Rattle.words.proofs.RowLaws.{put-length, put-at, put-other}
 use Rattle.runs.specs.Runs.{Run, run, nthRun, Member}
+use Rattle.runs.specs.Holes.{progress}
 use Rattle.runs.proofs.CompareLaws.{le-or-lt}
+use Rattle.runs.proofs.ProgressLaws.{progress-unique}
 use Rattle.run_rows.specs.Rows.{runsFrom, runsIn}
 use Rattle.run_rows.proofs.RowsLaws.{length-runs, start-at, stop-at, runs-are}
 use Rattle.marks.specs.Marks.{marked, markCount}
 use Rattle.marks.specs.MarkedRuns.{runsWhere, markedRuns}
 use Rattle.marks.specs.Walk.{FirstWith, runRows, RunsFound}
+use Rattle.marks.proofs.MarkLaws.{marked-canonical, marked-member}
 use Rattle.marks.proofs.MarkedRunsLaws.{where-holds, where-none, where-skip, where-run}
 
 -- ---- one more run stored
@@ -114,3 +117,13 @@ module _ (s : List ℕ) where
       let l : length (markedRuns s) ≡ n + length (runsWhere (marked s) start (markCount - start)) =
       ap length (sym e) ∙ length-append (runsIn rows (runRows n)) (runsWhere (marked s) start (markCount - start)) ∙ rw (length-runs rows 0 64 n) in
       record { many = omega arith; stored = λ k. absurd (omega arith) }
+
+  -- ---- the first offset that is not marked is the lowest that is not received
+  pub progress-found : (p : ℕ) → FirstWith (marked s) false 0 markCount p → p ≡ progress (markedRuns s)
+  progress-found p f =
+      progress-unique (markedRuns s) p (marked-canonical s)
+      (λ m. let i = marked-member s p .0 m in
+      let e : marked s p ≡ false = f .found (i .0) in
+      let g : marked s p ≡ true = i .1 in
+      let z : _≡_ {A = ℕ} 0 1 = cc in omega arith)
+      (λ x h. let w = f .within in marked-member s x .1 (omega arith, f .passed .all x (omega arith) h))

@@ -1,7 +1,8 @@
 // One transfer: its key, what a packet's fields are refused with, and the fields of its STATUS. The received offsets stay
 // where they are kept; specs/ says what becomes of them.
 ghost use mathlib.Core.Path.{_≡_};
-ghost use Rattle.transfer.specs.Transfers.{keyOf, lengthTest};
+ghost use mathlib.Core.List.{[]};
+ghost use Rattle.transfer.specs.Transfers.{keyOf, lengthTest, reached};
 ghost use Rattle.transfer.specs.Record.{keyRefusal};
 use packet_data::Data;
 use packet_metadata::Metadata;
@@ -35,6 +36,16 @@ pub fn key_of(m: Metadata) -> Key
         id: m.id,
         width: m.width,
         length: m.entry.size,
+    }
+}
+
+// How far a transfer has come that was just opened.
+pub fn reached_new(key: Key) -> Reached
+    ensures { λ r. ⌜ r ≡ reached key [] ⌝ }
+{
+    Reached {
+        edge: 0,
+        complete: key.length == 0,
     }
 }
 

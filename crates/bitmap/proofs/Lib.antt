@@ -1,0 +1,5 @@
+pub mod StateLaws
+pub mod OpenLaws
+pub mod ExtendLaws
+pub mod RecordLaws
+pub mod StatusLaws

@@ -9,13 +9,13 @@ use native.Mathlib.Nat.{mul-comm, mul-assoc, mul-le-mul, mul-div-right, mul-mod-
 use native.Mathlib.Omega.{arith}
 use lib.ListN.{length, take, drop, getD, length-append, length-drop}
 use lib.Seq.{take-at, drop-at, drop-drop}
-use borrow.Author.Tests.{lt-ltb, le-leb, eq-eqb}
+use borrow.Author.Tests.{lt-ltb, le-ltb, le-leb, eq-eqb}
 use Rattle.octets.specs.Numbers.{beValue, beDigits, Width}
 use Rattle.octets.proofs.NumberLaws.{value-digits, length-digits, width-le, width-some}
 use Rattle.octets.proofs.UpperLaws.{digits-small}
 use Rattle.refusals.specs.Refusals.{refusalOf}
 use Rattle.refusals.proofs.TestLaws.{or-iff}
-use Rattle.header.specs.FirstWord.{markOf, typeOf, flagsOf, descriptorOctets, timestampOctets, statusOf, wordFor}
+use Rattle.header.specs.FirstWord.{markOf, typeOf, flagsOf, descriptorOctets, timestampOctets, partialOf, statusOf, wordFor}
 use Rattle.header.specs.Start.{wordOf, idOf, typeRefusal}
 use Rattle.header.specs.Descriptor.{descriptorAt, descriptorRefusal}
 use Rattle.header.proofs.DescriptorLaws.{descriptor-none}

@@ -1,6 +1,6 @@
 -- `transfer::status::response_sent` meets its contract: nothing is taken from a length of 0.
 -- Assumes nothing.
-use mathlib.Core.Path.{_≡_}
+use mathlib.Core.Path.{_≡_, sym, _∙_}
 use mathlib.Core.Bool.{true, false}
 use borrow.Author.Tests.{not-true, not-false}
 use Rattle.transfer.proofs.StatusResponse.{last-is}

@@ -551,6 +551,78 @@ struct saratoga_listed saratoga_find(const uint8_t *area, size_t area_len, uint6
  */
 struct saratoga_hole saratoga_transfer_hole(const uint8_t *area, size_t area_len, uint64_t id, uint64_t index);
 
+/*
+ * Receiving one transfer by marks.
+ *
+ * A second receiver, made to be followed by eye: one transfer of at most SARATOGA_BITMAP_LONGEST octets, with one mark for
+ * each. Mark n is bit n of an area of SARATOGA_BITMAP_OCTETS octets, `marks[n / 8] & 0x80 >> n % 8`, and is set once
+ * octet n was received (docs/AREA.md). The Id, the width and the length travel in a struct by value: opening hands it out,
+ * and the program passes it to each call with the same marks. Nothing else holds any state. The area may be longer:
+ * octets past SARATOGA_BITMAP_OCTETS are never read or written.
+ *
+ * It answers what the transfer table answers, for every packet of its transfer, and writes the same STATUS.
+ *
+ * Every function refuses with 20 before all else where the area is shorter than SARATOGA_BITMAP_OCTETS. Recording and STATUS
+ * judge marks and struct next, and refuse with 22 where the width is not 2, 4, 8 or 16, the length is above what the width
+ * or the marks can hold, a mark at or above the length is set, or the marks have more than 64 runs.
+ */
+
+/* Octets of the marks, and of the longest transfer. */
+#define SARATOGA_BITMAP_OCTETS 8192
+#define SARATOGA_BITMAP_LONGEST 65535
+
+/* The transfer that marks belong to. */
+struct saratoga_bitmap {
+    uint64_t id;
+    uint64_t width;  /* octets of a descriptor: 2, 4, 8 or 16 */
+    uint64_t length; /* of the file, in octets */
+};
+
+/* An opened transfer. */
+struct saratoga_bitmap_opened {
+    uint64_t number, code;
+    uint64_t edge;                   /* 0: nothing is received */
+    uint64_t complete;               /* 1 where the length is 0, else 0 */
+    struct saratoga_bitmap transfer; /* its fields are 0 on refusal */
+};
+
+/* A recorded packet, as in struct saratoga_recorded. */
+struct saratoga_bitmap_recorded {
+    uint64_t number, code;
+    uint64_t edge;
+    uint64_t complete;               /* 1 where every octet was received, else 0 */
+    uint64_t absorbed;               /* at most 64 */
+    struct saratoga_bitmap transfer; /* to be passed to the next call; on refusal it is the one that was passed in */
+};
+
+/*
+ * Opens the transfer of a METADATA packet, and always starts anew: every mark is cleared, whatever was marked before.
+ *
+ * Order of refusals: 20, the reader's for METADATA with 4 for any other type (see saratoga_open), 9 (size above
+ * SARATOGA_BITMAP_LONGEST).
+ */
+struct saratoga_bitmap_opened saratoga_bitmap_open(uint8_t *marks, size_t marks_len, const uint8_t *packet,
+                                                   size_t packet_len);
+
+/*
+ * Records a DATA packet: sets the marks of its payload's offsets. A repeat sets none and is accepted. Write the payload to
+ * disk first (see above).
+ *
+ * Order of refusals: 20, 22, the reader's for DATA with 4 for any other type (see saratoga_record), 12 (another Id), 13, 14,
+ * 15, 16.
+ */
+struct saratoga_bitmap_recorded saratoga_bitmap_record(struct saratoga_bitmap transfer, uint8_t *marks, size_t marks_len,
+                                                       const uint8_t *packet, size_t packet_len);
+
+/*
+ * Writes a success STATUS of the transfer into `out`, as saratoga_write_status does; octets after it stay. The marks are
+ * only read.
+ *
+ * Order of refusals: 20 (marks), 22, 12 (an Id over 32 bits), 19, 20 (`out`).
+ */
+struct saratoga_written saratoga_bitmap_status(struct saratoga_bitmap transfer, const uint8_t *marks, size_t marks_len,
+                                               uint64_t skip, uint64_t unasked, uint8_t *out, size_t out_len);
+
 #ifdef __cplusplus
 }
 #endif

@@ -3,3 +3,6 @@ pub mod OpenLaws
 pub mod ExtendLaws
 pub mod RecordLaws
 pub mod StatusLaws
+pub mod LimitLaws
+pub mod KeptLaws
+pub mod AgreeLaws

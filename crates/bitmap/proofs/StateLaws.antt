@@ -1,13 +1,14 @@
 -- Judging the marks: each refusal, by what the walk found, and what is known where there is none.
 -- Assumes nothing.
 use Prim.Native.Nat.{ℕ, suc, _≤_, _<_}
-use mathlib.Core.Path.{_≡_, refl, sym, ap, _∙_}
-use mathlib.Core.Bool.{Bool, true, false, not, _&&_, and-true, and-false}
+use mathlib.Core.Path.{_≡_, sym, ap, _∙_}
+use mathlib.Core.Bool.{Bool, true, false, not, and-true, and-false}
 use mathlib.Core.List.{List}
 use native.Mathlib.Omega.{arith}
 use lib.ListN.{length}
 use lib.Dec.{ltb, leb}
 use borrow.Author.Tests.{ltb-false, leb-true, not-false, lt-ltb, le-ltb, le-leb, lt-leb}
+use Rattle.refusals.proofs.TestLaws.{and-iff}
 use Rattle.refusals.proofs.RefusalLaws.{first-none, rest-none, failed}
 use Rattle.runs.specs.Holes.{edge}
 use Rattle.run_rows.specs.Rows.{runsIn, RowsFit}
@@ -18,10 +19,6 @@ use Rattle.marks.specs.MarkedRuns.{markedRuns}
 use Rattle.marks.specs.Walk.{runRows, RunsFound}
 use Rattle.bitmap.specs.State.{longest, openable, stateTest, marksRefusal, stateRefusal}
 use Rattle.bitmap.specs.Judged.{JudgedAs}
-
-both : (a b : Bool) → (a && b) ≡ true → (a ≡ true) × (b ≡ true)
-both true b e = (refl, e)
-both false b e = absurd (let z : _≡_ {A = ℕ} 0 1 = cc in omega arith)
 
 -- ---- a width and a length that no opening takes
 
@@ -87,9 +84,9 @@ module _ (k : Key) (s : List ℕ) where
   state-known e =
       let p = failed (ltb (length s) markOctets) 19 (first-none (marksRefusal s) _ e) in
       let t = not-false (stateTest k s) (failed (not (stateTest k s)) 21 (rest-none (marksRefusal s) _ e)) in
-      let o = both (openable k) _ t in
-      let l = both (lengthTest (k .width) (k .length)) _ (o .0) in
-      let r = both (leb (length (markedRuns s)) 64) _ (o .1) in
+      let o = and-iff (openable k) _ .0 t in
+      let l = and-iff (lengthTest (k .width) (k .length)) _ .0 (o .0) in
+      let r = and-iff (leb (length (markedRuns s)) 64) _ .0 (o .1) in
       record {
         long = ltb-false (length s) markOctets p;
         taken = l .0;

@@ -7,12 +7,14 @@ use mathlib.Core.List.{List, []}
 use mathlib.Core.Logic.{_⊎_, inl, inr, ⊎-elim, _≢_, _↔_}
 use native.Mathlib.Nat.{add-zero, zero-add, mod-lt}
 use native.Mathlib.Omega.{arith}
-use lib.ListN.{length, getD, set, replicate, length-set, length-replicate, getD-replicate, List·getD-append}
-use lib.Seq.{getD-set-same, getD-set-other, ext-getD}
+use lib.ListN.{length, getD, drop, set, replicate, length-set, length-replicate, getD-replicate, List·getD-append}
+use lib.Seq.{getD-set-same, getD-set-other, drop-set-lt, ext-getD}
 use lib.Dec.{eqb}
 use lib.Bits.{bitAnd, bitOr}
 use Rattle.octets.specs.Numbers.{Octets}
 use Rattle.octets.specs.Put.{put}
+use Rattle.octets.proofs.PutLaws.{length-put}
+use Rattle.octets.proofs.PutParts.{drop-after}
 use Rattle.runs.specs.Runs.{Member, Canonical, insert}
 use Rattle.runs.proofs.CompareLaws.{le-or-lt, same-or}
 use Rattle.marks.specs.Marks.{markOctets, markCount, marked, withBit, withMark, withMarks, cleared}
@@ -105,6 +107,12 @@ octet-other n (suc k) s j h o =
     octet-other (suc n) k (withMark n s) j (omega arith) (⊎-elim (λ (u : j * 8 + 8 ≤ n). inl (omega arith)) (λ (u : n + suc k ≤ j * 8). inr (omega arith)) o)
     ∙ getD-set-other s (n / 8) j (withBit (getD s (n / 8) 0) (n % 8)) 0 (⊎-elim (λ (u : j * 8 + 8 ≤ n) z. omega arith) (λ (u : n + suc k ≤ j * 8) z. omega arith) o)
 
+-- and so do those past the marks
+pub marks-past : (n k : ℕ) (s : List ℕ) (q : ℕ) → n + k ≤ q * 8 → drop q (withMarks n k s) ≡ drop q s
+unfolding withMarks withMark
+marks-past n zero s q h = refl
+marks-past n (suc k) s q h = marks-past (suc n) k (withMark n s) q (omega arith) ∙ drop-set-lt q s (n / 8) (withBit (getD s (n / 8) 0) (n % 8)) (omega arith)
+
 -- all marks of an octet, set at once
 pub octet-set : (k : ℕ) (s : List ℕ) → k < length s → Octets s → withMarks (k * 8) 8 s ≡ set s k 255
 unfolding marked
@@ -138,9 +146,22 @@ zeros-first : (n i : ℕ) (r : List ℕ) → i < n → getD (put 0 (replicate n 
 unfolding put
 zeros-first n i r h = let l : length {A = ℕ} (replicate n 0) ≡ n = length-replicate n 0 in List·getD-append (replicate n 0) _ 0 i (omega arith) ∙ getD-replicate n i 0 0 h
 
+zeros-past : (n : ℕ) (r : List ℕ) → n ≤ length r → (drop n (put 0 (replicate n 0) r) ≡ drop n r) × (length (put 0 (replicate n 0) r) ≡ length r)
+zeros-past n r h =
+    let l : length {A = ℕ} (replicate n 0) ≡ n = length-replicate n 0 in
+    (drop-after 0 (replicate n 0) r (omega arith) n (omega arith), length-put 0 (replicate n 0) r (omega arith))
+
 pub cleared-none : (s : List ℕ) (n : ℕ) → n < markCount → marked (cleared s) n ≡ false
 unfolding marked cleared
 cleared-none s n h = rw (zeros-first markOctets (n / 8) s (omega arith)) (zeros-bit (n % 8) (mod-lt n (omega arith)))
+
+pub cleared-past : (s : List ℕ) → markOctets ≤ length s → drop markOctets (cleared s) ≡ drop markOctets s
+unfolding cleared
+cleared-past s h = zeros-past markOctets s h .0
+
+pub length-cleared : (s : List ℕ) → markOctets ≤ length s → length (cleared s) ≡ length s
+unfolding cleared
+length-cleared s h = zeros-past markOctets s h .1
 
 pub runs-cleared : (s : List ℕ) → markedRuns (cleared s) ≡ []
 unfolding markedRuns

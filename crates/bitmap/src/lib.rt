@@ -50,7 +50,7 @@ pub struct Judged {
 fn openable(key: Key) -> bool
     ensures { λ r. ⌜ r ≡ openable key ⌝ }
 {
-    if LONGEST < key.length {
+    if key.length > LONGEST {
         return false;
     }
     transfer::length_ok(key.width as u64, key.length)

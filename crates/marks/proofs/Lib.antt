@@ -4,3 +4,4 @@ pub mod MarkLaws
 pub mod LoopLaws
 pub mod WalkLaws
 pub mod FoundLaws
+pub mod Examples

@@ -174,9 +174,9 @@ pub fn clear(marks: &mut [u8])
     requires { ⌜ markOctets ≤ length (now marks) ⌝ }
     ensures { λ _. ⌜ now (marks .exit) ≡ cleared (now (marks .entry)) ⌝ }
 {
-    let mut k = 0;
-    while k < OCTETS {
-        marks[k] = 0;
-        k += 1;
+    let mut i = 0;
+    while i < OCTETS {
+        marks[i] = 0;
+        i += 1;
     }
 }

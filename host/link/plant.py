@@ -336,11 +336,11 @@ def what_is_known(program, place):
     lines, told, status = run(program, place, "-", octets=records([packet, data(31, 32, 0, b"12345")]))
     check((told, status) == ("", 0) and harmless(lines), (lines, told))
     known = f"mtime=2026-11-14T04:00:00Z ctime=2136-02-07T06:28:15Z checksum=2:{digest.hex()} path={shown}"
-    check(f"2 complete id=31 length=5 recordings=1 absorbed=0 runs=1 file=0000001f.page {known}" in lines, lines)
+    check(f"2 complete id=31 length=5 file=0000001f.page recordings=1 absorbed=0 runs=1 {known}" in lines, lines)
     check(content(place, "0000001f.meta").decode() == "saratoga-meta 1\nid=31\nwidth=32\nlength=5\nproperties=0040\n" +
           known.replace(" ", "\n") + "\n", content(place, "0000001f.meta"))
     check(run(program, place, "-q", "-")[0] ==
-          [f"0 complete id=31 length=5 recordings=0 absorbed=0 runs=1 file=0000001f.page {known}"], "restarted")
+          [f"0 complete id=31 length=5 file=0000001f.page recordings=0 absorbed=0 runs=1 {known}"], "restarted")
     # The longest path, each octet of it to be escaped, and the longest checksum.
     packet = metadata(32, 64, 0, b"\xff" * 1023, flags=0xFF, checksum=b"\xfe" * 60, mtime=2**32 - 1, ctime=2**32 - 1)
     lines, told, status = run(program, place, "-", octets=records([packet, packet]))
@@ -465,6 +465,24 @@ def no_room(program, place):
         link.quiet_send(metadata(7, 16, 100), data(7, 16, 0, text[:50], WANTED))
         check(is_complete(link.send(data(7, 16, 50, text[50:], WANTED)), 100), f"no way back: {link.told}")
         check(link.end() == 0 and content(here, "00000007.page") == text, link.told)
+
+
+def work_without_room(program, place):
+    """`program` is built with nospace.c. What was recorded and counts as lost is not counted at the page's end."""
+    text, marker = page(100, 34), os.path.join(os.path.dirname(place), "nospace")
+    link = Link(program, place, NOSPACE=marker)
+    link.quiet_send(metadata(7, 16, 100), data(7, 16, 0, text[:20], WANTED))
+    with open(marker, "w", encoding="ascii") as file:
+        file.write("r")  # the payload is written, the packet is recorded, and then the area can't be saved
+    for _ in range(3):
+        check(link.send(data(7, 16, 60, text[60:], WANTED)) is None, link.lines)
+    os.remove(marker)
+    link.quiet_send(data(7, 16, 40, text[40:], WANTED), data(7, 16, 0, text[:20], WANTED))
+    check(is_complete(link.send(data(7, 16, 20, text[20:40], WANTED)), 100), link.told)
+    check(link.end() == 0 and content(place, "00000007.page") == text, link.told)
+    # 0 to 19, 40 to 99, 0 to 19 again, and what is between: four packets, of which the repeat absorbs one run and the last two.
+    told = [line for line in link.lines if " complete id=7 " in line]
+    check(len(told) == 1 and " recordings=4 absorbed=3 runs=1 " in told[0], link.lines)
 
 
 def no_room_for_a_name(program, place):
@@ -691,7 +709,8 @@ def all_of_it(program, place):
     tests = [(test, program) for test in (used_again, never_overwritten, taken_away, full_table, operator, who_is_heard,
                                           two_senders, kept, what_is_known, runs, answers, many_holes, on_air, too_many_on_air,
                                           limits, stopped, traps, command_line)]
-    for test, tested in tests + [(no_room, full), (no_room_for_a_name, full), (unsendable, full)]:
+    for test, tested in tests + [(no_room, full), (work_without_room, full), (no_room_for_a_name, full),
+                                 (unsendable, full)]:
         one_of_it(test, tested, place(test.__name__))
 
 

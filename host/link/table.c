@@ -216,9 +216,9 @@ int deliver(uint64_t number, struct transfer *t)
     cut_point("between the page's name and its report");
     t->delivered = 1;
     meta_for_report(meta, t);
-    report("%" PRIu64 " complete id=%" PRIu64 " length=%" PRIu64 " recordings=%" PRIu64 " absorbed=%" PRIu64
-           " runs=%" PRIu64 " file=%s %s",
-           number, t->id, one.length, t->work.recordings, t->work.absorbed, one.runs, page, meta);
+    report("%" PRIu64 " complete id=%" PRIu64 " length=%" PRIu64 " file=%s recordings=%" PRIu64 " absorbed=%" PRIu64
+           " runs=%" PRIu64 " %s",
+           number, t->id, one.length, page, t->work.recordings, t->work.absorbed, one.runs, meta);
     return 1;
 }
 

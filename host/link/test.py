@@ -99,14 +99,14 @@ def passes(program, place):
 9 success id=7 flags=000000 width=16 timestamp= progress=0 in-response-to=9 holes=0-4,5-6
 10 failure id=7 status=9 flags=000009
 11 record id=7 offset=1000 length=1000 edge=3000 complete=1 absorbed=2
-11 complete id=7 length=3000 recordings=3 absorbed=2 runs=1 file=00000007.page META
+11 complete id=7 length=3000 file=00000007.page recordings=3 absorbed=2 runs=1 META
 11 send 44010000000000070bb80bb7
 12 record id=7 offset=500 length=5 edge=3000 complete=1 absorbed=1
 12 send 44010000000000070bb80bb7
 13 open id=7 width=16 length=3000 edge=3000 complete=1 already-open
 13 send 44010000000000070bb80bb7
 14 open id=9 width=16 length=0 edge=0 complete=1 new
-14 complete id=9 length=0 recordings=0 absorbed=0 runs=0 file=00000009.page META
+14 complete id=9 length=0 file=00000009.page recordings=0 absorbed=0 runs=0 META
 14 send 440100000000000900000000
 15 refused 2 code=0""".replace("META", META).splitlines()
     got = run(program, place, "-", octets=passed)
@@ -119,7 +119,7 @@ def passes(program, place):
     os.remove(os.path.join(place, "00000009.page"))
     got = run(program, place, "-")
     check(got == (["0 taken-up id=7 width=16 length=3000 edge=3000 complete=1",
-                   "0 complete id=7 length=3000 recordings=0 absorbed=0 runs=1 file=00000007.page " + META,
+                   "0 complete id=7 length=3000 file=00000007.page recordings=0 absorbed=0 runs=1 " + META,
                    "0 taken-up id=9 width=16 length=0 edge=0 complete=1"], "", 0), got)
 
     # A pass cut short: what stood before is recorded.
@@ -169,12 +169,12 @@ def more_than_sixteen(program, place):
     check((told, status) == ("", 0), told)
     check(lines[32:] == ["17 refused 17 code=3", "17 send 4400000300000010",
                          "18 record id=3 offset=0 length=20 edge=20 complete=1 absorbed=0",
-                         "18 complete id=3 length=20 recordings=1 absorbed=0 runs=1 file=00000003.page " + META,
+                         "18 complete id=3 length=20 file=00000003.page recordings=1 absorbed=0 runs=1 " + META,
                          "18 send 440100000000000300140013",
                          "19 close id=3 to-make-room recordings=1 absorbed=0 runs=1",
                          "19 open id=16 width=16 length=20 edge=0 complete=0 new", "19 send 440100000000001000000000",
                          "20 record id=16 offset=0 length=20 edge=20 complete=1 absorbed=0",
-                         "20 complete id=16 length=20 recordings=1 absorbed=0 runs=1 file=00000010.page " + META,
+                         "20 complete id=16 length=20 file=00000010.page recordings=1 absorbed=0 runs=1 " + META,
                          "20 send 440100000000001000140013"],
           lines[32:])
 
@@ -226,7 +226,7 @@ def descriptors_of_128_bits(program, place):
     got = run(program, place, "-", octets=record(b"P", data(9, 128, 0, text[:2000])))
     check(got == (["0 taken-up id=9 width=128 length=3000 edge=3000 complete=0",
                    "1 record id=9 offset=0 length=2000 edge=3000 complete=1 absorbed=1",
-                   "1 complete id=9 length=3000 recordings=1 absorbed=1 runs=1 file=00000009.page " + META,
+                   "1 complete id=9 length=3000 file=00000009.page recordings=1 absorbed=1 runs=1 " + META,
                    "1 send " + success(9, 128, 3000, 2999, flags=UNASKED).hex()], "", 0), got)
     check(content(place, "00000009.page") == text, "the page isn't the original")
 
@@ -599,6 +599,7 @@ WRONG = {
         plant.kept, "t == NULL || is_lost || is_other))\n        return;", "t == NULL))\n        return;"),
     "answers failure 3 whatever --repair-status says": (plant.runs, "&& options.repair_status) {", "&& 0) {"),
     "takes a file of any length": (plant.command_line, "read->size > options.largest", "0"),
+    "counts no recording": (plant.what_is_known, "    t->work.recordings++;\n", ""),
 }
 
 

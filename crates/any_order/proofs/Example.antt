@@ -3,9 +3,11 @@
 -- Assumes nothing.
 use Prim.Native.Nat.{ℕ, zero, suc, _*_, _%_}
 use mathlib.Core.Path.{_≡_, refl}
+use mathlib.Core.Bool.{cond}
 use mathlib.Core.List.{List, [], _∷_, _++_}
 use native.Mathlib.Omega.{arith}
 use lib.ListN.{length, replicate}
+use lib.Dec.{eqb}
 use Rattle.octets.specs.Numbers.{beDigits, Octets, upperZero}
 use Rattle.header.specs.Start.{startRefusal, typeRefusal, fileRefusal}
 use Rattle.header.specs.Descriptor.{descriptorRefusal}
@@ -15,13 +17,14 @@ use Rattle.directory_entry.specs.Entry.{entryRefusal, entryOf}
 use Rattle.packet_metadata.specs.Checksum.{pairAllowed, pairRefusal}
 use Rattle.packet_metadata.specs.Metadata.{metadataRefusal, metadataOf, readMetadata}
 use Rattle.packet_data.specs.Data.{dataRefusal, dataOf, readData}
-use Rattle.runs.specs.Runs.{run, insert}
+use Rattle.runs.specs.Runs.{run, insert, absorbed}
 use Rattle.transfer.specs.Transfers.{Transfer}
-use Rattle.transfer.specs.Record.{keyRefusal, extended, runsRefusal}
+use Rattle.transfer.specs.Record.{keyRefusal, extended, absorbedBy, runsRefusal}
 use Rattle.table.specs.Tables.{keys, find, runsOf, add, setRuns}
 use Rattle.table.specs.Open.{judgeFound, judgeOpen, openAs, openKey, openRead, openPacket}
-use Rattle.table.specs.Record.{dataJudged, recordRefusal, grown, recordAs, recordData, recordRead, recordPacket}
-use Rattle.any_order.specs.Order.{Packet, Call, opening, recording, openings, recordings, taken, after, idRead, offsetRead, place, sort, sortCalls}
+use Rattle.table.specs.Record.{dataJudged, recordRefusal, grown, absorbedIn, recordAs, recordData, recordRead, recordPacket}
+use Rattle.any_order.specs.Order.{Packet, Call, opening, recording, openings, recordings, taken, after, idRead, offsetRead, idIn, place, sort, sortCalls}
+use Rattle.any_order.specs.Absorbed.{counted}
 use Rattle.any_order.proofs.TableOrder.{callTable}
 
 -- ---- packets
@@ -111,6 +114,20 @@ takes-sorted = refl
 leaves-sorted : after callTable [] sorted ≡ ends
 unfolding octetsOf startRefusal typeRefusal fileRefusal descriptorRefusal upperZero propertyRefusal pathRefusal entryRefusal entryOf pairAllowed pairRefusal metadataRefusal metadataOf readMetadata dataRefusal dataOf readData insert keys find runsOf add setRuns judgeFound judgeOpen openAs openKey openRead openPacket keyRefusal runsRefusal extended dataJudged recordRefusal grown recordAs recordData recordRead recordPacket after callTable
 leaves-sorted = refl
+
+-- ---- the runs absorbed that the recordings of Id 7 tell: one that is refused, two apart from all, and a repeat. Of these three that are
+-- accepted two runs are left, and they add up to 1
+
+unfoldable tells : List Transfer → List Call → List ℕ
+tells t [] = []
+tells t (opening p ∷ cs) = tells (callTable t (opening p) .1) cs
+tells t (recording p ∷ cs) =
+    let rest = tells (callTable t (recording p) .1) cs in
+    cond (eqb (idIn p) 7) (counted 7 (λ x. x .absorbed) (recordPacket t (p .octets) .answer) ∷ rest) rest
+
+told : tells [] calls ≡ 0 ∷ 0 ∷ 0 ∷ 1 ∷ []
+unfolding octetsOf startRefusal typeRefusal fileRefusal descriptorRefusal upperZero propertyRefusal pathRefusal entryRefusal entryOf pairAllowed pairRefusal metadataRefusal metadataOf readMetadata dataRefusal dataOf readData insert absorbed keys find runsOf add setRuns judgeFound judgeOpen openAs openKey openRead openPacket keyRefusal runsRefusal extended absorbedBy dataJudged recordRefusal grown absorbedIn recordAs recordData recordRead recordPacket idRead counted tells callTable
+told = refl
 
 -- ---- by falling offset: a long stretch first and 65 short ones in it are all accepted, but with the long one last the 65th
 -- short one is refused

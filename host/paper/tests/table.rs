@@ -252,7 +252,8 @@ fn listing() {
 fn asked_before_recording() {
     let table = received(9, &[(1, 1), (3, 1)]);
     let before = table.clone();
-    let tried = |packet: &[u8]| table.try_record(packet).map(|told| (told.state.edge, told.state.complete, told.absorbed));
+    let tried =
+        |packet: &[u8]| table.try_record(packet).map(|told| (told.state.edge, told.state.complete, told.absorbed));
     assert_eq!(tried(&data(7, 2, 0, 9)), Ok((9, true, 2)));
     assert_eq!(tried(&data(7, 2, 4, 1)), Ok((5, false, 1)));
     assert_eq!(tried(&data(7, 2, 9, 1)), Err(Refusal::PastEnd));

@@ -243,7 +243,10 @@ fn packets_off_the_dish() {
         (
             'P',
             data(ASKED, 2_000, 500),
-            &["record id=7 offset=2000 length=500 edge=2500 complete=0 absorbed=0", "send 440000000000000703e809c403e807d0"],
+            &[
+                "record id=7 offset=2000 length=500 edge=2500 complete=0 absorbed=0",
+                "send 440000000000000703e809c403e807d0",
+            ],
         ),
         ('P', data(ASKED | END, 1_000, 1_000), &["refused 15 code=1", "send 4400000100000007"]),
         ('P', data(END, 2_500, 500), &["record id=7 offset=2500 length=500 edge=3000 complete=0 absorbed=1"]),

@@ -1,6 +1,6 @@
 // The bitmap receiver: one transfer, whose key travels by value, with one mark for each octet in 8,192 lent octets.
 ghost use mathlib.Core.Path.{_≡_};
-ghost use Prim.Native.Nat.{_+_, _≤_, _<_, max};
+ghost use Prim.Native.Nat.{_≤_, _<_, max};
 ghost use lib.ListN.{length};
 ghost use Rattle.transfer.specs.Record.{stopOf, extended, runsRefusal};
 ghost use Rattle.marks.specs.Marks.{markOctets};

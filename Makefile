@@ -82,9 +82,9 @@ replay: front
 # All that a user runs, with man pages. Nothing is written outside of PREFIX, and no owner is changed: below a PREFIX of
 # one's own it needs no root. The tools stand beside their modules, with links in bin.
 AT = $(DESTDIR)$(PREFIX)
-TOOLS = pcap2pass passtext passplot
+TOOLS = pcap2pass passtext passplot marks
 MODULES = saratoga_pass.py saratoga_tool.py
-PAGES = replay pcap2pass passtext passplot saratoga-link saratoga-plan
+PAGES = replay pcap2pass passtext passplot marks saratoga-link saratoga-plan
 
 install: lib front link plan
 	install -d "$(AT)/include" "$(AT)/lib/pkgconfig" "$(AT)/bin" "$(AT)/libexec/saratoga" "$(AT)/share/man/man1"

@@ -4,8 +4,8 @@
  * Every call gives an answer: a result, or a refusal.
  * - Accepted: `number` and `code` are 0.
  * - Refused: `number` is one of SARATOGA_REFUSED_..., `code` is the status code to send to the peer in a failure
- *   STATUS (0: send nothing), and every other field is 0, but for `transfer` of saratoga_bitmap_record, which is the one
- *   that was passed in. No lent buffer and no area is touched.
+ *   STATUS (0: send nothing), and every other field is 0, but `transfer` of struct saratoga_bitmap_recorded. No lent
+ *   buffer and no area is touched.
  * Where several refusals apply, the first in the order stated at the function is given.
  *
  * Pointers must not be NULL, also where the length is 0, and must be valid for their length: readable where const,
@@ -150,10 +150,10 @@ extern "C" {
 #define SARATOGA_REFUSED_KIND 6          /* 0x01: kind or property bits not those of a file */
 #define SARATOGA_REFUSED_CHECKSUM 7      /* 0x01: pair of checksum type and length not allowed */
 #define SARATOGA_REFUSED_PATH 8          /* 0x01: path empty, over 1,023 octets, or followed by octets */
-#define SARATOGA_REFUSED_SIZE 9          /* 0x09: size over the packet's descriptor width, or over 65,535 with marks */
+#define SARATOGA_REFUSED_SIZE 9          /* 0x09: size above what the packet's width, or the marks, can hold */
 #define SARATOGA_REFUSED_NO_PAYLOAD 10   /* 0x01: DATA with no payload */
 #define SARATOGA_REFUSED_HOLES 11        /* 0x00: hole list not allowed, or holes asked of a failure STATUS */
-#define SARATOGA_REFUSED_NOT_OPEN 12     /* 0x06: Id not open */
+#define SARATOGA_REFUSED_NOT_OPEN 12     /* 0x06: Id not open, or not the one that the marks are of */
 #define SARATOGA_REFUSED_OTHER_WIDTH 13  /* 0x09: DATA of another descriptor width than the transfer's */
 #define SARATOGA_REFUSED_PAST_END 14     /* 0x09: offset plus payload length above the transfer's length */
 #define SARATOGA_REFUSED_EARLY_END 15    /* 0x01: end of data set, and offset plus payload length not that length */
@@ -161,9 +161,9 @@ extern "C" {
 #define SARATOGA_REFUSED_TABLE_FULL 17   /* 0x03: a new Id, and 16 are open */
 #define SARATOGA_REFUSED_OPEN_OTHER 18   /* 0x09: Id open with another width or length */
 #define SARATOGA_REFUSED_INDEX 19        /* 0x00: no hole has that index, or that many can't be skipped */
-#define SARATOGA_REFUSED_BUFFER 20       /* 0x00: buffer, area to be made fresh or marks too small, or too few records */
+#define SARATOGA_REFUSED_BUFFER 20       /* 0x00: buffer, marks or area to be made fresh too small, or too few records */
 #define SARATOGA_REFUSED_FIELD 21        /* 0x00: a field over its bits, failure code 0, or a largest payload not 1 to 65,000 */
-#define SARATOGA_REFUSED_AREA 22         /* 0x00: area too short, its used words no transfer table, or marks no transfer's */
+#define SARATOGA_REFUSED_AREA 22         /* 0x00: area too short, or it holds no transfer table; or marks of no transfer */
 #define SARATOGA_REFUSED_BEACON 26       /* 0x00: BEACON with a pairing 0 1, or a last flags octet that isn't 0 */
 
 /* A refusal in plain words; 0 is "accepted". Any number has a text. */

@@ -255,6 +255,21 @@ static void story(void)
 
 /* By hand. */
 
+/* The example of docs/AREA.md. */
+static void example(void)
+{
+    static const uint8_t first[6] = {0x3C, 0x80, 0x01}, then[6] = {0x3C, 0x80, 0x01, 0xFC};
+    struct saratoga_bitmap page = transfer_of(2, 30);
+    uint8_t *marks = no_marks();
+    record_as("example", page, marks, LENT, ID, 2, 2, 4, 0, RECORDED(.edge = 6));
+    record_as("example", page, marks, LENT, ID, 2, 8, 1, 0, RECORDED(.edge = 9));
+    record_as("example", page, marks, LENT, ID, 2, 23, 1, 0, RECORDED(.edge = 24));
+    same_octets("example", marks, first, 6);
+    record_as("example", page, marks, LENT, ID, 2, 24, 6, 1, RECORDED(.edge = 30, .absorbed = 1));
+    same_octets("example", marks, then, 6);
+    free(marks);
+}
+
 /* "mark n is its bit n", and octets past the marks stay. */
 static void places(void)
 {
@@ -280,6 +295,7 @@ static void places(void)
         same_octets("some marks", marks + stretches[i].at, stretches[i].octets, 3);
         free(marks);
     }
+    example();
     printf("ctest: places of marks\n");
 }
 

@@ -53,6 +53,15 @@ fn each_mark_in_its_place() {
     assert_eq!(marks[OCTETS..], [0xFF; 10]);
 }
 
+/// The example of docs/AREA.md.
+#[test]
+fn example_of_the_page() {
+    let (transfer, mut marks) = received(30, &[(2, 4), (8, 1), (23, 1)]);
+    assert_eq!(marks[..6], hex("3C 80 01 00 00 00"));
+    record(transfer, &mut marks, &data(7, 2, 24, 6)).unwrap();
+    assert_eq!(marks[..6], hex("3C 80 01 FC 00 00"));
+}
+
 /// "Id 7, width 16, L = 3,000, octets 0 to 999 and 2,000 to 2,999 received", and what comes of it.
 #[test]
 fn page_with_a_hole() {

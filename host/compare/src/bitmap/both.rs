@@ -99,7 +99,8 @@ fn for_another(packet: &[u8], desk: &Held, file: File) -> bool {
     matches!(read(packet), Ok(Packet::Data(data)) if data.header.id != u64::from(file.id) && open(data.header.id))
 }
 
-/// "equal STATUS bytes for that Id, every k and every room": every k, and rooms around what each takes, into equal octets.
+/// "equal STATUS bytes for that Id, every k and every room": every k, and rooms around what each takes, or some of them where
+/// there are many holes; into equal octets.
 fn statuses(check: &mut Check, desk: &Held, marked: &Marked, file: File) -> Step {
     let id = u64::from(file.id);
     let open = desk.table.as_ref().and_then(|table| table.transfers.get(&id)).expect("it was opened");
@@ -108,8 +109,8 @@ fn statuses(check: &mut Check, desk: &Held, marked: &Marked, file: File) -> Step
         let size = |written: u64| 8 + 2 * d + 2 * d * written as usize;
         let left = holes.saturating_sub(skip);
         let rooms = [0, size(0) - 1, size(0), size(1) - 1, size(1), size(left) - 1, size(left), 2_100];
-        let any = check.rng.place(0, size(left) + 40);
-        for room in [check.rng.pick(&rooms), any] {
+        let some = [check.rng.pick(&rooms), check.rng.place(0, size(left) + 40)];
+        for &room in if holes < 4 { &rooms[..] } else { &some[..] } {
             let unasked = check.rng.pick(&[0, 1, u64::MAX]);
             let out = check.rng.octets(room);
             let one = check.write_status_into(desk, Ask { id, skip, unasked }, &out)?;

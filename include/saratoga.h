@@ -4,7 +4,8 @@
  * Every call gives an answer: a result, or a refusal.
  * - Accepted: `number` and `code` are 0.
  * - Refused: `number` is one of SARATOGA_REFUSED_..., `code` is the status code to send to the peer in a failure
- *   STATUS (0: send nothing), and every other field is 0. No lent buffer and no area is touched.
+ *   STATUS (0: send nothing), and every other field is 0, but `transfer` of struct saratoga_bitmap_recorded. No lent
+ *   buffer and no area is touched.
  * Where several refusals apply, the first in the order stated at the function is given.
  *
  * Pointers must not be NULL, also where the length is 0, and must be valid for their length: readable where const,
@@ -149,10 +150,10 @@ extern "C" {
 #define SARATOGA_REFUSED_KIND 6          /* 0x01: kind or property bits not those of a file */
 #define SARATOGA_REFUSED_CHECKSUM 7      /* 0x01: pair of checksum type and length not allowed */
 #define SARATOGA_REFUSED_PATH 8          /* 0x01: path empty, over 1,023 octets, or followed by octets */
-#define SARATOGA_REFUSED_SIZE 9          /* 0x09: size above the largest number of the packet's descriptor width */
+#define SARATOGA_REFUSED_SIZE 9          /* 0x09: size above what the packet's width, or the marks, can hold */
 #define SARATOGA_REFUSED_NO_PAYLOAD 10   /* 0x01: DATA with no payload */
 #define SARATOGA_REFUSED_HOLES 11        /* 0x00: hole list not allowed, or holes asked of a failure STATUS */
-#define SARATOGA_REFUSED_NOT_OPEN 12     /* 0x06: Id not open */
+#define SARATOGA_REFUSED_NOT_OPEN 12     /* 0x06: Id not open, or not the one that the marks are of */
 #define SARATOGA_REFUSED_OTHER_WIDTH 13  /* 0x09: DATA of another descriptor width than the transfer's */
 #define SARATOGA_REFUSED_PAST_END 14     /* 0x09: offset plus payload length above the transfer's length */
 #define SARATOGA_REFUSED_EARLY_END 15    /* 0x01: end of data set, and offset plus payload length not that length */
@@ -160,9 +161,9 @@ extern "C" {
 #define SARATOGA_REFUSED_TABLE_FULL 17   /* 0x03: a new Id, and 16 are open */
 #define SARATOGA_REFUSED_OPEN_OTHER 18   /* 0x09: Id open with another width or length */
 #define SARATOGA_REFUSED_INDEX 19        /* 0x00: no hole has that index, or that many can't be skipped */
-#define SARATOGA_REFUSED_BUFFER 20       /* 0x00: buffer too small, or the area to be made fresh, or too few records */
+#define SARATOGA_REFUSED_BUFFER 20       /* 0x00: buffer, marks or area to be made fresh too small, or too few records */
 #define SARATOGA_REFUSED_FIELD 21        /* 0x00: a field over its bits, failure code 0, or a largest payload not 1 to 65,000 */
-#define SARATOGA_REFUSED_AREA 22         /* 0x00: area too short, or its used words hold no transfer table */
+#define SARATOGA_REFUSED_AREA 22         /* 0x00: area too short, or it holds no transfer table; or marks of no transfer */
 #define SARATOGA_REFUSED_BEACON 26       /* 0x00: BEACON with a pairing 0 1, or a last flags octet that isn't 0 */
 
 /* A refusal in plain words; 0 is "accepted". Any number has a text. */
@@ -191,7 +192,7 @@ static inline const char *saratoga_refusal_text(uint64_t number)
         "no hole has that index",
         "buffer or area too small",
         "field too large to be written",
-        "area holds no transfer table",
+        "area holds no transfer table, or marks no transfer",
         "unknown refusal",
         "unknown refusal",
         "unknown refusal",
@@ -550,6 +551,79 @@ struct saratoga_listed saratoga_find(const uint8_t *area, size_t area_len, uint6
  * Order of refusals: 22, 12 (also for any id over 32 bits), 19 (`index` is not below the number of holes).
  */
 struct saratoga_hole saratoga_transfer_hole(const uint8_t *area, size_t area_len, uint64_t id, uint64_t index);
+
+/*
+ * Receiving one transfer by marks.
+ *
+ * A second receiver, made to be followed by eye: one transfer of at most SARATOGA_BITMAP_LONGEST octets, with one mark for
+ * each. Mark n is bit n of an area of SARATOGA_BITMAP_OCTETS octets, `marks[n / 8] & 0x80 >> n % 8`, and is set once
+ * octet n was received (docs/AREA.md). The Id, the width and the length travel in a struct by value: opening hands it out,
+ * and the program passes it to each call with the same marks. Nothing else holds any state. The area may be longer:
+ * octets past SARATOGA_BITMAP_OCTETS are never read or written.
+ *
+ * It answers what the transfer table answers, for every packet of its transfer, and writes the same STATUS.
+ *
+ * Every function refuses with 20 before all else where the area is shorter than SARATOGA_BITMAP_OCTETS. Recording and STATUS
+ * judge marks and struct next, and refuse with 22 where the width is not 2, 4, 8 or 16, the length is above what the width
+ * or the marks can hold, a mark at or above the length is set, or the marks have more than 64 runs.
+ */
+
+/* Octets of the marks, and of the longest transfer. */
+#define SARATOGA_BITMAP_OCTETS 8192
+#define SARATOGA_BITMAP_LONGEST 65535
+
+/* The transfer that marks belong to. */
+struct saratoga_bitmap {
+    uint64_t id;
+    uint64_t width;  /* octets of a descriptor: 2, 4, 8 or 16 */
+    uint64_t length; /* of the file, in octets */
+};
+
+/* An opened transfer. */
+struct saratoga_bitmap_opened {
+    uint64_t number, code;
+    uint64_t edge;                   /* 0: nothing is received */
+    uint64_t complete;               /* 1 where the length is 0, else 0 */
+    struct saratoga_bitmap transfer; /* its fields are 0 on refusal */
+};
+
+/* A recorded packet, as in struct saratoga_recorded. */
+struct saratoga_bitmap_recorded {
+    uint64_t number, code;
+    uint64_t edge;
+    uint64_t complete;               /* 1 where every octet was received, else 0 */
+    uint64_t absorbed;               /* at most 64 */
+    struct saratoga_bitmap transfer; /* to be passed to the next call; on refusal it is the one that was passed in */
+};
+
+/*
+ * Opens the transfer of a METADATA packet, and always starts anew: every mark is cleared, whatever was marked before.
+ * Senders repeat METADATA, and a repeat starts anew too: compare its Id, width and size with the transfer at hand first.
+ *
+ * Order of refusals: 20, the reader's for METADATA with 4 for any other type (see saratoga_open), 9 (size above
+ * SARATOGA_BITMAP_LONGEST).
+ */
+struct saratoga_bitmap_opened saratoga_bitmap_open(uint8_t *marks, size_t marks_len, const uint8_t *packet,
+                                                   size_t packet_len);
+
+/*
+ * Records a DATA packet: sets the marks of its payload's offsets. A repeat sets none and is accepted. Write the payload to
+ * disk first (see above).
+ *
+ * Order of refusals: 20, 22, the reader's for DATA with 4 for any other type (see saratoga_record), 12 (another Id), 13, 14,
+ * 15, 16.
+ */
+struct saratoga_bitmap_recorded saratoga_bitmap_record(struct saratoga_bitmap transfer, uint8_t *marks, size_t marks_len,
+                                                       const uint8_t *packet, size_t packet_len);
+
+/*
+ * Writes a success STATUS of the transfer into `out`, as saratoga_write_status does; octets after it stay. The marks are
+ * only read.
+ *
+ * Order of refusals: 20 (marks), 22, 12 (an Id over 32 bits), 19, 20 (`out`).
+ */
+struct saratoga_written saratoga_bitmap_status(struct saratoga_bitmap transfer, const uint8_t *marks, size_t marks_len,
+                                               uint64_t skip, uint64_t unasked, uint8_t *out, size_t out_len);
 
 #ifdef __cplusplus
 }

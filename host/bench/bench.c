@@ -1,7 +1,7 @@
 /*
- * Measures our receiver beside (A), (B) and (C) of receivers.h, on the same inputs in one run, and prints nanoseconds
+ * Measures our receivers beside (A), (B) and (C) of receivers.h, on the same inputs in one run, and prints nanoseconds
  * for each call and ratios. First it compares: all receivers must give the same answers and buffers, and (B) the same
- * area, on every input that is measured and on random ones, refusals among them; otherwise it ends with status 1.
+ * area or marks, on every input that is measured and on random ones, refusals among them; otherwise it ends with status 1.
  *
  *     bench                 compares and measures
  *     bench --repeats N     how often each case is measured; the median is printed (default 101)
@@ -18,14 +18,16 @@
 #include "receivers.h"
 
 enum { AREA = SARATOGA_AREA_OCTETS, PAYLOAD = 1000, ROOM = SARATOGA_STATUS_OCTETS };
-enum { CALLS = 256, PART = 16, REPEATS_MOST = 1001, CASES_MOST = 32, PIECES_MOST = 32000 };
+enum { CALLS = 256, PART = 16, REPEATS_MOST = 1001, CASES_MOST = 40, PIECES_MOST = 32000 };
+enum { MARKS = SARATOGA_BITMAP_OCTETS, MARKED_PAYLOAD = 100 };
 enum receiver { OURS, MEMORY, PLAIN_AREA, MAP, RECEIVERS };
-enum operation { READ, OPEN, RECORD, STATUS, CLOSE, PLAN, CHECK };
+enum operation { READ, OPEN, RECORD, STATUS, CLOSE, PLAN, CHECK, MARK_RECORD, MARK_STATUS };
 
 static const char *const receiver_names[RECEIVERS] = {"ours", "A", "B", "C"};
 
 struct tables {
     uint8_t ours[AREA], plain[AREA];
+    uint8_t our_marks[MARKS], plain_marks[MARKS];
     struct memory_table *memory;
     struct map_table *map;
 };
@@ -42,7 +44,8 @@ struct call {
 struct bench_case {
     char name[64];
     enum operation operation;
-    int few_runs; /* one open transfer with at most 8 runs */
+    int few_runs;                    /* one open transfer with at most 8 runs */
+    struct saratoga_bitmap transfer; /* of the marks */
     struct tables start;
     struct call calls[CALLS];
     size_t count;
@@ -111,12 +114,14 @@ static void copy_tables(struct tables *to, const struct tables *from, enum recei
     switch (receiver) {
     case OURS:
         memcpy(to->ours, from->ours, AREA);
+        memcpy(to->our_marks, from->our_marks, MARKS);
         break;
     case MEMORY:
         memory_copy(to->memory, from->memory);
         break;
     case PLAIN_AREA:
         memcpy(to->plain, from->plain, AREA);
+        memcpy(to->plain_marks, from->plain_marks, MARKS);
         break;
     default:
         map_copy(to->map, from->map);
@@ -280,6 +285,47 @@ static uint64_t compare_status(struct tables *t, uint64_t id, uint64_t skip, uin
     return out[OURS][0] == 0x44 ? 1 : 0;
 }
 
+/* The marks of ours and (B), after a call with this answer. */
+static void same_marks(const char *what, const struct tables *t, uint64_t number)
+{
+    same(what, "B: marks", t->our_marks, t->plain_marks, MARKS);
+    refusals_seen[number] = 1;
+    compared++;
+}
+
+/* Keeps the transfer where the opening was accepted. */
+static void compare_marks_open(struct tables *t, struct saratoga_bitmap *transfer, const uint8_t *packet, size_t size)
+{
+    struct saratoga_bitmap_opened ours = saratoga_bitmap_open(t->our_marks, MARKS, packet, size);
+    struct saratoga_bitmap_opened plain = marks_open(t->plain_marks, MARKS, packet, size);
+    same("open with marks", "B", &ours, &plain, sizeof ours);
+    same_marks("open with marks", t, ours.number);
+    if (ours.number == 0)
+        *transfer = ours.transfer;
+}
+
+static void compare_marks_record(struct tables *t, struct saratoga_bitmap transfer, size_t len, const uint8_t *packet,
+                                 size_t size)
+{
+    struct saratoga_bitmap_recorded ours = saratoga_bitmap_record(transfer, t->our_marks, len, packet, size);
+    struct saratoga_bitmap_recorded plain = marks_record(transfer, t->plain_marks, len, packet, size);
+    same("record with marks", "B", &ours, &plain, sizeof ours);
+    same_marks("record with marks", t, ours.number);
+}
+
+static void compare_marks_status(struct tables *t, struct saratoga_bitmap transfer, size_t len, uint64_t skip,
+                                 uint64_t unasked, size_t room)
+{
+    static uint8_t out[2][ROOM];
+    struct saratoga_written ours, plain;
+    memset(out, 0xA5, sizeof out);
+    ours = saratoga_bitmap_status(transfer, t->our_marks, len, skip, unasked, out[0], room);
+    plain = marks_status(transfer, t->plain_marks, len, skip, unasked, out[1], room);
+    same("STATUS with marks", "B", &ours, &plain, sizeof ours);
+    same("STATUS with marks: buffer", "B", out[0], out[1], ROOM);
+    same_marks("STATUS with marks", t, ours.number);
+}
+
 /* A word of an area: the lowest octet first. */
 static void put_word(uint8_t *area, size_t word, uint64_t number)
 {
@@ -373,13 +419,65 @@ static size_t random_packet(uint8_t *p, enum operation operation)
     return size;
 }
 
+/* Something is wrong with marks or transfer: a mark more, many more, another width, length or Id. */
+static void damage_marks(struct tables *t, struct saratoga_bitmap *transfer)
+{
+    size_t at = below(MARKS), i;
+    switch (below(5)) {
+    case 0:
+        t->our_marks[at] ^= (uint8_t)(1 << below(8));
+        break;
+    case 1:
+        for (i = 0; i < 65; i++)
+            t->our_marks[(at + i) % MARKS] ^= 0x10;
+        break;
+    case 2:
+        transfer->width = below(20);
+        break;
+    case 3:
+        transfer->length = below(2) ? 65534 + below(4) : random_number();
+        break;
+    default:
+        transfer->id = random_number() >> below(40);
+    }
+    memcpy(t->plain_marks, t->our_marks, MARKS);
+}
+
+/* One call on marks: mostly DATA for the transfer that they are of; now and then on a copy with something wrong. */
+static void compare_random_marks(struct tables *t, struct saratoga_bitmap *transfer, uint8_t *packet)
+{
+    static struct tables damaged;
+    struct saratoga_bitmap wrong = *transfer;
+    size_t choice = below(40), size = random_packet(packet, RECORD), len = below(20) ? MARKS : MARKS - 1;
+    if (choice == 0) {
+        compare_marks_open(t, transfer, packet, random_packet(packet, OPEN));
+        return;
+    }
+    if (below(10) && transfer->width != 0)
+        size = data_packet(packet, width_flags(transfer->width) | (below(20) ? 0 : SARATOGA_FLAG_END_OF_DATA), transfer->id,
+                           below(transfer->length + 2), 1 + below(below(6) ? 40 : 900));
+    if (choice < 26) {
+        compare_marks_record(t, *transfer, MARKS, packet, size);
+    } else if (choice < 36) {
+        compare_marks_status(t, *transfer, MARKS, below(3) ? 0 : below(70), below(2), below(2) ? ROOM : below(ROOM));
+    } else {
+        memcpy(damaged.our_marks, t->our_marks, MARKS);
+        damage_marks(&damaged, &wrong);
+        compare_marks_record(&damaged, wrong, len, packet, size);
+        compare_marks_status(&damaged, wrong, len, below(2) ? 0 : below(70), 0, below(2) ? ROOM : below(ROOM));
+    }
+}
+
 static void compare_random(unsigned long calls)
 {
     static uint8_t packet[66000];
     struct tables *t = allocated(sizeof *t);
+    struct saratoga_bitmap transfer = {0, 0, 0};
     make_tables(t);
     while (compared < calls) {
         size_t choice = below(100), size;
+        if (below(5) == 0)
+            compare_random_marks(t, &transfer, packet);
         if (choice < 12) {
             size = random_packet(packet, OPEN);
             compare_open(t, packet, size);
@@ -518,6 +616,41 @@ static void status_case(size_t width, size_t transfers, size_t holes)
         new_call(c, id_of(below(transfers)));
 }
 
+/*
+ * The longest file with marks, width 64, with `runs` runs of 100 octets as far apart as can be, none at its start. Recording is
+ * of packets in fours, as with the table, of 100 octets each, at one run after the other.
+ */
+static void marks_case(enum operation operation, size_t runs)
+{
+    static uint8_t packet[PAYLOAD + 48];
+    uint64_t stops[64], spacing = SARATOGA_BITMAP_LONGEST / runs;
+    char name[64];
+    struct bench_case *c;
+    size_t size, j;
+    snprintf(name, sizeof name, "%s with marks, %d run%s", operation == MARK_RECORD ? "record" : "STATUS", (int)runs,
+             runs == 1 ? "" : "s");
+    c = new_case(name, operation);
+    size = metadata_packet(packet, SARATOGA_WIDTH_64, id_of(0), SARATOGA_BITMAP_LONGEST, 11);
+    compare_marks_open(&c->start, &c->transfer, packet, size);
+    for (j = 0; j < runs; j++) {
+        size = data_packet(packet, SARATOGA_WIDTH_64, id_of(0), 50 + j * spacing, MARKED_PAYLOAD);
+        compare_marks_record(&c->start, c->transfer, MARKS, packet, size);
+        stops[j] = 50 + j * spacing + MARKED_PAYLOAD;
+    }
+    for (j = 0; c->count < CALLS && operation == MARK_RECORD; j = (j + 37) % runs) {
+        static const uint64_t fours[4] = {0, 2, 1, 0};
+        size_t i;
+        for (i = 0; i < 4; i++) {
+            uint8_t *data = new_call(c, id_of(0));
+            uint64_t offset = stops[j] + fours[i] * MARKED_PAYLOAD;
+            c->calls[c->count - 1].size = data_packet(data, SARATOGA_WIDTH_64, id_of(0), offset, MARKED_PAYLOAD);
+        }
+        stops[j] += 3 * MARKED_PAYLOAD;
+    }
+    while (c->count < CALLS)
+        new_call(c, id_of(0));
+}
+
 static void open_call(struct bench_case *c, uint64_t id)
 {
     uint8_t *packet = new_call(c, id);
@@ -593,6 +726,8 @@ static void make_cases(void)
     open_and_close_cases();
     for (i = 0; i < 6; i++)
         plan_case(i < 3 ? PLAN : CHECK, holes[i % 3]);
+    for (i = 0; i < 6; i++)
+        marks_case(i < 3 ? MARK_RECORD : MARK_STATUS, runs[i % 3]);
 }
 
 static void compare_case(const struct bench_case *c, struct tables *t)
@@ -623,6 +758,12 @@ static void compare_case(const struct bench_case *c, struct tables *t)
             break;
         case CHECK:
             compare_check(call->packet, call->size, call->largest, call->pieces, call->piece_count);
+            break;
+        case MARK_RECORD:
+            compare_marks_record(t, c->transfer, MARKS, call->packet, call->size);
+            break;
+        case MARK_STATUS:
+            compare_marks_status(t, c->transfer, MARKS, 0, 0, ROOM);
         }
     }
 }
@@ -663,6 +804,10 @@ static void compare_case(const struct bench_case *c, struct tables *t)
         case CHECK:                                                                                                         \
             for (; call < end; call++)                                                                                      \
                 sum += codec##_check_plan(call->packet, call->size, call->largest, call->pieces, call->piece_count).passes; \
+            break;                                                                                                          \
+        case MARK_RECORD: /* by runners of their own */                                                                     \
+        case MARK_STATUS:                                                                                                   \
+            break;                                                                                                          \
         }                                                                                                                   \
         return sum;                                                                                                         \
     }
@@ -672,8 +817,37 @@ RUNNER(memory, plain, t->memory)
 RUNNER(area, plain, t->plain, AREA)
 RUNNER(map, plain, t->map)
 
-static uint64_t (*const runners[RECEIVERS])(const struct bench_case *, struct tables *, size_t, size_t) = {
-    saratoga_run, memory_run, area_run, map_run};
+#define MARKS_RUNNER(receiver, marks)                                                                              \
+    static uint64_t receiver##_marks_run(const struct bench_case *c, struct tables *t, size_t from, size_t to)     \
+    {                                                                                                              \
+        const struct call *call = c->calls + from, *end = c->calls + to;                                           \
+        uint64_t sum = 0;                                                                                          \
+        if (c->operation == MARK_RECORD)                                                                           \
+            for (; call < end; call++)                                                                             \
+                sum += receiver##_record(c->transfer, marks, MARKS, call->packet, call->size).edge;                \
+        else                                                                                                       \
+            for (; call < end; call++)                                                                             \
+                sum += receiver##_status(c->transfer, marks, MARKS, 0, 0, status_room, ROOM).size;                 \
+        return sum;                                                                                                \
+    }
+
+MARKS_RUNNER(saratoga_bitmap, t->our_marks)
+MARKS_RUNNER(marks, t->plain_marks)
+
+static int over_marks(const struct bench_case *c)
+{
+    return c->operation == MARK_RECORD || c->operation == MARK_STATUS;
+}
+
+static uint64_t run(const struct bench_case *c, struct tables *t, enum receiver receiver, size_t from, size_t to)
+{
+    static uint64_t (*const runners[RECEIVERS])(const struct bench_case *, struct tables *, size_t, size_t) = {
+        saratoga_run, memory_run, area_run, map_run};
+    if (over_marks(c))
+        return receiver == OURS ? saratoga_bitmap_marks_run(c, t, from, to) : marks_marks_run(c, t, from, to);
+    return runners[receiver](c, t, from, to);
+}
+
 static volatile uint64_t kept;
 
 /* What needs no table: the same plain C in (A), (B) and (C). */
@@ -682,9 +856,10 @@ static int without_table(const struct bench_case *c)
     return c->operation == READ || c->operation == PLAN || c->operation == CHECK;
 }
 
+/* Over marks there are ours and (B). */
 static int measured(const struct bench_case *c, enum receiver receiver)
 {
-    return !without_table(c) || receiver <= MEMORY;
+    return over_marks(c) ? receiver == OURS || receiver == PLAIN_AREA : !without_table(c) || receiver <= MEMORY;
 }
 
 static double now(void)
@@ -731,11 +906,11 @@ static void sample(size_t which, struct tables *t, enum receiver receiver, size_
     const struct bench_case *c = cases[which];
     size_t i;
     copy_tables(t, &c->start, receiver);
-    kept += runners[receiver](c, t, 0, c->count);
+    kept += run(c, t, receiver, 0, c->count);
     copy_tables(t, &c->start, receiver);
     for (i = 0; i < c->count / PART; i++) {
         double start = now();
-        kept += runners[receiver](c, t, i * PART, (i + 1) * PART);
+        kept += run(c, t, receiver, i * PART, (i + 1) * PART);
         times[which][receiver][i][repeat] = now() - start;
     }
 }
@@ -769,7 +944,7 @@ static void print_time(double time)
 
 static void measure(size_t repeats)
 {
-    double clock, worst_record = 0, worst_read = 0, worst_few = 0, worst_plan = 0;
+    double clock, worst_record = 0, worst_read = 0, worst_few = 0, worst_plan = 0, worst_marks = 0;
     struct tables *t = allocated(sizeof *t);
     size_t i, k, r;
     make_tables(t);
@@ -803,8 +978,10 @@ static void measure(size_t repeats)
             worst_few = ratio[MAP];
         if (cases[i]->operation == READ && ratio[MEMORY] > worst_read)
             worst_read = ratio[MEMORY];
-        if (cases[i]->operation >= PLAN && ratio[MEMORY] > worst_plan)
+        if (without_table(cases[i]) && cases[i]->operation != READ && ratio[MEMORY] > worst_plan)
             worst_plan = ratio[MEMORY];
+        if (over_marks(cases[i]) && ratio[PLAIN_AREA] > worst_marks)
+            worst_marks = ratio[PLAIN_AREA];
     }
     printf("aim: reading DATA at most 1.2 times plain C: %.2f, %s\n", worst_read, worst_read <= 1.2 ? "met" : "not met");
     printf("aim: plans and their check at most 1.5 times plain C: %.2f, %s\n", worst_plan,
@@ -812,6 +989,8 @@ static void measure(size_t repeats)
     printf("aim: recording at most 1.5 times (B): %.2f, %s\n", worst_record, worst_record <= 1.5 ? "met" : "not met");
     printf("aim: recording with 1 and 8 runs in one open transfer at most 1.5 times (C): %.2f, %s\n", worst_few,
            worst_few <= 1.5 ? "met" : "not met");
+    printf("aim: recording and STATUS with marks at most 1.5 times (B): %.2f, %s\n", worst_marks,
+           worst_marks <= 1.5 ? "met" : "not met");
 }
 
 /* For callgrind. */
@@ -832,7 +1011,7 @@ static void once(void)
         for (k = 0; k < RECEIVERS; k++)
             for (r = 0; measured(cases[i], k) && r < 2; r++) {
                 copy_tables(t, &cases[i]->start, k);
-                kept += runners[k](cases[i], t, 0, cases[i]->count);
+                kept += run(cases[i], t, k, 0, cases[i]->count);
                 case_end();
             }
 }

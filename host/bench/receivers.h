@@ -4,6 +4,7 @@
  * plain_...   reads a packet, plans what to send again and checks a plan, in plain C.
  * memory_...  (A) keeps its table in its own memory and trusts it.
  * area_...    (B) keeps it in the lent area of docs/AREA.md and judges its used words at each call, as ours does.
+ * marks_...   (B) over marks: keeps them in the lent octets, and walks and judges them at each call, as ours does.
  * map_...     (C) keeps the runs in ordered maps in memory (std::map) and trusts them.
  */
 #ifndef RECEIVERS_H
@@ -38,6 +39,12 @@ struct saratoga_recorded area_record(uint8_t *area, size_t area_len, const uint8
 struct saratoga_done area_close(uint8_t *area, size_t area_len, uint64_t id);
 struct saratoga_written area_write_status(const uint8_t *area, size_t area_len, uint64_t id, uint64_t skip,
                                           uint64_t unasked, uint8_t *out, size_t out_len);
+
+struct saratoga_bitmap_opened marks_open(uint8_t *marks, size_t marks_len, const uint8_t *packet, size_t packet_len);
+struct saratoga_bitmap_recorded marks_record(struct saratoga_bitmap transfer, uint8_t *marks, size_t marks_len,
+                                             const uint8_t *packet, size_t packet_len);
+struct saratoga_written marks_status(struct saratoga_bitmap transfer, const uint8_t *marks, size_t marks_len,
+                                     uint64_t skip, uint64_t unasked, uint8_t *out, size_t out_len);
 
 struct map_table;
 struct map_table *map_new(void);

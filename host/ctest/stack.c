@@ -96,6 +96,27 @@ static void a_65th_run(void)
 }
 static void no_table(void) { use_full(); area[0] = 17; make_data(80, 0, 5); }
 
+/* Marks with 63 runs, or with 64, and the transfer that they are of. */
+static uint8_t marks[SARATOGA_BITMAP_OCTETS];
+static struct saratoga_bitmap page;
+static void use_marks(void)
+{
+    uint64_t run;
+    make_metadata(10);
+    page = saratoga_bitmap_open(marks, sizeof marks, packet, size).transfer;
+    for (run = 0; run < RUNS; run++) {
+        make_data(10, GAP * run + 10, PAYLOAD);
+        accepted(saratoga_bitmap_record(page, marks, sizeof marks, packet, size).number);
+    }
+}
+static void marks_opened(void) { use_marks(); make_metadata(10); }
+static void marks_in_front(void) { use_marks(); make_data(10, 0, 5); }
+static void marks_repeated(void) { use_marks(); make_data(10, GAP * 30 + 10, PAYLOAD); }
+static void marks_joined(void) { use_marks(); make_data(10, 0, 1900); }
+static void marks_past_the_end(void) { use_marks(); make_data(10, LENGTH, 1); }
+static void marks_65th_run(void) { use_marks(); marks[0] |= 0x80; make_data(10, LENGTH - 5, 5); }
+static void no_transfer(void) { use_marks(); page.width = 3; }
+
 /* The calls. */
 static void read_packet(void) { saratoga_read(packet, size); }
 static void read_hole(void) { saratoga_read_hole(packet, size, RUNS - 1); }
@@ -129,6 +150,10 @@ static void no_hole(void) { saratoga_transfer_hole(area, AREA, 160, RUNS); }
 static void close_first(void) { saratoga_close(area, AREA, 10); }
 static void close_last(void) { saratoga_close(area, AREA, 160); }
 static void close_none(void) { saratoga_close(area, AREA, 11); }
+static void bitmap_open(void) { saratoga_bitmap_open(marks, sizeof marks, packet, size); }
+static void bitmap_record(void) { saratoga_bitmap_record(page, marks, sizeof marks, packet, size); }
+static void bitmap_status(void) { saratoga_bitmap_status(page, marks, sizeof marks, 0, 1, out, sizeof out); }
+static void bitmap_last_hole(void) { saratoga_bitmap_status(page, marks, sizeof marks, RUNS - 1, 0, out, 72); }
 
 static const struct way {
     const char *function;
@@ -186,6 +211,17 @@ static const struct way {
     {"saratoga_close", use_full, close_last},
     {"saratoga_close", use_full, close_none},
     {"saratoga_close", no_table, close_first},
+    {"saratoga_bitmap_open", marks_opened, bitmap_open},
+    {"saratoga_bitmap_open", for_data, bitmap_open},
+    {"saratoga_bitmap_record", marks_in_front, bitmap_record},
+    {"saratoga_bitmap_record", marks_repeated, bitmap_record},
+    {"saratoga_bitmap_record", marks_joined, bitmap_record},
+    {"saratoga_bitmap_record", marks_past_the_end, bitmap_record},
+    {"saratoga_bitmap_record", marks_65th_run, bitmap_record},
+    {"saratoga_bitmap_record", no_transfer, bitmap_record},
+    {"saratoga_bitmap_status", use_marks, bitmap_status},
+    {"saratoga_bitmap_status", use_marks, bitmap_last_hole},
+    {"saratoga_bitmap_status", no_transfer, bitmap_status},
 };
 enum { WAYS = sizeof ways / sizeof ways[0] };
 static long used[WAYS];

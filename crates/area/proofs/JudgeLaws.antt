@@ -1,54 +1,23 @@
 -- What the tests mean: a table passes exactly where it is valid, and an area exactly where the table read from it is.
 -- Assumes nothing.
-use Prim.Native.Nat.{ℕ, suc, _^_, _≤_, _<_}
+use Prim.Native.Nat.{ℕ, suc, _^_, _≤_}
 use mathlib.Core.Path.{_≡_, refl, ap}
 use mathlib.Core.List.{List, [], _∷_}
 use mathlib.Core.Bool.{Bool, true, false, cond}
 use mathlib.Core.Option.{none, some}
-use native.Mathlib.Nat.{pow-le-pow-right, lt-of-lt-of-le}
 use native.Mathlib.Omega.{arith}
 use lib.ListN.{length}
-use lib.Dec.{ltb, leb, eqb}
-use borrow.Author.Tests.{ltb-true, leb-true, eqb-true, lt-ltb, le-leb}
-use Rattle.octets.specs.Numbers.{Width}
-use Rattle.octets.specs.Numbers.Width.{two, four, eight, sixteen}
+use lib.Dec.{ltb, leb}
+use borrow.Author.Tests.{ltb-true, leb-true, lt-ltb, le-leb}
 use Rattle.words.specs.Words.{wordAt}
 use Rattle.run_rows.proofs.JudgeLaws.{both-true, runs-passed, runs-passes}
-use Rattle.transfer.specs.Transfers.{Transfer, TransferFine}
+use Rattle.transfer.specs.Transfers.{Transfer, TransferFine, lengthTest}
+use Rattle.transfer.proofs.LengthLaws.{length-passed, length-passes}
 use Rattle.table.specs.Tables.{FineFrom, Valid}
 use Rattle.area.specs.Layout.{areaOctets}
 use Rattle.area.specs.Places.{readTable, Holds}
-use Rattle.area.specs.Judge.{lengthTest, transferTest, fineTest, judged, tableOf}
+use Rattle.area.specs.Judge.{transferTest, fineTest, judged, tableOf}
 use Rattle.area.proofs.PlaceLaws.{length-transfers, holds-read}
-
--- ---- the width and the length
-
-length-passed : (width length : ℕ) → lengthTest width length ≡ true → Width width × (length < 256 ^ width) × (length < 2 ^ 64)
-unfolding lengthTest
-length-passed w n e = go (eqb w 2) (eqb w 4) (eqb w 8) (eqb w 16) refl refl refl refl e
-  where
-    narrow : (d : ℕ) → Width d → d ≤ 8 → ltb n (256 ^ d) ≡ true → Width d × (n < 256 ^ d) × (n < 2 ^ 64)
-    narrow d x h t =
-        let l = ltb-true n (256 ^ d) t in
-        (x, l, lt-of-lt-of-le l (pow-le-pow-right {n = 256} (omega arith) {i = d} {j = 8} h))
-
-    go : (a b c d : Bool) → eqb w 2 ≡ a → eqb w 4 ≡ b → eqb w 8 ≡ c → eqb w 16 ≡ d
-        → cond a (ltb n (256 ^ 2)) (cond b (ltb n (256 ^ 4)) (cond c (ltb n (256 ^ 8)) (cond d (ltb n (2 ^ 64)) false))) ≡ true
-        → Width w × (n < 256 ^ w) × (n < 2 ^ 64)
-    go true b c d p q r s t = rw (eqb-true w 2 p) (narrow 2 two (omega arith) t)
-    go false true c d p q r s t = rw (eqb-true w 4 q) (narrow 4 four (omega arith) t)
-    go false false true d p q r s t = rw (eqb-true w 8 r) (narrow 8 eight (omega arith) t)
-    go false false false true p q r s t =
-        let l = ltb-true n (256 ^ 8) t in
-        rw (eqb-true w 16 s) (sixteen, lt-of-lt-of-le l (pow-le-pow-right {n = 256} (omega arith) {i = 8} {j = 16} (omega arith)), l)
-    go false false false false p q r s t = absurd (let z : _≡_ {A = ℕ} 0 1 = cc in omega arith)
-
-length-passes : (width length : ℕ) → Width width → length < 256 ^ width → length < 2 ^ 64 → lengthTest width length ≡ true
-unfolding lengthTest
-length-passes w n two h l = lt-ltb n (256 ^ 2) h
-length-passes w n four h l = lt-ltb n (256 ^ 4) h
-length-passes w n eight h l = lt-ltb n (256 ^ 8) h
-length-passes w n sixteen h l = lt-ltb n (2 ^ 64) l
 
 -- ---- transfers
 

@@ -13,9 +13,10 @@ use Rattle.run_rows.specs.Rows.{runsFrom}
 use Rattle.run_rows.specs.Judge.{runsTest}
 use Rattle.run_rows.proofs.RowsLaws.{length-runs}
 use Rattle.run_rows.proofs.JudgeLaws.{both-true}
+use Rattle.transfer.specs.Transfers.{lengthTest}
 use Rattle.area.specs.Layout.{transferPlaces, runPlaces, areaOctets, idField, widthField, lengthField, countField, headAt, runAt}
 use Rattle.area.specs.Places.{transferAt, transfersFrom}
-use Rattle.area.specs.Judge.{lengthTest, transferTest, fineTest, judged}
+use Rattle.area.specs.Judge.{transferTest, fineTest, judged}
 
 -- ---- one transfer
 

@@ -6,18 +6,12 @@ use mathlib.Core.List.{List, [], _∷_}
 use mathlib.Core.Bool.{Bool, true, false, cond}
 use mathlib.Core.Option.{Option, none, some}
 use lib.ListN.{length}
-use lib.Dec.{ltb, leb, eqb}
+use lib.Dec.{ltb, leb}
 use Rattle.words.specs.Words.{wordAt}
 use Rattle.run_rows.specs.Judge.{runsTest}
-use Rattle.transfer.specs.Transfers.{Transfer}
+use Rattle.transfer.specs.Transfers.{Transfer, lengthTest}
 use Rattle.area.specs.Layout.{transferPlaces, runPlaces, areaOctets}
 use Rattle.area.specs.Places.{readTable}
-
--- the width is one of the four, and the length fits it and 64 bits
-unfoldable pub lengthTest : ℕ → ℕ → Bool
-lengthTest width length =
-    cond (eqb width 2) (ltb length (256 ^ 2))
-    (cond (eqb width 4) (ltb length (256 ^ 4)) (cond (eqb width 8) (ltb length (256 ^ 8)) (cond (eqb width 16) (ltb length (2 ^ 64)) false)))
 
 unfoldable pub transferTest : Transfer → Bool
 transferTest x =

@@ -8,7 +8,7 @@ ghost use Rattle.run_rows.specs.Rows.{runsIn, RowsFit};
 ghost use Rattle.transfer.specs.Transfers.{reached};
 ghost use Rattle.area.specs.Layout.{transferPlaces, headWords, areaOctets, headAt, runAt};
 ghost use Rattle.area.specs.Places.{keyAt, rowsAt, transferAt, transfersFrom, readTable, placeIn};
-ghost use Rattle.area.specs.Judge.{lengthTest, transferTest, fineTest, judged};
+ghost use Rattle.area.specs.Judge.{transferTest, fineTest, judged};
 use run_rows::Rows;
 use transfer::Key;
 use transfer::Reached;
@@ -117,22 +117,6 @@ pub fn reached_in(area: &[u8], rows: Rows, key: Key) -> Reached
     Reached { edge, complete }
 }
 
-// Whether the width is one of the three and the length fits it.
-fn length_ok(width: u64, length: u64) -> bool
-    ensures { λ r. ⌜ r ≡ lengthTest width length ⌝ }
-{
-    if width == 2 {
-        return length < 65536;
-    }
-    if width == 4 {
-        return length < 4294967296;
-    }
-    if width == 8 {
-        return true;
-    }
-    width == 16
-}
-
 // Whether the transfer at place i is fine by itself.
 fn transfer_ok(area: &[u8], i: usize) -> bool
     requires { ⌜ (areaOctets ≤ length (now area)) × (i < transferPlaces) ⌝ }
@@ -142,7 +126,7 @@ fn transfer_ok(area: &[u8], i: usize) -> bool
         return false;
     }
     let size = head(area, i, LENGTH);
-    if length_ok(head(area, i, WIDTH), size) {
+    if transfer::length_ok(head(area, i, WIDTH), size) {
         let rows = rows_at(area, i);
         if RUNS < rows.count {
             return false;

@@ -1,20 +1,18 @@
 -- Opening and closing by place: what the table's rules give where an Id's place is known.
 -- Assumes nothing.
-use Prim.Native.Nat.{ℕ, zero, suc, _≤_, _<_}
+use Prim.Native.Nat.{ℕ, _≤_, _<_}
 use mathlib.Core.Path.{_≡_, refl, sym, ap, _∙_}
 use mathlib.Core.Bool.{Bool, true, false, cond, _&&_}
 use mathlib.Core.List.{List, []}
 use mathlib.Core.Option.{none, some}
-use native.Mathlib.Omega.{arith}
 use lib.ListN.{length}
-use lib.Dec.{leb, eqb}
-use borrow.Author.Tests.{lt-ltb, le-ltb, lt-leb, eq-eqb, ne-eqb}
+use lib.Dec.{eqb}
+use borrow.Author.Tests.{lt-ltb, le-ltb, eq-eqb, ne-eqb}
 use Rattle.refusals.specs.Refusals.{refusalOf}
 use Rattle.packet_metadata.specs.Metadata.{metadataRefusal, metadataOf, readMetadata}
 use Rattle.packet_metadata.specs.declared.MetadataRead.the-variants as metadata-read
 use Rattle.refusals.proofs.RefusalLaws.{answered-refused}
 use Rattle.runs.specs.Runs.{Run}
-use Rattle.runs.specs.Holes.{edgeFrom, progress, complete}
 use Rattle.transfer.specs.declared.Key.{Key}
 use Rattle.transfer.specs.Transfers.{Transfer, empty, reached, keyOf}
 use Rattle.table.specs.Tables.{FineFrom, keys, find}
@@ -79,15 +77,6 @@ module _ (t : List Transfer) (k : Key) (p : ℕ) (h : FreeAt (k .id) t p) (f : F
   open-new g =
       rw (not-found, length-keys t, lt-ltb (length t) transferPlaces g)
       (ap (λ (u : List Transfer). record { answer = opened.New (reached k []); table = u }) (add-at k (h .place) (h .other)))
-
--- "L = 0 is complete at once"
-zero-complete : (n : ℕ) → eqb n 0 ≡ leb n 0
-zero-complete zero = refl
-zero-complete (suc n) = ne-eqb (suc n) 0 (λ q. omega arith) ∙ sym (lt-leb (suc n) 0 (omega arith))
-
-pub reached-new : (k : Key) (z : Bool) → z ≡ eqb (k .length) 0 → record { edge = 0; complete = z } ≡ reached k []
-unfolding reached edgeFrom complete progress
-reached-new k z e = λ i. record { edge = 0; complete = (e ∙ zero-complete (k .length)) i }
 
 -- ---- closing
 

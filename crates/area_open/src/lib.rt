@@ -12,7 +12,6 @@ ghost use Rattle.area_open.specs.Fresh.{noNumbers, WordsPut};
 use table::Finished;
 use table::Opened;
 use transfer::Key;
-use transfer::Reached;
 
 mod moves;
 
@@ -100,10 +99,7 @@ fn open_key(area: &mut [u8], key: Key) -> Opened
         return Opened::Refused(refusals::refuse(17));
     }
     moves::insert_at(area, place.at, key);
-    Opened::New(Reached {
-        edge: 0,
-        complete: key.length == 0,
-    })
+    Opened::New(transfer::reached_new(key))
 }
 
 // Opens by a packet that has to be METADATA.

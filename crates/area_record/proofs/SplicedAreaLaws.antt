@@ -4,13 +4,13 @@
 use Prim.Native.Nat.{ℕ, zero, suc, _+_, _^_, _≤_, _<_}
 use mathlib.Core.Path.{_≡_, sym, ap, _∙_}
 use mathlib.Core.List.{List}
-use mathlib.Core.Logic.{_⊎_, inl, inr, ⊎-elim}
+use mathlib.Core.Logic.{⊎-elim}
 use native.Mathlib.Omega.{arith}
 use lib.ListN.{length, drop, length-set}
 use lib.Seq.{getD-set-same, getD-set-other}
 use Rattle.octets.specs.Numbers.{Octets}
 use Rattle.runs.specs.Runs.{Run, nthRun}
-use Rattle.runs.proofs.CompareLaws.{le-or-lt}
+use Rattle.runs.proofs.CompareLaws.{same-or}
 use Rattle.words.specs.Words.{wordAt, putWord, splicedRow}
 use Rattle.words.proofs.RowLaws.{splice-length, splice-after, put-length, put-at, put-other, put-after}
 use Rattle.transfer.specs.Transfers.{Transfer}
@@ -22,13 +22,6 @@ use Rattle.area.proofs.StoredLaws.{stored-is}
 use Rattle.area_record.specs.Record.{runsAfter, splicedArea}
 use Rattle.area_record.proofs.SplicedRowLaws.{spliced, spliced-length, row-new, row-off}
 use Rattle.area_record.proofs.OverlayLaws.{kept-words}
-
-same-or : (a b : ℕ) → (a ≡ b) ⊎ (a ≡ b → ⊥)
-same-or a b =
-    ⊎-elim
-    (λ (p : a ≤ b). ⊎-elim (λ (q : b ≤ a). inl (omega arith)) (λ (q : a < b). inr (λ e. omega arith)) (le-or-lt b a))
-    (λ (p : b < a). inr (λ e. omega arith))
-    (le-or-lt a b)
 
 -- ---- the area after the changes
 

@@ -2,20 +2,17 @@
 -- Assumes nothing.
 use Prim.Native.Nat.{ℕ}
 use mathlib.Core.Path.{_≡_, sym, _∙_}
-use mathlib.Core.Bool.{Bool, true, false, cond, _||_}
+use mathlib.Core.Bool.{Bool, true, false}
 use mathlib.Core.List.{List}
 use mathlib.Core.Option.{none, some}
-use Rattle.octets.specs.Put.{put}
 use Rattle.refusals.specs.Refusals.{refusalOf}
 use Rattle.refusals.specs.declared.Written.{Written}
 use Rattle.refusals.specs.declared.Written.the-variants.{Refused}
-use Rattle.runs.specs.Runs.{Run}
-use Rattle.runs.specs.Holes.{edge, progress, complete}
 use Rattle.run_rows.specs.Rows.{runsIn}
 use Rattle.run_rows.specs.declared.Rows.{Rows}
 use Rattle.transfer.specs.declared.Key.{Key}
 use Rattle.transfer.specs.Transfers.{Transfer}
-use Rattle.transfer.specs.WriteStatus.{statusFlags, statusFields, lastOffset, responseSent, transferWritten, transferBuffer}
+use Rattle.transfer.specs.WriteStatus.{transferWritten, transferBuffer}
 use Rattle.table.specs.WriteStatus.{writtenFor, bufferFor, statusWritten, statusBuffer}
 use Rattle.table.proofs.StatusWritten.{status-twelve}
 use Rattle.area.specs.Places.{keyAt, rowsAt, readTable, placeIn}
@@ -26,15 +23,6 @@ use Rattle.area.proofs.JudgeLaws.{judged-passed}
 use Rattle.area.proofs.OperationLaws.{from-held, from-judged}
 use Rattle.area.proofs.KeptLaws.{place-free, free-missing}
 use Rattle.area_status.proofs.UsedLaws.{key-found, runs-found}
-
--- the fields before the holes, by what the rows say
-pub front-put : (key : Key) (rs : List Run) (partial unasked done told : Bool) (from end to : ℕ) (old x : List ℕ)
-    → done ≡ complete (key .length) rs → told ≡ (unasked || done) → from ≡ progress rs → end ≡ edge rs
-    → to ≡ cond done (lastOffset (key .length)) end
-    → x ≡ put 0 (statusFields (statusFlags (key .width) partial told) (key .id) (key .width) from to) old
-    → x ≡ put 0 (statusFields (statusFlags (key .width) partial (unasked || complete (key .length) rs)) (key .id) (key .width) (progress rs) (responseSent (key .length) rs)) old
-unfolding responseSent
-front-put key rs partial unasked done told from end to old x d t f e r g = g ∙ rw (r, t, d, f, e)
 
 module _ (a : List ℕ) (id k : ℕ) (unasked : Bool) (old : List ℕ) where
   -- the answer and the buffer of an area that holds t are those of t: what table's laws say of them, holds of the area's

@@ -1,7 +1,8 @@
 -- Two numbers compared.
 -- Assumes nothing.
 use Prim.Native.Nat.{ℕ, _≤_, _<_}
-use mathlib.Core.Logic.{_⊎_, inl, inr}
+use mathlib.Core.Path.{_≡_}
+use mathlib.Core.Logic.{_⊎_, inl, inr, ⊎-elim}
 use native.Mathlib.Decide.{decLe}
 use native.Mathlib.Omega.{arith}
 
@@ -11,3 +12,10 @@ le-or-lt a b = go (decLe a b)
     go : Dec (a ≤ b) → (a ≤ b) ⊎ (b < a)
     go (yes h) = inl h
     go (no h) = inr (omega arith)
+
+pub same-or : (a b : ℕ) → (a ≡ b) ⊎ (a ≡ b → ⊥)
+same-or a b =
+    ⊎-elim
+    (λ (p : a ≤ b). ⊎-elim (λ (q : b ≤ a). inl (omega arith)) (λ (q : a < b). inr (λ e. omega arith)) (le-or-lt b a))
+    (λ (p : b < a). inr (λ e. omega arith))
+    (le-or-lt a b)

@@ -1,12 +1,14 @@
 -- The edge is one more than the highest member, and 0 exactly when there is none.
 -- Assumes nothing.
-use Prim.Native.Nat.{ℕ, zero, suc, _-_, _≤_, _<_}
+use Prim.Native.Nat.{ℕ, zero, suc, _-_, _≤_, _<_, max}
 use mathlib.Core.Path.{_≡_, refl}
 use mathlib.Core.List.{List, [], _∷_}
 use mathlib.Core.Logic.{_⊎_, inl, inr, ⊎-elim, _↔_}
 use native.Mathlib.Omega.{arith}
-use Rattle.runs.specs.Runs.{Run, Member, CanonicalFrom, Canonical, StopsTo}
+use Rattle.runs.specs.Runs.{Run, Member, CanonicalFrom, Canonical, StopsTo, insert}
 use Rattle.runs.specs.Holes.{edgeFrom, edge}
+use Rattle.runs.proofs.CompareLaws.{le-or-lt}
+use Rattle.runs.proofs.InsertLaws.{insert-holds, insert-only, insert-canonical}
 
 -- the offset just below the edge is a member, or there is no run
 edge-last : (j k : ℕ) (rs : List Run) (x : ℕ) → CanonicalFrom k rs → edgeFrom j rs ≡ suc x → (j ≡ suc x) ⊎ Member rs x
@@ -59,3 +61,20 @@ edge-stops-from L k (r ∷ rs) p s = edge-stops-from L (r .stop) rs (s .0) (s .1
 
 pub edge-stops : (L : ℕ) (rs : List Run) → StopsTo L rs → edge rs ≤ L
 edge-stops L rs s = edge-stops-from L 0 rs (omega arith) s
+
+-- an insertion moves the edge up to its stop, or leaves it
+pub edge-inserted : (a b : ℕ) (rs : List Run) → a < b → Canonical rs → edge (insert a b rs) ≡ max (edge rs) b
+edge-inserted a b rs p h =
+    let c = insert-canonical a b rs p h in
+    ⊎-elim
+    (λ (q : edge rs ≤ b).
+    let e : edge (insert a b rs) ≡ suc (b - 1) = edge-highest (insert a b rs) (b - 1) c .1 (
+      insert-holds a b rs (b - 1) (inl (omega arith)),
+      λ y m. ⊎-elim (λ w. omega arith) (λ m. omega (arith, edge-above rs y h m)) (insert-only a b rs y m),
+    ) in omega arith)
+    (λ (q : b < edge rs).
+    let e : edge (insert a b rs) ≡ suc (edge rs - 1) = edge-highest (insert a b rs) (edge rs - 1) c .1 (
+      insert-holds a b rs (edge rs - 1) (inr (edge-member rs (edge rs - 1) h (omega arith))),
+      λ y m. ⊎-elim (λ w. omega arith) (λ m. omega (arith, edge-above rs y h m)) (insert-only a b rs y m),
+    ) in omega arith)
+    (le-or-lt (edge rs) b)

@@ -3,3 +3,4 @@ pub mod Answers
 pub mod TableAnswers
 pub mod Reported
 pub mod PlanAnswers
+pub mod BitmapAnswers

@@ -54,7 +54,7 @@ pub struct ListedAnswer {
 }
 
 // 1 for yes, 0 for no.
-fn one_if(yes: bool) -> u64
+pub fn one_if(yes: bool) -> u64
     ensures { λ r. ⌜ r ≡ bit yes ⌝ }
 {
     if yes { 1 } else { 0 }
@@ -100,7 +100,7 @@ fn opened_answer(a: Opened) -> OpenedAnswer
     }
 }
 
-fn recorded_answer(a: Recorded) -> RecordedAnswer
+pub fn recorded_answer(a: Recorded) -> RecordedAnswer
     ensures { λ r. ⌜ r ≡ recordedAnswer a ⌝ }
 {
     match a {

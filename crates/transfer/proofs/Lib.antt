@@ -10,3 +10,4 @@ pub mod StatusReads
 pub mod StatusSays
 pub mod StatusPuts
 pub mod StatusWriter
+pub mod LengthLaws

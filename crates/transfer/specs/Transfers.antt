@@ -2,10 +2,11 @@
 -- Assumes nothing.
 use Prim.Native.Nat.{ℕ, suc, _^_, _≤_, _<_}
 use mathlib.Core.Path.{_≡_}
-use mathlib.Core.Bool.{true}
+use mathlib.Core.Bool.{Bool, true, false, cond}
 use mathlib.Core.List.{List, []}
 use mathlib.Core.Logic.{_↔_}
 use lib.ListN.{length}
+use lib.Dec.{ltb, eqb}
 use Rattle.octets.specs.Numbers.{Width}
 use Rattle.packet_metadata.specs.declared.Metadata.{Metadata}
 use Rattle.runs.specs.Runs.{Run, Member, Canonical, StopsTo}
@@ -16,6 +17,12 @@ use Rattle.transfer.specs.declared.Reached.{Reached}
 -- "The size is the transfer's length L", "at width w": what METADATA opens
 abbrev pub keyOf : Metadata → Key
 keyOf m = record { id = m .id; width = m .width; length = m .entry .size }
+
+-- a width and a length that an opening takes: the width is one of the four, and the length fits it and 64 bits
+unfoldable pub lengthTest : ℕ → ℕ → Bool
+lengthTest width length =
+    cond (eqb width 2) (ltb length (256 ^ 2))
+    (cond (eqb width 4) (ltb length (256 ^ 4)) (cond (eqb width 8) (ltb length (256 ^ 8)) (cond (eqb width 16) (ltb length (2 ^ 64)) false)))
 
 -- a transfer: its key, and the received offsets as their canonical list of runs
 pub record Transfer : Type 0 where

@@ -1,7 +1,8 @@
 // One transfer: its key, what a packet's fields are refused with, and the fields of its STATUS. The received offsets stay
 // where they are kept; specs/ says what becomes of them.
 ghost use mathlib.Core.Path.{_≡_};
-ghost use Rattle.transfer.specs.Transfers.{keyOf};
+ghost use mathlib.Core.List.{[]};
+ghost use Rattle.transfer.specs.Transfers.{keyOf, lengthTest, reached};
 ghost use Rattle.transfer.specs.Record.{keyRefusal};
 use packet_data::Data;
 use packet_metadata::Metadata;
@@ -36,6 +37,32 @@ pub fn key_of(m: Metadata) -> Key
         width: m.width,
         length: m.entry.size,
     }
+}
+
+// How far a transfer has come that was just opened.
+pub fn reached_new(key: Key) -> Reached
+    ensures { λ r. ⌜ r ≡ reached key [] ⌝ }
+{
+    Reached {
+        edge: 0,
+        complete: key.length == 0,
+    }
+}
+
+// Whether an opening takes this width and length: the width is one of the four, and the length fits it.
+pub fn length_ok(width: u64, length: u64) -> bool
+    ensures { λ r. ⌜ r ≡ lengthTest width length ⌝ }
+{
+    if width == 2 {
+        return length < 65536;
+    }
+    if width == 4 {
+        return length < 4294967296;
+    }
+    if width == 8 {
+        return true;
+    }
+    width == 16
 }
 
 // 13, 14 and 15 for DATA of a transfer with this key; 0 for none. No sum is made that could wrap.

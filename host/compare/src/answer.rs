@@ -1,5 +1,7 @@
 //! The answers as include/saratoga.h lays them out. On refusal all but `number` and `code` is 0.
 
+/// `struct saratoga_bitmap`
+pub use paper::bitmap::Bitmap;
 use paper::layout::Willingness;
 /// `struct saratoga_piece`
 pub use paper::plan::Piece;
@@ -113,6 +115,25 @@ pub struct Recorded {
     pub absorbed: u64,
 }
 
+/// `struct saratoga_bitmap_opened`
+#[repr(C)]
+#[derive(Clone, Copy, Debug, Default, PartialEq, Eq)]
+pub struct BitmapOpened {
+    pub number: u64,
+    pub code: u64,
+    pub edge: u64,
+    pub complete: u64,
+    pub transfer: Bitmap,
+}
+
+/// `struct saratoga_bitmap_recorded`: the fields of `struct saratoga_recorded`, then the transfer, on refusal too.
+#[repr(C)]
+#[derive(Clone, Copy, Debug, Default, PartialEq, Eq)]
+pub struct BitmapRecorded {
+    pub recorded: Recorded,
+    pub transfer: Bitmap,
+}
+
 /// `struct saratoga_listed`
 #[repr(C)]
 #[derive(Clone, Copy, Debug, Default, PartialEq, Eq)]
@@ -178,6 +199,17 @@ impl From<Result<table::Recorded, Refusal>> for Recorded {
                 ..Recorded::default()
             },
             Err(refusal) => Recorded { number: refusal.number(), code: refusal.code(), ..Recorded::default() },
+        }
+    }
+}
+
+impl From<Result<(Bitmap, table::State), Refusal>> for BitmapOpened {
+    fn from(answer: Result<(Bitmap, table::State), Refusal>) -> BitmapOpened {
+        match answer {
+            Ok((transfer, state)) => {
+                BitmapOpened { edge: state.edge, complete: state.complete.into(), transfer, ..BitmapOpened::default() }
+            }
+            Err(refusal) => BitmapOpened { number: refusal.number(), code: refusal.code(), ..BitmapOpened::default() },
         }
     }
 }

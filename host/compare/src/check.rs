@@ -6,6 +6,7 @@ use std::time::Instant;
 use paper::write::{BeaconFields, DataFields, MetadataFields};
 
 use crate::answer::{Hole, Packet, Written};
+use crate::bitmap::BitmapReceiver;
 use crate::codec::{Codec, Paper};
 use crate::lent::Lent;
 use crate::plan::Planner;
@@ -24,12 +25,13 @@ pub enum Stop {
 
 pub type Step = Result<(), Stop>;
 
-/// A codec, a receiver and a planner under test, with the counts of the run.
+/// A codec, a receiver with a table and one with marks, and a planner under test, with the counts of the run.
 pub struct Check<'a> {
-    codec: &'a dyn Codec,
+    pub codec: &'a dyn Codec,
     pub receiver: &'a dyn Receiver,
+    pub bitmaps: &'a dyn BitmapReceiver,
     pub planner: &'a dyn Planner,
-    /// The receiver's calls aren't compared with the paper's: what they do is judged by the caller alone.
+    /// The receivers' calls aren't compared with the paper's: what they do is judged by the caller alone.
     pub alone: bool,
     pub rng: Rng,
     pub tally: Tally,
@@ -41,11 +43,13 @@ pub struct Check<'a> {
 }
 
 impl<'a> Check<'a> {
-    pub fn new(codec: &'a dyn Codec, receiver: &'a dyn Receiver, planner: &'a dyn Planner, seed: u64) -> Check<'a> {
+    /// With the paper's own; those under test are put in their places.
+    pub fn new(seed: u64) -> Check<'a> {
         Check {
-            codec,
-            receiver,
-            planner,
+            codec: &Paper,
+            receiver: &Paper,
+            bitmaps: &Paper,
+            planner: &Paper,
             alone: false,
             rng: Rng::new(seed),
             tally: Tally::default(),

@@ -1,4 +1,4 @@
-//! The archive's functions: the declarations of include/saratoga.h, and a codec, a receiver and a planner that call
+//! The archive's functions: the declarations of include/saratoga.h, and a codec, two receivers and a planner that call
 //! them. Nothing checks these against the header but host/ctest, which compiles it.
 
 use std::ptr::NonNull;
@@ -7,6 +7,10 @@ use paper::write::{BeaconFields, DataFields, MetadataFields};
 
 use crate::answer::{Hole, Packet, Written};
 use crate::codec::Codec;
+use crate::{
+    answer::{Bitmap, BitmapOpened, BitmapRecorded},
+    bitmap::BitmapReceiver,
+};
 use crate::{
     answer::{Checked, Piece, Planned},
     plan::Planner,
@@ -93,6 +97,26 @@ extern "C" {
     ) -> Checked;
 }
 
+extern "C" {
+    fn saratoga_bitmap_open(marks: *mut u8, marks_len: usize, packet: *const u8, packet_len: usize) -> BitmapOpened;
+    fn saratoga_bitmap_record(
+        transfer: Bitmap,
+        marks: *mut u8,
+        marks_len: usize,
+        packet: *const u8,
+        packet_len: usize,
+    ) -> BitmapRecorded;
+    fn saratoga_bitmap_status(
+        transfer: Bitmap,
+        marks: *const u8,
+        marks_len: usize,
+        skip: u64,
+        unasked: u64,
+        out: *mut u8,
+        out_len: usize,
+    ) -> Written;
+}
+
 /// The slice's start. An empty slice gets an address that nothing may be read from.
 fn start<T>(items: &[T]) -> *const T {
     match items {
@@ -108,7 +132,7 @@ fn start_mut<T>(items: &mut [T]) -> *mut T {
     }
 }
 
-/// The codec, the receiver and the planner in the archive.
+/// The codec, the receivers and the planner in the archive.
 pub struct Archive;
 
 // Each call is sound: a slice is valid for its length, and what is written is borrowed alone, so overlaps nothing.
@@ -216,5 +240,19 @@ impl Planner for Archive {
 
     fn check_plan(&self, status: &[u8], largest: u64, pieces: &[Piece]) -> Checked {
         unsafe { saratoga_check_plan(start(status), status.len(), largest, start(pieces), pieces.len()) }
+    }
+}
+
+impl BitmapReceiver for Archive {
+    fn bitmap_open(&self, marks: &mut [u8], packet: &[u8]) -> BitmapOpened {
+        unsafe { saratoga_bitmap_open(start_mut(marks), marks.len(), start(packet), packet.len()) }
+    }
+
+    fn bitmap_record(&self, transfer: Bitmap, marks: &mut [u8], packet: &[u8]) -> BitmapRecorded {
+        unsafe { saratoga_bitmap_record(transfer, start_mut(marks), marks.len(), start(packet), packet.len()) }
+    }
+
+    fn bitmap_status(&self, transfer: Bitmap, marks: &[u8], skip: u64, unasked: u64, out: &mut [u8]) -> Written {
+        unsafe { saratoga_bitmap_status(transfer, start(marks), marks.len(), skip, unasked, start_mut(out), out.len()) }
     }
 }

@@ -1,4 +1,4 @@
-//! Compares the archive libsaratoga.a with the codec, the receiver and the planner of host/paper: every field of every
+//! Compares the archive libsaratoga.a with the codec, the two receivers and the planner of host/paper: every field of every
 //! answer and every octet of every lent buffer, area and list, over many calls.
 
 #![deny(unsafe_code)]
@@ -7,6 +7,7 @@
 mod wrong_list;
 
 mod answer;
+mod bitmap;
 mod check;
 mod codec;
 mod faults;
@@ -36,15 +37,18 @@ use std::time::{Duration, Instant, SystemTime, UNIX_EPOCH};
 use run::End;
 
 const HELP: &str = "\
-compare: compares libsaratoga.a with a codec, a receiver and a planner written from the papers alone
+compare: compares libsaratoga.a with a codec, two receivers and a planner written from the papers alone
 
-usage: compare [--seed N] [--calls N] [--receiver-calls N] [--plan-calls N] [--seconds N] [--self-check] [--help]
+usage: compare [--seed N] [--calls N] [--receiver-calls N] [--plan-calls N] [--bitmap-calls N] [--seconds N] [--self-check]
+               [--help]
 
   --seed N             start the random numbers from N (else from the clock); the seed is printed
   --calls N            make N calls on packets, 3,000,000 unless given; each limit is always tried, in some 650,000
   --receiver-calls N   make N calls on areas, 1,000,000 unless given; each limit is always tried, in some 400,000
   --plan-calls N       make N calls on plans, 1,000,000 unless given; each limit is always tried, in some 510,000
-  --seconds N          make calls for N seconds instead, a quarter of the time on packets and a quarter on plans
+  --bitmap-calls N     make N calls on marks and the table beside them, 200,000 unless given; each limit is always tried,
+                       in some 20,000
+  --seconds N          make calls for N seconds instead, two fifths of the time on areas and one on each other kind
   --self-check         compare with codecs, receivers and planners that are wrong in one way each instead: each must be
                        found
   --help               print this
@@ -58,6 +62,7 @@ struct Options {
     calls: u64,
     receiver_calls: u64,
     plan_calls: u64,
+    bitmap_calls: u64,
     seconds: Option<u64>,
     self_check: bool,
 }
@@ -91,8 +96,8 @@ fn main() -> ExitCode {
 fn compare(options: &Options) -> Result<(), String> {
     let seed = options.seed;
     let start = Instant::now();
-    let end = |quarters: u32, calls: u64| match options.seconds {
-        Some(seconds) => End::at(start + Duration::from_secs(seconds) * quarters / 4),
+    let end = |fifths: u32, calls: u64| match options.seconds {
+        Some(seconds) => End::at(start + Duration::from_secs(seconds) * fifths / 5),
         None => End::after(calls),
     };
     let packets = run::packets(&ffi::Archive, seed, end(1, options.calls))?;
@@ -107,6 +112,10 @@ fn compare(options: &Options) -> Result<(), String> {
     println!("compare: {} calls on plans agree, seed {seed}", plans.calls);
     missing.extend(plans.tally.missing(2));
     tally = tally.with(&plans.tally);
+    let marks = run::bitmaps(&ffi::Archive, &ffi::Archive, seed, end(5, options.bitmap_calls))?;
+    println!("compare: {} calls on marks and the table beside them agree, seed {seed}", marks.calls);
+    missing.extend(marks.tally.missing(3));
+    tally = tally.with(&marks.tally);
     missing.extend(tally.never().into_iter().map(|number| format!("{number} from any function")));
     print!("{tally}");
     match missing.is_empty() {
@@ -129,6 +138,7 @@ fn options() -> Result<Option<Options>, String> {
         calls: 3_000_000,
         receiver_calls: 1_000_000,
         plan_calls: 1_000_000,
+        bitmap_calls: 200_000,
         seconds: None,
         self_check: false,
     };
@@ -143,6 +153,7 @@ fn options() -> Result<Option<Options>, String> {
             "--calls" => options.calls = number()?,
             "--receiver-calls" => options.receiver_calls = number()?,
             "--plan-calls" => options.plan_calls = number()?,
+            "--bitmap-calls" => options.bitmap_calls = number()?,
             "--seconds" => options.seconds = Some(number()?),
             "--self-check" => options.self_check = true,
             "--help" | "-h" => return Ok(None),

@@ -3,6 +3,7 @@
 use std::fmt::Debug;
 use std::time::Instant;
 
+use crate::bitmap::{self, BitmapReceiver};
 use crate::check::{Check, Step, Stop};
 use crate::codec::{Codec, Paper};
 use crate::plan::{self, Planner};
@@ -35,7 +36,7 @@ pub struct Agreed {
 
 /// Compares `codec` with the paper's.
 pub fn packets(codec: &dyn Codec, seed: u64, end: End) -> Result<Agreed, String> {
-    run(Check::new(codec, &Paper, &Paper, seed), seed, |check| {
+    run(Check { codec, ..Check::new(seed) }, seed, |check| {
         limits_write::run(check)?;
         limits::run(check)?;
         limits_width::run(check)?;
@@ -45,7 +46,7 @@ pub fn packets(codec: &dyn Codec, seed: u64, end: End) -> Result<Agreed, String>
 
 /// Compares `receiver` with the paper's. The STATUS that it writes is read by `codec`.
 pub fn receiver(codec: &dyn Codec, receiver: &dyn Receiver, seed: u64, end: End) -> Result<Agreed, String> {
-    run(Check::new(codec, receiver, &Paper, seed), seed, |check| {
+    run(Check { codec, receiver, ..Check::new(seed) }, seed, |check| {
         for _ in 0..50 {
             pass::case(check)?;
         }
@@ -58,17 +59,32 @@ pub fn receiver(codec: &dyn Codec, receiver: &dyn Receiver, seed: u64, end: End)
 
 /// Compares `planner` with the paper's.
 pub fn plans(planner: &dyn Planner, seed: u64, end: End) -> Result<Agreed, String> {
-    run(Check::new(&Paper, &Paper, planner, seed), seed, |check| {
+    run(Check { planner, ..Check::new(seed) }, seed, |check| {
         plan::limits::run(check)?;
         until(check, end, plan::cases::case)
     })
 }
 
+/// Compares `bitmaps` with the paper's, and holds both with `receiver`, which is compared too.
+pub fn bitmaps(receiver: &dyn Receiver, bitmaps: &dyn BitmapReceiver, seed: u64, end: End) -> Result<Agreed, String> {
+    run(Check { receiver, bitmaps, ..Check::new(seed) }, seed, |check| {
+        for _ in 0..20 {
+            bitmap::cases::case(check)?;
+        }
+        bitmap::limits_state::run(check)?;
+        bitmap::limits::run(check)?;
+        until(check, end, bitmap::cases::case)
+    })
+}
+
 /// Tries the two orders on `receiver`, without the paper's answers.
 fn orders_alone(receiver: &dyn Receiver, seed: u64, end: End) -> Result<Agreed, String> {
-    let mut check = Check::new(&Paper, receiver, &Paper, seed);
-    check.alone = true;
-    run(check, seed, |check| until(check, end, orders::trial))
+    run(Check { receiver, alone: true, ..Check::new(seed) }, seed, |check| until(check, end, orders::trial))
+}
+
+/// Holds `bitmaps` with the paper's table, without the paper's answers for marks.
+fn both_alone(bitmaps: &dyn BitmapReceiver, seed: u64, end: End) -> Result<Agreed, String> {
+    run(Check { bitmaps, alone: true, ..Check::new(seed) }, seed, |check| until(check, end, bitmap::both::trial))
 }
 
 fn run(mut check: Check, seed: u64, whole: impl FnOnce(&mut Check) -> Step) -> Result<Agreed, String> {
@@ -108,7 +124,13 @@ pub fn self_check(seed: u64, calls: u64) -> Result<usize, String> {
     for wrong in plan::wrong::ALL {
         found("planner", wrong, plans(wrong, seed, end), seed)?;
     }
-    Ok(wrong::ALL.len() + receiver::wrong::ALL.len() + plan::wrong::ALL.len())
+    for wrong in bitmap::wrong::ALL {
+        found("receiver with marks", wrong, bitmaps(&Paper, wrong, seed, end), seed)?;
+    }
+    for wrong in bitmap::wrong::BESIDE_THE_TABLE {
+        found("receiver with marks beside the table", wrong, both_alone(wrong, seed, end), seed)?;
+    }
+    Ok(wrong::ALL.len() + receiver::wrong::ALL.len() + plan::wrong::ALL.len() + bitmap::wrong::ALL.len())
 }
 
 fn found(what: &str, wrong: &dyn Debug, outcome: Result<Agreed, String>, seed: u64) -> Result<(), String> {

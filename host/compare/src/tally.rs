@@ -26,9 +26,12 @@ pub enum Function {
     Plan,
     PlanCount,
     CheckPlan,
+    BitmapOpen,
+    BitmapRecord,
+    BitmapStatus,
 }
 
-const COLUMNS: usize = 18;
+const COLUMNS: usize = 21;
 /// 0, accepted, to 26.
 const ROWS: usize = 27;
 /// The numbers of a refusal; 23 to 25 are none.
@@ -54,6 +57,9 @@ const NAMES: [(&str, &str); COLUMNS] = [
     ("saratoga_plan", "plan"),
     ("saratoga_plan_count", "plan_count"),
     ("saratoga_check_plan", "check_plan"),
+    ("saratoga_bitmap_open", "bm_open"),
+    ("saratoga_bitmap_record", "bm_record"),
+    ("saratoga_bitmap_status", "bm_status"),
 ];
 
 /// The conditions of a plan, as they are told of.
@@ -86,10 +92,13 @@ const CAN_OCCUR: [&[usize]; COLUMNS] = [
     &[0, 1, 2, 3, 4, 5, 11, 20, 21],
     &[0, 1, 2, 3, 4, 5, 11, 21],
     &[0, 1, 2, 3, 4, 5, 11, 21],
+    &[0, 1, 2, 3, 4, 5, 6, 7, 8, 9, 20],
+    &[0, 1, 2, 3, 4, 5, 6, 10, 12, 13, 14, 15, 16, 20, 22],
+    &[0, 12, 19, 20, 22],
 ];
 
-/// The functions of each comparison: those on packets, those on areas, those on plans.
-const PARTS: [Range<usize>; 3] = [0..6, 6..15, 15..COLUMNS];
+/// The functions of each comparison: those on packets, those on areas, those on plans, those on marks.
+const PARTS: [Range<usize>; 4] = [0..6, 6..15, 15..18, 18..COLUMNS];
 const ON_PLANS: usize = 2;
 
 #[derive(Clone, Default)]

@@ -1,7 +1,7 @@
 //! The comparisons themselves: they find every wrong codec, receiver and planner, and agree with right ones.
 
 use crate::codec::Paper;
-use crate::run::{packets, plans, receiver, self_check, End};
+use crate::run::{bitmaps, packets, plans, receiver, self_check, End};
 
 #[test]
 fn wrong_ones_are_found() {
@@ -20,4 +20,7 @@ fn the_paper_agrees_with_itself() {
     let plans = plans(&Paper, 1, End::after(700_000)).unwrap_or_else(|what| panic!("{what}"));
     assert_eq!(plans.tally.missing(2), Vec::<String>::new());
     assert!(plans.calls >= 700_000);
+    let marks = bitmaps(&Paper, &Paper, 1, End::after(40_000)).unwrap_or_else(|what| panic!("{what}"));
+    assert_eq!(marks.tally.missing(3), Vec::<String>::new());
+    assert!(marks.calls >= 40_000);
 }

@@ -1,10 +1,11 @@
-//! A second codec, a second receiver and a second planner for Saratoga, written from the papers alone and for plainness, not
-//! speed. The archive is compared with them. Words in quotes are those of documents 01 and 02; "section" is the Saratoga draft,
-//! version 09.
+//! A second codec, two receivers (with a table, and with marks) and a second planner for Saratoga, written from the papers
+//! alone and for plainness, not speed. The archive is compared with them. Words in quotes are those of documents 01 and 02;
+//! "section" is the Saratoga draft, version 09.
 
 #![forbid(unsafe_code)]
 
 pub mod area;
+pub mod bitmap;
 pub mod layout;
 pub mod marks;
 pub mod plan;

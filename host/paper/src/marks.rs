@@ -1,5 +1,5 @@
-//! The same set as in received.rs, for small files, with one flag for each octet: each answer is read off the flags as
-//! document 01 words it. The tests hold the two against each other.
+//! A set of received offsets with one flag for each octet of the file: each answer is found by walking the flags, as document 01
+//! words it. The tests hold it against received.rs, which keeps runs; bitmap.rs is the receiver over it.
 
 #[derive(Clone, Debug)]
 pub struct Marks {
@@ -11,6 +11,18 @@ impl Marks {
     /// Nothing received of `length` octets.
     pub fn new(length: usize) -> Marks {
         Marks { received: vec![false; length] }
+    }
+
+    /// "mark n is its bit n, set once received", and "Bit 0 is the highest bit of the first octet".
+    pub fn of(octets: &[u8]) -> Marks {
+        let marked = |n: usize| octets[n / 8] & (0x80 >> (n % 8)) != 0;
+        Marks { received: (0..8 * octets.len()).map(marked).collect() }
+    }
+
+    /// Those of the first `length` offsets, and those of the offsets from there on.
+    pub fn split(mut self, length: usize) -> (Marks, Marks) {
+        let above = self.received.split_off(length);
+        (self, Marks { received: above })
     }
 
     /// "adds the offsets from offset to offset + payload length - 1"
@@ -46,11 +58,18 @@ impl Marks {
         self.received.iter().all(|&received| received)
     }
 
-    /// The longest unbroken stretches of one kind below `end`.
+    /// The longest unbroken stretches of one kind below `end`: from the first offset of the kind to the next of the other.
     fn stretches(&self, kind: bool, end: usize) -> Vec<(u64, u64)> {
-        let is = |offset: usize| offset < end && self.received[offset] == kind;
-        let first = |&offset: &usize| is(offset) && (offset == 0 || !is(offset - 1));
-        let after = |start: usize| (start..).find(|&offset| !is(offset)).expect("all end");
-        (0..end).filter(first).map(|start| (start as u64, after(start) as u64)).collect()
+        let next = |kind: bool, from: usize| {
+            self.received[from..end].iter().position(|&received| received == kind).map_or(end, |more| from + more)
+        };
+        let mut stretches = vec![];
+        let mut start = next(kind, 0);
+        while start < end {
+            let stop = next(!kind, start);
+            stretches.push((start as u64, stop as u64));
+            start = next(kind, stop);
+        }
+        stretches
     }
 }

@@ -4,7 +4,7 @@
 use std::collections::BTreeMap;
 
 use crate::layout::{end_of_data, DATA, METADATA};
-use crate::read::{read_types, Hole, Packet};
+use crate::read::{read_types, Data, Hole, Packet};
 use crate::received::Received;
 use crate::refusal::Refusal;
 
@@ -66,6 +66,22 @@ impl Transfer {
     }
 }
 
+/// The stretch of offsets that DATA brings to a transfer of this width and length: 13, 14, 15.
+pub fn stretch(data: &Data, width: usize, length: u64) -> Result<(u64, u64), Refusal> {
+    if data.width != width {
+        return Err(Refusal::OtherWidth);
+    }
+    // "no wrapped sum": in numbers of 128 bits.
+    let end = u128::from(data.offset) + data.payload.len() as u128;
+    if end > u128::from(length) {
+        return Err(Refusal::PastEnd);
+    }
+    if end_of_data(data.header.flags) && end != u128::from(length) {
+        return Err(Refusal::EarlyEnd);
+    }
+    Ok((data.offset, end as u64))
+}
+
 impl Table {
     /// "**Opening** by METADATA starts with nothing received, at width w." "Opening: the reader's, then 18, 17."
     pub fn open(&mut self, packet: &[u8]) -> Result<Opened, Refusal> {
@@ -94,25 +110,14 @@ impl Table {
     pub fn record(&mut self, packet: &[u8]) -> Result<Recorded, Refusal> {
         let Packet::Data(data) = read_types(packet, &[DATA])? else { unreachable!("only DATA is taken") };
         let transfer = self.transfers.get_mut(&data.header.id).ok_or(Refusal::NotOpen)?;
-        if data.width != transfer.width {
-            return Err(Refusal::OtherWidth);
-        }
-        // "no wrapped sum": in numbers of 128 bits.
-        let end = u128::from(data.offset) + data.payload.len() as u128;
-        let length = u128::from(transfer.length);
-        if end > length {
-            return Err(Refusal::PastEnd);
-        }
-        if end_of_data(data.header.flags) && end != length {
-            return Err(Refusal::EarlyEnd);
-        }
+        let (start, end) = stretch(&data, transfer.width, transfer.length)?;
         // "the received set would have more than 64 runs"
         let mut received = transfer.received.clone();
-        received.add(data.offset, end as u64);
+        received.add(start, end);
         if received.run_count() > MAX_RUNS {
             return Err(Refusal::Runs);
         }
-        let absorbed = transfer.received.absorbed(data.offset, end as u64);
+        let absorbed = transfer.received.absorbed(start, end);
         transfer.received = received;
         Ok(Recorded { state: transfer.state(), absorbed })
     }

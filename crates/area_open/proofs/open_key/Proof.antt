@@ -2,7 +2,7 @@
 -- Assumes nothing.
 use native.Mathlib.Omega.{arith}
 use borrow.Author.Needs.{needs}
-use mathlib.Core.Path.{refl, sym, ap, _∙_}
+use mathlib.Core.Path.{sym, ap, _∙_}
 use denote.Ref.{now}
 use Rattle.table.specs.Outcome.{Outcome}
 use Rattle.table.specs.declared.Opened.{Opened}
@@ -13,7 +13,7 @@ use Rattle.area.proofs.PlaceLaws.{read-holds}
 use Rattle.area.proofs.JudgeLaws.{judged-passed}
 use Rattle.area.proofs.FindLaws.{place-le}
 use Rattle.area.proofs.KeptLaws.{place-open, place-free, kept-area}
-use Rattle.area_open.proofs.OpenLaws.{met-table, open-full, open-new, reached-new}
+use Rattle.area_open.proofs.OpenLaws.{met-table, open-full, open-new}
 use Rattle.area_open.proofs.open_key.Statement.{statement}
 use Rattle.area_open.proofs.open_key.Tie as tie
 
@@ -68,6 +68,9 @@ insert-at-requires c κs =
     let h = place-free (s .args .key .id) (readTable a) (f .find-place .result) (f .find-place .ensures) (c .before .before .before .before .if1 .left) in
     (s .pre, omega (arith, place-le (h .place)), omega (arith, c .before .before .open-count .ensures, read-holds a .count))
 
+reached-new-requires : tie.Need-reached-new-requires
+reached-new-requires c κs = search needs
+
 same-length-3 : tie.Need-same-length-3
 same-length-3 c = search needs
 
@@ -80,7 +83,7 @@ returns-3 c =
     let h = place-free (s .args .key .id) (readTable a) (f .find-place .result) (f .find-place .ensures) (r .before .before .before .before .before .if1 .left) in
     let m = r .before .before .before .open-count in
     let e = open-new (readTable a) (s .args .key) _ h (judged-passed a (s .pre) .1 .fine) (omega (arith, m .ensures, read-holds a .count)) in (
-      ap opened.New (reached-new (s .args .key) _ refl) ∙ sym (ap (λ (o : Outcome Opened). o .answer) e),
+      ap opened.New (c .reached-new .ensures) ∙ sym (ap (λ (o : Outcome Opened). o .answer) e),
       r .insert-at .ensures ∙ sym (ap (λ (o : Outcome Opened). storedIn a (o .table)) e),
     )
 
@@ -97,5 +100,6 @@ open-key-spec =
     same-length-2
     returns-2
     insert-at-requires
+    reached-new-requires
     same-length-3
     returns-3)

@@ -2,6 +2,8 @@
 
 use std::fmt::Debug;
 
+use paper::status::in_response_to;
+
 use crate::answer::{Done, Hole, Listed, Opened, Packet, Recorded, Written};
 use crate::check::{describe_packet, require, same_answer, same_octets, Check, Step, Stop};
 use crate::lent::Lent;
@@ -163,7 +165,7 @@ impl Check<'_> {
             width: d as u64,
             timestamp_at: 8,
             progress: transfer.received.lowest_missing(),
-            in_response_to: transfer.in_response_to(),
+            in_response_to: in_response_to(transfer.state(), transfer.length),
             holes_at: holes_at as u64,
             hole_count: written as u64,
             ..Packet::default()

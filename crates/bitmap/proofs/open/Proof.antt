@@ -1,0 +1,94 @@
+-- `bitmap::open` meets its contract: 20, the reader's, 9, and then every mark is cleared.
+-- Assumes nothing.
+use mathlib.Core.Path.{_≡_, ap, _∙_}
+use native.Mathlib.Omega.{arith}
+use borrow.Author.Needs.{needs}
+use denote.Ref.{now}
+use Rattle.packet_metadata.specs.declared.Metadata.{Metadata}
+use Rattle.packet_metadata.specs.Metadata.{metadataOf, metadataRefusal}
+use Rattle.transfer.specs.Transfers.{keyOf}
+use Rattle.bitmap.proofs.OpenLaws.{open-short, open-unread, open-long, open-new}
+use Rattle.bitmap.proofs.open.Statement.{statement}
+use Rattle.bitmap.proofs.open.Tie as tie
+
+refuse-requires : tie.Need-refuse-requires
+refuse-requires c κs = search needs
+
+returns : tie.Need-returns
+returns c =
+    let a = c .before .before .before .before .args in
+    let k = open-short (now (a .marks)) (now (a .packet)) (omega arith) in
+    (rw (c .refuse .ensures) (k .0), k .1)
+
+metadata-refusal-requires : tie.Need-metadata-refusal-requires
+metadata-refusal-requires c κs = search needs
+
+refuse-requires-2 : tie.Need-refuse-requires-2
+refuse-requires-2 c κs = search needs
+
+returns-2 : tie.Need-returns-2
+returns-2 c =
+    let m = c .before .before in
+    let a = m .before .before .before .before .args in
+    let k = open-unread (now (a .marks)) (now (a .packet)) (omega arith) (m .metadata-refusal .result) (m .metadata-refusal .ensures) (λ z. omega arith) in
+    (rw (c .refuse2 .ensures) (k .0), k .1)
+
+metadata-fields-requires : tie.Need-metadata-fields-requires
+metadata-fields-requires c κs = search needs
+
+key-of-requires : tie.Need-key-of-requires
+key-of-requires c κs = search needs
+
+-- the packet is METADATA, and the key is what it opens
+read : (c : tie.Else2) → metadataRefusal (now (c .before .before .before .before .before .args .packet)) ≡ 0
+read c = omega (arith, c .before .metadata-refusal .ensures)
+
+key-is : (c : tie.After-key-of) → c .key-of .result ≡ keyOf (metadataOf (now (c .before .before .before .before .before .before .before .args .packet)))
+key-is c = c .key-of .ensures ∙ ap (λ (m : Metadata). keyOf m) (c .before .metadata-fields .ensures)
+
+refuse-requires-3 : tie.Need-refuse-requires-3
+refuse-requires-3 c κs = search needs
+
+returns-3 : tie.Need-returns-3
+returns-3 c =
+    let k = c .before .before .before in
+    let e = k .before .before in
+    let a = e .before .before .before .before .before .args in
+    let x = open-long (now (a .marks)) (now (a .packet)) (omega arith) (read e) (k .key-of .result) (key-is k) (omega arith) in
+    (rw (c .refuse3 .ensures) (x .0), x .1)
+
+clear-requires : tie.Need-clear-requires
+clear-requires c κs = search needs
+
+reached-new-requires : tie.Need-reached-new-requires
+reached-new-requires c κs = search needs
+
+same-length : tie.Need-same-length
+same-length c = search needs
+
+returns-4 : tie.Need-returns-4
+returns-4 c =
+    let l = c .before .before .before in
+    let k = l .before .before .before .before in
+    let e = k .before .before in
+    let a = e .before .before .before .before .before .args in
+    open-new (now (a .marks)) (now (a .packet)) (omega arith) (read e) (k .key-of .result) (key-is k) (omega arith) (c .reached-new .result) _
+    (c .reached-new .ensures) (l .clear .ensures)
+
+pub open-spec : {M : Type 1} → statement M
+open-spec =
+    tie.close
+    (tie.spec
+    refuse-requires
+    returns
+    metadata-refusal-requires
+    refuse-requires-2
+    returns-2
+    metadata-fields-requires
+    key-of-requires
+    refuse-requires-3
+    returns-3
+    clear-requires
+    reached-new-requires
+    same-length
+    returns-4)

@@ -1,0 +1,5 @@
+pub mod State
+pub mod Open
+pub mod Record
+pub mod WriteStatus
+pub mod Judged

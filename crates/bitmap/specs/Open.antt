@@ -1,0 +1,25 @@
+-- Opening by METADATA: "Opening always starts anew; Id, w and L travel as a record by value".
+-- Assumes nothing.
+use Prim.Native.Nat.{ℕ, zero, suc}
+use mathlib.Core.List.{List, []}
+use lib.Dec.{ltb}
+use Rattle.refusals.specs.Refusals.{_▹_, when, refusalOf}
+use Rattle.packet_metadata.specs.Metadata.{metadataRefusal, metadataOf}
+use Rattle.transfer.specs.declared.Key.{Key}
+use Rattle.transfer.specs.Transfers.{keyOf, reached}
+use Rattle.marks.specs.Marks.{cleared}
+use Rattle.bitmap.specs.State.{Left, longest, marksRefusal}
+use Rattle.bitmap.specs.declared.Opened.{Opened}
+use Rattle.bitmap.specs.declared.Opened.the-variants.{New, Refused}
+
+-- 20, the reader's, and 9: "L up to 65,535 (above that, refusal 9 at opening)"
+unfoldable pub openRefusal : List ℕ → List ℕ → ℕ
+openRefusal s packet = marksRefusal s ▹ metadataRefusal packet ▹ when (ltb longest (keyOf (metadataOf packet) .length)) 9
+
+-- nothing is received then, whatever was marked before
+unfoldable pub openAs : ℕ → List ℕ → Key → Left Opened
+openAs zero s k = record { answer = New (record { key = k; reached = reached k [] }); marks = cleared s }
+openAs (suc n) s k = record { answer = Refused (refusalOf (suc n)); marks = s }
+
+unfoldable pub openMarks : List ℕ → List ℕ → Left Opened
+openMarks s packet = openAs (openRefusal s packet) s (keyOf (metadataOf packet))

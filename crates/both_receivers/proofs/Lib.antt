@@ -1,0 +1,4 @@
+pub mod RecordLaws
+pub mod OpenLaws
+pub mod BothReceivers
+pub mod Example

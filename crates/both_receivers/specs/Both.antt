@@ -1,0 +1,85 @@
+-- Document 02, Seven: "over any sequence of recordings from an opening that both accept as new, none of them for another transfer of
+-- the desk, both give equal answers, swallowed counts included, and equal STATUS bytes for that Id, every k and every room". The one
+-- receiver keeps a table in an area (area: Operations), the other one mark for each octet (bitmap: Open, Record, WriteStatus).
+-- Assumes nothing.
+use Prim.Native.Nat.{ℕ}
+use mathlib.Core.Path.{_≡_}
+use mathlib.Core.Bool.{Bool}
+use mathlib.Core.List.{List, [], _∷_}
+use mathlib.Core.Option.{some}
+use lib.ListN.{take}
+use Rattle.octets.specs.Numbers.{Octets}
+use Rattle.packet_data.specs.Data.{readData}
+use Rattle.packet_data.specs.declared.Data.{Data}
+use Rattle.packet_data.specs.declared.DataRead.the-variants as data-read
+use Rattle.transfer.specs.declared.Key.{Key}
+use Rattle.transfer.specs.declared.Reached.{Reached}
+use Rattle.transfer.specs.Transfers.{Transfer}
+use Rattle.table.specs.Tables.{keys, find}
+use Rattle.table.specs.declared.Opened.the-variants as in-table
+use Rattle.table.specs.declared.Recorded.{Recorded}
+use Rattle.area.specs.Judge.{tableOf}
+use Rattle.area.specs.Operations.{openArea, recordArea, areaStatusWritten, areaStatusBuffer}
+use Rattle.bitmap.specs.Open.{openMarks}
+use Rattle.bitmap.specs.Record.{recordMarks}
+use Rattle.bitmap.specs.WriteStatus.{marksWritten, marksBuffer}
+use Rattle.bitmap.specs.declared.Opening.{Opening}
+use Rattle.bitmap.specs.declared.Opened.the-variants as by-marks
+
+-- ---- a sequence of recordings
+
+-- one recording, on an area, and on marks with the record k: what it answers, and the octets that it leaves
+abbrev pub onArea : List ℕ → List ℕ → Recorded × List ℕ
+onArea a packet = let o = recordArea a packet in (o .answer, o .area)
+
+abbrev pub onMarks : Key → List ℕ → List ℕ → Recorded × List ℕ
+onMarks k s packet = let o = recordMarks k s packet in (o .answer, o .marks)
+
+-- packets with any octets, each recorded in what the call before it left
+module _ (recorded : List ℕ → List ℕ → Recorded × List ℕ) where
+  -- the answers, call by call: a refusal's number and code, or the edge, whether the transfer is complete, and the runs absorbed
+  unfoldable pub answers : List ℕ → List (List ℕ) → List Recorded
+  answers l [] = []
+  answers l (p ∷ ps) = recorded l p .0 ∷ answers (recorded l p .1) ps
+
+  -- what the last of them leaves
+  unfoldable pub after : List ℕ → List (List ℕ) → List ℕ
+  after l [] = l
+  after l (p ∷ ps) = after (recorded l p .1) ps
+
+-- ---- "none of them for another transfer of the desk"
+
+-- the Id i is open in the table that the area holds
+abbrev pub OpenIn : List ℕ → ℕ → Type 0
+OpenIn a i = (t : List Transfer) × (k : Key) × (tableOf a ≡ some t) × (find i (keys t) ≡ some k)
+
+-- a packet that reads as DATA of an open Id is of the Id i. Any other packet may come: one that doesn't read as DATA, and DATA of an
+-- Id that is not open
+abbrev pub ForNoOther : List ℕ → ℕ → List ℕ → Type 0
+ForNoOther a i packet = (d : Data) → readData packet ≡ data-read.Accepted d → OpenIn a (d .id) → d .id ≡ i
+
+abbrev pub NoneForAnother : List ℕ → ℕ → List (List ℕ) → Type 0
+NoneForAnother a i [] = Unit
+NoneForAnother a i (p ∷ ps) = ForNoOther a i p × NoneForAnother a i ps
+
+-- ---- both receivers
+
+-- "equal STATUS bytes for that Id, every k and every room": the same answer, and the same octets in the buffer, whatever it held
+pub record SameStatus (a : List ℕ) (k : Key) (s : List ℕ) : Type 0 where
+  pub same-answer : (skip : ℕ) (unasked : Bool) (buffer : List ℕ)
+      → areaStatusWritten a (k .id) skip unasked buffer ≡ marksWritten k s skip unasked buffer
+  pub same-buffer : (skip : ℕ) (unasked : Bool) (buffer : List ℕ)
+      → areaStatusBuffer a (k .id) skip unasked buffer ≡ marksBuffer k s skip unasked buffer
+
+-- the packets ps recorded on an area, and on marks with the record k: "equal answers" of all, and equal STATUS after any of them
+pub record Alike (a : List ℕ) (k : Key) (s : List ℕ) (ps : List (List ℕ)) : Type 0 where
+  pub same-answers : answers onArea a ps ≡ answers (onMarks k) s ps
+  pub same-status : (n : ℕ) → SameStatus (after onArea a (take n ps)) k (after (onMarks k) s (take n ps))
+
+-- the METADATA m opens a transfer as new in the area a, whatever else is open there, and on the marks s, whatever was marked: both
+-- tell the same of it, and any recordings follow. The record that opening handed back goes with the marks
+abbrev pub BothReceivers : Type 0
+BothReceivers = (a s m : List ℕ) → Octets m → (x : Reached) (o : Opening)
+    → openArea a m .answer ≡ in-table.New x → openMarks s m .answer ≡ by-marks.New o
+    → (ps : List (List ℕ)) → NoneForAnother (openArea a m .area) (o .key .id) ps
+    → (x ≡ o .reached) × Alike (openArea a m .area) (o .key) (openMarks s m .marks) ps

@@ -1,0 +1,7 @@
+pub mod BitLaws
+pub mod MarkedRunsLaws
+pub mod MarkLaws
+pub mod LoopLaws
+pub mod WalkLaws
+pub mod FoundLaws
+pub mod Examples

@@ -1,0 +1,20 @@
+-- `marks::bit_of` meets its contract. Assumes nothing.
+use Prim.Native.Nat.{_%_}
+use native.Mathlib.Nat.{mod-lt}
+use native.Mathlib.Omega.{arith}
+use borrow.Author.Needs.{needs}
+use Rattle.marks.proofs.BitLaws.{mask-is}
+use Rattle.marks.proofs.bit_of.Statement.{statement}
+use Rattle.marks.proofs.bit_of.Tie as tie
+
+cast-result : tie.Need-cast-result
+cast-result c = search needs
+
+shr-result : tie.Need-shr-result
+shr-result c = search needs
+
+returns : tie.Need-returns
+returns c = mask-is (c .args .n % 8) (mod-lt (c .args .n) (omega arith))
+
+pub bit-of-spec : {M : Type 1} → statement M
+bit-of-spec = tie.close (tie.spec cast-result shr-result returns)

@@ -1,0 +1,110 @@
+-- `marks::find_runs` meets its contract. The loop's invariant: the runs that stand in the rows, and those of the marks from `start` on,
+-- are all runs. Assumes nothing.
+use Prim.Native.Nat.{_+_, _-_, _≤_, _<_}
+use mathlib.Core.Path.{_≡_, refl, _∙_}
+use mathlib.Core.Bool.{true}
+use mathlib.Core.List.{_++_}
+use native.Mathlib.Omega.{arith}
+use borrow.Author.Needs.{needs}
+use lib.ListN.{length}
+use Rattle.run_rows.specs.Rows.{runsIn}
+use Rattle.marks.specs.Marks.{marked, markCount}
+use Rattle.marks.specs.MarkedRuns.{runsWhere, markedRuns}
+use Rattle.marks.specs.Walk.{runRows}
+use Rattle.marks.proofs.FoundLaws.{walk-starts, walk-turns, walk-ends, walk-breaks}
+use Rattle.marks.proofs.find_runs.Statement.{statement}
+use Rattle.marks.proofs.find_runs.Tie as tie
+
+abbrev Inv-loop : tie.InvT-loop
+Inv-loop marks rows₀ n₀ start₀ rows n start =
+    (length rows ≡ length rows₀) × (n ≤ 64) × (start ≤ markCount) × (start < markCount → marked marks start ≡ true)
+    × (runsIn rows (runRows n) ++ runsWhere (marked marks) start (markCount - start) ≡ markedRuns marks)
+
+abbrev μ-loop : tie.MeasureT-loop
+μ-loop marks rows₀ n₀ start₀ rows n start = 64 - n
+
+first-requires : tie.Need-first-requires Inv-loop μ-loop
+first-requires c κs = search needs
+
+loop-holds : tie.Need-loop-holds Inv-loop μ-loop
+loop-holds c =
+    let f = c .first .ensures in
+    (refl, omega arith, f .within, f .found, walk-starts _ _ _ f)
+
+add-result : tie.Need-add-result Inv-loop μ-loop
+add-result c = search needs
+
+same-length : tie.Need-same-length Inv-loop μ-loop
+same-length c = c .before .before .loop .inv .0
+
+returns : tie.Need-returns Inv-loop μ-loop
+returns c =
+    let l = c .before .before .loop in
+    let i = l .inv in
+    walk-breaks _ (l .rows) (l .n) (l .start) (omega arith) (omega arith) (i .3 (omega arith)) (i .4)
+
+first-requires-2 : tie.Need-first-requires-2 Inv-loop μ-loop
+first-requires-2 c κs = (omega arith, omega arith)
+
+put-word-requires : tie.Need-put-word-requires Inv-loop μ-loop
+put-word-requires c κs = search needs
+
+add-put-word : tie.Need-add-put-word Inv-loop μ-loop
+add-put-word c = search needs
+
+put-word-requires-2 : tie.Need-put-word-requires-2 Inv-loop μ-loop
+put-word-requires-2 c κs = search needs
+
+add-n : tie.Need-add-n Inv-loop μ-loop
+add-n c = search needs
+
+first-requires-3 : tie.Need-first-requires-3 Inv-loop μ-loop
+first-requires-3 c κs = (search needs, c .before .before .before .before .before .before .before .before .first2 .ensures .within)
+
+loop-less : tie.Need-loop-less Inv-loop μ-loop
+loop-less c = search needs
+
+loop-again : tie.Need-loop-again Inv-loop μ-loop
+loop-again c =
+    let second = c .before .before .before in
+    let first = second .before .before .before .before in
+    let stop = first .before .before in
+    let turn = stop .before .before .before in
+    let l = turn .loop in
+    let i = l .inv in
+    let g = c .first3 .ensures in (
+      second .put-word2 .kept .0 ∙ first .put-word .kept .0 ∙ i .0,
+      omega arith,
+      g .within,
+      g .found,
+      walk-turns _ (l .rows) _ _ (l .n) (l .start) _ _ (omega arith) (omega arith) (omega arith) (i .3 (omega arith)) (stop .first2 .ensures)
+          (first .put-word .ensures) (second .put-word2 .ensures) g (i .4),
+    )
+
+same-length-2 : tie.Need-same-length-2 Inv-loop μ-loop
+same-length-2 c = c .before .loop .inv .0
+
+returns-2 : tie.Need-returns-2 Inv-loop μ-loop
+returns-2 c = let l = c .before .loop in walk-ends _ (l .rows) (l .n) (l .start) (omega arith) (omega arith) (l .inv .4)
+
+pub find-runs-spec : {M : Type 1} → statement M
+find-runs-spec =
+    tie.close
+    (tie.spec
+    Inv-loop
+    μ-loop
+    first-requires
+    loop-holds
+    add-result
+    same-length
+    returns
+    first-requires-2
+    put-word-requires
+    add-put-word
+    put-word-requires-2
+    add-n
+    first-requires-3
+    loop-less
+    loop-again
+    same-length-2
+    returns-2)

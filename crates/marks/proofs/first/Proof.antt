@@ -1,0 +1,87 @@
+-- `marks::first` meets its contract: a mark that is not as wanted is passed over, and after the last mark of an octet the octets after it.
+-- Assumes nothing.
+use Prim.Native.Nat.{_-_, _≤_}
+use mathlib.Core.Path.{_≡_, sym, _∙_}
+use mathlib.Core.Bool.{not}
+use native.Mathlib.Omega.{arith}
+use denote.Ref.{now}
+use Rattle.marks.specs.Marks.{marked, markCount}
+use Rattle.marks.specs.Walk.{AllAre}
+use Rattle.marks.proofs.WalkLaws.{equal, not-equal, all-none, mark-passed, marks-skipped}
+use Rattle.marks.proofs.first.Statement.{statement}
+use Rattle.marks.proofs.first.Tie as tie
+
+abbrev Inv-loop : tie.InvT-loop
+Inv-loop marks from wanted n₀ n = AllAre (marked marks) (not wanted) from n × (n ≤ markCount)
+
+abbrev μ-loop : tie.MeasureT-loop
+μ-loop marks from wanted n₀ n = markCount - n
+
+loop-holds : tie.Need-loop-holds Inv-loop μ-loop
+loop-holds c = (all-none _ _ _, omega arith)
+
+is-marked-requires : tie.Need-is-marked-requires Inv-loop μ-loop
+is-marked-requires c κs = omega arith
+
+returns : tie.Need-returns Inv-loop μ-loop
+returns c =
+    let l = c .before .before .before .loop in
+    let m = c .before .is-marked in
+    record { passed = l .inv .0; within = l .inv .1; found = λ h. sym (m .ensures) ∙ equal (m .result) _ (c .if1 .taken) }
+
+add-n : tie.Need-add-n Inv-loop μ-loop
+add-n c = omega arith
+
+-- the mark is not as wanted
+not-wanted : (c : tie.Else1 Inv-loop μ-loop)
+    → let l = c .before .before .before in let a = l .before .before .args in marked (now (a .marks)) (l .loop .n) ≡ not (a .wanted)
+not-wanted c = let m = c .before .is-marked in sym (m .ensures) ∙ not-equal (m .result) _ (c .if1 .left)
+
+skip-octets-requires : tie.Need-skip-octets-requires Inv-loop μ-loop
+skip-octets-requires c κs = (omega arith, omega arith)
+
+mul-n : tie.Need-mul-n Inv-loop μ-loop
+mul-n c = omega (arith, c .skip-octets .ensures .1)
+
+loop-less : tie.Need-loop-less Inv-loop μ-loop
+loop-less c = omega (arith, c .skip-octets .ensures .0 .rise, c .skip-octets .ensures .1)
+
+loop-again : tie.Need-loop-again Inv-loop μ-loop
+loop-again c =
+    let e = c .before .before in
+    let l = e .before .before .before in
+    let a = l .before .before .args in (
+      marks-skipped (now (a .marks)) (a .wanted) (a .from) (l .loop .n) (c .skip-octets .result) (not-wanted e) (omega arith) (l .loop .inv .0) (c .skip-octets .ensures .0),
+      omega (arith, c .skip-octets .ensures .1),
+    )
+
+loop-less-2 : tie.Need-loop-less-2 Inv-loop μ-loop
+loop-less-2 c = omega arith
+
+loop-again-2 : tie.Need-loop-again-2 Inv-loop μ-loop
+loop-again-2 c =
+    let e = c .before in
+    let l = e .before .before .before in
+    let a = l .before .before .args in
+    (mark-passed (now (a .marks)) (a .wanted) (a .from) (l .loop .n) (not-wanted e) (l .loop .inv .0), omega arith)
+
+returns-2 : tie.Need-returns-2 Inv-loop μ-loop
+returns-2 c = let l = c .before .loop in record { passed = l .inv .0; within = l .inv .1; found = λ h. absurd (omega arith) }
+
+pub first-spec : {M : Type 1} → statement M
+first-spec =
+    tie.close
+    (tie.spec
+    Inv-loop
+    μ-loop
+    loop-holds
+    is-marked-requires
+    returns
+    add-n
+    skip-octets-requires
+    mul-n
+    loop-less
+    loop-again
+    loop-less-2
+    loop-again-2
+    returns-2)

@@ -1,0 +1,20 @@
+-- `marks::is_marked` meets its contract: the mask tells the bit.
+-- Assumes nothing.
+use borrow.Author.Needs.{needs}
+use Rattle.marks.proofs.MarkLaws.{mark-read}
+use Rattle.marks.proofs.is_marked.Statement.{statement}
+use Rattle.marks.proofs.is_marked.Tie as tie
+use Rattle.marks.proofs.is_marked.Reads as reads
+use Rattle.marks.proofs.is_marked.Lts as lts
+
+shared-slice-read-result : tie.Need-shared-slice-read-result
+shared-slice-read-result c = search needs
+
+bit-of-requires : tie.Need-bit-of-requires
+bit-of-requires c κs = search needs
+
+returns : tie.Need-returns
+returns c = mark-read _ _ _ (c .bit-of .ensures)
+
+pub is-marked-spec : {M : Type 1} → statement M
+is-marked-spec = tie.close (tie.spec shared-slice-read-result bit-of-requires returns)

@@ -1,0 +1,61 @@
+-- `marks::set_octets` meets its contract. The loop's invariant: the marks that are left, set in the octets as they are now, make all of
+-- them set. Assumes nothing.
+use Prim.Native.Nat.{_*_, _-_, _≤_}
+use mathlib.Core.Path.{_≡_, refl, _∙_}
+use native.Mathlib.Omega.{arith}
+use lib.ListN.{length, length-set}
+use Rattle.marks.specs.Marks.{withMarks}
+use Rattle.marks.proofs.LoopLaws.{octets-step, marks-end}
+use Rattle.marks.proofs.set_octets.Statement.{statement}
+use Rattle.marks.proofs.set_octets.Tie as tie
+
+abbrev Inv-loop : tie.InvT-loop
+Inv-loop marks₀ from to k₀ marks k =
+    (length marks ≡ length marks₀) × (k ≤ to) × (withMarks (k * 8) (to * 8 - k * 8) marks ≡ withMarks (from * 8) (to * 8 - from * 8) marks₀)
+
+abbrev μ-loop : tie.MeasureT-loop
+μ-loop marks₀ from to k₀ marks k = to - k
+
+loop-holds : tie.Need-loop-holds Inv-loop μ-loop
+loop-holds c = (refl, omega arith, refl)
+
+slice-read-marks : tie.Need-slice-read-marks Inv-loop μ-loop
+slice-read-marks c = omega arith
+
+slice-write-marks : tie.Need-slice-write-marks Inv-loop μ-loop
+slice-write-marks c = omega arith
+
+add-k : tie.Need-add-k Inv-loop μ-loop
+add-k c = omega arith
+
+loop-less : tie.Need-loop-less Inv-loop μ-loop
+loop-less c = omega arith
+
+loop-again : tie.Need-loop-again Inv-loop μ-loop
+loop-again c =
+    let l = c .before .before .loop in (
+      length-set (l .marks) (l .k) _ ∙ l .inv .0,
+      omega arith,
+      octets-step (l .k) _ (l .marks) _ (omega arith) (omega arith) (λ i. c .slice-known .given i .fits) (l .inv .2),
+    )
+
+same-length : tie.Need-same-length Inv-loop μ-loop
+same-length c = c .before .loop .inv .0
+
+returns : tie.Need-returns Inv-loop μ-loop
+returns c = let l = c .before .loop in marks-end (l .k * 8) _ (l .marks) _ (omega arith) (l .inv .2)
+
+pub set-octets-spec : {M : Type 1} → statement M
+set-octets-spec =
+    tie.close
+    (tie.spec
+    Inv-loop
+    μ-loop
+    loop-holds
+    slice-read-marks
+    slice-write-marks
+    add-k
+    loop-less
+    loop-again
+    same-length
+    returns)

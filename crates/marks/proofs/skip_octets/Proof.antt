@@ -1,0 +1,90 @@
+-- `marks::skip_octets` meets its contract: an octet that is blank is passed over, and after the last octet of a word the words after it.
+-- Assumes nothing.
+use Prim.Native.Nat.{_*_, _-_, _≤_}
+use mathlib.Core.Path.{_≡_}
+use mathlib.Core.Bool.{not}
+use native.Mathlib.Omega.{arith}
+use borrow.Author.Needs.{needs}
+use denote.Ref.{now}
+use lib.ListN.{getD}
+use Rattle.marks.specs.Marks.{marked, markOctets}
+use Rattle.marks.specs.Walk.{AllAre, blankOctet}
+use Rattle.marks.proofs.WalkLaws.{all-none, octets-passed, octets-skipped}
+use Rattle.marks.proofs.skip_octets.Statement.{statement}
+use Rattle.marks.proofs.skip_octets.Tie as tie
+
+abbrev Inv-loop : tie.InvT-loop
+Inv-loop marks from wanted blank k₀ k = AllAre (marked marks) (not wanted) (from * 8) (k * 8) × (k ≤ markOctets)
+
+abbrev μ-loop : tie.MeasureT-loop
+μ-loop marks from wanted blank k₀ k = markOctets - k
+
+blank-octet-requires : tie.Need-blank-octet-requires Inv-loop μ-loop
+blank-octet-requires c κs = search needs
+
+loop-holds : tie.Need-loop-holds Inv-loop μ-loop
+loop-holds c = (all-none _ _ _, omega arith)
+
+shared-slice-read-if1 : tie.Need-shared-slice-read-if1 Inv-loop μ-loop
+shared-slice-read-if1 c = omega arith
+
+returns : tie.Need-returns Inv-loop μ-loop
+returns c = c .before .before .before .loop .inv
+
+add-k : tie.Need-add-k Inv-loop μ-loop
+add-k c = omega arith
+
+-- the octet is blank
+is-blank : (c : tie.Else1 Inv-loop μ-loop)
+    → let l = c .before .before .before in let a = l .before .before .before .args in getD (now (a .marks)) (l .loop .k) 0 ≡ blankOctet (a .wanted)
+is-blank c = omega (arith, c .before .before .before .before .blank-octet .ensures)
+
+skip-words-requires : tie.Need-skip-words-requires Inv-loop μ-loop
+skip-words-requires c κs = (omega arith, omega arith)
+
+mul-k : tie.Need-mul-k Inv-loop μ-loop
+mul-k c = omega (arith, c .skip-words .ensures .1)
+
+loop-less : tie.Need-loop-less Inv-loop μ-loop
+loop-less c = omega (arith, c .skip-words .ensures .0 .rise, c .skip-words .ensures .1)
+
+loop-again : tie.Need-loop-again Inv-loop μ-loop
+loop-again c =
+    let e = c .before .before in
+    let l = e .before .before .before in
+    let a = l .before .before .before .args in (
+      octets-skipped (now (a .marks)) (a .wanted) (a .from) (l .loop .k) (c .skip-words .result) (is-blank e) (omega arith) (l .loop .inv .0) (c .skip-words .ensures .0),
+      omega (arith, c .skip-words .ensures .1),
+    )
+
+loop-less-2 : tie.Need-loop-less-2 Inv-loop μ-loop
+loop-less-2 c = omega arith
+
+loop-again-2 : tie.Need-loop-again-2 Inv-loop μ-loop
+loop-again-2 c =
+    let e = c .before in
+    let l = e .before .before .before in
+    let a = l .before .before .before .args in
+    (octets-passed (now (a .marks)) (a .wanted) (a .from) (l .loop .k) (is-blank e) (l .loop .inv .0), omega arith)
+
+returns-2 : tie.Need-returns-2 Inv-loop μ-loop
+returns-2 c = c .before .loop .inv
+
+pub skip-octets-spec : {M : Type 1} → statement M
+skip-octets-spec =
+    tie.close
+    (tie.spec
+    Inv-loop
+    μ-loop
+    blank-octet-requires
+    loop-holds
+    shared-slice-read-if1
+    returns
+    add-k
+    skip-words-requires
+    mul-k
+    loop-less
+    loop-again
+    loop-less-2
+    loop-again-2
+    returns-2)

@@ -1,0 +1,64 @@
+-- `marks::skip_words` meets its contract: a word that is blank is passed over.
+-- Assumes nothing.
+use Prim.Native.Nat.{_*_, _-_, _≤_}
+use mathlib.Core.Bool.{not}
+use native.Mathlib.Omega.{arith}
+use borrow.Author.Needs.{needs}
+use denote.Ref.{now}
+use Rattle.marks.specs.Marks.{marked, markCount}
+use Rattle.marks.specs.Walk.{AllAre}
+use Rattle.marks.proofs.WalkLaws.{all-none, words-step}
+use Rattle.marks.proofs.skip_words.Statement.{statement}
+use Rattle.marks.proofs.skip_words.Tie as tie
+
+abbrev Inv-loop : tie.InvT-loop
+Inv-loop marks from wanted blank k₀ k = AllAre (marked marks) (not wanted) (from * 64) (k * 64) × (k * 64 ≤ markCount)
+
+abbrev μ-loop : tie.MeasureT-loop
+μ-loop marks from wanted blank k₀ k = markCount - k
+
+blank-word-requires : tie.Need-blank-word-requires Inv-loop μ-loop
+blank-word-requires c κs = search needs
+
+loop-holds : tie.Need-loop-holds Inv-loop μ-loop
+loop-holds c = (all-none _ _ _, omega arith)
+
+word-requires : tie.Need-word-requires Inv-loop μ-loop
+word-requires c κs = omega arith
+
+returns : tie.Need-returns Inv-loop μ-loop
+returns c = c .before .before .before .loop .inv
+
+add-k : tie.Need-add-k Inv-loop μ-loop
+add-k c = omega arith
+
+loop-less : tie.Need-loop-less Inv-loop μ-loop
+loop-less c = omega arith
+
+loop-again : tie.Need-loop-again Inv-loop μ-loop
+loop-again c =
+    let l = c .before .before .before in
+    let b = l .before in
+    let a = b .before .before .args in (
+      words-step (now (a .marks)) (a .wanted) (a .from) (l .loop .k) (λ i. b .before .shared-slice-known .given i .fits) (omega arith)
+          (omega (arith, c .before .word .ensures, b .blank-word .ensures)) (l .loop .inv .0),
+      omega arith,
+    )
+
+returns-2 : tie.Need-returns-2 Inv-loop μ-loop
+returns-2 c = c .before .loop .inv
+
+pub skip-words-spec : {M : Type 1} → statement M
+skip-words-spec =
+    tie.close
+    (tie.spec
+    Inv-loop
+    μ-loop
+    blank-word-requires
+    loop-holds
+    word-requires
+    returns
+    add-k
+    loop-less
+    loop-again
+    returns-2)

@@ -1,0 +1,3 @@
+pub mod Marks
+pub mod MarkedRuns
+pub mod Walk

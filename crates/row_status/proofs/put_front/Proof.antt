@@ -1,0 +1,53 @@
+-- `row_status::put_front` meets its contract: the fields are those of the runs in the rows.
+-- Assumes nothing.
+use borrow.Author.Needs.{needs}
+use denote.Ref.{now}
+use Rattle.run_rows.specs.Rows.{runsIn}
+use Rattle.row_status.proofs.FrontLaws.{front-put}
+use Rattle.row_status.proofs.put_front.Statement.{statement}
+use Rattle.row_status.proofs.put_front.Tie as tie
+
+is-complete-requires : tie.Need-is-complete-requires
+is-complete-requires c κs = search needs
+
+unasked-or-complete-requires : tie.Need-unasked-or-complete-requires
+unasked-or-complete-requires c κs = search needs
+
+progress-of-requires : tie.Need-progress-of-requires
+progress-of-requires c κs = search needs
+
+edge-of-requires : tie.Need-edge-of-requires
+edge-of-requires c κs = search needs
+
+response-sent-requires : tie.Need-response-sent-requires
+response-sent-requires c κs = search needs
+
+put-fields-requires : tie.Need-put-fields-requires
+put-fields-requires c κs = search needs
+
+same-length : tie.Need-same-length
+same-length c = search needs
+
+returns : tie.Need-returns
+returns c =
+    let r = c .before .before .before .before in
+    let e = r .before in
+    let p = e .before in
+    let u = p .before in
+    let a = u .before .before .before .before .args in
+    front-put (a .key) (runsIn (now (a .buf)) (a .rows)) (a .partial) (a .unasked) _ _ _ _ _ (now (a .out)) _
+    (u .before .is-complete .ensures) (u .unasked-or-complete .ensures) (p .progress-of .ensures) (e .edge-of .ensures) (r .response-sent .ensures)
+    (c .before .before .put-fields .ensures)
+
+pub put-front-spec : {M : Type 1} → statement M
+put-front-spec =
+    tie.close
+    (tie.spec
+    is-complete-requires
+    unasked-or-complete-requires
+    progress-of-requires
+    edge-of-requires
+    response-sent-requires
+    put-fields-requires
+    same-length
+    returns)

@@ -1,0 +1,115 @@
+// STATUS of one transfer whose runs are kept in two rows of words.
+ghost use mathlib.Core.Path.{_≡_};
+ghost use mathlib.Core.Bool.{_||_};
+ghost use Prim.Native.Nat.{_+_, _*_, _≤_};
+ghost use lib.ListN.{length, take, drop};
+ghost use Rattle.octets.specs.Numbers.{Width};
+ghost use Rattle.octets.specs.Put.{put};
+ghost use Rattle.runs.specs.Holes.{holes, progress, complete};
+ghost use Rattle.run_rows.specs.Rows.{runsIn, RowsFit, RowsFine};
+ghost use Rattle.transfer.specs.WriteStatus.{statusFlags, statusFields, responseSent, pairs, transferWritten, transferBuffer};
+use refusals::Written;
+use run_rows::Rows;
+use transfer::Key;
+
+// The `count` holes from hole `first` on, one after the other, from octet `from` on.
+fn put_pairs(
+    buf: &[u8],
+    rows: Rows,
+    width: usize,
+    first: usize,
+    count: usize,
+    out: &mut [u8],
+    from: usize,
+)
+    requires { ⌜ RowsFine (now buf) rows × (first + count ≤ length (holes (runsIn (now buf) rows)))
+        × (from + 2 * width * count ≤ length (now out)) ⌝ }
+    ensures { λ _. ⌜ now (out .exit)
+        ≡ put from (pairs width (take count (drop first (holes (runsIn (now (buf .entry)) rows))))) (now (out .entry)) ⌝ }
+{
+    let mut at = from;
+    let mut j = first;
+    let mut left = count;
+    while 0 < left {
+        let h = run_rows::hole_at(buf, rows, j);
+        transfer::status::put_hole(out, at, width, h);
+        at = at + 2 * width;
+        j += 1;
+        left -= 1;
+    }
+}
+
+// The same. Each width is a literal, for which the compiler makes one store of each number.
+fn put_holes(
+    buf: &[u8],
+    rows: Rows,
+    width: usize,
+    first: usize,
+    count: usize,
+    out: &mut [u8],
+    from: usize,
+)
+    requires { ⌜ Width width × RowsFine (now buf) rows × (first + count ≤ length (holes (runsIn (now buf) rows)))
+        × (from + 2 * width * count ≤ length (now out)) ⌝ }
+    ensures { λ _. ⌜ now (out .exit)
+        ≡ put from (pairs width (take count (drop first (holes (runsIn (now (buf .entry)) rows))))) (now (out .entry)) ⌝ }
+{
+    if width == 2 {
+        put_pairs(buf, rows, 2, first, count, out, from);
+        return;
+    }
+    if width == 4 {
+        put_pairs(buf, rows, 4, first, count, out, from);
+        return;
+    }
+    if width == 8 {
+        put_pairs(buf, rows, 8, first, count, out, from);
+        return;
+    }
+    put_pairs(buf, rows, 16, first, count, out, from);
+}
+
+// What stands before the holes.
+fn put_front(buf: &[u8], key: Key, rows: Rows, partial: bool, unasked: bool, out: &mut [u8])
+    requires { ⌜ RowsFit (now buf) rows × (8 + 2 * key .width ≤ length (now out)) ⌝ }
+    ensures { λ _. ⌜ now (out .exit)
+        ≡ put 0 (statusFields (statusFlags (key .width) partial (unasked || complete (key .length) (runsIn (now (buf .entry)) rows)))
+        (key .id) (key .width) (progress (runsIn (now (buf .entry)) rows))
+        (responseSent (key .length) (runsIn (now (buf .entry)) rows))) (now (out .entry)) ⌝ }
+{
+    let done = run_rows::is_complete(buf, rows, key.length);
+    let told = transfer::status::unasked_or_complete(unasked, done);
+    let progress = run_rows::progress_of(buf, rows);
+    let edge = run_rows::edge_of(buf, rows);
+    let response = transfer::status::response_sent(key.length, done, edge);
+    transfer::status::put_fields(out, key, progress, response, partial, told);
+}
+
+// STATUS of the transfer with this key and the runs in these rows: after the first `skip` holes as many as fit.
+pub fn write_rows(
+    buf: &[u8],
+    key: Key,
+    rows: Rows,
+    skip: u64,
+    unasked: bool,
+    out: &mut [u8],
+) -> Written
+    requires { ⌜ RowsFine (now buf) rows × Width (key .width) ⌝ }
+    ensures { λ r. ⌜ (r ≡ transferWritten key (runsIn (now (buf .entry)) rows) skip unasked (now (out .entry)))
+        × (now (out .exit) ≡ transferBuffer key (runsIn (now (buf .entry)) rows) skip unasked (now (out .entry))) ⌝ }
+{
+    let width = key.width;
+    let holes = run_rows::hole_count(buf, rows);
+    let room = out.len();
+    let n = transfer::status::size_refusal(width, holes, skip, room);
+    if n != 0 {
+        return Written::Refused(refusals::refuse(n));
+    }
+    let count = transfer::status::holes_to_send(width, holes, skip, room);
+    let partial = transfer::status::partial_sent(width, holes, skip, room);
+    let fields = 8 + 2 * width;
+    let size = fields + 2 * width * count;
+    put_front(buf, key, rows, partial, unasked, out);
+    put_holes(buf, rows, width, skip as usize, count, out, fields);
+    Written::Size(size)
+}

@@ -7,14 +7,8 @@ use borrow.Author.Needs.{needs}
 use Rattle.area.proofs.head.Statement.{statement}
 use Rattle.area.proofs.head.Tie as tie
 
-head-at-requires : tie.Need-head-at-requires
-head-at-requires c κs = search needs
-
-word-requires : tie.Need-word-requires
-word-requires c κs = search needs
-
 returns : tie.Need-returns
 returns c = c .word .ensures ∙ ap (wordAt (now (c .before .before .before .args .area))) (c .before .head-at .ensures)
 
 pub head-spec : {M : Type 1} → statement M
-head-spec = tie.close (tie.spec head-at-requires word-requires returns)
+head-spec = tie.close (tie.spec (λ c κs. search needs) (λ c κs. search needs) returns)

@@ -5,15 +5,9 @@ use Rattle.transfer.specs.Transfers.{reached}
 use Rattle.area.proofs.reached_in.Statement.{statement}
 use Rattle.area.proofs.reached_in.Tie as tie
 
-edge-of-requires : tie.Need-edge-of-requires
-edge-of-requires c κs = search needs
-
-is-complete-requires : tie.Need-is-complete-requires
-is-complete-requires c κs = search needs
-
 returns : tie.Need-returns
 unfolding reached
 returns c = λ k. record { edge = c .before .edge-of .ensures k; complete = c .is-complete .ensures k }
 
 pub reached-in-spec : {M : Type 1} → statement M
-reached-in-spec = tie.close (tie.spec edge-of-requires is-complete-requires returns)
+reached-in-spec = tie.close (tie.spec (λ c κs. search needs) (λ c κs. search needs) returns)

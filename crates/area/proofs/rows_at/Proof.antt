@@ -4,17 +4,8 @@ use borrow.Author.Needs.{needs}
 use Rattle.area.proofs.rows_at.Statement.{statement}
 use Rattle.area.proofs.rows_at.Tie as tie
 
-starts-at-requires : tie.Need-starts-at-requires
-starts-at-requires c κs = search needs
-
-stops-at-requires : tie.Need-stops-at-requires
-stops-at-requires c κs = search needs
-
-head-requires : tie.Need-head-requires
-head-requires c κs = search needs
-
 returns : tie.Need-returns
 returns c = λ k. record { starts = c .before .before .starts-at .ensures k; stops = c .before .stops-at .ensures k; count = c .head .ensures k }
 
 pub rows-at-spec : {M : Type 1} → statement M
-rows-at-spec = tie.close (tie.spec starts-at-requires stops-at-requires head-requires returns)
+rows-at-spec = tie.close (tie.spec (λ c κs. search needs) (λ c κs. search needs) (λ c κs. search needs) returns)

@@ -12,23 +12,8 @@ use Rattle.area.proofs.LoopLaws.{id-not, width-not, runs-not, runs-deci
 use Rattle.area.proofs.transfer_ok.Statement.{statement}
 use Rattle.area.proofs.transfer_ok.Tie as tie
 
-head-requires : tie.Need-head-requires
-head-requires c κs = search needs
-
 returns : tie.Need-returns
 returns c = let a = c .before .before .before .args in id-not (now (a .area)) (a .i) _ (c .before .head .ensures) (omega arith)
-
-head-requires-2 : tie.Need-head-requires-2
-head-requires-2 c κs = search needs
-
-head-requires-3 : tie.Need-head-requires-3
-head-requires-3 c κs = search needs
-
-length-ok-requires : tie.Need-length-ok-requires
-length-ok-requires c κs = search needs
-
-rows-at-requires : tie.Need-rows-at-requires
-rows-at-requires c κs = search needs
 
 returns-2 : tie.Need-returns-2
 returns-2 c =
@@ -67,12 +52,12 @@ pub transfer-ok-spec : {M : Type 1} → statement M
 transfer-ok-spec =
     tie.close
     (tie.spec
-    head-requires
+    (λ c κs. search needs)
     returns
-    head-requires-2
-    head-requires-3
-    length-ok-requires
-    rows-at-requires
+    (λ c κs. search needs)
+    (λ c κs. search needs)
+    (λ c κs. search needs)
+    (λ c κs. search needs)
     returns-2
     runs-ok-requires
     returns-3

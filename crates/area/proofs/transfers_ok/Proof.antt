@@ -21,16 +21,10 @@ abbrev μ-loop : tie.MeasureT-loop
 loop-holds : tie.Need-loop-holds Inv-loop μ-loop
 loop-holds c = (omega arith, rw sub-zero)
 
-head-requires : tie.Need-head-requires Inv-loop μ-loop
-head-requires c κs = search needs
-
 returns : tie.Need-returns Inv-loop μ-loop
 returns c =
     let l = c .before .before .before .loop in
     fine-low _ _ _ _ _ (l .inv .1) _ (omega arith) (c .before .head .ensures) (omega arith)
-
-transfer-ok-requires : tie.Need-transfer-ok-requires Inv-loop μ-loop
-transfer-ok-requires c κs = search needs
 
 add-least : tie.Need-add-least Inv-loop μ-loop
 add-least c =
@@ -42,12 +36,6 @@ add-least c =
     let a = start .args in
     let l = loop-place .loop in
     omega (arith, h .ensures, id-small (now (a .area)) (l .i) (sym (t .ensures) ∙ c .if2 .taken))
-
-add-i : tie.Need-add-i Inv-loop μ-loop
-add-i c = search needs
-
-loop-less : tie.Need-loop-less Inv-loop μ-loop
-loop-less c = search needs
 
 loop-again : tie.Need-loop-again Inv-loop μ-loop
 loop-again c =
@@ -77,12 +65,12 @@ transfers-ok-spec =
     Inv-loop
     μ-loop
     loop-holds
-    head-requires
+    (λ c κs. search needs)
     returns
-    transfer-ok-requires
+    (λ c κs. search needs)
     add-least
-    add-i
-    loop-less
+    (λ c. search needs)
+    (λ c. search needs)
     loop-again
     returns-2
     returns-3)

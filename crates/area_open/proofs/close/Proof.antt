@@ -28,9 +28,6 @@ kept : (c : tie.After-find-place) → c .find-place .result .«open» ≡ true
     (c .find-place .result .at)
 kept c h = place-open _ _ (c .find-place .result) (c .find-place .ensures) h
 
-judge-requires : tie.Need-judge-requires
-judge-requires c κs = search needs
-
 find-place-requires : tie.Need-find-place-requires
 find-place-requires c κs = passed c
 
@@ -38,9 +35,6 @@ remove-at-requires : tie.Need-remove-at-requires
 remove-at-requires c κs =
     let f = c .before .before in
     (passed (f .before), omega (arith, kept f (c .before .if2 .taken) .inside))
-
-same-length : tie.Need-same-length
-same-length c = search needs
 
 returns : tie.Need-returns
 unfolding closeArea
@@ -51,12 +45,6 @@ returns c =
     let a = now (s .args .area) in
     by-judged (finished.Refused (refusalOf 22)) (λ t. closeId t (s .args .id)) a (passed (f .before)) _
     (close-done (readTable a) (s .args .id) _ (kept f (r .before .before .if2 .taken))) _ refl _ (r .remove-at .ensures)
-
-refuse-requires : tie.Need-refuse-requires
-refuse-requires c κs = search needs
-
-same-length-2 : tie.Need-same-length-2
-same-length-2 c = search needs
 
 returns-2 : tie.Need-returns-2
 unfolding closeArea
@@ -70,12 +58,6 @@ returns-2 c =
     (close-missing (readTable a) (s .args .id) _ h (judged-passed a j .1 .fine))
     _ (ap finished.Refused (c .refuse .ensures)) (λ i. f .before .before .before .before .before .slice-known .given i .fits) refl
 
-refuse-requires-2 : tie.Need-refuse-requires-2
-refuse-requires-2 c κs = search needs
-
-same-length-3 : tie.Need-same-length-3
-same-length-3 c = search needs
-
 returns-3 : tie.Need-returns-3
 unfolding closeArea
 returns-3 c =
@@ -87,14 +69,14 @@ pub close-spec : {M : Type 1} → statement M
 close-spec =
     tie.close
     (tie.spec
-    judge-requires
+    (λ c κs. search needs)
     find-place-requires
     remove-at-requires
-    same-length
+    (λ c. search needs)
     returns
-    refuse-requires
-    same-length-2
+    (λ c κs. search needs)
+    (λ c. search needs)
     returns-2
-    refuse-requires-2
-    same-length-3
+    (λ c κs. search needs)
+    (λ c. search needs)
     returns-3)

@@ -16,18 +16,12 @@ key-at-requires c κs =
     let s = c .before in
     kept-known (now (s .args .area)) (s .args .key .id) (s .args .i) (s .pre .1) (s .pre .0)
 
-refuse-requires : tie.Need-refuse-requires
-refuse-requires c κs = search needs
-
 returns : tie.Need-returns
 returns c =
     let h = c .before .before .before .before in
     let s = h .before .before in
     ap opened.Refused (c .refuse .ensures)
     ∙ sym (met-width (now (s .args .area)) (s .args .key) (s .args .i) (s .pre .1) (h .key-at .result) (h .key-at .ensures) (λ q. omega arith))
-
-refuse-requires-2 : tie.Need-refuse-requires-2
-refuse-requires-2 c κs = search needs
 
 returns-2 : tie.Need-returns-2
 returns-2 c =
@@ -65,9 +59,9 @@ met-spec =
     tie.close
     (tie.spec
     key-at-requires
-    refuse-requires
+    (λ c κs. search needs)
     returns
-    refuse-requires-2
+    (λ c κs. search needs)
     returns-2
     rows-at-requires
     reached-in-requires

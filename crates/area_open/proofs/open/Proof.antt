@@ -16,18 +16,6 @@ use Rattle.area_open.proofs.OpenLaws.{packet-refused, packet-read}
 use Rattle.area_open.proofs.open.Statement.{statement}
 use Rattle.area_open.proofs.open.Tie as tie
 
-judge-requires : tie.Need-judge-requires
-judge-requires c κs = search needs
-
-metadata-refusal-requires : tie.Need-metadata-refusal-requires
-metadata-refusal-requires c κs = search needs
-
-refuse-requires : tie.Need-refuse-requires
-refuse-requires c κs = search needs
-
-same-length : tie.Need-same-length
-same-length c = search needs
-
 returns : tie.Need-returns
 unfolding openArea
 returns c =
@@ -39,20 +27,11 @@ returns c =
     _ (ap opened.Refused (c .refuse .ensures ∙ ap refusalOf (c .before .before .metadata-refusal .ensures)))
     (λ i. j .before .before .before .slice-known .given i .fits) refl
 
-metadata-fields-requires : tie.Need-metadata-fields-requires
-metadata-fields-requires c κs = search needs
-
-key-of-requires : tie.Need-key-of-requires
-key-of-requires c κs = search needs
-
 open-key-requires : tie.Need-open-key-requires
 open-key-requires c κs =
     let if1-place = c .before .before .before .before .before in
     let judge-place = if1-place .before in
     sym (judge-place .judge .ensures) ∙ if1-place .if1 .taken
-
-same-length-2 : tie.Need-same-length-2
-same-length-2 c = search needs
 
 returns-2 : tie.Need-returns-2
 unfolding openArea
@@ -67,12 +46,6 @@ returns-2 c =
     (k .key-of .ensures ∙ ap (λ (m : Metadata). keyOf m) (k .before .metadata-fields .ensures)))
     _ (o .open-key .ensures .0) _ (o .open-key .ensures .1)
 
-refuse-requires-2 : tie.Need-refuse-requires-2
-refuse-requires-2 c κs = search needs
-
-same-length-3 : tie.Need-same-length-3
-same-length-3 c = search needs
-
 returns-3 : tie.Need-returns-3
 unfolding openArea
 returns-3 c =
@@ -86,16 +59,16 @@ pub open-spec : {M : Type 1} → statement M
 open-spec =
     tie.close
     (tie.spec
-    judge-requires
-    metadata-refusal-requires
-    refuse-requires
-    same-length
+    (λ c κs. search needs)
+    (λ c κs. search needs)
+    (λ c κs. search needs)
+    (λ c. search needs)
     returns
-    metadata-fields-requires
-    key-of-requires
+    (λ c κs. search needs)
+    (λ c κs. search needs)
     open-key-requires
-    same-length-2
+    (λ c. search needs)
     returns-2
-    refuse-requires-2
-    same-length-3
+    (λ c κs. search needs)
+    (λ c. search needs)
     returns-3)

@@ -17,17 +17,11 @@ use Rattle.area_open.proofs.OpenLaws.{met-table, open-full, open-new}
 use Rattle.area_open.proofs.open_key.Statement.{statement}
 use Rattle.area_open.proofs.open_key.Tie as tie
 
-find-place-requires : tie.Need-find-place-requires
-find-place-requires c κs = search needs
-
 met-requires : tie.Need-met-requires
 met-requires c κs =
     let f = c .before .before in
     let s = f .before .before .before in
     (s .pre, place-open (s .args .key .id) (readTable (now (s .args .area))) (f .find-place .result) (f .find-place .ensures) (c .before .if1 .taken))
-
-same-length : tie.Need-same-length
-same-length c = search needs
 
 returns : tie.Need-returns
 returns c =
@@ -41,12 +35,6 @@ open-count-requires : tie.Need-open-count-requires
 open-count-requires c κs =
     let s = c .before .before .before .before .before in
     judged-passed (now (s .args .area)) (s .pre) .0
-
-refuse-requires : tie.Need-refuse-requires
-refuse-requires c κs = search needs
-
-same-length-2 : tie.Need-same-length-2
-same-length-2 c = search needs
 
 returns-2 : tie.Need-returns-2
 returns-2 c =
@@ -68,12 +56,6 @@ insert-at-requires c κs =
     let h = place-free (s .args .key .id) (readTable a) (f .find-place .result) (f .find-place .ensures) (c .before .before .before .before .if1 .left) in
     (s .pre, omega (arith, place-le (h .place)), omega (arith, c .before .before .open-count .ensures, read-holds a .count))
 
-reached-new-requires : tie.Need-reached-new-requires
-reached-new-requires c κs = search needs
-
-same-length-3 : tie.Need-same-length-3
-same-length-3 c = search needs
-
 returns-3 : tie.Need-returns-3
 returns-3 c =
     let r = c .before .before .before in
@@ -91,15 +73,15 @@ pub open-key-spec : {M : Type 1} → statement M
 open-key-spec =
     tie.close
     (tie.spec
-    find-place-requires
+    (λ c κs. search needs)
     met-requires
-    same-length
+    (λ c. search needs)
     returns
     open-count-requires
-    refuse-requires
-    same-length-2
+    (λ c κs. search needs)
+    (λ c. search needs)
     returns-2
     insert-at-requires
-    reached-new-requires
-    same-length-3
+    (λ c κs. search needs)
+    (λ c. search needs)
     returns-3)

@@ -42,17 +42,8 @@ cuts c = (c .cut-below .ensures .inside, c .before .before .cut-to .ensures .ins
 add-after : tie.Need-add-after
 add-after c = omega (arith, cuts c)
 
-sub-after : tie.Need-sub-after
-sub-after c = search needs
-
 add-after-2 : tie.Need-add-after-2
 add-after-2 c = omega (arith, cuts c)
-
-refuse-requires : tie.Need-refuse-requires
-refuse-requires c κs = search needs
-
-same-length : tie.Need-same-length
-same-length c = search needs
 
 returns : tie.Need-returns
 returns c =
@@ -123,12 +114,6 @@ reached-in-requires c κs =
     let m = room e in
     record { starts-fit = omega (arith, w .put-runs .kept .0); stops-fit = omega (arith, w .put-runs .kept .0) }
 
-same-length-2 : tie.Need-same-length-2
-same-length-2 c = search needs
-
-sub-absorbed : tie.Need-sub-absorbed
-sub-absorbed c = search needs
-
 returns-2 : tie.Need-returns-2
 returns-2 c =
     let b = c .before .before in
@@ -145,15 +130,15 @@ extend-spec =
     cut-to-requires
     cut-below-requires
     add-after
-    sub-after
+    (λ c. search needs)
     add-after-2
-    refuse-requires
-    same-length
+    (λ c κs. search needs)
+    (λ c. search needs)
     returns
     joined-start-requires
     joined-stop-requires
     put-runs-requires
     reached-in-requires
-    sub-absorbed
-    same-length-2
+    (λ c. search needs)
+    (λ c. search needs)
     returns-2)

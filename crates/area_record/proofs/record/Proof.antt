@@ -17,18 +17,6 @@ use Rattle.area_record.proofs.RecordLaws.{fields-some, both, both-as, r
 use Rattle.area_record.proofs.record.Statement.{statement}
 use Rattle.area_record.proofs.record.Tie as tie
 
-judge-requires : tie.Need-judge-requires
-judge-requires c κs = search needs
-
-data-refusal-requires : tie.Need-data-refusal-requires
-data-refusal-requires c κs = search needs
-
-refuse-requires : tie.Need-refuse-requires
-refuse-requires c κs = search needs
-
-same-length : tie.Need-same-length
-same-length c = search needs
-
 returns : tie.Need-returns
 returns c =
     let j = c .before .before .before in
@@ -40,12 +28,6 @@ returns c =
 passed : (c : tie.Else1) → judged (now (c .before .before .before .before .before .before .args .area)) ≡ true
 passed c = sym (c .before .before .judge .ensures) ∙ not-false _ (c .if1 .left)
 
-refuse-requires-2 : tie.Need-refuse-requires-2
-refuse-requires-2 c κs = search needs
-
-same-length-2 : tie.Need-same-length-2
-same-length-2 c = search needs
-
 returns-2 : tie.Need-returns-2
 returns-2 c =
     let e = c .before .before in
@@ -55,18 +37,12 @@ returns-2 c =
     both (ap Refused (c .refuse2 .ensures))
     (record-unread (now (s .args .area)) (passed e) (now (s .args .packet)) (u .data-refusal .result) (λ i. k .slice-known .given i .fits) (u .data-refusal .ensures) (omega arith))
 
-data-fields-requires : tie.Need-data-fields-requires
-data-fields-requires c κs = search needs
-
 record-fields-requires : tie.Need-record-fields-requires
 record-fields-requires c κs =
     let f = c .before in
     let e = f .before .before in
     let s = e .before .before .before .before .before .before in
     (passed e, fields-some (now (s .args .packet)) _ (omega arith) (f .data-fields .ensures))
-
-same-length-3 : tie.Need-same-length-3
-same-length-3 c = search needs
 
 returns-3 : tie.Need-returns-3
 returns-3 c =
@@ -83,15 +59,15 @@ pub record-spec : {M : Type 1} → statement M
 record-spec =
     tie.close
     (tie.spec
-    judge-requires
-    data-refusal-requires
-    refuse-requires
-    same-length
+    (λ c κs. search needs)
+    (λ c κs. search needs)
+    (λ c κs. search needs)
+    (λ c. search needs)
     returns
-    refuse-requires-2
-    same-length-2
+    (λ c κs. search needs)
+    (λ c. search needs)
     returns-2
-    data-fields-requires
+    (λ c κs. search needs)
     record-fields-requires
-    same-length-3
+    (λ c. search needs)
     returns-3)

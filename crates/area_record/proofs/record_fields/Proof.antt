@@ -14,15 +14,6 @@ use Rattle.area_record.proofs.RecordLaws.{both, both-as, fields-missing
 use Rattle.area_record.proofs.record_fields.Statement.{statement}
 use Rattle.area_record.proofs.record_fields.Tie as tie
 
-find-place-requires : tie.Need-find-place-requires
-find-place-requires c κs = search needs
-
-refuse-requires : tie.Need-refuse-requires
-refuse-requires c κs = search needs
-
-same-length : tie.Need-same-length
-same-length c = search needs
-
 -- the area's values are octets
 octets : (c : tie.After-slice-known) → Octets (now (c .before .args .area))
 octets c i = c .slice-known .given i .fits
@@ -50,15 +41,6 @@ key-at-requires c κs =
     let s = before-place .before in
     kept-known (now (s .args .area)) (s .args .d .id) _ (open-known (c .before)) (s .pre .0)
 
-key-refusal-requires : tie.Need-key-refusal-requires
-key-refusal-requires c κs = search needs
-
-refuse-requires-2 : tie.Need-refuse-requires-2
-refuse-requires-2 c κs = search needs
-
-same-length-2 : tie.Need-same-length-2
-same-length-2 c = search needs
-
 returns-2 : tie.Need-returns-2
 returns-2 c =
     let r = c .before .before in
@@ -84,9 +66,6 @@ extend-requires c κs =
     let k = open-known e in
     (e .before .before .before .before .before .pre .0, omega (arith, k .inside), omega arith)
 
-same-length-3 : tie.Need-same-length-3
-same-length-3 c = search needs
-
 returns-3 : tie.Need-returns-3
 returns-3 c =
     let x = c .before .before in
@@ -103,16 +82,16 @@ pub record-fields-spec : {M : Type 1} → statement M
 record-fields-spec =
     tie.close
     (tie.spec
-    find-place-requires
-    refuse-requires
-    same-length
+    (λ c κs. search needs)
+    (λ c κs. search needs)
+    (λ c. search needs)
     returns
     key-at-requires
-    key-refusal-requires
-    refuse-requires-2
-    same-length-2
+    (λ c κs. search needs)
+    (λ c κs. search needs)
+    (λ c. search needs)
     returns-2
     add-extend
     extend-requires
-    same-length-3
+    (λ c. search needs)
     returns-3)

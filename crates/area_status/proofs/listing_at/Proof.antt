@@ -6,12 +6,6 @@ use Rattle.area_status.proofs.ListingLaws.{listing-is}
 use Rattle.area_status.proofs.listing_at.Statement.{statement}
 use Rattle.area_status.proofs.listing_at.Tie as tie
 
-key-at-requires : tie.Need-key-at-requires
-key-at-requires c κs = search needs
-
-rows-at-requires : tie.Need-rows-at-requires
-rows-at-requires c κs = search needs
-
 edge-of-requires : tie.Need-edge-of-requires
 edge-of-requires c κs = rw (c .rows-at .ensures) (c .before .before .before .pre .rows .fit)
 
@@ -28,4 +22,4 @@ returns c =
 pub listing-at-spec : {M : Type 1} → statement M
 listing-at-spec =
     tie.close
-    (tie.spec key-at-requires rows-at-requires edge-of-requires is-complete-requires returns)
+    (tie.spec (λ c κs. search needs) (λ c κs. search needs) edge-of-requires is-complete-requires returns)

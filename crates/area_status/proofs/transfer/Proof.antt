@@ -17,12 +17,6 @@ use Rattle.area_status.proofs.ListingLaws.{listed-unheld, listed-past-c
 use Rattle.area_status.proofs.transfer.Statement.{statement}
 use Rattle.area_status.proofs.transfer.Tie as tie
 
-judge-requires : tie.Need-judge-requires
-judge-requires c κs = search needs
-
-refuse-requires : tie.Need-refuse-requires
-refuse-requires c κs = search needs
-
 returns : tie.Need-returns
 returns c =
     let a = c .before .before .before .before .args in
@@ -34,9 +28,6 @@ passed c = sym (c .before .judge .ensures) ∙ not-false (c .before .judge .resu
 
 open-count-requires : tie.Need-open-count-requires
 open-count-requires c κs = judged-passed (now (c .before .before .before .args .area)) (passed c) .0
-
-refuse-requires-2 : tie.Need-refuse-requires-2
-refuse-requires-2 c κs = search needs
 
 returns-2 : tie.Need-returns-2
 returns-2 c =
@@ -63,11 +54,11 @@ pub transfer-spec : {M : Type 1} → statement M
 transfer-spec =
     tie.close
     (tie.spec
-    judge-requires
-    refuse-requires
+    (λ c κs. search needs)
+    (λ c κs. search needs)
     returns
     open-count-requires
-    refuse-requires-2
+    (λ c κs. search needs)
     returns-2
     listing-at-requires
     returns-3)

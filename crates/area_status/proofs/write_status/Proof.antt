@@ -13,12 +13,6 @@ use Rattle.area_status.proofs.WriteStatusLaws.{status-unheld, status-mi
 use Rattle.area_status.proofs.write_status.Statement.{statement}
 use Rattle.area_status.proofs.write_status.Tie as tie
 
-judge-requires : tie.Need-judge-requires
-judge-requires c κs = search needs
-
-refuse-requires : tie.Need-refuse-requires
-refuse-requires c κs = search needs
-
 returns : tie.Need-returns
 returns c =
     let judge-place = c .before .before in
@@ -33,9 +27,6 @@ passed c = sym (c .before .judge .ensures) ∙ not-false (c .before .judge .resu
 
 find-place-requires : tie.Need-find-place-requires
 find-place-requires c κs = passed c
-
-refuse-requires-2 : tie.Need-refuse-requires-2
-refuse-requires-2 c κs = search needs
 
 returns-2 : tie.Need-returns-2
 returns-2 c =
@@ -69,9 +60,6 @@ write-rows-requires c κs =
     let u = used (c .before .before .before) in
     (rw (c .before .rows-at .ensures) (u .rows), rw (c .before .before .key-at .ensures) (u .width))
 
-same-length : tie.Need-same-length
-same-length c = search needs
-
 returns-3 : tie.Need-returns-3
 returns-3 c =
     let write-rows-place = c .before .before in
@@ -90,14 +78,14 @@ pub write-status-spec : {M : Type 1} → statement M
 write-status-spec =
     tie.close
     (tie.spec
-    judge-requires
-    refuse-requires
+    (λ c κs. search needs)
+    (λ c κs. search needs)
     returns
     find-place-requires
-    refuse-requires-2
+    (λ c κs. search needs)
     returns-2
     key-at-requires
     rows-at-requires
     write-rows-requires
-    same-length
+    (λ c. search needs)
     returns-3)

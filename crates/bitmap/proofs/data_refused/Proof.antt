@@ -10,11 +10,8 @@ use Rattle.bitmap.proofs.data_refused.Tie as tie
 returns : tie.Need-returns
 returns c = let a = c .before .before .before .args in another-id (a .key) (a .d) (λ e. omega arith)
 
-key-refusal-requires : tie.Need-key-refusal-requires
-key-refusal-requires c κs = search needs
-
 returns-2 : tie.Need-returns-2
 returns-2 c = let a = c .before .before .before .before .args in c .key-refusal .ensures ∙ same-id (a .key) (a .d) (omega arith)
 
 pub data-refused-spec : {M : Type 1} → statement M
-data-refused-spec = tie.close (tie.spec returns key-refusal-requires returns-2)
+data-refused-spec = tie.close (tie.spec returns (λ c κs. search needs) returns-2)

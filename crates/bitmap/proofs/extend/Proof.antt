@@ -13,12 +13,6 @@ use Rattle.bitmap.proofs.ExtendLaws.{extend-refused, extend-done}
 use Rattle.bitmap.proofs.extend.Statement.{statement}
 use Rattle.bitmap.proofs.extend.Tie as tie
 
-add-to : tie.Need-add-to
-add-to c = search needs
-
-rows-of-requires : tie.Need-rows-of-requires
-rows-of-requires c κs = search needs
-
 cut-to-requires : tie.Need-cut-to-requires
 cut-to-requires c κs = rw (c .rows-of .ensures) (search needs)
 
@@ -35,18 +29,6 @@ from-place : (c : tie.After-cut-below)
 from-place c = let a = c .before .before .before .before .before .args in
     subst (λ (r : Rows). CutBelow (now (a .rows)) (r .stops) (c .before .cut-to .result) (a .d .offset) (c .cut-below .result)) (c .before .before .rows-of .ensures) (c .cut-below .ensures)
 
-add-if1 : tie.Need-add-if1
-add-if1 c = search needs
-
-sub-if1 : tie.Need-sub-if1
-sub-if1 c = search needs
-
-add-if1-2 : tie.Need-add-if1-2
-add-if1-2 c = search needs
-
-refuse-requires : tie.Need-refuse-requires
-refuse-requires c κs = search needs
-
 returns : tie.Need-returns
 returns c =
     let b = c .before .before in
@@ -56,26 +38,11 @@ returns c =
     (to-place (b .before)) (from-place b) (omega arith) in
     (rw (c .refuse .ensures) (k .0), k .1)
 
-set-marks-requires : tie.Need-set-marks-requires
-set-marks-requires c κs = search needs
-
 edge-of-requires : tie.Need-edge-of-requires
 edge-of-requires c κs =
     let r = c .before .before .before .before .before .before .before in
     let s = r .before .before .before in
     rw (r .rows-of .ensures) (rows-fit (now (s .args .rows)) (s .args .n) (s .pre .0 .few) (s .pre .0 .room))
-
-greater-requires : tie.Need-greater-requires
-greater-requires c κs = search needs
-
-first-requires : tie.Need-first-requires
-first-requires c κs = search needs
-
-sub-absorbed : tie.Need-sub-absorbed
-sub-absorbed c = search needs
-
-same-length : tie.Need-same-length
-same-length c = search needs
 
 returns-2 : tie.Need-returns-2
 returns-2 c =
@@ -95,19 +62,19 @@ pub extend-spec : {M : Type 1} → statement M
 extend-spec =
     tie.close
     (tie.spec
-    add-to
-    rows-of-requires
+    (λ c. search needs)
+    (λ c κs. search needs)
     cut-to-requires
     cut-below-requires
-    add-if1
-    sub-if1
-    add-if1-2
-    refuse-requires
+    (λ c. search needs)
+    (λ c. search needs)
+    (λ c. search needs)
+    (λ c κs. search needs)
     returns
-    set-marks-requires
+    (λ c κs. search needs)
     edge-of-requires
-    greater-requires
-    first-requires
-    sub-absorbed
-    same-length
+    (λ c κs. search needs)
+    (λ c κs. search needs)
+    (λ c. search needs)
+    (λ c. search needs)
     returns-2)

@@ -17,9 +17,6 @@ use Rattle.bitmap.proofs.judge.Tie as tie
 returns : tie.Need-returns
 returns c = let a = c .before .before .before .args in too-short (a .key) (now (a .marks)) (now (a .rows)) (omega arith)
 
-openable-requires : tie.Need-openable-requires
-openable-requires c κs = search needs
-
 returns-2 : tie.Need-returns-2
 returns-2 c =
     let o = c .before in
@@ -30,12 +27,6 @@ returns-2 c =
 taken : (c : tie.Else2) → openable (c .before .before .before .before .before .args .key) ≡ true
 taken c = sym (c .before .openable .ensures) ∙ not-false (c .before .openable .result) (c .if2 .left)
 
-find-runs-requires : tie.Need-find-runs-requires
-find-runs-requires c κs = search needs
-
-same-length : tie.Need-same-length
-same-length c = search needs
-
 returns-3 : tie.Need-returns-3
 returns-3 c =
     let f = c .before .before .before in
@@ -43,14 +34,8 @@ returns-3 c =
     let a = e .before .before .before .before .before .args in
     too-many (a .key) (now (a .marks)) _ (omega arith) (taken e) (f .find-runs .result) (f .find-runs .ensures) (omega arith)
 
-rows-of-requires : tie.Need-rows-of-requires
-rows-of-requires c κs = search needs
-
 edge-of-requires : tie.Need-edge-of-requires
 edge-of-requires c κs = rw (c .rows-of .ensures) (rows-fit _ _ (search needs) (search needs))
-
-same-length-2 : tie.Need-same-length-2
-same-length-2 c = search needs
 
 returns-4 : tie.Need-returns-4
 returns-4 c =
@@ -61,9 +46,6 @@ returns-4 c =
     let a = e .before .before .before .before .before .args in
     mark-above (a .key) (now (a .marks)) _ (omega arith) (taken e) (f .find-runs .result) (f .find-runs .ensures) (omega arith) (search needs)
     (x .edge-of .result) (x .edge-of .ensures ∙ ap (λ (z : Rows). edge (runsIn (f .find-runs .last .1 .0) z)) (r .rows-of .ensures)) (omega arith)
-
-same-length-3 : tie.Need-same-length-3
-same-length-3 c = search needs
 
 returns-5 : tie.Need-returns-5
 returns-5 c =
@@ -80,14 +62,14 @@ judge-spec =
     tie.close
     (tie.spec
     returns
-    openable-requires
+    (λ c κs. search needs)
     returns-2
-    find-runs-requires
-    same-length
+    (λ c κs. search needs)
+    (λ c. search needs)
     returns-3
-    rows-of-requires
+    (λ c κs. search needs)
     edge-of-requires
-    same-length-2
+    (λ c. search needs)
     returns-4
-    same-length-3
+    (λ c. search needs)
     returns-5)

@@ -11,20 +11,11 @@ use Rattle.bitmap.proofs.OpenLaws.{open-short, open-unread, open-long, 
 use Rattle.bitmap.proofs.open.Statement.{statement}
 use Rattle.bitmap.proofs.open.Tie as tie
 
-refuse-requires : tie.Need-refuse-requires
-refuse-requires c κs = search needs
-
 returns : tie.Need-returns
 returns c =
     let a = c .before .before .before .before .args in
     let k = open-short (now (a .marks)) (now (a .packet)) (omega arith) in
     (rw (c .refuse .ensures) (k .0), k .1)
-
-metadata-refusal-requires : tie.Need-metadata-refusal-requires
-metadata-refusal-requires c κs = search needs
-
-refuse-requires-2 : tie.Need-refuse-requires-2
-refuse-requires-2 c κs = search needs
 
 returns-2 : tie.Need-returns-2
 returns-2 c =
@@ -33,21 +24,12 @@ returns-2 c =
     let k = open-unread (now (a .marks)) (now (a .packet)) (omega arith) (m .metadata-refusal .result) (m .metadata-refusal .ensures) (λ z. omega arith) in
     (rw (c .refuse2 .ensures) (k .0), k .1)
 
-metadata-fields-requires : tie.Need-metadata-fields-requires
-metadata-fields-requires c κs = search needs
-
-key-of-requires : tie.Need-key-of-requires
-key-of-requires c κs = search needs
-
 -- the packet is METADATA, and the key is what it opens
 read : (c : tie.Else2) → metadataRefusal (now (c .before .before .before .before .before .args .packet)) ≡ 0
 read c = omega (arith, c .before .metadata-refusal .ensures)
 
 key-is : (c : tie.After-key-of) → c .key-of .result ≡ keyOf (metadataOf (now (c .before .before .before .before .before .before .before .args .packet)))
 key-is c = c .key-of .ensures ∙ ap (λ (m : Metadata). keyOf m) (c .before .metadata-fields .ensures)
-
-refuse-requires-3 : tie.Need-refuse-requires-3
-refuse-requires-3 c κs = search needs
 
 returns-3 : tie.Need-returns-3
 returns-3 c =
@@ -56,15 +38,6 @@ returns-3 c =
     let a = e .before .before .before .before .before .args in
     let x = open-long (now (a .marks)) (now (a .packet)) (omega arith) (read e) (k .key-of .result) (key-is k) (omega arith) in
     (rw (c .refuse3 .ensures) (x .0), x .1)
-
-clear-requires : tie.Need-clear-requires
-clear-requires c κs = search needs
-
-reached-new-requires : tie.Need-reached-new-requires
-reached-new-requires c κs = search needs
-
-same-length : tie.Need-same-length
-same-length c = search needs
 
 returns-4 : tie.Need-returns-4
 returns-4 c =
@@ -79,16 +52,16 @@ pub open-spec : {M : Type 1} → statement M
 open-spec =
     tie.close
     (tie.spec
-    refuse-requires
+    (λ c κs. search needs)
     returns
-    metadata-refusal-requires
-    refuse-requires-2
+    (λ c κs. search needs)
+    (λ c κs. search needs)
     returns-2
-    metadata-fields-requires
-    key-of-requires
-    refuse-requires-3
+    (λ c κs. search needs)
+    (λ c κs. search needs)
+    (λ c κs. search needs)
     returns-3
-    clear-requires
-    reached-new-requires
-    same-length
+    (λ c κs. search needs)
+    (λ c κs. search needs)
+    (λ c. search needs)
     returns-4)

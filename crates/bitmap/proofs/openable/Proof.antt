@@ -9,11 +9,8 @@ use Rattle.bitmap.proofs.openable.Tie as tie
 returns : tie.Need-returns
 returns c = longer (c .before .before .args .key) (omega arith)
 
-length-ok-requires : tie.Need-length-ok-requires
-length-ok-requires c κs = search needs
-
 returns-2 : tie.Need-returns-2
 returns-2 c = no-longer (c .before .before .before .args .key) (c .length-ok .result) (omega arith) (c .length-ok .ensures)
 
 pub openable-spec : {M : Type 1} → statement M
-openable-spec = tie.close (tie.spec returns length-ok-requires returns-2)
+openable-spec = tie.close (tie.spec returns (λ c κs. search needs) returns-2)

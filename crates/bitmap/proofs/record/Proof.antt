@@ -12,18 +12,6 @@ use Rattle.bitmap.proofs.RecordLaws.{record-unfit, record-unread, recor
 use Rattle.bitmap.proofs.record.Statement.{statement}
 use Rattle.bitmap.proofs.record.Tie as tie
 
-slice-aggregate-judge : tie.Need-slice-aggregate-judge
-slice-aggregate-judge c = search needs
-
-judge-requires : tie.Need-judge-requires
-judge-requires c κs = search needs
-
-refuse-requires : tie.Need-refuse-requires
-refuse-requires c κs = search needs
-
-same-length : tie.Need-same-length
-same-length c = search needs
-
 returns : tie.Need-returns
 returns c =
     let j = c .before .before .before .before in
@@ -38,15 +26,6 @@ no-number c = omega arith
 fit : (c : tie.Else1) → let a = c .before .before .before .before .before .before .before .before .args in stateRefusal (a .key) (now (a .marks)) ≡ 0
 fit c = sym (c .before .before .before .judge .ensures .refusal) ∙ no-number c
 
-data-refusal-requires : tie.Need-data-refusal-requires
-data-refusal-requires c κs = search needs
-
-refuse-requires-2 : tie.Need-refuse-requires-2
-refuse-requires-2 c κs = search needs
-
-same-length-2 : tie.Need-same-length-2
-same-length-2 c = search needs
-
 returns-2 : tie.Need-returns-2
 returns-2 c =
     let r = c .before .before in
@@ -59,18 +38,6 @@ returns-2 c =
 read : (c : tie.Else2) → dataRefusal (now (c .before .before .before .before .before .before .before .before .before .before .args .packet)) ≡ 0
 read c = omega (arith, c .before .data-refusal .ensures)
 
-data-fields-requires : tie.Need-data-fields-requires
-data-fields-requires c κs = search needs
-
-data-refused-requires : tie.Need-data-refused-requires
-data-refused-requires c κs = search needs
-
-refuse-requires-3 : tie.Need-refuse-requires-3
-refuse-requires-3 c κs = search needs
-
-same-length-3 : tie.Need-same-length-3
-same-length-3 c = search needs
-
 returns-3 : tie.Need-returns-3
 returns-3 c =
     let r = c .before .before in
@@ -81,9 +48,6 @@ returns-3 c =
     let k = record-refused (a .key) (now (a .marks)) (now (a .packet)) (fit o) (read e) (f .data-fields .result) (f .data-fields .ensures)
     (r .data-refused .result) (r .data-refused .ensures) (λ z. omega arith) in
     (rw (c .refuse3 .ensures) (k .0), k .1)
-
-slice-aggregate-extend : tie.Need-slice-aggregate-extend
-slice-aggregate-extend c = search needs
 
 -- it is this transfer's
 judged : (c : tie.Else3) → dataRefused (c .before .before .before .before .before .before .before .before .before .before .before .before .before .args .key) (c .before .before .data-fields .result) ≡ 0
@@ -102,9 +66,6 @@ extend-requires c κs =
       judged-stop (a .key) (now (a .marks)) (f .data-fields .result) (fit o) (judged e),
     )
 
-same-length-4 : tie.Need-same-length-4
-same-length-4 c = search needs
-
 returns-4 : tie.Need-returns-4
 returns-4 c =
     let x = c .before .before in
@@ -119,21 +80,21 @@ pub record-spec : {M : Type 1} → statement M
 record-spec =
     tie.close
     (tie.spec
-    slice-aggregate-judge
-    judge-requires
-    refuse-requires
-    same-length
+    (λ c. search needs)
+    (λ c κs. search needs)
+    (λ c κs. search needs)
+    (λ c. search needs)
     returns
-    data-refusal-requires
-    refuse-requires-2
-    same-length-2
+    (λ c κs. search needs)
+    (λ c κs. search needs)
+    (λ c. search needs)
     returns-2
-    data-fields-requires
-    data-refused-requires
-    refuse-requires-3
-    same-length-3
+    (λ c κs. search needs)
+    (λ c κs. search needs)
+    (λ c κs. search needs)
+    (λ c. search needs)
     returns-3
-    slice-aggregate-extend
+    (λ c. search needs)
     extend-requires
-    same-length-4
+    (λ c. search needs)
     returns-4)

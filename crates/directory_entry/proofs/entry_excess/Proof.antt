@@ -14,12 +14,6 @@ returns : tie.Need-returns
 unfolding entryExcess
 returns c = rw (le-ltb (c .before .args .properties) (2 ^ 16) (omega arith))
 
-size-octets-requires : tie.Need-size-octets-requires
-size-octets-requires c κs = search needs
-
-fits-requires : tie.Need-fits-requires
-fits-requires c κs = search needs
-
 -- the test of the size
 tested : (c : tie.After-fits2) → ltb (c .before .before .before .args .size) (256 ^ sizeOctets (c .before .before .before .args .properties)) ≡ c .fits2 .result
 tested c = sym (c .fits2 .ensures ∙ ap (λ (n : ℕ). ltb (c .before .before .before .args .size) (256 ^ n)) (c .before .size-octets .ensures))
@@ -59,4 +53,4 @@ returns-5 c =
 pub entry-excess-spec : {M : Type 1} → statement M
 entry-excess-spec =
     tie.close
-    (tie.spec returns size-octets-requires fits-requires returns-2 returns-3 returns-4 returns-5)
+    (tie.spec returns (λ c κs. search needs) (λ c κs. search needs) returns-2 returns-3 returns-4 returns-5)

@@ -18,9 +18,6 @@ use Rattle.directory_entry.proofs.entry_fields.Tie as tie
 read-two-requires : tie.Need-read-two-requires
 read-two-requires c κs = omega (arith, entry-fine (c .before .args .d) (now (c .before .args .e)) (c .before .pre .0) .long)
 
-size-octets-requires : tie.Need-size-octets-requires
-size-octets-requires c κs = search needs
-
 -- the octets of the size, and the room for what follows it
 known : (c : tie.After-size-octets)
     → (c .size-octets .result ≡ sizeOctets (propertiesOf (now (c .before .before .before .args .e)))) × Width (c .size-octets .result) × (c .size-octets .result ≤ 16) × (10 + c .size-octets .result < length (now (c .before .before .before .args .e))) × (descriptorRefusal (c .size-octets .result) 2 (now (c .before .before .before .args .e)) ≡ 0)
@@ -66,7 +63,7 @@ entry-fields-spec =
     tie.close
     (tie.spec
     read-two-requires
-    size-octets-requires
+    (λ c κs. search needs)
     add-path
     descriptor-requires
     add-read-four

@@ -21,12 +21,6 @@ returns : tie.Need-returns
 unfolding entryRefusal
 returns c = rw (lt-ltb (length (now (c .before .before .args .e))) 2 (omega arith))
 
-read-two-requires : tie.Need-read-two-requires
-read-two-requires c κs = omega arith
-
-property-refusal-requires : tie.Need-property-refusal-requires
-property-refusal-requires c κs = search needs
-
 property : (c : tie.After-property-refusal) → c .property-refusal .result ≡ propertyRefusal (propertiesOf (now (c .before .before .before .before .args .e)))
 property c = c .property-refusal .ensures ∙ ap propertyRefusal (c .before .read-two .ensures)
 
@@ -37,9 +31,6 @@ returns-2 c =
     let e = now (start .args .e) in
     let p = property (c .before) in
     rw (le-ltb (length e) 2 (omega arith)) (p ∙ sym (stays (propertyRefusal (propertiesOf e)) _ (omega arith)))
-
-size-octets-requires : tie.Need-size-octets-requires
-size-octets-requires c κs = search needs
 
 known : (c : tie.After-size-octets)
     → (c .size-octets .result ≡ sizeOctets (propertiesOf (now (c .before .before .before .before .before .before .args .e)))) × (c .size-octets .result ≤ 16) × (propertyRefusal (propertiesOf (now (c .before .before .before .before .before .before .args .e))) ≡ 0)
@@ -83,18 +74,6 @@ returns-4 c =
     let k = known (before-place .before) in
     rw (le-ltb (length e) 2 (omega arith), k .2, there (c .before), lt-ltb (length e) (pathAt (propertiesOf e)) (omega arith))
 
-sub-path-refusal : tie.Need-sub-path-refusal
-sub-path-refusal c = search needs
-
-part-path-refusal-start : tie.Need-part-path-refusal-start
-part-path-refusal-start c = search needs
-
-part-path-refusal-end : tie.Need-part-path-refusal-end
-part-path-refusal-end c = search needs
-
-path-refusal-requires : tie.Need-path-refusal-requires
-path-refusal-requires c κs = search needs
-
 path : (c : tie.After-path-refusal) → c .path-refusal .result ≡ pathRefusal (afterTimes (now (c .before .before .before .before .before .before .before .before .before .before .before .args .e)))
 path c =
     let before-place = c .before .before .before .before in
@@ -123,9 +102,6 @@ descriptor-requires c κs =
     let e = now (start .args .e) in
     let k = known (before-place-5 .before) in
     (rw (k .0) (size-width (propertiesOf e)), rw (k .0) (there (before-place .before)))
-
-fits-requires : tie.Need-fits-requires
-fits-requires c κs = search needs
 
 size : (c : tie.After-fits2) → ltb (sizeOf (now (c .before .before .before .before .before .before .before .before .before .before .before .before .before .before .args .e))) (256 ^ c .before .before .before .before .before .before .before .before .before .before .before .before .before .before .args .d) ≡ c .fits2 .result
 size c =
@@ -179,20 +155,20 @@ entry-refusal-spec =
     tie.close
     (tie.spec
     returns
-    read-two-requires
-    property-refusal-requires
+    (λ c κs. omega arith)
+    (λ c κs. search needs)
     returns-2
-    size-octets-requires
+    (λ c κs. search needs)
     add-at
     descriptor-refusal-requires
     returns-3
     returns-4
-    sub-path-refusal
-    part-path-refusal-start
-    part-path-refusal-end
-    path-refusal-requires
+    (λ c. search needs)
+    (λ c. search needs)
+    (λ c. search needs)
+    (λ c κs. search needs)
     returns-5
     descriptor-requires
-    fits-requires
+    (λ c κs. search needs)
     returns-6
     returns-7)

@@ -11,15 +11,9 @@ use native.Mathlib.Omega.{arith}
 use Rattle.directory_entry.proofs.entry_write_refusal.Statement.{statement}
 use Rattle.directory_entry.proofs.entry_write_refusal.Tie as tie
 
-property-refusal-requires : tie.Need-property-refusal-requires
-property-refusal-requires c κs = search needs
-
 returns : tie.Need-returns
 unfolding entryWriteRefusal
 returns c = c .before .property-refusal .ensures ∙ sym (stays (propertyRefusal (c .before .before .before .args .properties)) _ (omega arith))
-
-path-write-refusal-requires : tie.Need-path-write-refusal-requires
-path-write-refusal-requires c κs = search needs
 
 returns-2 : tie.Need-returns-2
 unfolding entryWriteRefusal
@@ -27,9 +21,6 @@ returns-2 c =
     let start = c .before .before .before .before .before in
     let y : propertyRefusal (start .args .properties) ≡ 0 = omega arith in
     rw y (c .before .path-write-refusal .ensures ∙ sym (stays (pathWriteRefusal (now (start .args .path))) _ (omega arith)))
-
-fits-requires : tie.Need-fits-requires
-fits-requires c κs = search needs
 
 returns-3 : tie.Need-returns-3
 unfolding entryWriteRefusal
@@ -51,10 +42,10 @@ pub entry-write-refusal-spec : {M : Type 1} → statement M
 entry-write-refusal-spec =
     tie.close
     (tie.spec
-    property-refusal-requires
+    (λ c κs. search needs)
     returns
-    path-write-refusal-requires
+    (λ c κs. search needs)
     returns-2
-    fits-requires
+    (λ c κs. search needs)
     returns-3
     returns-4)

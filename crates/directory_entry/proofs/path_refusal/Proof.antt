@@ -9,9 +9,6 @@ use native.Mathlib.Omega.{arith}
 use Rattle.directory_entry.proofs.path_refusal.Statement.{statement}
 use Rattle.directory_entry.proofs.path_refusal.Tie as tie
 
-zero-at-requires : tie.Need-zero-at-requires
-zero-at-requires c κs = search needs
-
 returns : tie.Need-returns
 unfolding pathRefusal
 returns c =
@@ -37,9 +34,6 @@ returns-4 c =
     let r = now (start .args .r) in
     simp (ne-eqb (zeroAt r) (length r) (omega arith), ne-eqb (zeroAt r) 0 (omega arith), lt-ltb 1023 (zeroAt r) (omega arith))
 
-add-if5 : tie.Need-add-if5
-add-if5 c = search needs
-
 returns-5 : tie.Need-returns-5
 unfolding pathRefusal
 returns-5 c =
@@ -57,4 +51,4 @@ returns-6 c =
 pub path-refusal-spec : {M : Type 1} → statement M
 path-refusal-spec =
     tie.close
-    (tie.spec zero-at-requires returns returns-2 returns-3 returns-4 add-if5 returns-5 returns-6)
+    (tie.spec (λ c κs. search needs) returns returns-2 returns-3 returns-4 (λ c. search needs) returns-5 returns-6)

@@ -16,9 +16,6 @@ returns-2 : tie.Need-returns-2
 unfolding pathWriteRefusal
 returns-2 c = let p = now (c .before .before .before .args .path) in rw (ne-eqb (length p) 0 (omega arith), lt-ltb 1023 (length p) (omega arith))
 
-zero-at-requires : tie.Need-zero-at-requires
-zero-at-requires c κs = search needs
-
 returns-3 : tie.Need-returns-3
 unfolding pathWriteRefusal
 returns-3 c =
@@ -33,4 +30,4 @@ returns-4 c =
 
 pub path-write-refusal-spec : {M : Type 1} → statement M
 path-write-refusal-spec =
-    tie.close (tie.spec returns returns-2 zero-at-requires returns-3 returns-4)
+    tie.close (tie.spec returns returns-2 (λ c κs. search needs) returns-3 returns-4)

@@ -6,9 +6,6 @@ use native.Mathlib.Omega.{arith}
 use Rattle.directory_entry.proofs.property_refusal.Statement.{statement}
 use Rattle.directory_entry.proofs.property_refusal.Tie as tie
 
-split-properties-requires : tie.Need-split-properties-requires
-split-properties-requires c κs = search needs
-
 returns : tie.Need-returns
 unfolding propertyRefusal
 returns c = let x = c .before .before .before .args .x in rw (ne-eqb (specialOf x) 0 (omega arith))
@@ -26,4 +23,4 @@ returns-3 c =
     let x = start .args .x in rw (eq-eqb (specialOf x) 0 (omega arith), eq-eqb (bundleOf x) 0 (omega arith))
 
 pub property-refusal-spec : {M : Type 1} → statement M
-property-refusal-spec = tie.close (tie.spec split-properties-requires returns returns-2 returns-3)
+property-refusal-spec = tie.close (tie.spec (λ c κs. search needs) returns returns-2 returns-3)

@@ -14,51 +14,6 @@ use native.Mathlib.Omega.{arith}
 use Rattle.directory_entry.proofs.put_entry.Statement.{statement}
 use Rattle.directory_entry.proofs.put_entry.Tie as tie
 
-size-octets-requires : tie.Need-size-octets-requires
-size-octets-requires c κs = search needs
-
-add-times : tie.Need-add-times
-add-times c = search needs
-
-add-times-2 : tie.Need-add-times-2
-add-times-2 c = search needs
-
-write-number-requires : tie.Need-write-number-requires
-write-number-requires c κs = search needs
-
-add-write-number : tie.Need-add-write-number
-add-write-number c = search needs
-
-write-number-requires-2 : tie.Need-write-number-requires-2
-write-number-requires-2 c κs = search needs
-
-write-number-requires-3 : tie.Need-write-number-requires-3
-write-number-requires-3 c κs = search needs
-
-add-write-number-2 : tie.Need-add-write-number-2
-add-write-number-2 c = search needs
-
-write-number-requires-4 : tie.Need-write-number-requires-4
-write-number-requires-4 c κs = search needs
-
-add-copy-into : tie.Need-add-copy-into
-add-copy-into c = search needs
-
-copy-into-requires : tie.Need-copy-into-requires
-copy-into-requires c κs = search needs
-
-add-write-number-3 : tie.Need-add-write-number-3
-add-write-number-3 c = search needs
-
-add-write-number-4 : tie.Need-add-write-number-4
-add-write-number-4 c = search needs
-
-write-number-requires-5 : tie.Need-write-number-requires-5
-write-number-requires-5 c κs = search needs
-
-same-length : tie.Need-same-length
-same-length c = search needs
-
 returns : tie.Need-returns
 unfolding entryOctets
 returns c =
@@ -81,19 +36,19 @@ pub put-entry-spec : {M : Type 1} → statement M
 put-entry-spec =
     tie.close
     (tie.spec
-    size-octets-requires
-    add-times
-    add-times-2
-    write-number-requires
-    add-write-number
-    write-number-requires-2
-    write-number-requires-3
-    add-write-number-2
-    write-number-requires-4
-    add-copy-into
-    copy-into-requires
-    add-write-number-3
-    add-write-number-4
-    write-number-requires-5
-    same-length
+    (λ c κs. search needs)
+    (λ c. search needs)
+    (λ c. search needs)
+    (λ c κs. search needs)
+    (λ c. search needs)
+    (λ c κs. search needs)
+    (λ c κs. search needs)
+    (λ c. search needs)
+    (λ c κs. search needs)
+    (λ c. search needs)
+    (λ c κs. search needs)
+    (λ c. search needs)
+    (λ c. search needs)
+    (λ c κs. search needs)
+    (λ c. search needs)
     returns)

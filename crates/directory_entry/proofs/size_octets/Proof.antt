@@ -5,14 +5,8 @@ use borrow.Author.Needs.{needs}
 use Rattle.directory_entry.proofs.size_octets.Statement.{statement}
 use Rattle.directory_entry.proofs.size_octets.Tie as tie
 
-split-properties-requires : tie.Need-split-properties-requires
-split-properties-requires c κs = search needs
-
-octets-of-width-requires : tie.Need-octets-of-width-requires
-octets-of-width-requires c κs = search needs
-
 returns : tie.Need-returns
 returns c = c .octets-of-width .ensures ∙ ap (λ (n : ℕ). 2 * 2 ^ n) (c .before .split-properties .ensures .width-is)
 
 pub size-octets-spec : {M : Type 1} → statement M
-size-octets-spec = tie.close (tie.spec split-properties-requires octets-of-width-requires returns)
+size-octets-spec = tie.close (tie.spec (λ c κs. search needs) (λ c κs. search needs) returns)

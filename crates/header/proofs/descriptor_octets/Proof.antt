@@ -5,14 +5,8 @@ use borrow.Author.Needs.{needs}
 use Rattle.header.proofs.descriptor_octets.Statement.{statement}
 use Rattle.header.proofs.descriptor_octets.Tie as tie
 
-split-requires : tie.Need-split-requires
-split-requires c κs = search needs
-
-octets-of-width-requires : tie.Need-octets-of-width-requires
-octets-of-width-requires c κs = search needs
-
 returns : tie.Need-returns
 returns c = c .octets-of-width .ensures ∙ ap (λ (n : ℕ). 2 * 2 ^ n) (c .before .split .ensures .width-is)
 
 pub descriptor-octets-spec : {M : Type 1} → statement M
-descriptor-octets-spec = tie.close (tie.spec split-requires octets-of-width-requires returns)
+descriptor-octets-spec = tie.close (tie.spec (λ c κs. search needs) (λ c κs. search needs) returns)

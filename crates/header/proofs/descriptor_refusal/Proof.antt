@@ -14,9 +14,6 @@ use native.Mathlib.Omega.{arith}
 use Rattle.header.proofs.descriptor_refusal.Statement.{statement}
 use Rattle.header.proofs.descriptor_refusal.Tie as tie
 
-add-if1 : tie.Need-add-if1
-add-if1 c = search needs
-
 returns : tie.Need-returns
 unfolding descriptorRefusal
 returns c = let a = c .before .before .args in rw (lt-ltb (length (now (a .s))) (a .at + a .d) (omega arith))
@@ -44,4 +41,4 @@ returns-3 c =
     rw (le-ltb (length (now (a .s))) (a .at + a .d) (omega arith), u)
 
 pub descriptor-refusal-spec : {M : Type 1} → statement M
-descriptor-refusal-spec = tie.close (tie.spec add-if1 returns read-number-requires returns-2 returns-3)
+descriptor-refusal-spec = tie.close (tie.spec (λ c. search needs) returns read-number-requires returns-2 returns-3)

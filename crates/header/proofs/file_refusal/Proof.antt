@@ -7,9 +7,6 @@ use native.Mathlib.Omega.{arith}
 use Rattle.header.proofs.file_refusal.Statement.{statement}
 use Rattle.header.proofs.file_refusal.Tie as tie
 
-split-requires : tie.Need-split-requires
-split-requires c κs = search needs
-
 returns : tie.Need-returns
 unfolding fileRefusal
 returns c = let w = c .before .before .before .args .w in rw (ne-eqb (kindOf w) 0 (omega arith))
@@ -19,4 +16,4 @@ unfolding fileRefusal
 returns-2 c = let w = c .before .before .before .args .w in rw (eq-eqb (kindOf w) 0 (omega arith))
 
 pub file-refusal-spec : {M : Type 1} → statement M
-file-refusal-spec = tie.close (tie.spec split-requires returns returns-2)
+file-refusal-spec = tie.close (tie.spec (λ c κs. search needs) returns returns-2)

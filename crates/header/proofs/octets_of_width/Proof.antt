@@ -7,9 +7,6 @@ use native.Mathlib.Omega.{arith}
 use Rattle.header.proofs.octets_of_width.Statement.{statement}
 use Rattle.header.proofs.octets_of_width.Tie as tie
 
-shl-result : tie.Need-shl-result
-shl-result c = search needs
-
 returns : tie.Need-returns
 returns c =
     let w = c .args .width in
@@ -17,4 +14,4 @@ returns c =
     rw (mod-eq-of-lt {n = 2 * 2 ^ w} {m = 2 ^ 64} (omega arith))
 
 pub octets-of-width-spec : {M : Type 1} → statement M
-octets-of-width-spec = tie.close (tie.spec shl-result returns)
+octets-of-width-spec = tie.close (tie.spec (λ c. search needs) returns)

@@ -6,9 +6,6 @@ use native.Mathlib.Omega.{arith}
 use Rattle.header.proofs.start_octets.Statement.{statement}
 use Rattle.header.proofs.start_octets.Tie as tie
 
-split-requires : tie.Need-split-requires
-split-requires c κs = search needs
-
 returns : tie.Need-returns
 returns c = let w = c .before .before .before .args .w in rw (ne-eqb (markOf w) 1 (omega arith))
 
@@ -23,4 +20,4 @@ returns-3 c =
     let w = start .args .w in rw (eq-eqb (markOf w) 1 (omega arith), ne-eqb (typeOf w) 0 (omega arith))
 
 pub start-octets-spec : {M : Type 1} → statement M
-start-octets-spec = tie.close (tie.spec split-requires returns returns-2 returns-3)
+start-octets-spec = tie.close (tie.spec (λ c κs. search needs) returns returns-2 returns-3)

@@ -21,12 +21,6 @@ returns-2 c =
     let s = now (c .before .before .before .args .p) in
     rw (le-ltb 65535 (length s) (omega arith), lt-ltb (length s) (startOctets (wordOf s)) (omega (arith, start-between (wordOf s))))
 
-word-requires : tie.Need-word-requires
-word-requires c κs = search needs
-
-start-octets-requires : tie.Need-start-octets-requires
-start-octets-requires c κs = search needs
-
 -- how many octets are needed
 needed : (c : tie.After-start-octets) → c .start-octets .result ≡ startOctets (wordOf (now (c .before .before .before .before .before .args .p)))
 needed c = c .start-octets .ensures ∙ ap startOctets (c .before .word .ensures)
@@ -38,9 +32,6 @@ returns-3 c =
     let s = now (start .args .p) in
     let n = needed (c .before) in
     rw (le-ltb 65535 (length s) (omega arith), lt-ltb (length s) (startOctets (wordOf s)) (omega arith))
-
-split-requires : tie.Need-split-requires
-split-requires c κs = search needs
 
 returns-4 : tie.Need-returns-4
 unfolding startRefusal
@@ -62,4 +53,4 @@ returns-5 c =
 
 pub start-refusal-spec : {M : Type 1} → statement M
 start-refusal-spec =
-    tie.close (tie.spec returns returns-2 word-requires start-octets-requires returns-3 split-requires returns-4 returns-5)
+    tie.close (tie.spec returns returns-2 (λ c κs. search needs) (λ c κs. search needs) returns-3 (λ c κs. search needs) returns-4 returns-5)

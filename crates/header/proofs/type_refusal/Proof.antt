@@ -12,18 +12,12 @@ use native.Mathlib.Omega.{arith}
 use Rattle.header.proofs.type_refusal.Statement.{statement}
 use Rattle.header.proofs.type_refusal.Tie as tie
 
-start-refusal-requires : tie.Need-start-refusal-requires
-start-refusal-requires c κs = search needs
-
 returns : tie.Need-returns
 unfolding typeRefusal
 returns c = let s = now (c .before .before .before .args .p) in c .before .start-refusal .ensures ∙ sym (stays (startRefusal s) _ (omega arith))
 
 word-requires : tie.Need-word-requires
 word-requires c κs = start-word (now (c .before .before .before .args .p)) (omega arith)
-
-split-requires : tie.Need-split-requires
-split-requires c κs = search needs
 
 returns-2 : tie.Need-returns-2
 unfolding typeRefusal
@@ -44,4 +38,4 @@ returns-3 c =
 pub type-refusal-spec : {M : Type 1} → statement M
 type-refusal-spec =
     tie.close
-    (tie.spec start-refusal-requires returns word-requires split-requires returns-2 returns-3)
+    (tie.spec (λ c κs. search needs) returns word-requires (λ c κs. search needs) returns-2 returns-3)

@@ -23,16 +23,10 @@ Inv-loop marks rows₀ n₀ start₀ rows n start =
 abbrev μ-loop : tie.MeasureT-loop
 μ-loop marks rows₀ n₀ start₀ rows n start = 64 - n
 
-first-requires : tie.Need-first-requires Inv-loop μ-loop
-first-requires c κs = search needs
-
 loop-holds : tie.Need-loop-holds Inv-loop μ-loop
 loop-holds c =
     let f = c .first .ensures in
     (refl, omega arith, f .within, f .found, walk-starts _ _ _ f)
-
-add-result : tie.Need-add-result Inv-loop μ-loop
-add-result c = search needs
 
 same-length : tie.Need-same-length Inv-loop μ-loop
 same-length c = c .before .before .loop .inv .0
@@ -46,23 +40,8 @@ returns c =
 first-requires-2 : tie.Need-first-requires-2 Inv-loop μ-loop
 first-requires-2 c κs = (omega arith, omega arith)
 
-put-word-requires : tie.Need-put-word-requires Inv-loop μ-loop
-put-word-requires c κs = search needs
-
-add-put-word : tie.Need-add-put-word Inv-loop μ-loop
-add-put-word c = search needs
-
-put-word-requires-2 : tie.Need-put-word-requires-2 Inv-loop μ-loop
-put-word-requires-2 c κs = search needs
-
-add-n : tie.Need-add-n Inv-loop μ-loop
-add-n c = search needs
-
 first-requires-3 : tie.Need-first-requires-3 Inv-loop μ-loop
 first-requires-3 c κs = (search needs, c .before .before .before .before .before .before .before .before .first2 .ensures .within)
-
-loop-less : tie.Need-loop-less Inv-loop μ-loop
-loop-less c = search needs
 
 loop-again : tie.Need-loop-again Inv-loop μ-loop
 loop-again c =
@@ -93,18 +72,18 @@ find-runs-spec =
     (tie.spec
     Inv-loop
     μ-loop
-    first-requires
+    (λ c κs. search needs)
     loop-holds
-    add-result
+    (λ c. search needs)
     same-length
     returns
     first-requires-2
-    put-word-requires
-    add-put-word
-    put-word-requires-2
-    add-n
+    (λ c κs. search needs)
+    (λ c. search needs)
+    (λ c κs. search needs)
+    (λ c. search needs)
     first-requires-3
-    loop-less
+    (λ c. search needs)
     loop-again
     same-length-2
     returns-2)

@@ -20,17 +20,11 @@ abbrev μ-loop : tie.MeasureT-loop
 loop-holds : tie.Need-loop-holds Inv-loop μ-loop
 loop-holds c = (all-none _ _ _, omega arith)
 
-is-marked-requires : tie.Need-is-marked-requires Inv-loop μ-loop
-is-marked-requires c κs = omega arith
-
 returns : tie.Need-returns Inv-loop μ-loop
 returns c =
     let l = c .before .before .before .loop in
     let m = c .before .is-marked in
     record { passed = l .inv .0; within = l .inv .1; found = λ h. sym (m .ensures) ∙ equal (m .result) _ (c .if1 .taken) }
-
-add-n : tie.Need-add-n Inv-loop μ-loop
-add-n c = omega arith
 
 -- the mark is not as wanted
 not-wanted : (c : tie.Else1 Inv-loop μ-loop)
@@ -55,9 +49,6 @@ loop-again c =
       omega (arith, c .skip-octets .ensures .1),
     )
 
-loop-less-2 : tie.Need-loop-less-2 Inv-loop μ-loop
-loop-less-2 c = omega arith
-
 loop-again-2 : tie.Need-loop-again-2 Inv-loop μ-loop
 loop-again-2 c =
     let e = c .before in
@@ -75,13 +66,13 @@ first-spec =
     Inv-loop
     μ-loop
     loop-holds
-    is-marked-requires
+    (λ c κs. omega arith)
     returns
-    add-n
+    (λ c. omega arith)
     skip-octets-requires
     mul-n
     loop-less
     loop-again
-    loop-less-2
+    (λ c. omega arith)
     loop-again-2
     returns-2)

@@ -7,14 +7,8 @@ use Rattle.marks.proofs.is_marked.Tie as tie
 use Rattle.marks.proofs.is_marked.Reads as reads
 use Rattle.marks.proofs.is_marked.Lts as lts
 
-shared-slice-read-result : tie.Need-shared-slice-read-result
-shared-slice-read-result c = search needs
-
-bit-of-requires : tie.Need-bit-of-requires
-bit-of-requires c κs = search needs
-
 returns : tie.Need-returns
 returns c = mark-read _ _ _ (c .bit-of .ensures)
 
 pub is-marked-spec : {M : Type 1} → statement M
-is-marked-spec = tie.close (tie.spec shared-slice-read-result bit-of-requires returns)
+is-marked-spec = tie.close (tie.spec (λ c. search needs) (λ c κs. search needs) returns)

@@ -19,20 +19,11 @@ Inv-loop marks from wanted blank k₀ k = AllAre (marked marks) (not wanted) (fr
 abbrev μ-loop : tie.MeasureT-loop
 μ-loop marks from wanted blank k₀ k = markOctets - k
 
-blank-octet-requires : tie.Need-blank-octet-requires Inv-loop μ-loop
-blank-octet-requires c κs = search needs
-
 loop-holds : tie.Need-loop-holds Inv-loop μ-loop
 loop-holds c = (all-none _ _ _, omega arith)
 
-shared-slice-read-if1 : tie.Need-shared-slice-read-if1 Inv-loop μ-loop
-shared-slice-read-if1 c = omega arith
-
 returns : tie.Need-returns Inv-loop μ-loop
 returns c = c .before .before .before .loop .inv
-
-add-k : tie.Need-add-k Inv-loop μ-loop
-add-k c = omega arith
 
 -- the octet is blank
 is-blank : (c : tie.Else1 Inv-loop μ-loop)
@@ -57,9 +48,6 @@ loop-again c =
       omega (arith, c .skip-words .ensures .1),
     )
 
-loop-less-2 : tie.Need-loop-less-2 Inv-loop μ-loop
-loop-less-2 c = omega arith
-
 loop-again-2 : tie.Need-loop-again-2 Inv-loop μ-loop
 loop-again-2 c =
     let e = c .before in
@@ -76,15 +64,15 @@ skip-octets-spec =
     (tie.spec
     Inv-loop
     μ-loop
-    blank-octet-requires
+    (λ c κs. search needs)
     loop-holds
-    shared-slice-read-if1
+    (λ c. omega arith)
     returns
-    add-k
+    (λ c. omega arith)
     skip-words-requires
     mul-k
     loop-less
     loop-again
-    loop-less-2
+    (λ c. omega arith)
     loop-again-2
     returns-2)

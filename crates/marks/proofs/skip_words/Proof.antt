@@ -17,23 +17,11 @@ Inv-loop marks from wanted blank k₀ k = AllAre (marked marks) (not wanted) (fr
 abbrev μ-loop : tie.MeasureT-loop
 μ-loop marks from wanted blank k₀ k = markCount - k
 
-blank-word-requires : tie.Need-blank-word-requires Inv-loop μ-loop
-blank-word-requires c κs = search needs
-
 loop-holds : tie.Need-loop-holds Inv-loop μ-loop
 loop-holds c = (all-none _ _ _, omega arith)
 
-word-requires : tie.Need-word-requires Inv-loop μ-loop
-word-requires c κs = omega arith
-
 returns : tie.Need-returns Inv-loop μ-loop
 returns c = c .before .before .before .loop .inv
-
-add-k : tie.Need-add-k Inv-loop μ-loop
-add-k c = omega arith
-
-loop-less : tie.Need-loop-less Inv-loop μ-loop
-loop-less c = omega arith
 
 loop-again : tie.Need-loop-again Inv-loop μ-loop
 loop-again c =
@@ -54,11 +42,11 @@ skip-words-spec =
     (tie.spec
     Inv-loop
     μ-loop
-    blank-word-requires
+    (λ c κs. search needs)
     loop-holds
-    word-requires
+    (λ c κs. omega arith)
     returns
-    add-k
-    loop-less
+    (λ c. omega arith)
+    (λ c. omega arith)
     loop-again
     returns-2)

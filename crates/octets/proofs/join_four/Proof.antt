@@ -4,9 +4,6 @@ use native.Mathlib.Omega.{arith}
 use Rattle.octets.proofs.join_four.Statement.{statement}
 use Rattle.octets.proofs.join_four.Tie as tie
 
-returns : tie.Need-returns
-returns c = omega arith
-
 pub join-four-spec : {M : Type 1} → statement M
 join-four-spec =
     tie.close
@@ -17,4 +14,4 @@ join-four-spec =
     (λ c. search needs)
     (λ c. search needs)
     (λ c. search needs)
-    returns)
+    (λ c. omega arith))

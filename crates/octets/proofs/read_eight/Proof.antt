@@ -10,15 +10,6 @@ use native.Mathlib.Omega.{arith}
 use Rattle.octets.proofs.read_eight.Statement.{statement}
 use Rattle.octets.proofs.read_eight.Tie as tie
 
-add-read-four : tie.Need-add-read-four
-add-read-four c = search needs
-
-read-four-requires : tie.Need-read-four-requires
-read-four-requires c κs = search needs
-
-read-four-requires-2 : tie.Need-read-four-requires-2
-read-four-requires-2 c κs = search needs
-
 -- each half fits 32 bits
 halves : (c : tie.After-read-four2) → (c .before .read-four .result < 2 ^ 32) × (c .read-four2 .result < 2 ^ 32)
 halves c =
@@ -43,4 +34,4 @@ returns c =
 pub read-eight-spec : {M : Type 1} → statement M
 read-eight-spec =
     tie.close
-    (tie.spec add-read-four read-four-requires read-four-requires-2 mul-result add-result returns)
+    (tie.spec (λ c. search needs) (λ c κs. search needs) (λ c κs. search needs) mul-result add-result returns)

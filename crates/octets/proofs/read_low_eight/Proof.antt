@@ -9,15 +9,6 @@ use native.Mathlib.Omega.{arith}
 use Rattle.octets.proofs.read_low_eight.Statement.{statement}
 use Rattle.octets.proofs.read_low_eight.Tie as tie
 
-read-low-four-requires : tie.Need-read-low-four-requires
-read-low-four-requires c κs = search needs
-
-add-read-low-four : tie.Need-add-read-low-four
-add-read-low-four c = search needs
-
-read-low-four-requires-2 : tie.Need-read-low-four-requires-2
-read-low-four-requires-2 c κs = search needs
-
 -- each half fits 32 bits
 halves : (c : tie.After-read-low-four2) → (c .before .read-low-four .result < 2 ^ 32) × (c .read-low-four2 .result < 2 ^ 32)
 halves c =
@@ -42,4 +33,4 @@ returns c =
 pub read-low-eight-spec : {M : Type 1} → statement M
 read-low-eight-spec =
     tie.close
-    (tie.spec read-low-four-requires add-read-low-four read-low-four-requires-2 mul-result add-result returns)
+    (tie.spec (λ c κs. search needs) (λ c. search needs) (λ c κs. search needs) mul-result add-result returns)

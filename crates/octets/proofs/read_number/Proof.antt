@@ -7,9 +7,6 @@ use native.Mathlib.Omega.{arith}
 use Rattle.octets.proofs.read_number.Statement.{statement}
 use Rattle.octets.proofs.read_number.Tie as tie
 
-read-sixteen-requires : tie.Need-read-sixteen-requires
-read-sixteen-requires c κs = omega arith
-
 returns : tie.Need-returns
 returns c = let e : c .before .before .before .args .d ≡ 16 = omega arith in rw e (c .read-sixteen .ensures)
 
@@ -23,4 +20,4 @@ returns-2 c =
     rw (c .read-narrow .ensures) (short-number (now (a .s)) (a .at) (a .d) (width-narrow (p .pre .0) (λ e. omega arith)) (p .pre .1))
 
 pub read-number-spec : {M : Type 1} → statement M
-read-number-spec = tie.close (tie.spec read-sixteen-requires returns read-narrow-requires returns-2)
+read-number-spec = tie.close (tie.spec (λ c κs. omega arith) returns read-narrow-requires returns-2)

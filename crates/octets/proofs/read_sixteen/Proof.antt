@@ -6,17 +6,8 @@ use native.Mathlib.Omega.{arith}
 use Rattle.octets.proofs.read_sixteen.Statement.{statement}
 use Rattle.octets.proofs.read_sixteen.Tie as tie
 
-read-eight-requires : tie.Need-read-eight-requires
-read-eight-requires c κs = search needs
-
 returns : tie.Need-returns
 returns c = let a = c .before .before .before .args in wide-large (now (a .s)) (a .at) 8 (omega arith) (λ z. omega arith)
-
-add-read-eight : tie.Need-add-read-eight
-add-read-eight c = search needs
-
-read-eight-requires-2 : tie.Need-read-eight-requires-2
-read-eight-requires-2 c κs = search needs
 
 returns-2 : tie.Need-returns-2
 returns-2 c =
@@ -25,4 +16,4 @@ returns-2 c =
 
 pub read-sixteen-spec : {M : Type 1} → statement M
 read-sixteen-spec =
-    tie.close (tie.spec read-eight-requires returns add-read-eight read-eight-requires-2 returns-2)
+    tie.close (tie.spec (λ c κs. search needs) returns (λ c. search needs) (λ c κs. search needs) returns-2)

@@ -6,18 +6,6 @@ use native.Mathlib.Omega.{arith}
 use Rattle.octets.proofs.read_two.Statement.{statement}
 use Rattle.octets.proofs.read_two.Tie as tie
 
-add-join-four : tie.Need-add-join-four
-add-join-four c = search needs
-
-shared-slice-read-join-four : tie.Need-shared-slice-read-join-four
-shared-slice-read-join-four c = search needs
-
-shared-slice-read-join-four-2 : tie.Need-shared-slice-read-join-four-2
-shared-slice-read-join-four-2 c = search needs
-
-join-four-requires : tie.Need-join-four-requires
-join-four-requires c κs = search needs
-
 returns : tie.Need-returns
 returns c =
     let p = c .before .before .before .before in
@@ -27,8 +15,8 @@ pub read-two-spec : {M : Type 1} → statement M
 read-two-spec =
     tie.close
     (tie.spec
-    add-join-four
-    shared-slice-read-join-four
-    shared-slice-read-join-four-2
-    join-four-requires
+    (λ c. search needs)
+    (λ c. search needs)
+    (λ c. search needs)
+    (λ c κs. search needs)
     returns)

@@ -13,12 +13,6 @@ use native.Mathlib.Omega.{arith}
 use Rattle.packet.proofs.read_packet.Statement.{statement}
 use Rattle.packet.proofs.read_packet.Tie as tie
 
-start-refusal-requires : tie.Need-start-refusal-requires
-start-refusal-requires c κs = search needs
-
-refuse-requires : tie.Need-refuse-requires
-refuse-requires c κs = search needs
-
 returns : tie.Need-returns
 returns c =
     let s = now (c .before .before .before .before .args .p) in
@@ -26,15 +20,6 @@ returns c =
 
 word-requires : tie.Need-word-requires
 word-requires c κs = start-word (now (c .before .before .before .args .p)) (omega arith)
-
-split-requires : tie.Need-split-requires
-split-requires c κs = search needs
-
-read-metadata-requires : tie.Need-read-metadata-requires
-read-metadata-requires c κs = search needs
-
-of-metadata-requires : tie.Need-of-metadata-requires
-of-metadata-requires c κs = search needs
 
 -- the type is at hand, and the start is fine
 known : (c : tie.After-split)
@@ -51,12 +36,6 @@ returns-2 c =
     let t : typeOf (wordOf s) ≡ 2 = omega arith in
     c .of-metadata .ensures ∙ ap ofMetadata (c .before .read-metadata .ensures) ∙ read-by-type s (k .0) (rw (t, readType))
 
-read-data-requires : tie.Need-read-data-requires
-read-data-requires c κs = search needs
-
-of-data-requires : tie.Need-of-data-requires
-of-data-requires c κs = search needs
-
 returns-3 : tie.Need-returns-3
 unfolding readType
 returns-3 c =
@@ -66,12 +45,6 @@ returns-3 c =
     let k = known (before-place .before) in
     let t : typeOf (wordOf s) ≡ 3 = omega arith in
     c .of-data .ensures ∙ ap ofData (c .before .read-data .ensures) ∙ read-by-type s (k .0) (rw (t, readType))
-
-read-status-requires : tie.Need-read-status-requires
-read-status-requires c κs = search needs
-
-of-status-requires : tie.Need-of-status-requires
-of-status-requires c κs = search needs
 
 returns-4 : tie.Need-returns-4
 unfolding readType
@@ -83,12 +56,6 @@ returns-4 c =
     let t : typeOf (wordOf s) ≡ 4 = omega arith in
     c .of-status .ensures ∙ ap ofStatus (c .before .read-status .ensures) ∙ read-by-type s (k .0) (rw (t, readType))
 
-read-beacon-requires : tie.Need-read-beacon-requires
-read-beacon-requires c κs = search needs
-
-of-beacon-requires : tie.Need-of-beacon-requires
-of-beacon-requires c κs = search needs
-
 returns-5 : tie.Need-returns-5
 unfolding readType
 returns-5 c =
@@ -98,9 +65,6 @@ returns-5 c =
     let k = known (before-place .before) in
     let t : typeOf (wordOf s) ≡ 0 = omega arith in
     c .of-beacon .ensures ∙ ap ofBeacon (c .before .read-beacon .ensures) ∙ read-by-type s (k .0) (rw (t, readType))
-
-refuse-requires-2 : tie.Need-refuse-requires-2
-refuse-requires-2 c κs = search needs
 
 returns-6 : tie.Need-returns-6
 unfolding readType
@@ -117,22 +81,22 @@ pub read-packet-spec : {M : Type 1} → statement M
 read-packet-spec =
     tie.close
     (tie.spec
-    start-refusal-requires
-    refuse-requires
+    (λ c κs. search needs)
+    (λ c κs. search needs)
     returns
     word-requires
-    split-requires
-    read-metadata-requires
-    of-metadata-requires
+    (λ c κs. search needs)
+    (λ c κs. search needs)
+    (λ c κs. search needs)
     returns-2
-    read-data-requires
-    of-data-requires
+    (λ c κs. search needs)
+    (λ c κs. search needs)
     returns-3
-    read-status-requires
-    of-status-requires
+    (λ c κs. search needs)
+    (λ c κs. search needs)
     returns-4
-    read-beacon-requires
-    of-beacon-requires
+    (λ c κs. search needs)
+    (λ c κs. search needs)
     returns-5
-    refuse-requires-2
+    (λ c κs. search needs)
     returns-6)

@@ -15,12 +15,6 @@ returns : tie.Need-returns
 unfolding beaconExcess
 returns c = rw (le-ltb (c .before .args .flags) (2 ^ 24) (c .if1 .taken))
 
-free-octets-requires : tie.Need-free-octets-requires
-free-octets-requires c κs = search needs
-
-fits-requires : tie.Need-fits-requires
-fits-requires c κs = search needs
-
 -- whether the free space fits, as the definition has it
 free-fits : (c : tie.After-fits2) → c .fits2 .result ≡ ltb (c .before .before .before .args .free) (256 ^ freeOctets (c .before .before .before .args .flags))
 free-fits c =
@@ -45,4 +39,4 @@ returns-3 c =
 
 pub beacon-excess-spec : {M : Type 1} → statement M
 beacon-excess-spec =
-    tie.close (tie.spec returns free-octets-requires fits-requires returns-2 returns-3)
+    tie.close (tie.spec returns (λ c κs. search needs) (λ c κs. search needs) returns-2 returns-3)

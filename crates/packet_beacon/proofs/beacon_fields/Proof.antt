@@ -15,30 +15,6 @@ use Rattle.packet_beacon.proofs.beacon_fields.Tie as tie
 word-requires : tie.Need-word-requires
 word-requires c κs = beacon-fine (now (c .before .args .p)) (c .before .pre) .head .long
 
-split-requires : tie.Need-split-requires
-split-requires c κs = search needs
-
-split-requires-2 : tie.Need-split-requires-2
-split-requires-2 c κs = search needs
-
-endpoint-at-requires : tie.Need-endpoint-at-requires
-endpoint-at-requires c κs = search needs
-
-descriptor-octets-requires : tie.Need-descriptor-octets-requires
-descriptor-octets-requires c κs = search needs
-
-state-of-requires : tie.Need-state-of-requires
-state-of-requires c κs = search needs
-
-state-of-requires-2 : tie.Need-state-of-requires-2
-state-of-requires-2 c κs = search needs
-
-free-octets-requires : tie.Need-free-octets-requires
-free-octets-requires c κs = search needs
-
-free-space-requires : tie.Need-free-space-requires
-free-space-requires c κs = search needs
-
 sub-t12 : tie.Need-sub-t12
 sub-t12 c =
     let endpoint-place = c .before .before .before .before .before in
@@ -79,13 +55,13 @@ beacon-fields-spec =
     tie.close
     (tie.spec
     word-requires
-    split-requires
-    split-requires-2
-    endpoint-at-requires
-    descriptor-octets-requires
-    state-of-requires
-    state-of-requires-2
-    free-octets-requires
-    free-space-requires
+    (λ c κs. search needs)
+    (λ c κs. search needs)
+    (λ c κs. search needs)
+    (λ c κs. search needs)
+    (λ c κs. search needs)
+    (λ c κs. search needs)
+    (λ c κs. search needs)
+    (λ c κs. search needs)
     sub-t12
     returns)

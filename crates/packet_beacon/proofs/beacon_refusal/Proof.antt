@@ -13,9 +13,6 @@ use native.Mathlib.Omega.{arith}
 use Rattle.packet_beacon.proofs.beacon_refusal.Statement.{statement}
 use Rattle.packet_beacon.proofs.beacon_refusal.Tie as tie
 
-type-refusal-requires : tie.Need-type-refusal-requires
-type-refusal-requires c κs = search needs
-
 returns : tie.Need-returns
 unfolding beaconRefusal
 returns c = let s = now (c .before .before .before .args .p) in c .before .type-refusal .ensures ∙ sym (stays (typeRefusal 0 s) _ (omega arith))
@@ -23,14 +20,8 @@ returns c = let s = now (c .before .before .before .args .p) in c .before .type-
 word-requires : tie.Need-word-requires
 word-requires c κs = type-fine 0 (now (c .before .before .before .args .p)) (omega arith) .long
 
-flags-refusal-requires : tie.Need-flags-refusal-requires
-flags-refusal-requires c κs = search needs
-
 free-refusal-requires : tie.Need-free-refusal-requires
 free-refusal-requires c κs = type-fine 0 (now (c .before .before .before .before .before .args .p)) (omega arith) .long
-
-first-requires : tie.Need-first-requires
-first-requires c κs = search needs
 
 returns-2 : tie.Need-returns-2
 unfolding beaconRefusal
@@ -48,10 +39,10 @@ pub beacon-refusal-spec : {M : Type 1} → statement M
 beacon-refusal-spec =
     tie.close
     (tie.spec
-    type-refusal-requires
+    (λ c κs. search needs)
     returns
     word-requires
-    flags-refusal-requires
+    (λ c κs. search needs)
     free-refusal-requires
-    first-requires
+    (λ c κs. search needs)
     returns-2)

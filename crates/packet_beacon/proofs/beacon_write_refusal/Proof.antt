@@ -13,31 +13,16 @@ use native.Mathlib.Omega.{arith}
 use Rattle.packet_beacon.proofs.beacon_write_refusal.Statement.{statement}
 use Rattle.packet_beacon.proofs.beacon_write_refusal.Tie as tie
 
-beacon-excess-requires : tie.Need-beacon-excess-requires
-beacon-excess-requires c κs = search needs
-
 returns : tie.Need-returns
 unfolding beaconWriteRefusal
 returns c =
     let a = c .before .before .args in
     c .before .beacon-excess .ensures ∙ sym (stays (beaconExcess (a .flags) (a .free)) _ (omega arith))
 
-flags-refusal-requires : tie.Need-flags-refusal-requires
-flags-refusal-requires c κs = search needs
-
-endpoint-at-requires : tie.Need-endpoint-at-requires
-endpoint-at-requires c κs = search needs
-
 add-room-refusal : tie.Need-add-room-refusal
 add-room-refusal c =
     let start = c .before .before .before .before in
     omega (arith, free-le (start .args .flags))
-
-room-refusal-requires : tie.Need-room-refusal-requires
-room-refusal-requires c κs = search needs
-
-first-requires : tie.Need-first-requires
-first-requires c κs = search needs
 
 returns-2 : tie.Need-returns-2
 unfolding beaconWriteRefusal
@@ -56,11 +41,11 @@ pub beacon-write-refusal-spec : {M : Type 1} → statement M
 beacon-write-refusal-spec =
     tie.close
     (tie.spec
-    beacon-excess-requires
+    (λ c κs. search needs)
     returns
-    flags-refusal-requires
-    endpoint-at-requires
+    (λ c κs. search needs)
+    (λ c κs. search needs)
     add-room-refusal
-    room-refusal-requires
-    first-requires
+    (λ c κs. search needs)
+    (λ c κs. search needs)
     returns-2)

@@ -5,14 +5,8 @@ use native.Mathlib.Omega.{arith}
 use Rattle.packet_beacon.proofs.endpoint_at.Statement.{statement}
 use Rattle.packet_beacon.proofs.endpoint_at.Tie as tie
 
-free-octets-requires : tie.Need-free-octets-requires
-free-octets-requires c κs = search needs
-
 add-result : tie.Need-add-result
 add-result c = omega (arith, free-le (c .before .args .w))
 
-returns : tie.Need-returns
-returns c = search needs
-
 pub endpoint-at-spec : {M : Type 1} → statement M
-endpoint-at-spec = tie.close (tie.spec free-octets-requires add-result returns)
+endpoint-at-spec = tie.close (tie.spec (λ c κs. search needs) add-result (λ c. search needs))

@@ -6,9 +6,6 @@ use native.Mathlib.Omega.{arith}
 use Rattle.packet_beacon.proofs.flags_refusal.Statement.{statement}
 use Rattle.packet_beacon.proofs.flags_refusal.Tie as tie
 
-split-requires : tie.Need-split-requires
-split-requires c κs = search needs
-
 returns : tie.Need-returns
 unfolding flagsRefusal
 returns c = let w = c .before .before .before .args .w in rw (eq-eqb (sendingPair w) 1 (omega arith))
@@ -34,4 +31,4 @@ returns-4 c =
     rw (ne-eqb (sendingPair w) 1 (omega arith), ne-eqb (receivingPair w) 1 (omega arith), eq-eqb (lastOctet w) 0 (omega arith))
 
 pub flags-refusal-spec : {M : Type 1} → statement M
-flags-refusal-spec = tie.close (tie.spec split-requires returns returns-2 returns-3 returns-4)
+flags-refusal-spec = tie.close (tie.spec (λ c κs. search needs) returns returns-2 returns-3 returns-4)

@@ -8,12 +8,6 @@ use native.Mathlib.Omega.{arith}
 use Rattle.packet_beacon.proofs.free_octets.Statement.{statement}
 use Rattle.packet_beacon.proofs.free_octets.Tie as tie
 
-split-requires : tie.Need-split-requires
-split-requires c κs = search needs
-
-octets-of-width-requires : tie.Need-octets-of-width-requires
-octets-of-width-requires c κs = search needs
-
 returns : tie.Need-returns
 returns c =
     let split-place = c .before .before .before in
@@ -24,4 +18,4 @@ returns-2 : tie.Need-returns-2
 returns-2 c = let w = c .before .before .before .args .w in rw (ne-eqb (freePresent w) 1 (omega arith))
 
 pub free-octets-spec : {M : Type 1} → statement M
-free-octets-spec = tie.close (tie.spec split-requires octets-of-width-requires returns returns-2)
+free-octets-spec = tie.close (tie.spec (λ c κs. search needs) (λ c κs. search needs) returns returns-2)

@@ -11,12 +11,6 @@ use native.Mathlib.Omega.{arith}
 use Rattle.packet_beacon.proofs.free_refusal.Statement.{statement}
 use Rattle.packet_beacon.proofs.free_refusal.Tie as tie
 
-word-requires : tie.Need-word-requires
-word-requires c κs = search needs
-
-free-octets-requires : tie.Need-free-octets-requires
-free-octets-requires c κs = search needs
-
 -- the octets of the free space
 width : (c : tie.After-free-octets) → c .free-octets .result ≡ freeOctets (wordOf (now (c .before .before .before .args .p)))
 width c = c .free-octets .ensures ∙ ap freeOctets (c .before .word .ensures)
@@ -42,4 +36,4 @@ returns-2 c =
 pub free-refusal-spec : {M : Type 1} → statement M
 free-refusal-spec =
     tie.close
-    (tie.spec word-requires free-octets-requires returns descriptor-refusal-requires returns-2)
+    (tie.spec (λ c κs. search needs) (λ c κs. search needs) returns descriptor-refusal-requires returns-2)

@@ -16,30 +16,6 @@ use native.Mathlib.Omega.{arith}
 use Rattle.packet_beacon.proofs.put_beacon.Statement.{statement}
 use Rattle.packet_beacon.proofs.put_beacon.Tie as tie
 
-endpoint-at-requires : tie.Need-endpoint-at-requires
-endpoint-at-requires c κs = search needs
-
-join-requires : tie.Need-join-requires
-join-requires c κs = search needs
-
-write-number-requires : tie.Need-write-number-requires
-write-number-requires c κs = search needs
-
-free-octets-requires : tie.Need-free-octets-requires
-free-octets-requires c κs = search needs
-
-write-number-requires-2 : tie.Need-write-number-requires-2
-write-number-requires-2 c κs = search needs
-
-copy-into-requires : tie.Need-copy-into-requires
-copy-into-requires c κs = search needs
-
-add-result : tie.Need-add-result
-add-result c = search needs
-
-same-length : tie.Need-same-length
-same-length c = search needs
-
 returns : tie.Need-returns
 unfolding beaconOctets
 returns c =
@@ -71,12 +47,12 @@ pub put-beacon-spec : {M : Type 1} → statement M
 put-beacon-spec =
     tie.close
     (tie.spec
-    endpoint-at-requires
-    join-requires
-    write-number-requires
-    free-octets-requires
-    write-number-requires-2
-    copy-into-requires
-    add-result
-    same-length
+    (λ c κs. search needs)
+    (λ c κs. search needs)
+    (λ c κs. search needs)
+    (λ c κs. search needs)
+    (λ c κs. search needs)
+    (λ c κs. search needs)
+    (λ c. search needs)
+    (λ c. search needs)
     returns)

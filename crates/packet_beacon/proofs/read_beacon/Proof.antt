@@ -9,21 +9,12 @@ use native.Mathlib.Omega.{arith}
 use Rattle.packet_beacon.proofs.read_beacon.Statement.{statement}
 use Rattle.packet_beacon.proofs.read_beacon.Tie as tie
 
-beacon-refusal-requires : tie.Need-beacon-refusal-requires
-beacon-refusal-requires c κs = search needs
-
-refuse-requires : tie.Need-refuse-requires
-refuse-requires c κs = search needs
-
 returns : tie.Need-returns
 unfolding readBeacon
 returns c =
     let s = now (c .before .before .before .before .args .p) in
     let n : c .before .before .beacon-refusal .result ≡ beaconRefusal s = c .before .before .beacon-refusal .ensures in
     rw (c .refuse .ensures, n) (answered-refused Refused (beaconRefusal s) (Accepted (beaconOf s)) (omega arith))
-
-beacon-fields-requires : tie.Need-beacon-fields-requires
-beacon-fields-requires c κs = search needs
 
 returns-2 : tie.Need-returns-2
 unfolding readBeacon
@@ -35,4 +26,4 @@ returns-2 c =
 pub read-beacon-spec : {M : Type 1} → statement M
 read-beacon-spec =
     tie.close
-    (tie.spec beacon-refusal-requires refuse-requires returns beacon-fields-requires returns-2)
+    (tie.spec (λ c κs. search needs) (λ c κs. search needs) returns (λ c κs. search needs) returns-2)

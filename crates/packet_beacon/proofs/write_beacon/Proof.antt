@@ -11,12 +11,6 @@ use native.Mathlib.Omega.{arith}
 use Rattle.packet_beacon.proofs.write_beacon.Statement.{statement}
 use Rattle.packet_beacon.proofs.write_beacon.Tie as tie
 
-beacon-write-refusal-requires : tie.Need-beacon-write-refusal-requires
-beacon-write-refusal-requires c κs = search needs
-
-refuse-requires : tie.Need-refuse-requires
-refuse-requires c κs = search needs
-
 returns : tie.Need-returns
 unfolding beaconWritten beaconBuffer
 returns c =
@@ -35,9 +29,6 @@ put-beacon-requires c κs =
     let a = start .args in
     writable (a .flags) (a .free) (length (now (a .endpoint))) (length (now (a .out))) (omega arith) .fine
 
-same-length : tie.Need-same-length
-same-length c = search needs
-
 returns-2 : tie.Need-returns-2
 unfolding beaconWritten beaconBuffer
 returns-2 c =
@@ -54,9 +45,9 @@ pub write-beacon-spec : {M : Type 1} → statement M
 write-beacon-spec =
     tie.close
     (tie.spec
-    beacon-write-refusal-requires
-    refuse-requires
+    (λ c κs. search needs)
+    (λ c κs. search needs)
     returns
     put-beacon-requires
-    same-length
+    (λ c. search needs)
     returns-2)

@@ -19,9 +19,6 @@ returns-2 : tie.Need-returns-2
 unfolding dataExcess
 returns-2 c = rw (lt-ltb (c .before .before .args .flags) (2 ^ 24) (c .before .if1 .left), le-ltb (c .before .before .args .id) (2 ^ 32) (c .if2 .taken))
 
-timestamp-octets-requires : tie.Need-timestamp-octets-requires
-timestamp-octets-requires c κs = search needs
-
 returns-3 : tie.Need-returns-3
 unfolding dataExcess
 returns-3 c =
@@ -31,12 +28,6 @@ returns-3 c =
       lt-ltb (a .id) (2 ^ 32) (c .before .before .if2 .left),
       lt-ltb (timestampOctets (a .flags)) (a .timestamp) (omega arith),
     )
-
-descriptor-octets-requires : tie.Need-descriptor-octets-requires
-descriptor-octets-requires c κs = search needs
-
-fits-requires : tie.Need-fits-requires
-fits-requires c κs = search needs
 
 -- whether the offset fits, as the definition has it
 offset-fits : (c : tie.After-fits2) → c .fits2 .result ≡ ltb (c .before .before .before .before .before .before .args .offset) (256 ^ descriptorOctets (c .before .before .before .before .before .before .args .flags))
@@ -80,9 +71,9 @@ data-excess-spec =
     (tie.spec
     returns
     returns-2
-    timestamp-octets-requires
+    (λ c κs. search needs)
     returns-3
-    descriptor-octets-requires
-    fits-requires
+    (λ c κs. search needs)
+    (λ c κs. search needs)
     returns-4
     returns-5)

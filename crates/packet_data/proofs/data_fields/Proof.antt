@@ -15,23 +15,8 @@ use Rattle.packet_data.proofs.data_fields.Tie as tie
 word-requires : tie.Need-word-requires
 word-requires c κs = omega (arith, data-fine (now (c .before .args .p)) (c .before .pre) .head .long)
 
-split-requires : tie.Need-split-requires
-split-requires c κs = search needs
-
-descriptor-octets-requires : tie.Need-descriptor-octets-requires
-descriptor-octets-requires c κs = search needs
-
-payload-at-requires : tie.Need-payload-at-requires
-payload-at-requires c κs = search needs
-
 id-requires : tie.Need-id-requires
 id-requires c κs = data-fine (now (c .before .before .before .before .before .args .p)) (c .before .before .before .before .before .pre) .head .long
-
-timestamp-octets-requires : tie.Need-timestamp-octets-requires
-timestamp-octets-requires c κs = search needs
-
-offset-at-requires : tie.Need-offset-at-requires
-offset-at-requires c κs = search needs
 
 descriptor-requires : tie.Need-descriptor-requires
 descriptor-requires c κs =
@@ -80,12 +65,12 @@ data-fields-spec =
     tie.close
     (tie.spec
     word-requires
-    split-requires
-    descriptor-octets-requires
-    payload-at-requires
+    (λ c κs. search needs)
+    (λ c κs. search needs)
+    (λ c κs. search needs)
     id-requires
-    timestamp-octets-requires
-    offset-at-requires
+    (λ c κs. search needs)
+    (λ c κs. search needs)
     descriptor-requires
     sub-t11
     returns)

@@ -16,18 +16,12 @@ use native.Mathlib.Omega.{arith}
 use Rattle.packet_data.proofs.data_refusal.Statement.{statement}
 use Rattle.packet_data.proofs.data_refusal.Tie as tie
 
-type-refusal-requires : tie.Need-type-refusal-requires
-type-refusal-requires c κs = search needs
-
 returns : tie.Need-returns
 unfolding dataRefusal
 returns c = let s = now (c .before .before .before .args .p) in c .before .type-refusal .ensures ∙ sym (stays (typeRefusal 3 s) _ (omega arith))
 
 word-requires : tie.Need-word-requires
 word-requires c κs = omega (arith, type-fine 3 (now (c .before .before .before .args .p)) (omega arith) .long)
-
-file-refusal-requires : tie.Need-file-refusal-requires
-file-refusal-requires c κs = search needs
 
 returns-2 : tie.Need-returns-2
 unfolding dataRefusal
@@ -38,15 +32,6 @@ returns-2 c =
     let z : typeRefusal 3 s ≡ 0 = omega arith in
     let f : c .before .file-refusal .result ≡ fileRefusal (wordOf s) = c .before .file-refusal .ensures ∙ ap fileRefusal (word-place .word .ensures) in
     rw z (f ∙ sym (stays (fileRefusal (wordOf s)) _ (omega arith)))
-
-payload-at-requires : tie.Need-payload-at-requires
-payload-at-requires c κs = search needs
-
-offset-at-requires : tie.Need-offset-at-requires
-offset-at-requires c κs = search needs
-
-descriptor-octets-requires : tie.Need-descriptor-octets-requires
-descriptor-octets-requires c κs = search needs
 
 descriptor-refusal-requires : tie.Need-descriptor-refusal-requires
 descriptor-refusal-requires c κs =
@@ -106,14 +91,14 @@ pub data-refusal-spec : {M : Type 1} → statement M
 data-refusal-spec =
     tie.close
     (tie.spec
-    type-refusal-requires
+    (λ c κs. search needs)
     returns
     word-requires
-    file-refusal-requires
+    (λ c κs. search needs)
     returns-2
-    payload-at-requires
-    offset-at-requires
-    descriptor-octets-requires
+    (λ c κs. search needs)
+    (λ c κs. search needs)
+    (λ c κs. search needs)
     descriptor-refusal-requires
     returns-3
     returns-4

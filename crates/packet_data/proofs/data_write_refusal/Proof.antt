@@ -14,17 +14,11 @@ use native.Mathlib.Omega.{arith}
 use Rattle.packet_data.proofs.data_write_refusal.Statement.{statement}
 use Rattle.packet_data.proofs.data_write_refusal.Tie as tie
 
-data-excess-requires : tie.Need-data-excess-requires
-data-excess-requires c κs = search needs
-
 returns : tie.Need-returns
 unfolding dataWriteRefusal
 returns c =
     let a = c .before .before .args in
     c .before .data-excess .ensures ∙ sym (stays (dataExcess (a .flags) (a .id) (a .timestamp) (a .offset)) _ (omega arith))
-
-file-refusal-requires : tie.Need-file-refusal-requires
-file-refusal-requires c κs = search needs
 
 returns-2 : tie.Need-returns-2
 unfolding dataWriteRefusal
@@ -32,9 +26,6 @@ returns-2 c =
     let a = c .before .before .before .before .args in
     let z : dataExcess (a .flags) (a .id) (a .timestamp) (a .offset) ≡ 0 = omega arith in
     rw z (c .before .file-refusal .ensures ∙ sym (stays (fileRefusal (a .flags)) _ (omega arith)))
-
-timestamp-octets-requires : tie.Need-timestamp-octets-requires
-timestamp-octets-requires c κs = search needs
 
 -- the fields have no excess and are those of a file
 known : (c : tie.Else2)
@@ -58,16 +49,10 @@ returns-4 c =
     let k = known (before-place .before) in
     rw (k .0, k .1, le-ltb (a .timestamp) (timestampOctets (a .flags)) (omega arith), eq-eqb (a .payload) 0 (c .if4 .taken))
 
-payload-at-requires : tie.Need-payload-at-requires
-payload-at-requires c κs = search needs
-
 add-room-refusal : tie.Need-add-room-refusal
 add-room-refusal c =
     let start = c .before .before .before .before .before .before .before .before in
     omega (arith, payload-at-le (start .args .flags))
-
-room-refusal-requires : tie.Need-room-refusal-requires
-room-refusal-requires c κs = search needs
 
 returns-5 : tie.Need-returns-5
 unfolding dataWriteRefusal
@@ -84,14 +69,14 @@ pub data-write-refusal-spec : {M : Type 1} → statement M
 data-write-refusal-spec =
     tie.close
     (tie.spec
-    data-excess-requires
+    (λ c κs. search needs)
     returns
-    file-refusal-requires
+    (λ c κs. search needs)
     returns-2
-    timestamp-octets-requires
+    (λ c κs. search needs)
     returns-3
     returns-4
-    payload-at-requires
+    (λ c κs. search needs)
     add-room-refusal
-    room-refusal-requires
+    (λ c κs. search needs)
     returns-5)

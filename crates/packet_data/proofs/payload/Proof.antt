@@ -13,21 +13,12 @@ use native.Mathlib.Omega.{arith}
 use Rattle.packet_data.proofs.payload.Statement.{statement}
 use Rattle.packet_data.proofs.payload.Tie as tie
 
-data-refusal-requires : tie.Need-data-refusal-requires
-data-refusal-requires c κs = search needs
-
-slice-aggregate-result : tie.Need-slice-aggregate-result
-slice-aggregate-result c = search needs
-
 returns : tie.Need-returns
 unfolding payloadOf
 returns c = let s = now (c .before .before .before .before .args .p) in part-refused (dataRefusal s) s (omega arith)
 
 word-requires : tie.Need-word-requires
 word-requires c κs = omega (arith, data-fine (now (c .before .before .before .args .p)) (omega arith) .head .long)
-
-payload-at-requires : tie.Need-payload-at-requires
-payload-at-requires c κs = search needs
 
 starts : (c : tie.After-payload-at)
     → let s = now (c .before .before .before .before .before .args .p) in
@@ -44,9 +35,6 @@ sub-result c = omega (arith, starts c)
 part-result-start : tie.Need-part-result-start
 part-result-start c = omega (arith, starts c)
 
-part-result-end : tie.Need-part-result-end
-part-result-end c = search needs
-
 returns-2 : tie.Need-returns-2
 unfolding payloadOf
 returns-2 c =
@@ -60,12 +48,12 @@ pub payload-spec : {M : Type 1} → statement M
 payload-spec =
     tie.close
     (tie.spec
-    data-refusal-requires
-    slice-aggregate-result
+    (λ c κs. search needs)
+    (λ c. search needs)
     returns
     word-requires
-    payload-at-requires
+    (λ c κs. search needs)
     sub-result
     part-result-start
-    part-result-end
+    (λ c. search needs)
     returns-2)

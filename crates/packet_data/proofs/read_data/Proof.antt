@@ -10,21 +10,12 @@ use native.Mathlib.Omega.{arith}
 use Rattle.packet_data.proofs.read_data.Statement.{statement}
 use Rattle.packet_data.proofs.read_data.Tie as tie
 
-data-refusal-requires : tie.Need-data-refusal-requires
-data-refusal-requires c κs = search needs
-
-refuse-requires : tie.Need-refuse-requires
-refuse-requires c κs = search needs
-
 returns : tie.Need-returns
 unfolding readData
 returns c =
     let s = now (c .before .before .before .before .args .p) in
     let n : c .before .before .data-refusal .result ≡ dataRefusal s = c .before .before .data-refusal .ensures in
     rw (c .refuse .ensures, n) (answered-refused Refused (dataRefusal s) (Accepted (dataOf s)) (omega arith))
-
-data-fields-requires : tie.Need-data-fields-requires
-data-fields-requires c κs = search needs
 
 returns-2 : tie.Need-returns-2
 unfolding readData
@@ -36,4 +27,4 @@ returns-2 c =
 pub read-data-spec : {M : Type 1} → statement M
 read-data-spec =
     tie.close
-    (tie.spec data-refusal-requires refuse-requires returns data-fields-requires returns-2)
+    (tie.spec (λ c κs. search needs) (λ c κs. search needs) returns (λ c κs. search needs) returns-2)

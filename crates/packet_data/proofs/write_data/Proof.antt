@@ -11,12 +11,6 @@ use native.Mathlib.Omega.{arith}
 use Rattle.packet_data.proofs.write_data.Statement.{statement}
 use Rattle.packet_data.proofs.write_data.Tie as tie
 
-data-write-refusal-requires : tie.Need-data-write-refusal-requires
-data-write-refusal-requires c κs = search needs
-
-refuse-requires : tie.Need-refuse-requires
-refuse-requires c κs = search needs
-
 returns : tie.Need-returns
 unfolding dataWritten dataBuffer
 returns c =
@@ -35,9 +29,6 @@ put-data-requires c κs =
     let a = start .args in
     writable (a .flags) (a .id) (length (now (a .timestamp))) (a .offset) (length (now (a .payload))) (length (now (a .out))) (omega arith) .fine
 
-same-length : tie.Need-same-length
-same-length c = search needs
-
 returns-2 : tie.Need-returns-2
 unfolding dataWritten dataBuffer
 returns-2 c =
@@ -54,9 +45,9 @@ pub write-data-spec : {M : Type 1} → statement M
 write-data-spec =
     tie.close
     (tie.spec
-    data-write-refusal-requires
-    refuse-requires
+    (λ c κs. search needs)
+    (λ c κs. search needs)
     returns
     put-data-requires
-    same-length
+    (λ c. search needs)
     returns-2)

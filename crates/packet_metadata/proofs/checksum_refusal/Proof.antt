@@ -10,24 +10,15 @@ use native.Mathlib.Omega.{arith}
 use Rattle.packet_metadata.proofs.checksum_refusal.Statement.{statement}
 use Rattle.packet_metadata.proofs.checksum_refusal.Tie as tie
 
-file-refusal-requires : tie.Need-file-refusal-requires
-file-refusal-requires c κs = search needs
-
 returns : tie.Need-returns
 unfolding checksumRefusal
 returns c = c .before .file-refusal .ensures ∙ sym (stays (fileRefusal (c .before .before .args .flags)) _ (omega arith))
-
-pair-refusal-requires : tie.Need-pair-refusal-requires
-pair-refusal-requires c κs = search needs
 
 returns-2 : tie.Need-returns-2
 unfolding checksumRefusal
 returns-2 c =
     let y : fileRefusal (c .before .before .before .before .args .flags) ≡ 0 = omega arith in
     rw y (c .before .pair-refusal .ensures ∙ sym (stays (pairRefusal (c .before .before .before .before .args .flags)) _ (omega arith)))
-
-checksum-octets-requires : tie.Need-checksum-octets-requires
-checksum-octets-requires c κs = search needs
 
 returns-3 : tie.Need-returns-3
 unfolding checksumRefusal
@@ -49,10 +40,10 @@ pub checksum-refusal-spec : {M : Type 1} → statement M
 checksum-refusal-spec =
     tie.close
     (tie.spec
-    file-refusal-requires
+    (λ c κs. search needs)
     returns
-    pair-refusal-requires
+    (λ c κs. search needs)
     returns-2
-    checksum-octets-requires
+    (λ c κs. search needs)
     returns-3
     returns-4)

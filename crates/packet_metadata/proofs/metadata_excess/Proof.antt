@@ -16,9 +16,6 @@ returns-2 : tie.Need-returns-2
 unfolding metadataExcess
 returns-2 c = let a = c .before .before .args in rw (lt-ltb (a .flags) (2 ^ 24) (omega arith), le-ltb (a .id) (2 ^ 32) (omega arith))
 
-checksum-octets-requires : tie.Need-checksum-octets-requires
-checksum-octets-requires c κs = search needs
-
 returns-3 : tie.Need-returns-3
 unfolding metadataExcess
 returns-3 c = let a = c .before .before .before .before .args in rw (lt-ltb (a .flags) (2 ^ 24) (omega arith), lt-ltb (a .id) (2 ^ 32) (omega arith), lt-ltb (checksumOctets (a .flags)) (a .checksum) (omega arith))
@@ -29,4 +26,4 @@ returns-4 c = let a = c .before .before .before .before .args in rw (lt-ltb (a .
 
 pub metadata-excess-spec : {M : Type 1} → statement M
 metadata-excess-spec =
-    tie.close (tie.spec returns returns-2 checksum-octets-requires returns-3 returns-4)
+    tie.close (tie.spec returns returns-2 (λ c κs. search needs) returns-3 returns-4)

@@ -19,18 +19,6 @@ use Rattle.packet_metadata.proofs.metadata_fields.Tie as tie
 word-requires : tie.Need-word-requires
 word-requires c κs = omega (arith, metadata-fine (now (c .before .args .p)) (c .before .pre) .start .long)
 
-split-requires : tie.Need-split-requires
-split-requires c κs = search needs
-
-descriptor-octets-requires : tie.Need-descriptor-octets-requires
-descriptor-octets-requires c κs = search needs
-
-checksum-octets-requires : tie.Need-checksum-octets-requires
-checksum-octets-requires c κs = search needs
-
-add-at : tie.Need-add-at
-add-at c = search needs
-
 -- the octets of descriptors and checksum
 known : (c : tie.After-checksum-octets)
     → (c .before .descriptor-octets .result ≡ descriptorOctets (wordOf (now (c .before .before .before .before .before .args .p)))) × (c .checksum-octets .result ≡ checksumOctets (wordOf (now (c .before .before .before .before .before .args .p)))) × (8 + c .checksum-octets .result ≤ length (now (c .before .before .before .before .before .args .p)))
@@ -46,9 +34,6 @@ sub-entry-fields c = omega (arith, known c)
 
 part-entry-fields-start : tie.Need-part-entry-fields-start
 part-entry-fields-start c = omega (arith, known c)
-
-part-entry-fields-end : tie.Need-part-entry-fields-end
-part-entry-fields-end c = search needs
 
 entry-fields-requires : tie.Need-entry-fields-requires
 entry-fields-requires c κs =
@@ -85,13 +70,13 @@ metadata-fields-spec =
     tie.close
     (tie.spec
     word-requires
-    split-requires
-    descriptor-octets-requires
-    checksum-octets-requires
-    add-at
+    (λ c κs. search needs)
+    (λ c κs. search needs)
+    (λ c κs. search needs)
+    (λ c. search needs)
     sub-entry-fields
     part-entry-fields-start
-    part-entry-fields-end
+    (λ c. search needs)
     entry-fields-requires
     id-requires
     returns)

@@ -16,21 +16,12 @@ use native.Mathlib.Omega.{arith}
 use Rattle.packet_metadata.proofs.metadata_refusal.Statement.{statement}
 use Rattle.packet_metadata.proofs.metadata_refusal.Tie as tie
 
-type-refusal-requires : tie.Need-type-refusal-requires
-type-refusal-requires c κs = search needs
-
 returns : tie.Need-returns
 unfolding metadataRefusal
 returns c = c .before .type-refusal .ensures ∙ sym (stays (typeRefusal 2 (now (c .before .before .before .args .p))) _ (omega arith))
 
 word-requires : tie.Need-word-requires
 word-requires c κs = omega (arith, type-fine 2 (now (c .before .before .before .args .p)) (omega arith) .long)
-
-file-refusal-requires : tie.Need-file-refusal-requires
-file-refusal-requires c κs = search needs
-
-pair-refusal-requires : tie.Need-pair-refusal-requires
-pair-refusal-requires c κs = search needs
 
 -- the refusals of the word, both at hand before the first is given
 word : (c : tie.After-pair-refusal)
@@ -58,12 +49,6 @@ returns-3 c =
     let f : fileRefusal (wordOf s) ≡ 0 = omega arith in
     rw (k .0, f) (k .2 ∙ sym (stays (pairRefusal (wordOf s)) _ (omega arith)))
 
-checksum-octets-requires : tie.Need-checksum-octets-requires
-checksum-octets-requires c κs = search needs
-
-add-at : tie.Need-add-at
-add-at c = search needs
-
 known : (c : tie.After-checksum-octets)
     → (typeRefusal 2 (now (c .before .before .before .before .before .before .before .before .before .args .p)) ≡ 0) × (fileRefusal (wordOf (now (c .before .before .before .before .before .before .before .before .before .args .p))) ≡ 0) × (pairRefusal (wordOf (now (c .before .before .before .before .before .before .before .before .before .args .p))) ≡ 0)
     × (c .checksum-octets .result ≡ checksumOctets (wordOf (now (c .before .before .before .before .before .before .before .before .before .args .p))))
@@ -80,21 +65,6 @@ returns-4 c =
     let s = now (start .args .p) in
     let k = known (c .before) in
     rw (k .0, k .1, k .2, lt-ltb (length s) (entryAt (wordOf s)) (omega arith))
-
-sub-entry-refusal : tie.Need-sub-entry-refusal
-sub-entry-refusal c = search needs
-
-part-entry-refusal-start : tie.Need-part-entry-refusal-start
-part-entry-refusal-start c = search needs
-
-part-entry-refusal-end : tie.Need-part-entry-refusal-end
-part-entry-refusal-end c = search needs
-
-descriptor-octets-requires : tie.Need-descriptor-octets-requires
-descriptor-octets-requires c κs = search needs
-
-entry-refusal-requires : tie.Need-entry-refusal-requires
-entry-refusal-requires c κs = search needs
 
 returns-5 : tie.Need-returns-5
 unfolding metadataRefusal
@@ -115,19 +85,19 @@ pub metadata-refusal-spec : {M : Type 1} → statement M
 metadata-refusal-spec =
     tie.close
     (tie.spec
-    type-refusal-requires
+    (λ c κs. search needs)
     returns
     word-requires
-    file-refusal-requires
-    pair-refusal-requires
+    (λ c κs. search needs)
+    (λ c κs. search needs)
     returns-2
     returns-3
-    checksum-octets-requires
-    add-at
+    (λ c κs. search needs)
+    (λ c. search needs)
     returns-4
-    sub-entry-refusal
-    part-entry-refusal-start
-    part-entry-refusal-end
-    descriptor-octets-requires
-    entry-refusal-requires
+    (λ c. search needs)
+    (λ c. search needs)
+    (λ c. search needs)
+    (λ c κs. search needs)
+    (λ c κs. search needs)
     returns-5)

@@ -5,15 +5,6 @@ use native.Mathlib.Omega.{arith}
 use Rattle.packet_metadata.proofs.metadata_size.Statement.{statement}
 use Rattle.packet_metadata.proofs.metadata_size.Tie as tie
 
-checksum-octets-requires : tie.Need-checksum-octets-requires
-checksum-octets-requires c κs = search needs
-
-add-result : tie.Need-add-result
-add-result c = search needs
-
-size-octets-requires : tie.Need-size-octets-requires
-size-octets-requires c κs = search needs
-
 add-result-2 : tie.Need-add-result-2
 add-result-2 c = omega (arith, size-le (c .before .before .args .properties))
 
@@ -26,18 +17,15 @@ add-result-4 c = omega (arith, size-le (c .before .before .args .properties))
 add-result-5 : tie.Need-add-result-5
 add-result-5 c = omega (arith, size-le (c .before .before .args .properties))
 
-returns : tie.Need-returns
-returns c = search needs
-
 pub metadata-size-spec : {M : Type 1} → statement M
 metadata-size-spec =
     tie.close
     (tie.spec
-    checksum-octets-requires
-    add-result
-    size-octets-requires
+    (λ c κs. search needs)
+    (λ c. search needs)
+    (λ c κs. search needs)
     add-result-2
     add-result-3
     add-result-4
     add-result-5
-    returns)
+    (λ c. search needs))

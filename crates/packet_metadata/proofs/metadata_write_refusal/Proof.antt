@@ -13,17 +13,11 @@ use native.Mathlib.Omega.{arith}
 use Rattle.packet_metadata.proofs.metadata_write_refusal.Statement.{statement}
 use Rattle.packet_metadata.proofs.metadata_write_refusal.Tie as tie
 
-metadata-excess-requires : tie.Need-metadata-excess-requires
-metadata-excess-requires c κs = search needs
-
 returns : tie.Need-returns
 unfolding metadataWriteRefusal
 returns c =
     let a = c .before .before .before .before .args in
     c .before .metadata-excess .ensures ∙ sym (stays (metadataExcess (a .flags) (a .id) (length (now (a .checksum)))) _ (omega arith))
-
-entry-excess-requires : tie.Need-entry-excess-requires
-entry-excess-requires c κs = search needs
 
 returns-2 : tie.Need-returns-2
 unfolding metadataWriteRefusal
@@ -33,9 +27,6 @@ returns-2 c =
     let x : metadataExcess (a .flags) (a .id) (length (now (a .checksum))) ≡ 0 = omega arith in
     rw x (c .before .entry-excess .ensures ∙ sym (stays (entryExcess (a .properties) (a .size) (a .mtime) (a .ctime)) _ (omega arith)))
 
-checksum-refusal-requires : tie.Need-checksum-refusal-requires
-checksum-refusal-requires c κs = search needs
-
 returns-3 : tie.Need-returns-3
 unfolding metadataWriteRefusal
 returns-3 c =
@@ -44,12 +35,6 @@ returns-3 c =
     let x : metadataExcess (a .flags) (a .id) (length (now (a .checksum))) ≡ 0 = omega arith in
     let y : entryExcess (a .properties) (a .size) (a .mtime) (a .ctime) ≡ 0 = omega arith in
     rw (x, y) (c .before .checksum-refusal .ensures ∙ sym (stays (checksumRefusal (a .flags) (length (now (a .checksum)))) _ (omega arith)))
-
-descriptor-octets-requires : tie.Need-descriptor-octets-requires
-descriptor-octets-requires c κs = search needs
-
-entry-write-refusal-requires : tie.Need-entry-write-refusal-requires
-entry-write-refusal-requires c κs = search needs
 
 -- what comes before the entry is none, and what the entry's refusal is
 known : (c : tie.After-entry-write-refusal)
@@ -74,12 +59,6 @@ returns-4 c =
     let k = known (c .before) in
     rw (k .0, k .1, k .2) (k .3 ∙ sym (stays (entryWriteRefusal (descriptorOctets (a .flags)) (a .properties) (a .size) (now (a .path))) _ (omega arith)))
 
-metadata-size-requires : tie.Need-metadata-size-requires
-metadata-size-requires c κs = search needs
-
-room-refusal-requires : tie.Need-room-refusal-requires
-room-refusal-requires c κs = search needs
-
 returns-5 : tie.Need-returns-5
 unfolding metadataWriteRefusal
 returns-5 c =
@@ -94,15 +73,15 @@ pub metadata-write-refusal-spec : {M : Type 1} → statement M
 metadata-write-refusal-spec =
     tie.close
     (tie.spec
-    metadata-excess-requires
+    (λ c κs. search needs)
     returns
-    entry-excess-requires
+    (λ c κs. search needs)
     returns-2
-    checksum-refusal-requires
+    (λ c κs. search needs)
     returns-3
-    descriptor-octets-requires
-    entry-write-refusal-requires
+    (λ c κs. search needs)
+    (λ c κs. search needs)
     returns-4
-    metadata-size-requires
-    room-refusal-requires
+    (λ c κs. search needs)
+    (λ c κs. search needs)
     returns-5)

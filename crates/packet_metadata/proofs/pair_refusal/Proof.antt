@@ -6,12 +6,6 @@ use borrow.Author.Needs.{needs}
 use Rattle.packet_metadata.proofs.pair_refusal.Statement.{statement}
 use Rattle.packet_metadata.proofs.pair_refusal.Tie as tie
 
-split-requires : tie.Need-split-requires
-split-requires c κs = search needs
-
-pair-allowed-requires : tie.Need-pair-allowed-requires
-pair-allowed-requires c κs = search needs
-
 allowed : (c : tie.After-pair-allowed) → pairAllowed (sumType (c .before .before .args .w)) (sumWords (c .before .before .args .w)) ≡ c .pair-allowed .result
 allowed c = sym (c .pair-allowed .ensures ∙ rw (c .before .split .ensures .sum-is, c .before .split .ensures .words-is))
 
@@ -24,4 +18,4 @@ unfolding pairRefusal
 returns-2 c = rw (allowed (c .before), c .if1 .left)
 
 pub pair-refusal-spec : {M : Type 1} → statement M
-pair-refusal-spec = tie.close (tie.spec split-requires pair-allowed-requires returns returns-2)
+pair-refusal-spec = tie.close (tie.spec (λ c κs. search needs) (λ c κs. search needs) returns returns-2)

@@ -14,27 +14,6 @@ use native.Mathlib.Omega.{arith}
 use Rattle.packet_metadata.proofs.put_metadata.Statement.{statement}
 use Rattle.packet_metadata.proofs.put_metadata.Tie as tie
 
-join-requires : tie.Need-join-requires
-join-requires c κs = search needs
-
-write-number-requires : tie.Need-write-number-requires
-write-number-requires c κs = search needs
-
-write-number-requires-2 : tie.Need-write-number-requires-2
-write-number-requires-2 c κs = search needs
-
-copy-into-requires : tie.Need-copy-into-requires
-copy-into-requires c κs = search needs
-
-add-put-entry : tie.Need-add-put-entry
-add-put-entry c = search needs
-
-put-entry-requires : tie.Need-put-entry-requires
-put-entry-requires c κs = search needs
-
-same-length : tie.Need-same-length
-same-length c = search needs
-
 returns : tie.Need-returns
 unfolding metadataOctets
 returns c =
@@ -56,11 +35,11 @@ pub put-metadata-spec : {M : Type 1} → statement M
 put-metadata-spec =
     tie.close
     (tie.spec
-    join-requires
-    write-number-requires
-    write-number-requires-2
-    copy-into-requires
-    add-put-entry
-    put-entry-requires
-    same-length
+    (λ c κs. search needs)
+    (λ c κs. search needs)
+    (λ c κs. search needs)
+    (λ c κs. search needs)
+    (λ c. search needs)
+    (λ c κs. search needs)
+    (λ c. search needs)
     returns)

@@ -9,20 +9,11 @@ use native.Mathlib.Omega.{arith}
 use Rattle.packet_metadata.proofs.read_metadata.Statement.{statement}
 use Rattle.packet_metadata.proofs.read_metadata.Tie as tie
 
-metadata-refusal-requires : tie.Need-metadata-refusal-requires
-metadata-refusal-requires c κs = search needs
-
-refuse-requires : tie.Need-refuse-requires
-refuse-requires c κs = search needs
-
 returns : tie.Need-returns
 unfolding readMetadata
 returns c =
     let s = now (c .before .before .before .before .args .p) in
     rw (c .refuse .ensures, c .before .before .metadata-refusal .ensures) (answered-refused Refused (metadataRefusal s) (Accepted (metadataOf s)) (omega arith))
-
-metadata-fields-requires : tie.Need-metadata-fields-requires
-metadata-fields-requires c κs = search needs
 
 returns-2 : tie.Need-returns-2
 unfolding readMetadata
@@ -33,4 +24,4 @@ returns-2 c =
 pub read-metadata-spec : {M : Type 1} → statement M
 read-metadata-spec =
     tie.close
-    (tie.spec metadata-refusal-requires refuse-requires returns metadata-fields-requires returns-2)
+    (tie.spec (λ c κs. search needs) (λ c κs. search needs) returns (λ c κs. search needs) returns-2)

@@ -11,12 +11,6 @@ use native.Mathlib.Omega.{arith}
 use Rattle.packet_metadata.proofs.write_metadata.Statement.{statement}
 use Rattle.packet_metadata.proofs.write_metadata.Tie as tie
 
-metadata-write-refusal-requires : tie.Need-metadata-write-refusal-requires
-metadata-write-refusal-requires c κs = search needs
-
-refuse-requires : tie.Need-refuse-requires
-refuse-requires c κs = search needs
-
 returns : tie.Need-returns
 unfolding metadataWritten metadataBuffer
 returns c =
@@ -36,12 +30,6 @@ put-metadata-requires c κs =
     let a = start .args in
     write-fine (a .flags) (a .id) (now (a .checksum)) (a .properties) (a .size) (a .mtime) (a .ctime) (now (a .path)) (length (now (a .out))) (omega arith) .fits
 
-metadata-size-requires : tie.Need-metadata-size-requires
-metadata-size-requires c κs = search needs
-
-same-length : tie.Need-same-length
-same-length c = search needs
-
 returns-2 : tie.Need-returns-2
 unfolding metadataWritten metadataBuffer
 returns-2 c =
@@ -55,10 +43,10 @@ pub write-metadata-spec : {M : Type 1} → statement M
 write-metadata-spec =
     tie.close
     (tie.spec
-    metadata-write-refusal-requires
-    refuse-requires
+    (λ c κs. search needs)
+    (λ c κs. search needs)
     returns
     put-metadata-requires
-    metadata-size-requires
-    same-length
+    (λ c κs. search needs)
+    (λ c. search needs)
     returns-2)

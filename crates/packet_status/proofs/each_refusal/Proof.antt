@@ -55,12 +55,6 @@ returns c =
 add-at : tie.Need-add-at Inv-loop μ-loop
 add-at c = omega (arith, room (c .before .before))
 
-sub-count : tie.Need-sub-count Inv-loop μ-loop
-sub-count c = omega arith
-
-loop-less : tie.Need-loop-less Inv-loop μ-loop
-loop-less c = omega arith
-
 loop-again : tie.Need-loop-again Inv-loop μ-loop
 loop-again c =
     let a = c .before .before .before .before .before .args in
@@ -84,7 +78,7 @@ each-refusal-spec =
     descriptor-refusal-requires
     returns
     add-at
-    sub-count
-    loop-less
+    (λ c. omega arith)
+    (λ c. omega arith)
     loop-again
     returns-2)

@@ -19,15 +19,6 @@ use Rattle.packet_status.proofs.hole_count.Tie as tie
 word-requires : tie.Need-word-requires
 word-requires c κs = omega (arith, status-fine (now (c .before .args .p)) (c .before .pre .0) .typed .long)
 
-descriptor-octets-requires : tie.Need-descriptor-octets-requires
-descriptor-octets-requires c κs = search needs
-
-timestamp-octets-requires : tie.Need-timestamp-octets-requires
-timestamp-octets-requires c κs = search needs
-
-add-holes : tie.Need-add-holes
-add-holes c = search needs
-
 -- the octets that the word gives, and where the list starts
 known : (c : tie.After-timestamp-octets)
     → let s = now (c .before .before .before .before .args .p) in
@@ -63,4 +54,4 @@ returns : tie.Need-returns
 returns c = let k = known c in rw (k .0, k .1)
 
 pub hole-count-spec : {M : Type 1} → statement M
-hole-count-spec = tie.close (tie.spec word-requires descriptor-octets-requires timestamp-octets-requires add-holes mul-holes add-holes-2 sub-result mul-result div-result returns)
+hole-count-spec = tie.close (tie.spec word-requires (λ c κs. search needs) (λ c κs. search needs) (λ c. search needs) mul-holes add-holes-2 sub-result mul-result div-result returns)

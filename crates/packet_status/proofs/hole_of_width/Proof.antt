@@ -19,12 +19,6 @@ use Rattle.packet_status.proofs.hole_of_width.Tie as tie
 word-requires : tie.Need-word-requires
 word-requires c κs = let start = c .before in omega (arith, hole-fine (start .args .index) (now (start .args .p)) (start .pre .0) .typed .long)
 
-timestamp-octets-requires : tie.Need-timestamp-octets-requires
-timestamp-octets-requires c κs = search needs
-
-add-holes : tie.Need-add-holes
-add-holes c = search needs
-
 -- the octets that the word gives, and the place of the hole
 known : (c : tie.After-timestamp-octets)
     → let a = c .before .before .before .args in
@@ -72,8 +66,8 @@ hole-of-width-spec =
     tie.close
     (tie.spec
     word-requires
-    timestamp-octets-requires
-    add-holes
+    (λ c κs. search needs)
+    (λ c. search needs)
     mul-holes
     add-holes-2
     mul-hole-at

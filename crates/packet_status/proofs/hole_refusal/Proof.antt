@@ -14,18 +14,12 @@ use native.Mathlib.Omega.{arith}
 use Rattle.packet_status.proofs.hole_refusal.Statement.{statement}
 use Rattle.packet_status.proofs.hole_refusal.Tie as tie
 
-status-refusal-requires : tie.Need-status-refusal-requires
-status-refusal-requires c κs = search needs
-
 returns : tie.Need-returns
 unfolding holeRefusal
 returns c = let s = now (c .before .before .before .args .p) in c .before .status-refusal .ensures ∙ sym (stays (statusRefusal s) _ (omega arith))
 
 word-requires : tie.Need-word-requires
 word-requires c κs = omega (arith, status-fine (now (c .before .before .before .args .p)) (omega arith) .typed .long)
-
-split-requires : tie.Need-split-requires
-split-requires c κs = search needs
 
 returns-2 : tie.Need-returns-2
 unfolding holeRefusal
@@ -68,10 +62,10 @@ pub hole-refusal-spec : {M : Type 1} → statement M
 hole-refusal-spec =
     tie.close
     (tie.spec
-    status-refusal-requires
+    (λ c κs. search needs)
     returns
     word-requires
-    split-requires
+    (λ c κs. search needs)
     returns-2
     success-fields-requires
     returns-3

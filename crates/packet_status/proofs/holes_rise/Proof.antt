@@ -87,12 +87,6 @@ add-at c =
     let before-place = c .before .before .before .before .before .before in
     omega (arith, room (before-place .before))
 
-sub-left : tie.Need-sub-left Inv-loop μ-loop
-sub-left c = omega arith
-
-loop-less : tie.Need-loop-less Inv-loop μ-loop
-loop-less c = omega arith
-
 loop-again : tie.Need-loop-again Inv-loop μ-loop
 loop-again c =
     let h = c .before .before .before .before .before .before .hole-at .result in (
@@ -120,7 +114,7 @@ holes-rise-spec =
     returns-3
     mul-at
     add-at
-    sub-left
-    loop-less
+    (λ c. omega arith)
+    (λ c. omega arith)
     loop-again
     returns-4)

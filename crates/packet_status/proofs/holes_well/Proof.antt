@@ -17,9 +17,6 @@ use native.Mathlib.Omega.{arith}
 use Rattle.packet_status.proofs.holes_well.Statement.{statement}
 use Rattle.packet_status.proofs.holes_well.Tie as tie
 
-starts-well-requires : tie.Need-starts-well-requires
-starts-well-requires c κs = search needs
-
 returns : tie.Need-returns
 unfolding holesWell
 returns c = rw (c .before .if1 .taken) (c .starts-well .ensures)
@@ -40,9 +37,6 @@ pairs c =
 
 hole-at-requires : tie.Need-hole-at-requires
 hole-at-requires c κs = let p = pairs c in (c .before .before .pre .0, p .0, p .1)
-
-starts-well-requires-2 : tie.Need-starts-well-requires-2
-starts-well-requires-2 c κs = search needs
 
 -- the judgement, with the first hole
 first : (c : tie.After-hole-at)
@@ -84,9 +78,6 @@ add-holes-after c =
     let before-place = c .before .before .before .before .before .before in
     omega (arith, room (before-place .before))
 
-sub-holes-after : tie.Need-sub-holes-after
-sub-holes-after c = search needs
-
 holes-after-requires : tie.Need-holes-after-requires
 holes-after-requires c κs =
     let before-place = c .before .before .before .before .before .before in
@@ -104,15 +95,15 @@ pub holes-well-spec : {M : Type 1} → statement M
 holes-well-spec =
     tie.close
     (tie.spec
-    starts-well-requires
+    (λ c κs. search needs)
     returns
     hole-at-requires
-    starts-well-requires-2
+    (λ c κs. search needs)
     returns-2
     returns-3
     returns-4
     mul-holes-after
     add-holes-after
-    sub-holes-after
+    (λ c. search needs)
     holes-after-requires
     returns-5)

@@ -25,18 +25,6 @@ use Rattle.packet_status.proofs.list_refusal.Tie as tie
 word-requires : tie.Need-word-requires
 word-requires c κs = let start = c .before in omega (arith, fields-there (now (start .args .p)) (start .pre))
 
-split-requires : tie.Need-split-requires
-split-requires c κs = search needs
-
-descriptor-octets-requires : tie.Need-descriptor-octets-requires
-descriptor-octets-requires c κs = search needs
-
-timestamp-octets-requires : tie.Need-timestamp-octets-requires
-timestamp-octets-requires c κs = search needs
-
-add-at : tie.Need-add-at
-add-at c = search needs
-
 -- the word of the packet, and the octets that it gives
 known : (c : tie.After-timestamp-octets)
     → let s = now (c .before .before .before .before .before .args .p) in
@@ -104,9 +92,6 @@ descriptor-requires-2 c κs =
     let k = known timestamp-place in
     let start = timestamp-place .before .before .before .before .before in
     (k .4, rw (k .1, k .2) (start .pre .response-none))
-
-points-to-last-requires : tie.Need-points-to-last-requires
-points-to-last-requires c κs = search needs
 
 -- the judgement of the packet's list, by what the code judges it from
 judged : (c : tie.After-descriptor2)
@@ -179,10 +164,10 @@ list-refusal-spec =
     tie.close
     (tie.spec
     word-requires
-    split-requires
-    descriptor-octets-requires
-    timestamp-octets-requires
-    add-at
+    (λ c κs. search needs)
+    (λ c κs. search needs)
+    (λ c κs. search needs)
+    (λ c. search needs)
     mul-holes
     add-holes
     sub-rest
@@ -194,7 +179,7 @@ list-refusal-spec =
     descriptor-requires
     add-descriptor
     descriptor-requires-2
-    points-to-last-requires
+    (λ c κs. search needs)
     returns-2
     holes-well-requires
     returns-3

@@ -15,9 +15,6 @@ use Rattle.packet_status.proofs.listed_hole.Tie as tie
 word-requires : tie.Need-word-requires
 word-requires c κs = let start = c .before in omega (arith, hole-fine (start .args .index) (now (start .args .p)) (start .pre) .typed .long)
 
-descriptor-octets-requires : tie.Need-descriptor-octets-requires
-descriptor-octets-requires c κs = search needs
-
 -- the packet's width
 width : (c : tie.After-descriptor-octets) → c .descriptor-octets .result ≡ descriptorOctets (wordOf (now (c .before .before .before .args .p)))
 width c = c .descriptor-octets .ensures ∙ ap descriptorOctets (c .before .word .ensures)
@@ -56,7 +53,7 @@ listed-hole-spec =
     tie.close
     (tie.spec
     word-requires
-    descriptor-octets-requires
+    (λ c κs. search needs)
     hole-of-width-requires
     returns
     hole-of-width-requires-2

@@ -29,9 +29,6 @@ returns-3 c =
     let b = bits (c .before) in
     rw (b .0, b .1, ne-eqb (c .before .before .before .args .count) 0 (omega arith))
 
-sub-result : tie.Need-sub-result
-sub-result c = search needs
-
 returns-4 : tie.Need-returns-4
 unfolding pointsToLast
 returns-4 c =
@@ -48,4 +45,4 @@ returns-5 c =
 
 pub points-to-last-spec : {M : Type 1} → statement M
 points-to-last-spec =
-    tie.close (tie.spec returns returns-2 returns-3 sub-result returns-4 returns-5)
+    tie.close (tie.spec returns returns-2 returns-3 (λ c. search needs) returns-4 returns-5)

@@ -10,12 +10,6 @@ use native.Mathlib.Omega.{arith}
 use Rattle.packet_status.proofs.read_hole.Statement.{statement}
 use Rattle.packet_status.proofs.read_hole.Tie as tie
 
-hole-refusal-requires : tie.Need-hole-refusal-requires
-hole-refusal-requires c κs = search needs
-
-refuse-requires : tie.Need-refuse-requires
-refuse-requires c κs = search needs
-
 returns : tie.Need-returns
 unfolding readHole
 returns c =
@@ -23,9 +17,6 @@ returns c =
     let n = holeRefusal (a .index) (now (a .p)) in
     let e : c .before .before .hole-refusal .result ≡ n = c .before .before .hole-refusal .ensures in
     rw (c .refuse .ensures, e) (answered-refused Refused n (Accepted (indexedHole (a .index) (now (a .p)))) (omega arith))
-
-listed-hole-requires : tie.Need-listed-hole-requires
-listed-hole-requires c κs = omega arith
 
 returns-2 : tie.Need-returns-2
 unfolding readHole
@@ -35,4 +26,4 @@ returns-2 c =
     rw (z, c .listed-hole .ensures)
 
 pub read-hole-spec : {M : Type 1} → statement M
-read-hole-spec = tie.close (tie.spec hole-refusal-requires refuse-requires returns listed-hole-requires returns-2)
+read-hole-spec = tie.close (tie.spec (λ c κs. search needs) (λ c κs. search needs) returns (λ c κs. omega arith) returns-2)

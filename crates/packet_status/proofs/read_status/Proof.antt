@@ -13,12 +13,6 @@ use native.Mathlib.Omega.{arith}
 use Rattle.packet_status.proofs.read_status.Statement.{statement}
 use Rattle.packet_status.proofs.read_status.Tie as tie
 
-status-refusal-requires : tie.Need-status-refusal-requires
-status-refusal-requires c κs = search needs
-
-refuse-requires : tie.Need-refuse-requires
-refuse-requires c κs = search needs
-
 returns : tie.Need-returns
 unfolding readStatus
 returns c =
@@ -28,9 +22,6 @@ returns c =
 
 word-requires : tie.Need-word-requires
 word-requires c κs = omega (arith, status-fine (now (c .before .before .before .args .p)) (omega arith) .typed .long)
-
-split-requires : tie.Need-split-requires
-split-requires c κs = search needs
 
 success-fields-requires : tie.Need-success-fields-requires
 success-fields-requires c κs =
@@ -66,11 +57,11 @@ pub read-status-spec : {M : Type 1} → statement M
 read-status-spec =
     tie.close
     (tie.spec
-    status-refusal-requires
-    refuse-requires
+    (λ c κs. search needs)
+    (λ c κs. search needs)
     returns
     word-requires
-    split-requires
+    (λ c κs. search needs)
     success-fields-requires
     returns-2
     id-requires

@@ -13,18 +13,12 @@ use native.Mathlib.Omega.{arith}
 use Rattle.packet_status.proofs.status_refusal.Statement.{statement}
 use Rattle.packet_status.proofs.status_refusal.Tie as tie
 
-type-refusal-requires : tie.Need-type-refusal-requires
-type-refusal-requires c κs = search needs
-
 returns : tie.Need-returns
 unfolding statusRefusal
 returns c = let s = now (c .before .before .before .args .p) in c .before .type-refusal .ensures ∙ sym (stays (typeRefusal 4 s) _ (omega arith))
 
 word-requires : tie.Need-word-requires
 word-requires c κs = omega (arith, type-fine 4 (now (c .before .before .before .args .p)) (omega arith) .long)
-
-split-requires : tie.Need-split-requires
-split-requires c κs = search needs
 
 returns-2 : tie.Need-returns-2
 unfolding statusRefusal
@@ -49,10 +43,10 @@ pub status-refusal-spec : {M : Type 1} → statement M
 status-refusal-spec =
     tie.close
     (tie.spec
-    type-refusal-requires
+    (λ c κs. search needs)
     returns
     word-requires
-    split-requires
+    (λ c κs. search needs)
     returns-2
     success-refusal-requires
     returns-3)

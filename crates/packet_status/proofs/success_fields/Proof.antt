@@ -16,21 +16,6 @@ use native.Mathlib.Omega.{arith}
 use Rattle.packet_status.proofs.success_fields.Statement.{statement}
 use Rattle.packet_status.proofs.success_fields.Tie as tie
 
-word-requires : tie.Need-word-requires
-word-requires c κs = search needs
-
-split-requires : tie.Need-split-requires
-split-requires c κs = search needs
-
-descriptor-octets-requires : tie.Need-descriptor-octets-requires
-descriptor-octets-requires c κs = search needs
-
-timestamp-octets-requires : tie.Need-timestamp-octets-requires
-timestamp-octets-requires c κs = search needs
-
-add-at : tie.Need-add-at
-add-at c = search needs
-
 -- the word of the packet, and the octets that it gives
 known : (c : tie.After-timestamp-octets)
     → let s = now (c .before .before .before .before .before .args .p) in
@@ -53,9 +38,6 @@ mul-holes c = omega (arith, octets-le (c .before .before .before .word .result))
 
 add-holes : tie.Need-add-holes
 add-holes c = omega (arith, octets-le (c .before .before .before .word .result))
-
-id-requires : tie.Need-id-requires
-id-requires c κs = search needs
 
 descriptor-requires : tie.Need-descriptor-requires
 descriptor-requires c κs =
@@ -93,14 +75,14 @@ pub success-fields-spec : {M : Type 1} → statement M
 success-fields-spec =
     tie.close
     (tie.spec
-    word-requires
-    split-requires
-    descriptor-octets-requires
-    timestamp-octets-requires
-    add-at
+    (λ c κs. search needs)
+    (λ c κs. search needs)
+    (λ c κs. search needs)
+    (λ c κs. search needs)
+    (λ c. search needs)
     mul-holes
     add-holes
-    id-requires
+    (λ c κs. search needs)
     descriptor-requires
     add-descriptor
     descriptor-requires-2

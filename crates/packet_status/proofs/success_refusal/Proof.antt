@@ -19,18 +19,6 @@ use native.Mathlib.Omega.{arith}
 use Rattle.packet_status.proofs.success_refusal.Statement.{statement}
 use Rattle.packet_status.proofs.success_refusal.Tie as tie
 
-word-requires : tie.Need-word-requires
-word-requires c κs = search needs
-
-descriptor-octets-requires : tie.Need-descriptor-octets-requires
-descriptor-octets-requires c κs = search needs
-
-timestamp-octets-requires : tie.Need-timestamp-octets-requires
-timestamp-octets-requires c κs = search needs
-
-add-at : tie.Need-add-at
-add-at c = search needs
-
 -- the octets of the packet's descriptors, and where Progress stands
 octets : (c : tie.After-timestamp-octets)
     → let s = now (c .before .before .before .before .args .p) in
@@ -155,10 +143,10 @@ pub success-refusal-spec : {M : Type 1} → statement M
 success-refusal-spec =
     tie.close
     (tie.spec
-    word-requires
-    descriptor-octets-requires
-    timestamp-octets-requires
-    add-at
+    (λ c κs. search needs)
+    (λ c κs. search needs)
+    (λ c κs. search needs)
+    (λ c. search needs)
     descriptor-refusal-requires
     returns
     add-descriptor-refusal

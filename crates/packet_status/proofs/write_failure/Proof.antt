@@ -11,12 +11,6 @@ use native.Mathlib.Omega.{arith}
 use Rattle.packet_status.proofs.write_failure.Statement.{statement}
 use Rattle.packet_status.proofs.write_failure.Tie as tie
 
-failure-write-refusal-requires : tie.Need-failure-write-refusal-requires
-failure-write-refusal-requires c κs = search needs
-
-refuse-requires : tie.Need-refuse-requires
-refuse-requires c κs = search needs
-
 returns : tie.Need-returns
 unfolding failureWritten failureBuffer
 returns c =
@@ -38,9 +32,6 @@ write-number-requires-2 c κs =
     let start = c .before .before .before .before .before .before .before .before .before in
     let a = start .args in let f = failure-fine (a .id) (a .status) (length (now (a .out))) (omega arith) in omega arith
 
-same-length : tie.Need-same-length
-same-length c = search needs
-
 returns-2 : tie.Need-returns-2
 unfolding failureWritten failureBuffer
 returns-2 c =
@@ -56,11 +47,11 @@ pub write-failure-spec : {M : Type 1} → statement M
 write-failure-spec =
     tie.close
     (tie.spec
-    failure-write-refusal-requires
-    refuse-requires
+    (λ c κs. search needs)
+    (λ c κs. search needs)
     returns
     join-requires
     write-number-requires
     write-number-requires-2
-    same-length
+    (λ c. search needs)
     returns-2)

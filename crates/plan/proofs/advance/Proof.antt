@@ -7,9 +7,6 @@ use borrow.Author.Needs.{needs}
 use Rattle.plan.proofs.advance.Statement.{statement}
 use Rattle.plan.proofs.advance.Tie as tie
 
-add-offset : tie.Need-add-offset
-add-offset c = search needs
-
 returns : tie.Need-returns
 unfolding advanced
 returns c = let a = c .before .before .before .before .args in rw (lt-ltb (a .c .offset + a .n) (a .c .end) (omega arith))
@@ -22,4 +19,4 @@ unfolding advanced
 returns-2 c = let a = c .before .before .before .before .before .args in rw (le-ltb (a .c .offset + a .n) (a .c .end) (omega arith)) (c .cursor-at .ensures)
 
 pub advance-spec : {M : Type 1} → statement M
-advance-spec = tie.close (tie.spec add-offset returns cursor-at-requires returns-2)
+advance-spec = tie.close (tie.spec (λ c. search needs) returns cursor-at-requires returns-2)

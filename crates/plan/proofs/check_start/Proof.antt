@@ -19,9 +19,6 @@ use borrow.Author.Needs.{needs}
 use Rattle.plan.proofs.check_start.Statement.{statement}
 use Rattle.plan.proofs.check_start.Tie as tie
 
-judge-requires : tie.Need-judge-requires
-judge-requires c κs = search needs
-
 cursor-at-requires : tie.Need-cursor-at-requires
 cursor-at-requires c κs =
     let start = c .before .before .before in
@@ -46,4 +43,4 @@ returns c =
     ∙ begun (resendRefusal (start .args .largest) s) (holeList s)
 
 pub check-start-spec : {M : Type 1} → statement M
-check-start-spec = tie.close (tie.spec judge-requires cursor-at-requires returns)
+check-start-spec = tie.close (tie.spec (λ c κs. search needs) cursor-at-requires returns)

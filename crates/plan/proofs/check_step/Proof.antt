@@ -9,9 +9,6 @@ use borrow.Author.Needs.{needs}
 use Rattle.plan.proofs.check_step.Statement.{statement}
 use Rattle.plan.proofs.check_step.Tie as tie
 
-piece-fits-requires : tie.Need-piece-fits-requires
-piece-fits-requires c κs = search needs
-
 advance-requires : tie.Need-advance-requires
 advance-requires c κs =
     let start = c .before .before .before .before .before in
@@ -42,4 +39,4 @@ unfolding checkStep
 returns-3 c = rw (c .if1 .left)
 
 pub check-step-spec : {M : Type 1} → statement M
-check-step-spec = tie.close (tie.spec piece-fits-requires advance-requires returns returns-2 returns-3)
+check-step-spec = tie.close (tie.spec (λ c κs. search needs) advance-requires returns returns-2 returns-3)

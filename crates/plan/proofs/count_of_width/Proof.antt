@@ -78,12 +78,6 @@ below c =
 add-count : tie.Need-add-count Inv-loop μ-loop
 add-count c = let k : c .before .hole-of-width .result .end < 2 ^ 64 = c .before .hole-of-width .ok .1 .1 .1 .0 .1 in record { fits = omega (arith, below c) }
 
-add-i : tie.Need-add-i Inv-loop μ-loop
-add-i c = search needs
-
-loop-less : tie.Need-loop-less Inv-loop μ-loop
-loop-less c = omega arith
-
 loop-again : tie.Need-loop-again Inv-loop μ-loop
 loop-again c =
     let p = c .before in
@@ -112,4 +106,4 @@ returns c =
     omega (arith, rw z at e)
 
 pub count-of-width-spec : {M : Type 1} → statement M
-count-of-width-spec = tie.close (tie.spec Inv-loop μ-loop loop-holds hole-of-width-requires pieces-of-requires add-count add-i loop-less loop-again returns)
+count-of-width-spec = tie.close (tie.spec Inv-loop μ-loop loop-holds hole-of-width-requires pieces-of-requires add-count (λ c. search needs) (λ c. omega arith) loop-again returns)

@@ -18,9 +18,6 @@ word-requires c κs =
     let s = now (start .args .status) in
     omega (arith, long (start .args .largest) s (resend-fine (start .args .largest) s (start .pre .0)))
 
-descriptor-octets-requires : tie.Need-descriptor-octets-requires
-descriptor-octets-requires c κs = search needs
-
 -- the packet's width
 width : (c : tie.After-descriptor-octets) → c .descriptor-octets .result ≡ descriptorOctets (wordOf (now (c .before .before .before .args .status)))
 width c = c .descriptor-octets .ensures ∙ ap descriptorOctets (c .before .word .ensures)
@@ -59,7 +56,7 @@ count-pieces-spec =
     tie.close
     (tie.spec
     word-requires
-    descriptor-octets-requires
+    (λ c κs. search needs)
     count-of-width-requires
     returns
     count-of-width-requires-2

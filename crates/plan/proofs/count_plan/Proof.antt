@@ -13,9 +13,6 @@ use borrow.Author.Needs.{needs}
 use Rattle.plan.proofs.count_plan.Statement.{statement}
 use Rattle.plan.proofs.count_plan.Tie as tie
 
-judge-requires : tie.Need-judge-requires
-judge-requires c κs = search needs
-
 -- the refusal, and the number of holes where there is none
 known : (c : tie.After-judge)
     → let a = c .before .before .args in
@@ -50,4 +47,4 @@ returns-2 c =
     rw (e, c .count-pieces .ensures, known (c .before .before .before) .1 e)
 
 pub count-plan-spec : {M : Type 1} → statement M
-count-plan-spec = tie.close (tie.spec judge-requires returns count-pieces-requires returns-2)
+count-plan-spec = tie.close (tie.spec (λ c κs. search needs) returns count-pieces-requires returns-2)

@@ -13,9 +13,6 @@ use Rattle.plan.proofs.ResendLaws.{resend-fine}
 use Rattle.plan.proofs.judge.Statement.{statement}
 use Rattle.plan.proofs.judge.Tie as tie
 
-resend-refusal-requires : tie.Need-resend-refusal-requires
-resend-refusal-requires c κs = search needs
-
 returns : tie.Need-returns
 returns c =
     let place = c .before in
@@ -38,4 +35,4 @@ returns-2 c =
     rw (none (c .before), c .hole-count .ensures, length-list (now (a .status)))
 
 pub judge-spec : {M : Type 1} → statement M
-judge-spec = tie.close (tie.spec resend-refusal-requires returns hole-count-requires returns-2)
+judge-spec = tie.close (tie.spec (λ c κs. search needs) returns hole-count-requires returns-2)

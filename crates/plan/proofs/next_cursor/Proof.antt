@@ -10,9 +10,6 @@ use borrow.Author.Needs.{needs}
 use Rattle.plan.proofs.next_cursor.Statement.{statement}
 use Rattle.plan.proofs.next_cursor.Tie as tie
 
-piece-length-requires : tie.Need-piece-length-requires
-piece-length-requires c κs = search needs
-
 advance-requires : tie.Need-advance-requires
 advance-requires c κs =
     let start = c .before .before in
@@ -25,4 +22,4 @@ returns c =
     c .advance .ensures ∙ ap (λ (n : ℕ). advanced (holeList (now (a .status))) n (a .c)) (c .before .piece-length .ensures)
 
 pub next-cursor-spec : {M : Type 1} → statement M
-next-cursor-spec = tie.close (tie.spec piece-length-requires advance-requires returns)
+next-cursor-spec = tie.close (tie.spec (λ c κs. search needs) advance-requires returns)

@@ -6,11 +6,8 @@ use borrow.Author.Needs.{needs}
 use Rattle.plan.proofs.piece_at.Statement.{statement}
 use Rattle.plan.proofs.piece_at.Tie as tie
 
-piece-length-requires : tie.Need-piece-length-requires
-piece-length-requires c κs = search needs
-
 returns : tie.Need-returns
 returns c = ap (λ (n : ℕ). piece (c .before .args .c .offset) n) (c .piece-length .ensures)
 
 pub piece-at-spec : {M : Type 1} → statement M
-piece-at-spec = tie.close (tie.spec piece-length-requires returns)
+piece-at-spec = tie.close (tie.spec (λ c κs. search needs) returns)

@@ -7,9 +7,6 @@ use borrow.Author.Needs.{needs}
 use Rattle.plan.proofs.piece_length.Statement.{statement}
 use Rattle.plan.proofs.piece_length.Tie as tie
 
-sub-left : tie.Need-sub-left
-sub-left c = search needs
-
 returns : tie.Need-returns
 returns c = let a = c .before .args in let l : a .end - a .offset ≤ a .largest = omega arith in sym (min-eq-right l)
 
@@ -17,4 +14,4 @@ returns-2 : tie.Need-returns-2
 returns-2 c = let a = c .before .args in let l : a .largest ≤ a .end - a .offset = omega arith in sym (min-eq-left l)
 
 pub piece-length-spec : {M : Type 1} → statement M
-piece-length-spec = tie.close (tie.spec sub-left returns returns-2)
+piece-length-spec = tie.close (tie.spec (λ c. search needs) returns returns-2)

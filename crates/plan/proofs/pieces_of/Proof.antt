@@ -7,15 +7,6 @@ use borrow.Author.Needs.{needs}
 use Rattle.plan.proofs.pieces_of.Statement.{statement}
 use Rattle.plan.proofs.pieces_of.Tie as tie
 
-sub-result : tie.Need-sub-result
-sub-result c = search needs
-
-sub-result-2 : tie.Need-sub-result-2
-sub-result-2 c = search needs
-
-div-result : tie.Need-div-result
-div-result c = search needs
-
 add-result : tie.Need-add-result
 add-result c = let a = c .args in record { fits = omega (arith, div-le-self (a .end - a .start - 1) (a .largest)) }
 
@@ -23,4 +14,4 @@ returns : tie.Need-returns
 returns c = let a = c .args in count-counted (a .largest) (a .start) (a .end) (omega arith) (omega arith)
 
 pub pieces-of-spec : {M : Type 1} → statement M
-pieces-of-spec = tie.close (tie.spec sub-result sub-result-2 div-result add-result returns)
+pieces-of-spec = tie.close (tie.spec (λ c. search needs) (λ c. search needs) (λ c. search needs) add-result returns)

@@ -12,9 +12,6 @@ use borrow.Author.Needs.{needs}
 use Rattle.plan.proofs.plan_within.Statement.{statement}
 use Rattle.plan.proofs.plan_within.Tie as tie
 
-count-plan-requires : tie.Need-count-plan-requires
-count-plan-requires c κs = search needs
-
 -- what was counted, with the test of the room
 tested : (c : tie.After-count-plan)
     → let a = c .before .before .args in
@@ -38,4 +35,4 @@ returns-2 c =
     rw (le-ltb (counted .before .before .args .room) (counted .count-plan .result .count) (omega arith)) at (tested counted)
 
 pub plan-within-spec : {M : Type 1} → statement M
-plan-within-spec = tie.close (tie.spec count-plan-requires returns returns-2)
+plan-within-spec = tie.close (tie.spec (λ c κs. search needs) returns returns-2)

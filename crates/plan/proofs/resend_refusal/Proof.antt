@@ -16,9 +16,6 @@ use Rattle.plan.specs.Planning.{resendRefusal}
 use Rattle.plan.proofs.resend_refusal.Statement.{statement}
 use Rattle.plan.proofs.resend_refusal.Tie as tie
 
-status-refusal-requires : tie.Need-status-refusal-requires
-status-refusal-requires c κs = search needs
-
 returns : tie.Need-returns
 unfolding resendRefusal
 returns c =
@@ -32,18 +29,6 @@ read c = omega (arith, c .before .status-refusal .ensures)
 
 word-requires : tie.Need-word-requires
 word-requires c κs = omega (arith, status-fine (now (c .before .before .before .args .status)) (read c) .typed .long)
-
-split-requires : tie.Need-split-requires
-split-requires c κs = search needs
-
-failure-refusal-requires : tie.Need-failure-refusal-requires
-failure-refusal-requires c κs = search needs
-
-largest-refusal-requires : tie.Need-largest-refusal-requires
-largest-refusal-requires c κs = search needs
-
-first-requires : tie.Need-first-requires
-first-requires c κs = search needs
 
 returns-2 : tie.Need-returns-2
 unfolding resendRefusal
@@ -61,11 +46,11 @@ pub resend-refusal-spec : {M : Type 1} → statement M
 resend-refusal-spec =
     tie.close
     (tie.spec
-    status-refusal-requires
+    (λ c κs. search needs)
     returns
     word-requires
-    split-requires
-    failure-refusal-requires
-    largest-refusal-requires
-    first-requires
+    (λ c κs. search needs)
+    (λ c κs. search needs)
+    (λ c κs. search needs)
+    (λ c κs. search needs)
     returns-2)

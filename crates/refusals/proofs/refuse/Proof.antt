@@ -4,11 +4,8 @@ use borrow.Author.Needs.{needs}
 use Rattle.refusals.proofs.refuse.Statement.{statement}
 use Rattle.refusals.proofs.refuse.Tie as tie
 
-code-of-requires : tie.Need-code-of-requires
-code-of-requires c κs = search needs
-
 returns : tie.Need-returns
 returns c = rw (c .code-of .ensures)
 
 pub refuse-spec : {M : Type 1} → statement M
-refuse-spec = tie.close (tie.spec code-of-requires returns)
+refuse-spec = tie.close (tie.spec (λ c κs. search needs) returns)

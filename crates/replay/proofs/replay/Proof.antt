@@ -28,12 +28,6 @@ step-requires c κs =
     let p = start .pre in
     record { body-fits = rw (l .1) (p .body-fits); lent-fits = rw (l .2) (p .lent-fits); out-holds = rw (l .3) (p .out-holds) }
 
-add-number : tie.Need-add-number Inv-loop μ-loop
-add-number c = omega arith
-
-loop-less : tie.Need-loop-less Inv-loop μ-loop
-loop-less c = omega arith
-
 loop-again : tie.Need-loop-again Inv-loop μ-loop
 loop-again c =
     let step-place = c .before .before .before .before .before .before .before .before .before in
@@ -94,8 +88,8 @@ replay-spec =
     fresh-requires
     loop-holds
     step-requires
-    add-number
-    loop-less
+    (λ c. omega arith)
+    (λ c. omega arith)
     loop-again
     same-length
     same-length-2

@@ -22,9 +22,6 @@ returns c = tt
 returns-2 : tie.Need-returns-2 Inv-loop μ-loop
 returns-2 c = tt
 
-loop-less : tie.Need-loop-less Inv-loop μ-loop
-loop-less c = omega arith
-
 loop-again : tie.Need-loop-again Inv-loop μ-loop
 loop-again c = tt
 
@@ -41,6 +38,6 @@ skip-spec =
     skip-some-requires
     returns
     returns-2
-    loop-less
+    (λ c. omega arith)
     loop-again
     returns-3)

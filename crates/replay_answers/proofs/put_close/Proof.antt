@@ -7,14 +7,8 @@ use borrow.Author.Needs.{needs}
 use Rattle.replay_answers.proofs.put_close.Statement.{statement}
 use Rattle.replay_answers.proofs.put_close.Tie as tie
 
-enum-told : tie.Need-enum-told
-enum-told c = search needs
-
 put-closed-requires : tie.Need-put-closed-requires
 put-closed-requires c κs = c .before .before .before .before .pre
-
-enum-known-a : tie.Need-enum-known-a
-enum-known-a c = search needs
 
 put-refused-requires : tie.Need-put-refused-requires
 put-refused-requires c κs =
@@ -51,9 +45,9 @@ pub put-close-spec : {M : Type 1} → statement M
 put-close-spec =
     tie.close
     (tie.spec
-    enum-told
+    (λ c. search needs)
     put-closed-requires
-    enum-known-a
+    (λ c. search needs)
     put-refused-requires
     same-length
     returns

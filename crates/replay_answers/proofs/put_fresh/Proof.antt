@@ -7,19 +7,10 @@ use borrow.Author.Needs.{needs}
 use Rattle.replay_answers.proofs.put_fresh.Statement.{statement}
 use Rattle.replay_answers.proofs.put_fresh.Tie as tie
 
-enum-told : tie.Need-enum-told
-enum-told c = search needs
-
-slice-aggregate-put-plain : tie.Need-slice-aggregate-put-plain
-slice-aggregate-put-plain c = search needs
-
 put-plain-requires : tie.Need-put-plain-requires
 put-plain-requires c κs =
     let start = c .before .before .before .before .before in
     start .pre
-
-enum-known-a : tie.Need-enum-known-a
-enum-known-a c = search needs
 
 put-refused-requires : tie.Need-put-refused-requires
 put-refused-requires c κs =
@@ -56,10 +47,10 @@ pub put-fresh-spec : {M : Type 1} → statement M
 put-fresh-spec =
     tie.close
     (tie.spec
-    enum-told
-    slice-aggregate-put-plain
+    (λ c. search needs)
+    (λ c. search needs)
     put-plain-requires
-    enum-known-a
+    (λ c. search needs)
     put-refused-requires
     same-length
     returns

@@ -8,16 +8,10 @@ use borrow.Author.Needs.{needs}
 use Rattle.replay_answers.proofs.put_open.Statement.{statement}
 use Rattle.replay_answers.proofs.put_open.Tie as tie
 
-enum-known-m : tie.Need-enum-known-m
-enum-known-m c = search needs
-
 put-opening-requires : tie.Need-put-opening-requires
 put-opening-requires c κs =
     let start = c .before .before .before .before .before in
     start .pre
-
-enum-known-m-2 : tie.Need-enum-known-m-2
-enum-known-m-2 c = search needs
 
 put-refused-requires : tie.Need-put-refused-requires
 put-refused-requires c κs =
@@ -54,9 +48,9 @@ pub put-open-spec : {M : Type 1} → statement M
 put-open-spec =
     tie.close
     (tie.spec
-    enum-known-m
+    (λ c. search needs)
     put-opening-requires
-    enum-known-m-2
+    (λ c. search needs)
     put-refused-requires
     same-length
     returns

@@ -7,30 +7,15 @@ use borrow.Author.Needs.{needs}
 use Rattle.replay_answers.proofs.put_opening.Statement.{statement}
 use Rattle.replay_answers.proofs.put_opening.Tie as tie
 
-enum-known-a : tie.Need-enum-known-a
-enum-known-a c = search needs
-
-slice-aggregate-put-opened : tie.Need-slice-aggregate-put-opened
-slice-aggregate-put-opened c = search needs
-
 put-opened-requires : tie.Need-put-opened-requires
 put-opened-requires c κs =
     let start = c .before .before .before .before .before .before in
     start .pre
 
-enum-known-a-2 : tie.Need-enum-known-a-2
-enum-known-a-2 c = search needs
-
-slice-aggregate-put-opened-2 : tie.Need-slice-aggregate-put-opened-2
-slice-aggregate-put-opened-2 c = search needs
-
 put-opened-requires-2 : tie.Need-put-opened-requires-2
 put-opened-requires-2 c κs =
     let start = c .before .before .before .before .before .before in
     start .pre
-
-enum-known-a-3 : tie.Need-enum-known-a-3
-enum-known-a-3 c = search needs
 
 put-refused-requires : tie.Need-put-refused-requires
 put-refused-requires c κs =
@@ -80,13 +65,13 @@ pub put-opening-spec : {M : Type 1} → statement M
 put-opening-spec =
     tie.close
     (tie.spec
-    enum-known-a
-    slice-aggregate-put-opened
+    (λ c. search needs)
+    (λ c. search needs)
     put-opened-requires
-    enum-known-a-2
-    slice-aggregate-put-opened-2
+    (λ c. search needs)
+    (λ c. search needs)
     put-opened-requires-2
-    enum-known-a-3
+    (λ c. search needs)
     put-refused-requires
     same-length
     returns

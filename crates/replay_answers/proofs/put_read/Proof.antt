@@ -8,48 +8,30 @@ use borrow.Author.Needs.{needs}
 use Rattle.replay_answers.proofs.put_read.Statement.{statement}
 use Rattle.replay_answers.proofs.put_read.Tie as tie
 
-enum-known-a : tie.Need-enum-known-a
-enum-known-a c = search needs
-
 put-beacon-requires : tie.Need-put-beacon-requires
 put-beacon-requires c κs =
     let start = c .before .before .before .before .before .before in
     start .pre
-
-enum-known-a-2 : tie.Need-enum-known-a-2
-enum-known-a-2 c = search needs
 
 put-metadata-requires : tie.Need-put-metadata-requires
 put-metadata-requires c κs =
     let start = c .before .before .before .before .before .before in
     start .pre
 
-enum-known-a-3 : tie.Need-enum-known-a-3
-enum-known-a-3 c = search needs
-
 put-data-requires : tie.Need-put-data-requires
 put-data-requires c κs =
     let start = c .before .before .before .before .before .before in
     start .pre
-
-enum-known-a-4 : tie.Need-enum-known-a-4
-enum-known-a-4 c = search needs
 
 put-success-requires : tie.Need-put-success-requires
 put-success-requires c κs =
     let start = c .before .before .before .before .before .before in
     start .pre
 
-enum-known-a-5 : tie.Need-enum-known-a-5
-enum-known-a-5 c = search needs
-
 put-failure-requires : tie.Need-put-failure-requires
 put-failure-requires c κs =
     let start = c .before .before .before .before .before .before in
     start .pre
-
-enum-known-a-6 : tie.Need-enum-known-a-6
-enum-known-a-6 c = search needs
 
 put-refused-requires : tie.Need-put-refused-requires
 put-refused-requires c κs =
@@ -138,17 +120,17 @@ pub put-read-spec : {M : Type 1} → statement M
 put-read-spec =
     tie.close
     (tie.spec
-    enum-known-a
+    (λ c. search needs)
     put-beacon-requires
-    enum-known-a-2
+    (λ c. search needs)
     put-metadata-requires
-    enum-known-a-3
+    (λ c. search needs)
     put-data-requires
-    enum-known-a-4
+    (λ c. search needs)
     put-success-requires
-    enum-known-a-5
+    (λ c. search needs)
     put-failure-requires
-    enum-known-a-6
+    (λ c. search needs)
     put-refused-requires
     same-length
     returns

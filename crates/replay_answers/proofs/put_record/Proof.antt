@@ -8,16 +8,10 @@ use borrow.Author.Needs.{needs}
 use Rattle.replay_answers.proofs.put_record.Statement.{statement}
 use Rattle.replay_answers.proofs.put_record.Tie as tie
 
-enum-known-d : tie.Need-enum-known-d
-enum-known-d c = search needs
-
 put-recording-requires : tie.Need-put-recording-requires
 put-recording-requires c κs =
     let start = c .before .before .before .before .before in
     start .pre
-
-enum-known-d-2 : tie.Need-enum-known-d-2
-enum-known-d-2 c = search needs
 
 put-refused-requires : tie.Need-put-refused-requires
 put-refused-requires c κs =
@@ -54,9 +48,9 @@ pub put-record-spec : {M : Type 1} → statement M
 put-record-spec =
     tie.close
     (tie.spec
-    enum-known-d
+    (λ c. search needs)
     put-recording-requires
-    enum-known-d-2
+    (λ c. search needs)
     put-refused-requires
     same-length
     returns

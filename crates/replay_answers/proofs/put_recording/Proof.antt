@@ -7,16 +7,10 @@ use borrow.Author.Needs.{needs}
 use Rattle.replay_answers.proofs.put_recording.Statement.{statement}
 use Rattle.replay_answers.proofs.put_recording.Tie as tie
 
-enum-known-a : tie.Need-enum-known-a
-enum-known-a c = search needs
-
 put-recorded-requires : tie.Need-put-recorded-requires
 put-recorded-requires c κs =
     let start = c .before .before .before .before .before in
     start .pre
-
-enum-known-a-2 : tie.Need-enum-known-a-2
-enum-known-a-2 c = search needs
 
 put-refused-requires : tie.Need-put-refused-requires
 put-refused-requires c κs =
@@ -53,9 +47,9 @@ pub put-recording-spec : {M : Type 1} → statement M
 put-recording-spec =
     tie.close
     (tie.spec
-    enum-known-a
+    (λ c. search needs)
     put-recorded-requires
-    enum-known-a-2
+    (λ c. search needs)
     put-refused-requires
     same-length
     returns

@@ -11,21 +11,6 @@ use borrow.Author.Needs.{needs}
 use Rattle.replay_answers.proofs.put_sent.Statement.{statement}
 use Rattle.replay_answers.proofs.put_sent.Tie as tie
 
-enum-known-w : tie.Need-enum-known-w
-enum-known-w c = search needs
-
-slice-aggregate-put-packet : tie.Need-slice-aggregate-put-packet
-slice-aggregate-put-packet c = search needs
-
-part-requires : tie.Need-part-requires
-part-requires c κs = search needs
-
-put-packet-requires : tie.Need-put-packet-requires
-put-packet-requires c κs = search needs
-
-enum-told : tie.Need-enum-told
-enum-told c = search needs
-
 same-length : tie.Need-same-length
 same-length c = c .before .before .put-packet .ensures .size
 
@@ -51,11 +36,11 @@ pub put-sent-spec : {M : Type 1} → statement M
 put-sent-spec =
     tie.close
     (tie.spec
-    enum-known-w
-    slice-aggregate-put-packet
-    part-requires
-    put-packet-requires
-    enum-told
+    (λ c. search needs)
+    (λ c. search needs)
+    (λ c κs. search needs)
+    (λ c κs. search needs)
+    (λ c. search needs)
     same-length
     returns
     returns-2)

@@ -11,21 +11,6 @@ use borrow.Author.Needs.{needs}
 use Rattle.replay_answers.proofs.put_written.Statement.{statement}
 use Rattle.replay_answers.proofs.put_written.Tie as tie
 
-enum-known-w : tie.Need-enum-known-w
-enum-known-w c = search needs
-
-slice-aggregate-put-packet : tie.Need-slice-aggregate-put-packet
-slice-aggregate-put-packet c = search needs
-
-part-requires : tie.Need-part-requires
-part-requires c κs = search needs
-
-put-packet-requires : tie.Need-put-packet-requires
-put-packet-requires c κs = search needs
-
-enum-known-w-2 : tie.Need-enum-known-w-2
-enum-known-w-2 c = search needs
-
 put-refused-requires : tie.Need-put-refused-requires
 put-refused-requires c κs =
     let start = c .before .before .before .before .before .before in
@@ -62,11 +47,11 @@ pub put-written-spec : {M : Type 1} → statement M
 put-written-spec =
     tie.close
     (tie.spec
-    enum-known-w
-    slice-aggregate-put-packet
-    part-requires
-    put-packet-requires
-    enum-known-w-2
+    (λ c. search needs)
+    (λ c. search needs)
+    (λ c κs. search needs)
+    (λ c κs. search needs)
+    (λ c. search needs)
     put-refused-requires
     same-length
     returns

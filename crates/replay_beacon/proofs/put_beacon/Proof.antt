@@ -9,27 +9,6 @@ use borrow.Author.Needs.{needs}
 use Rattle.replay_beacon.proofs.put_beacon.Statement.{statement}
 use Rattle.replay_beacon.proofs.put_beacon.Tie as tie
 
-put-flags-requires : tie.Need-put-flags-requires
-put-flags-requires c κs = search needs
-
-put-states-requires : tie.Need-put-states-requires
-put-states-requires c κs = search needs
-
-put-free-requires : tie.Need-put-free-requires
-put-free-requires c κs = search needs
-
-slice-aggregate-put-octets : tie.Need-slice-aggregate-put-octets
-slice-aggregate-put-octets c = search needs
-
-part-requires : tie.Need-part-requires
-part-requires c κs = search needs
-
-put-octets-requires : tie.Need-put-octets-requires
-put-octets-requires c κs = search needs
-
-push-requires : tie.Need-push-requires
-push-requires c κs = search needs
-
 returns : tie.Need-returns
 unfolding beaconLine
 returns c =
@@ -52,12 +31,12 @@ pub put-beacon-spec : {M : Type 1} → statement M
 put-beacon-spec =
     tie.close
     (tie.spec
-    put-flags-requires
-    put-states-requires
-    put-free-requires
-    slice-aggregate-put-octets
-    part-requires
-    put-octets-requires
-    push-requires
+    (λ c κs. search needs)
+    (λ c κs. search needs)
+    (λ c κs. search needs)
+    (λ c. search needs)
+    (λ c κs. search needs)
+    (λ c κs. search needs)
+    (λ c κs. search needs)
     same-length
     returns)

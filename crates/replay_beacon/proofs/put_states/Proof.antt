@@ -5,24 +5,6 @@ use borrow.Author.Needs.{needs}
 use Rattle.replay_beacon.proofs.put_states.Statement.{statement}
 use Rattle.replay_beacon.proofs.put_states.Tie as tie
 
-slice-aggregate-put-text : tie.Need-slice-aggregate-put-text
-slice-aggregate-put-text c = search needs
-
-put-text-requires : tie.Need-put-text-requires
-put-text-requires c κs = search needs
-
-put-state-requires : tie.Need-put-state-requires
-put-state-requires c κs = search needs
-
-slice-aggregate-put-text-2 : tie.Need-slice-aggregate-put-text-2
-slice-aggregate-put-text-2 c = search needs
-
-put-text-requires-2 : tie.Need-put-text-requires-2
-put-text-requires-2 c κs = search needs
-
-put-state-requires-2 : tie.Need-put-state-requires-2
-put-state-requires-2 c κs = search needs
-
 returns : tie.Need-returns
 returns c =
     let put-state2-place = c .before .before in
@@ -41,11 +23,11 @@ pub put-states-spec : {M : Type 1} → statement M
 put-states-spec =
     tie.close
     (tie.spec
-    slice-aggregate-put-text
-    put-text-requires
-    put-state-requires
-    slice-aggregate-put-text-2
-    put-text-requires-2
-    put-state-requires-2
+    (λ c. search needs)
+    (λ c κs. search needs)
+    (λ c κs. search needs)
+    (λ c. search needs)
+    (λ c κs. search needs)
+    (λ c κs. search needs)
     same-length
     returns)

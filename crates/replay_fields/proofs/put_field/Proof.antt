@@ -5,9 +5,6 @@ use Rattle.text.proofs.AddedLaws.{_then_}
 use Rattle.replay_fields.proofs.put_field.Statement.{statement}
 use Rattle.replay_fields.proofs.put_field.Tie as tie
 
-put-text-requires : tie.Need-put-text-requires
-put-text-requires c κs = search needs
-
 put-decimal-requires : tie.Need-put-decimal-requires
 put-decimal-requires c κs = c .before .before .before .put-text .ensures .within
 
@@ -22,4 +19,4 @@ same-length : tie.Need-same-length
 same-length c = returns c .size
 
 pub put-field-spec : {M : Type 1} → statement M
-put-field-spec = tie.close (tie.spec put-text-requires put-decimal-requires same-length returns)
+put-field-spec = tie.close (tie.spec (λ c κs. search needs) put-decimal-requires same-length returns)

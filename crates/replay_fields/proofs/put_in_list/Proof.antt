@@ -6,12 +6,6 @@ use borrow.Author.Needs.{needs}
 use Rattle.replay_fields.proofs.put_in_list.Statement.{statement}
 use Rattle.replay_fields.proofs.put_in_list.Tie as tie
 
-put-pair-requires : tie.Need-put-pair-requires
-put-pair-requires c κs = search needs
-
-same-length : tie.Need-same-length
-same-length c = search needs
-
 returns : tie.Need-returns
 returns c =
     let put-pair-place = c .before .before in
@@ -19,14 +13,8 @@ returns c =
     let start = if1-place .before .before .before in
     rw (eq-eqb (start .args .index) 0 (if1-place .if1 .taken)) (put-pair-place .put-pair .ensures)
 
-push-requires : tie.Need-push-requires
-push-requires c κs = search needs
-
 put-pair-requires-2 : tie.Need-put-pair-requires-2
 put-pair-requires-2 c κs = c .before .before .before .push .ensures .within
-
-same-length-2 : tie.Need-same-length-2
-same-length-2 c = search needs
 
 returns-2 : tie.Need-returns-2
 returns-2 c =
@@ -40,10 +28,10 @@ pub put-in-list-spec : {M : Type 1} → statement M
 put-in-list-spec =
     tie.close
     (tie.spec
-    put-pair-requires
-    same-length
+    (λ c κs. search needs)
+    (λ c. search needs)
     returns
-    push-requires
+    (λ c κs. search needs)
     put-pair-requires-2
-    same-length-2
+    (λ c. search needs)
     returns-2)

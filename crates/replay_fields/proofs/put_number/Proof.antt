@@ -5,9 +5,6 @@ use Rattle.text.proofs.AddedLaws.{_then_}
 use Rattle.replay_fields.proofs.put_number.Statement.{statement}
 use Rattle.replay_fields.proofs.put_number.Tie as tie
 
-put-text-requires : tie.Need-put-text-requires
-put-text-requires c κs = search needs
-
 put-number-requires : tie.Need-put-number-requires
 put-number-requires c κs = (c .before .before .before .put-text .ensures .within, search needs)
 
@@ -22,4 +19,4 @@ same-length : tie.Need-same-length
 same-length c = returns c .size
 
 pub put-number-spec : {M : Type 1} → statement M
-put-number-spec = tie.close (tie.spec put-text-requires put-number-requires same-length returns)
+put-number-spec = tie.close (tie.spec (λ c κs. search needs) put-number-requires same-length returns)

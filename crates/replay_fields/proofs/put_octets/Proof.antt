@@ -5,9 +5,6 @@ use Rattle.text.proofs.AddedLaws.{_then_}
 use Rattle.replay_fields.proofs.put_octets.Statement.{statement}
 use Rattle.replay_fields.proofs.put_octets.Tie as tie
 
-put-text-requires : tie.Need-put-text-requires
-put-text-requires c κs = search needs
-
 put-hex-requires : tie.Need-put-hex-requires
 put-hex-requires c κs = c .before .before .before .put-text .ensures .within
 
@@ -22,4 +19,4 @@ same-length : tie.Need-same-length
 same-length c = returns c .size
 
 pub put-octets-spec : {M : Type 1} → statement M
-put-octets-spec = tie.close (tie.spec put-text-requires put-hex-requires same-length returns)
+put-octets-spec = tie.close (tie.spec (λ c κs. search needs) put-hex-requires same-length returns)

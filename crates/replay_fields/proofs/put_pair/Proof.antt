@@ -5,9 +5,6 @@ use Rattle.text.proofs.AddedLaws.{_then_}
 use Rattle.replay_fields.proofs.put_pair.Statement.{statement}
 use Rattle.replay_fields.proofs.put_pair.Tie as tie
 
-put-decimal-requires : tie.Need-put-decimal-requires
-put-decimal-requires c κs = search needs
-
 put-field-requires : tie.Need-put-field-requires
 put-field-requires c κs = c .before .before .before .put-decimal .ensures .within
 
@@ -22,4 +19,4 @@ same-length : tie.Need-same-length
 same-length c = returns c .size
 
 pub put-pair-spec : {M : Type 1} → statement M
-put-pair-spec = tie.close (tie.spec put-decimal-requires put-field-requires same-length returns)
+put-pair-spec = tie.close (tie.spec (λ c κs. search needs) put-field-requires same-length returns)

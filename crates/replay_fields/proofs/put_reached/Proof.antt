@@ -8,18 +8,6 @@ use Rattle.replay_fields.specs.LineWords.{w-complete}
 use Rattle.replay_fields.proofs.put_reached.Statement.{statement}
 use Rattle.replay_fields.proofs.put_reached.Tie as tie
 
-slice-aggregate-put-field : tie.Need-slice-aggregate-put-field
-slice-aggregate-put-field c = search needs
-
-put-field-requires : tie.Need-put-field-requires
-put-field-requires c κs = search needs
-
-slice-aggregate-put-field-2 : tie.Need-slice-aggregate-put-field-2
-slice-aggregate-put-field-2 c = search needs
-
-flag-of-requires : tie.Need-flag-of-requires
-flag-of-requires c κs = search needs
-
 put-field-requires-2 : tie.Need-put-field-requires-2
 put-field-requires-2 c κs =
     let put-field-place = c .before .before .before .before .before in
@@ -40,10 +28,10 @@ pub put-reached-spec : {M : Type 1} → statement M
 put-reached-spec =
     tie.close
     (tie.spec
-    slice-aggregate-put-field
-    put-field-requires
-    slice-aggregate-put-field-2
-    flag-of-requires
+    (λ c. search needs)
+    (λ c κs. search needs)
+    (λ c. search needs)
+    (λ c κs. search needs)
     put-field-requires-2
     same-length
     returns)

@@ -6,18 +6,6 @@ use Rattle.replay_lines.specs.Lines.{holesListed}
 use Rattle.replay_lines.proofs.hole_count.Statement.{statement}
 use Rattle.replay_lines.proofs.hole_count.Tie as tie
 
-read-status-requires : tie.Need-read-status-requires
-read-status-requires c κs = search needs
-
-enum-known-s : tie.Need-enum-known-s
-enum-known-s c = search needs
-
-enum-told : tie.Need-enum-told
-enum-told c = search needs
-
-enum-told-2 : tie.Need-enum-told-2
-enum-told-2 c = search needs
-
 returns : tie.Need-returns
 returns c = ap holesListed (sym (c .before .s .given .1) ∙ c .before .before .before .read-status .ensures)
 
@@ -28,4 +16,4 @@ returns-3 : tie.Need-returns-3
 returns-3 c = ap holesListed (sym (c .enum-told2 .given .1) ∙ c .before .before .read-status .ensures)
 
 pub hole-count-spec : {M : Type 1} → statement M
-hole-count-spec = tie.close (tie.spec read-status-requires enum-known-s enum-told enum-told-2 returns returns-2 returns-3)
+hole-count-spec = tie.close (tie.spec (λ c κs. search needs) (λ c. search needs) (λ c. search needs) (λ c. search needs) returns returns-2 returns-3)

@@ -6,12 +6,6 @@ use Rattle.replay_lines.specs.Lines.{closeLine}
 use Rattle.replay_lines.proofs.put_closed.Statement.{statement}
 use Rattle.replay_lines.proofs.put_closed.Tie as tie
 
-put-decimal-requires : tie.Need-put-decimal-requires
-put-decimal-requires c κs = search needs
-
-slice-aggregate-put-field : tie.Need-slice-aggregate-put-field
-slice-aggregate-put-field c = search needs
-
 put-field-requires : tie.Need-put-field-requires
 put-field-requires c κs = c .before .before .before .before .put-decimal .ensures .within
 
@@ -35,8 +29,8 @@ pub put-closed-spec : {M : Type 1} → statement M
 put-closed-spec =
     tie.close
     (tie.spec
-    put-decimal-requires
-    slice-aggregate-put-field
+    (λ c κs. search needs)
+    (λ c. search needs)
     put-field-requires
     push-requires
     same-length

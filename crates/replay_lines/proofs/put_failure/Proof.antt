@@ -6,23 +6,11 @@ use Rattle.replay_lines.specs.Lines.{failureLine}
 use Rattle.replay_lines.proofs.put_failure.Statement.{statement}
 use Rattle.replay_lines.proofs.put_failure.Tie as tie
 
-put-decimal-requires : tie.Need-put-decimal-requires
-put-decimal-requires c κs = search needs
-
-slice-aggregate-put-field : tie.Need-slice-aggregate-put-field
-slice-aggregate-put-field c = search needs
-
 put-field-requires : tie.Need-put-field-requires
 put-field-requires c κs = c .before .before .before .before .put-decimal .ensures .within
 
-slice-aggregate-put-field-2 : tie.Need-slice-aggregate-put-field-2
-slice-aggregate-put-field-2 c = search needs
-
 put-field-requires-2 : tie.Need-put-field-requires-2
 put-field-requires-2 c κs = c .before .before .before .before .put-field .ensures .within
-
-slice-aggregate-put-number : tie.Need-slice-aggregate-put-number
-slice-aggregate-put-number c = search needs
 
 put-number-requires : tie.Need-put-number-requires
 put-number-requires c κs = (c .before .before .before .before .put-field2 .ensures .within, search needs)
@@ -51,12 +39,12 @@ pub put-failure-spec : {M : Type 1} → statement M
 put-failure-spec =
     tie.close
     (tie.spec
-    put-decimal-requires
-    slice-aggregate-put-field
+    (λ c κs. search needs)
+    (λ c. search needs)
     put-field-requires
-    slice-aggregate-put-field-2
+    (λ c. search needs)
     put-field-requires-2
-    slice-aggregate-put-number
+    (λ c. search needs)
     put-number-requires
     push-requires
     same-length

@@ -8,27 +8,6 @@ use Rattle.replay_fields.specs.LineWords.{w-width}
 use Rattle.replay_lines.proofs.put_head.Statement.{statement}
 use Rattle.replay_lines.proofs.put_head.Tie as tie
 
-put-decimal-requires : tie.Need-put-decimal-requires
-put-decimal-requires c κs = search needs
-
-put-field-requires : tie.Need-put-field-requires
-put-field-requires c κs = search needs
-
-slice-aggregate-put-number : tie.Need-slice-aggregate-put-number
-slice-aggregate-put-number c = search needs
-
-put-number-requires : tie.Need-put-number-requires
-put-number-requires c κs = search needs
-
-slice-aggregate-put-field : tie.Need-slice-aggregate-put-field
-slice-aggregate-put-field c = search needs
-
-bits-of-requires : tie.Need-bits-of-requires
-bits-of-requires c κs = search needs
-
-put-field-requires-2 : tie.Need-put-field-requires-2
-put-field-requires-2 c κs = search needs
-
 returns : tie.Need-returns
 returns c =
     let put-field2-place = c .before .before in
@@ -48,12 +27,12 @@ pub put-head-spec : {M : Type 1} → statement M
 put-head-spec =
     tie.close
     (tie.spec
-    put-decimal-requires
-    put-field-requires
-    slice-aggregate-put-number
-    put-number-requires
-    slice-aggregate-put-field
-    bits-of-requires
-    put-field-requires-2
+    (λ c κs. search needs)
+    (λ c κs. search needs)
+    (λ c. search needs)
+    (λ c κs. search needs)
+    (λ c. search needs)
+    (λ c κs. search needs)
+    (λ c κs. search needs)
     same-length
     returns)

@@ -29,15 +29,6 @@ known c =
 listed-hole-requires : tie.Need-listed-hole-requires
 listed-hole-requires c κs = known c
 
-slice-aggregate-put-in-list : tie.Need-slice-aggregate-put-in-list
-slice-aggregate-put-in-list c = search needs
-
-put-in-list-requires : tie.Need-put-in-list-requires
-put-in-list-requires c κs = search needs
-
-same-length : tie.Need-same-length
-same-length c = search needs
-
 returns-2 : tie.Need-returns-2
 unfolding holeAfter
 returns-2 c =
@@ -55,7 +46,7 @@ put-hole-spec =
     (tie.spec
     returns
     listed-hole-requires
-    slice-aggregate-put-in-list
-    put-in-list-requires
-    same-length
+    (λ c. search needs)
+    (λ c κs. search needs)
+    (λ c. search needs)
     returns-2)

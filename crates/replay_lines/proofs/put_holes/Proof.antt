@@ -18,9 +18,6 @@ Inv-loop out₀ at p count listed next₀ i₀ out next i = (i ≤ count) × Add
 abbrev μ-loop : tie.MeasureT-loop
 μ-loop out₀ at p count listed next₀ i₀ out next i = count - i
 
-hole-count-requires : tie.Need-hole-count-requires Inv-loop μ-loop
-hole-count-requires c κs = search needs
-
 loop-holds : tie.Need-loop-holds Inv-loop μ-loop
 unfolding holesText
 loop-holds c =
@@ -29,12 +26,6 @@ loop-holds c =
 
 put-hole-requires : tie.Need-put-hole-requires Inv-loop μ-loop
 put-hole-requires c κs = (c .before .before .loop .inv .1 .within, c .before .before .before .hole-count .ensures)
-
-add-i : tie.Need-add-i Inv-loop μ-loop
-add-i c = omega arith
-
-loop-less : tie.Need-loop-less Inv-loop μ-loop
-loop-less c = omega arith
 
 loop-again : tie.Need-loop-again Inv-loop μ-loop
 unfolding holesText
@@ -57,11 +48,11 @@ put-holes-spec =
     (tie.spec
     Inv-loop
     μ-loop
-    hole-count-requires
+    (λ c κs. search needs)
     loop-holds
     put-hole-requires
-    add-i
-    loop-less
+    (λ c. omega arith)
+    (λ c. omega arith)
     loop-again
     same-length
     returns)

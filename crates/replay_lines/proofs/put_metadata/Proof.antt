@@ -9,27 +9,6 @@ use Rattle.replay_lines.specs.Lines.{metadataLine}
 use Rattle.replay_lines.proofs.put_metadata.Statement.{statement}
 use Rattle.replay_lines.proofs.put_metadata.Tie as tie
 
-slice-aggregate-put-head : tie.Need-slice-aggregate-put-head
-slice-aggregate-put-head c = search needs
-
-put-head-requires : tie.Need-put-head-requires
-put-head-requires c κs = search needs
-
-slice-aggregate-put-octets : tie.Need-slice-aggregate-put-octets
-slice-aggregate-put-octets c = search needs
-
-part-requires : tie.Need-part-requires
-part-requires c κs = search needs
-
-put-octets-requires : tie.Need-put-octets-requires
-put-octets-requires c κs = search needs
-
-put-entry-requires : tie.Need-put-entry-requires
-put-entry-requires c κs = search needs
-
-push-requires : tie.Need-push-requires
-push-requires c κs = search needs
-
 returns : tie.Need-returns
 unfolding metadataLine
 returns c =
@@ -50,12 +29,12 @@ pub put-metadata-spec : {M : Type 1} → statement M
 put-metadata-spec =
     tie.close
     (tie.spec
-    slice-aggregate-put-head
-    put-head-requires
-    slice-aggregate-put-octets
-    part-requires
-    put-octets-requires
-    put-entry-requires
-    push-requires
+    (λ c. search needs)
+    (λ c κs. search needs)
+    (λ c. search needs)
+    (λ c κs. search needs)
+    (λ c κs. search needs)
+    (λ c κs. search needs)
+    (λ c κs. search needs)
     same-length
     returns)

@@ -9,28 +9,13 @@ use Rattle.replay_lines.specs.Lines.{openedLine}
 use Rattle.replay_lines.proofs.put_opened.Statement.{statement}
 use Rattle.replay_lines.proofs.put_opened.Tie as tie
 
-put-decimal-requires : tie.Need-put-decimal-requires
-put-decimal-requires c κs = search needs
-
-slice-aggregate-put-field : tie.Need-slice-aggregate-put-field
-slice-aggregate-put-field c = search needs
-
 put-field-requires : tie.Need-put-field-requires
 put-field-requires c κs = c .before .before .before .before .put-decimal .ensures .within
-
-slice-aggregate-put-field-2 : tie.Need-slice-aggregate-put-field-2
-slice-aggregate-put-field-2 c = search needs
-
-bits-of-requires : tie.Need-bits-of-requires
-bits-of-requires c κs = search needs
 
 put-field-requires-2 : tie.Need-put-field-requires-2
 put-field-requires-2 c κs =
     let put-field-place = c .before .before .before .before .before in
     put-field-place .put-field .ensures .within
-
-slice-aggregate-put-field-3 : tie.Need-slice-aggregate-put-field-3
-slice-aggregate-put-field-3 c = search needs
 
 put-field-requires-3 : tie.Need-put-field-requires-3
 put-field-requires-3 c κs = c .before .before .before .before .put-field2 .ensures .within
@@ -65,13 +50,13 @@ pub put-opened-spec : {M : Type 1} → statement M
 put-opened-spec =
     tie.close
     (tie.spec
-    put-decimal-requires
-    slice-aggregate-put-field
+    (λ c κs. search needs)
+    (λ c. search needs)
     put-field-requires
-    slice-aggregate-put-field-2
-    bits-of-requires
+    (λ c. search needs)
+    (λ c κs. search needs)
     put-field-requires-2
-    slice-aggregate-put-field-3
+    (λ c. search needs)
     put-field-requires-3
     put-reached-requires
     put-text-requires

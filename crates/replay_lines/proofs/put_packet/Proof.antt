@@ -6,9 +6,6 @@ use Rattle.replay_lines.specs.Lines.{octetsLine}
 use Rattle.replay_lines.proofs.put_packet.Statement.{statement}
 use Rattle.replay_lines.proofs.put_packet.Tie as tie
 
-put-decimal-requires : tie.Need-put-decimal-requires
-put-decimal-requires c κs = search needs
-
 put-octets-requires : tie.Need-put-octets-requires
 put-octets-requires c κs = c .before .before .before .put-decimal .ensures .within
 
@@ -30,4 +27,4 @@ same-length c = returns c .size
 
 pub put-packet-spec : {M : Type 1} → statement M
 put-packet-spec =
-    tie.close (tie.spec put-decimal-requires put-octets-requires push-requires same-length returns)
+    tie.close (tie.spec (λ c κs. search needs) put-octets-requires push-requires same-length returns)

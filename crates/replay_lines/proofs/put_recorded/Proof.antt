@@ -6,32 +6,17 @@ use Rattle.replay_lines.specs.Lines.{recordLine}
 use Rattle.replay_lines.proofs.put_recorded.Statement.{statement}
 use Rattle.replay_lines.proofs.put_recorded.Tie as tie
 
-put-decimal-requires : tie.Need-put-decimal-requires
-put-decimal-requires c κs = search needs
-
-slice-aggregate-put-field : tie.Need-slice-aggregate-put-field
-slice-aggregate-put-field c = search needs
-
 put-field-requires : tie.Need-put-field-requires
 put-field-requires c κs = c .before .before .before .before .put-decimal .ensures .within
 
-slice-aggregate-put-field-2 : tie.Need-slice-aggregate-put-field-2
-slice-aggregate-put-field-2 c = search needs
-
 put-field-requires-2 : tie.Need-put-field-requires-2
 put-field-requires-2 c κs = c .before .before .before .before .put-field .ensures .within
-
-slice-aggregate-put-field-3 : tie.Need-slice-aggregate-put-field-3
-slice-aggregate-put-field-3 c = search needs
 
 put-field-requires-3 : tie.Need-put-field-requires-3
 put-field-requires-3 c κs = c .before .before .before .before .put-field2 .ensures .within
 
 put-reached-requires : tie.Need-put-reached-requires
 put-reached-requires c κs = c .before .before .before .put-field3 .ensures .within
-
-slice-aggregate-put-field-4 : tie.Need-slice-aggregate-put-field-4
-slice-aggregate-put-field-4 c = search needs
 
 put-field-requires-4 : tie.Need-put-field-requires-4
 put-field-requires-4 c κs = c .before .before .before .before .put-reached .ensures .within
@@ -64,15 +49,15 @@ pub put-recorded-spec : {M : Type 1} → statement M
 put-recorded-spec =
     tie.close
     (tie.spec
-    put-decimal-requires
-    slice-aggregate-put-field
+    (λ c κs. search needs)
+    (λ c. search needs)
     put-field-requires
-    slice-aggregate-put-field-2
+    (λ c. search needs)
     put-field-requires-2
-    slice-aggregate-put-field-3
+    (λ c. search needs)
     put-field-requires-3
     put-reached-requires
-    slice-aggregate-put-field-4
+    (λ c. search needs)
     put-field-requires-4
     push-requires
     same-length

@@ -6,17 +6,8 @@ use Rattle.replay_lines.specs.Lines.{refusedLine}
 use Rattle.replay_lines.proofs.put_refused.Statement.{statement}
 use Rattle.replay_lines.proofs.put_refused.Tie as tie
 
-put-decimal-requires : tie.Need-put-decimal-requires
-put-decimal-requires c κs = search needs
-
-slice-aggregate-put-field : tie.Need-slice-aggregate-put-field
-slice-aggregate-put-field c = search needs
-
 put-field-requires : tie.Need-put-field-requires
 put-field-requires c κs = c .before .before .before .before .put-decimal .ensures .within
-
-slice-aggregate-put-field-2 : tie.Need-slice-aggregate-put-field-2
-slice-aggregate-put-field-2 c = search needs
 
 put-field-requires-2 : tie.Need-put-field-requires-2
 put-field-requires-2 c κs = c .before .before .before .before .put-field .ensures .within
@@ -43,10 +34,10 @@ pub put-refused-spec : {M : Type 1} → statement M
 put-refused-spec =
     tie.close
     (tie.spec
-    put-decimal-requires
-    slice-aggregate-put-field
+    (λ c κs. search needs)
+    (λ c. search needs)
     put-field-requires
-    slice-aggregate-put-field-2
+    (λ c. search needs)
     put-field-requires-2
     push-requires
     same-length

@@ -6,12 +6,6 @@ use Rattle.replay_lines.specs.Lines.{unknownLine}
 use Rattle.replay_lines.proofs.put_unknown.Statement.{statement}
 use Rattle.replay_lines.proofs.put_unknown.Tie as tie
 
-put-decimal-requires : tie.Need-put-decimal-requires
-put-decimal-requires c κs = search needs
-
-slice-aggregate-put-number : tie.Need-slice-aggregate-put-number
-slice-aggregate-put-number c = search needs
-
 put-number-requires : tie.Need-put-number-requires
 put-number-requires c κs = (c .before .before .before .before .put-decimal .ensures .within, search needs)
 
@@ -35,8 +29,8 @@ pub put-unknown-spec : {M : Type 1} → statement M
 put-unknown-spec =
     tie.close
     (tie.spec
-    put-decimal-requires
-    slice-aggregate-put-number
+    (λ c κs. search needs)
+    (λ c. search needs)
     put-number-requires
     push-requires
     same-length

@@ -25,9 +25,6 @@ loop-holds : tie.Need-loop-holds Inv-loop μ-loop
 unfolding piecesIn
 loop-holds c = (omega arith, refl)
 
-piece-in-requires : tie.Need-piece-in-requires Inv-loop μ-loop
-piece-in-requires c κs = omega arith
-
 check-step-requires : tie.Need-check-step-requires Inv-loop μ-loop
 check-step-requires c κs =
     let turn = c .before in
@@ -38,12 +35,6 @@ check-step-requires c κs =
     let e : l .k .cursor .count ≡ a .first .cursor .count =
     ap (λ (k : Check). k .cursor .count) (l .inv .1) ∙ count-all hs (a .largest) (piecesIn (now (a .s)) (l .i)) (a .first) in
     rw e (start .pre .1)
-
-add-i : tie.Need-add-i Inv-loop μ-loop
-add-i c = omega arith
-
-loop-less : tie.Need-loop-less Inv-loop μ-loop
-loop-less c = omega arith
 
 loop-again : tie.Need-loop-again Inv-loop μ-loop
 unfolding piecesIn
@@ -73,9 +64,9 @@ check-pieces-spec =
     Inv-loop
     μ-loop
     loop-holds
-    piece-in-requires
+    (λ c κs. omega arith)
     check-step-requires
-    add-i
-    loop-less
+    (λ c. omega arith)
+    (λ c. omega arith)
     loop-again
     returns)

@@ -16,12 +16,6 @@ use Rattle.replay_plan.specs.PlanRecords.{checkLines}
 use Rattle.replay_plan.proofs.check_record.Statement.{statement}
 use Rattle.replay_plan.proofs.check_record.Tie as tie
 
-put-bad-length-requires : tie.Need-put-bad-length-requires
-put-bad-length-requires c κs = search needs
-
-same-length : tie.Need-same-length
-same-length c = search needs
-
 returns : tie.Need-returns
 unfolding checkLines
 returns c =
@@ -30,18 +24,6 @@ returns c =
     let start = if1-place .before .before .before in
     let a = start .args in
     rw (lt-ltb (length (now (a .body))) 16 (if1-place .if1 .taken)) (put-bad-length-place .put-bad-length .ensures)
-
-read-eight-requires : tie.Need-read-eight-requires
-read-eight-requires c κs = omega arith
-
-read-eight-requires-2 : tie.Need-read-eight-requires-2
-read-eight-requires-2 c κs = omega arith
-
-put-bad-length-requires-2 : tie.Need-put-bad-length-requires-2
-put-bad-length-requires-2 c κs = search needs
-
-same-length-2 : tie.Need-same-length-2
-same-length-2 c = search needs
 
 -- the number of pieces
 counted : (c : tie.After-read-eight2) → c .read-eight2 .result ≡ numberAt 8 8 (now (c .before .before .before .before .before .args .body))
@@ -60,18 +42,6 @@ returns-2 c =
     let k = counted count-place in
     rw (le-ltb (length s) 16 (if1-place .if1 .left), lt-ltb 4096 (numberAt 8 8 s) (omega (arith, k, if2-place .if2 .taken)))
     (put-bad-length-place .put-bad-length2 .ensures)
-
-mul-end : tie.Need-mul-end
-mul-end c = omega arith
-
-add-end : tie.Need-add-end
-add-end c = omega arith
-
-put-bad-length-requires-3 : tie.Need-put-bad-length-requires-3
-put-bad-length-requires-3 c κs = search needs
-
-same-length-3 : tie.Need-same-length-3
-same-length-3 c = search needs
 
 returns-3 : tie.Need-returns-3
 unfolding checkLines
@@ -92,21 +62,12 @@ returns-3 c =
     )
     (put-bad-length-place .put-bad-length3 .ensures)
 
-part-requires : tie.Need-part-requires
-part-requires c κs = search needs
-
-part-requires-2 : tie.Need-part-requires-2
-part-requires-2 c κs = search needs
-
 put-check-requires : tie.Need-put-check-requires
 put-check-requires c κs =
     let if3-place = c .before .before .before in
     let start = if3-place .before .before .before .before .before .before .before in
     let s = now (start .args .body) in
     (omega arith, omega (arith, ap length (c .before .part2 .ensures ∙ take-all (length s) (drop 16 s) (omega (arith, length-drop 16 s))), length-drop 16 s))
-
-same-length-4 : tie.Need-same-length-4
-same-length-4 c = search needs
 
 returns-4 : tie.Need-returns-4
 unfolding checkLines
@@ -140,21 +101,21 @@ pub check-record-spec : {M : Type 1} → statement M
 check-record-spec =
     tie.close
     (tie.spec
-    put-bad-length-requires
-    same-length
+    (λ c κs. search needs)
+    (λ c. search needs)
     returns
-    read-eight-requires
-    read-eight-requires-2
-    put-bad-length-requires-2
-    same-length-2
+    (λ c κs. omega arith)
+    (λ c κs. omega arith)
+    (λ c κs. search needs)
+    (λ c. search needs)
     returns-2
-    mul-end
-    add-end
-    put-bad-length-requires-3
-    same-length-3
+    (λ c. omega arith)
+    (λ c. omega arith)
+    (λ c κs. search needs)
+    (λ c. search needs)
     returns-3
-    part-requires
-    part-requires-2
+    (λ c κs. search needs)
+    (λ c κs. search needs)
     put-check-requires
-    same-length-4
+    (λ c. search needs)
     returns-4)

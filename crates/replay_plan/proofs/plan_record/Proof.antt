@@ -15,12 +15,6 @@ use Rattle.replay_plan.specs.PlanRecords.{planLines}
 use Rattle.replay_plan.proofs.plan_record.Statement.{statement}
 use Rattle.replay_plan.proofs.plan_record.Tie as tie
 
-put-bad-length-requires : tie.Need-put-bad-length-requires
-put-bad-length-requires c κs = search needs
-
-same-length : tie.Need-same-length
-same-length c = search needs
-
 returns : tie.Need-returns
 unfolding planLines
 returns c =
@@ -29,18 +23,6 @@ returns c =
     let start = if1-place .before .before .before in
     let a = start .args in
     rw (lt-ltb (length (now (a .body))) 8 (if1-place .if1 .taken)) (put-bad-length-place .put-bad-length .ensures)
-
-read-eight-requires : tie.Need-read-eight-requires
-read-eight-requires c κs = omega arith
-
-part-requires : tie.Need-part-requires
-part-requires c κs = search needs
-
-put-plan-requires : tie.Need-put-plan-requires
-put-plan-requires c κs = search needs
-
-same-length-2 : tie.Need-same-length-2
-same-length-2 c = search needs
 
 returns-2 : tie.Need-returns-2
 unfolding planLines
@@ -60,11 +42,11 @@ pub plan-record-spec : {M : Type 1} → statement M
 plan-record-spec =
     tie.close
     (tie.spec
-    put-bad-length-requires
-    same-length
+    (λ c κs. search needs)
+    (λ c. search needs)
     returns
-    read-eight-requires
-    part-requires
-    put-plan-requires
-    same-length-2
+    (λ c κs. omega arith)
+    (λ c κs. search needs)
+    (λ c κs. search needs)
+    (λ c. search needs)
     returns-2)

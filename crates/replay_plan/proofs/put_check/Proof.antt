@@ -21,9 +21,6 @@ use Rattle.replay_plan.proofs.LineLaws.{checked-number, checked-refused
 use Rattle.replay_plan.proofs.put_check.Statement.{statement}
 use Rattle.replay_plan.proofs.put_check.Tie as tie
 
-check-start-requires : tie.Need-check-start-requires
-check-start-requires c κs = search needs
-
 check-pieces-requires : tie.Need-check-pieces-requires
 check-pieces-requires c κs =
     let start = c .before .before .before .before in
@@ -47,15 +44,6 @@ known c =
     c .check-pieces .ensures ∙ ap (λ (x : Check). checkAll (holeList s) m x ps) (c .before .check-start .ensures) in
     (k, ap (λ (x : Check). x .number) k ∙ checked-number m s ps)
 
-refuse-requires : tie.Need-refuse-requires
-refuse-requires c κs = search needs
-
-put-refused-requires : tie.Need-put-refused-requires
-put-refused-requires c κs = search needs
-
-same-length : tie.Need-same-length
-same-length c = search needs
-
 returns : tie.Need-returns
 unfolding checkLine
 returns c =
@@ -70,24 +58,6 @@ returns c =
     ∙ checked-refused (a .number) (check-place .check-pieces .result .number) passes (λ z. omega (arith, z, if1-place .if1 .taken))
     ∙ ap (λ (k : ℕ). checkedText (a .number) k passes) (known check-place .1))
     (put-refused-place .put-refused .ensures)
-
-check-passed-requires : tie.Need-check-passed-requires
-check-passed-requires c κs = search needs
-
-flag-of-requires : tie.Need-flag-of-requires
-flag-of-requires c κs = search needs
-
-put-decimal-requires : tie.Need-put-decimal-requires
-put-decimal-requires c κs = search needs
-
-slice-aggregate-put-field : tie.Need-slice-aggregate-put-field
-slice-aggregate-put-field c = search needs
-
-put-field-requires : tie.Need-put-field-requires
-put-field-requires c κs = search needs
-
-push-requires : tie.Need-push-requires
-push-requires c κs = search needs
 
 returns-2 : tie.Need-returns-2
 unfolding checkLine checkPasses
@@ -119,17 +89,17 @@ pub put-check-spec : {M : Type 1} → statement M
 put-check-spec =
     tie.close
     (tie.spec
-    check-start-requires
+    (λ c κs. search needs)
     check-pieces-requires
-    refuse-requires
-    put-refused-requires
-    same-length
+    (λ c κs. search needs)
+    (λ c κs. search needs)
+    (λ c. search needs)
     returns
-    check-passed-requires
-    flag-of-requires
-    put-decimal-requires
-    slice-aggregate-put-field
-    put-field-requires
-    push-requires
+    (λ c κs. search needs)
+    (λ c κs. search needs)
+    (λ c κs. search needs)
+    (λ c. search needs)
+    (λ c κs. search needs)
+    (λ c κs. search needs)
     same-length-2
     returns-2)

@@ -51,9 +51,6 @@ planned c =
 piece-at-requires : tie.Need-piece-at-requires Inv-loop μ-loop
 piece-at-requires c κs = planned c .ordered
 
-slice-aggregate-put-in-list : tie.Need-slice-aggregate-put-in-list Inv-loop μ-loop
-slice-aggregate-put-in-list c = search needs
-
 put-in-list-requires : tie.Need-put-in-list-requires Inv-loop μ-loop
 put-in-list-requires c κs = c .before .before .before .before .loop .inv .2 .within
 
@@ -61,12 +58,6 @@ next-cursor-requires : tie.Need-next-cursor-requires Inv-loop μ-loop
 next-cursor-requires c κs =
     let p = planned (c .before .before .before .before .before .before) in
     (p .readable, p .ordered)
-
-add-i : tie.Need-add-i Inv-loop μ-loop
-add-i c = omega arith
-
-loop-less : tie.Need-loop-less Inv-loop μ-loop
-loop-less c = omega arith
 
 loop-again : tie.Need-loop-again Inv-loop μ-loop
 unfolding piecesText
@@ -100,11 +91,11 @@ put-pieces-spec =
     μ-loop
     loop-holds
     piece-at-requires
-    slice-aggregate-put-in-list
+    (λ c. search needs)
     put-in-list-requires
     next-cursor-requires
-    add-i
-    loop-less
+    (λ c. omega arith)
+    (λ c. omega arith)
     loop-again
     same-length
     returns)

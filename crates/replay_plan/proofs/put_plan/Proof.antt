@@ -17,9 +17,6 @@ use Rattle.replay_plan.proofs.LineLaws.{planned-number, planned-refused
 use Rattle.replay_plan.proofs.put_plan.Statement.{statement}
 use Rattle.replay_plan.proofs.put_plan.Tie as tie
 
-plan-within-requires : tie.Need-plan-within-requires
-plan-within-requires c κs = search needs
-
 -- the number of the answer is the refusal's
 number-is : (c : tie.After-plan-within)
     → let a = c .before .before .before .args in
@@ -28,15 +25,6 @@ number-is c =
     let a = c .before .before .before .args in
     let s = now (a .status) in
     ap (λ (p : Plan). p .number) (c .plan-within .ensures) ∙ planned-number (planRefusal (a .largest) recordsLent s) (a .largest) (holeList s)
-
-refuse-requires : tie.Need-refuse-requires
-refuse-requires c κs = search needs
-
-put-refused-requires : tie.Need-put-refused-requires
-put-refused-requires c κs = search needs
-
-same-length : tie.Need-same-length
-same-length c = search needs
 
 returns : tie.Need-returns
 unfolding planLine
@@ -60,9 +48,6 @@ put-planned-requires c κs =
     let n = number-is plan-place in
     (plan-place .before .before .before .pre, omega arith, plan-place .plan-within .ensures)
 
-same-length-2 : tie.Need-same-length-2
-same-length-2 c = search needs
-
 returns-2 : tie.Need-returns-2
 returns-2 c = c .before .before .put-planned .ensures
 
@@ -70,11 +55,11 @@ pub put-plan-spec : {M : Type 1} → statement M
 put-plan-spec =
     tie.close
     (tie.spec
-    plan-within-requires
-    refuse-requires
-    put-refused-requires
-    same-length
+    (λ c κs. search needs)
+    (λ c κs. search needs)
+    (λ c κs. search needs)
+    (λ c. search needs)
     returns
     put-planned-requires
-    same-length-2
+    (λ c. search needs)
     returns-2)

@@ -24,21 +24,6 @@ cursor-at-requires c κs =
     let s = now (start .args .status) in
     rw (start .pre .2) (planned-readable m recordsLent s (planRefusal m recordsLent s) refl)
 
-put-decimal-requires : tie.Need-put-decimal-requires
-put-decimal-requires c κs = search needs
-
-slice-aggregate-put-field : tie.Need-slice-aggregate-put-field
-slice-aggregate-put-field c = search needs
-
-put-field-requires : tie.Need-put-field-requires
-put-field-requires c κs = search needs
-
-slice-aggregate-put-text : tie.Need-slice-aggregate-put-text
-slice-aggregate-put-text c = search needs
-
-put-text-requires : tie.Need-put-text-requires
-put-text-requires c κs = search needs
-
 put-pieces-requires : tie.Need-put-pieces-requires
 put-pieces-requires c κs =
     let put-text-place = c .before .before .before in
@@ -51,9 +36,6 @@ put-pieces-requires c κs =
       ap (λ (p : Plan). p .count) (start .pre .2),
       cursor-place .cursor-at .ensures ∙ ap (λ (p : Plan). cursorAt (holeList s) (p .holes) 0) (start .pre .2),
     )
-
-push-requires : tie.Need-push-requires
-push-requires c κs = search needs
 
 returns : tie.Need-returns
 unfolding planLine
@@ -85,12 +67,12 @@ put-planned-spec =
     tie.close
     (tie.spec
     cursor-at-requires
-    put-decimal-requires
-    slice-aggregate-put-field
-    put-field-requires
-    slice-aggregate-put-text
-    put-text-requires
+    (λ c κs. search needs)
+    (λ c. search needs)
+    (λ c κs. search needs)
+    (λ c. search needs)
+    (λ c κs. search needs)
     put-pieces-requires
-    push-requires
+    (λ c κs. search needs)
     same-length
     returns)

@@ -7,27 +7,6 @@ use Rattle.row_status.proofs.FrontLaws.{front-put}
 use Rattle.row_status.proofs.put_front.Statement.{statement}
 use Rattle.row_status.proofs.put_front.Tie as tie
 
-is-complete-requires : tie.Need-is-complete-requires
-is-complete-requires c κs = search needs
-
-unasked-or-complete-requires : tie.Need-unasked-or-complete-requires
-unasked-or-complete-requires c κs = search needs
-
-progress-of-requires : tie.Need-progress-of-requires
-progress-of-requires c κs = search needs
-
-edge-of-requires : tie.Need-edge-of-requires
-edge-of-requires c κs = search needs
-
-response-sent-requires : tie.Need-response-sent-requires
-response-sent-requires c κs = search needs
-
-put-fields-requires : tie.Need-put-fields-requires
-put-fields-requires c κs = search needs
-
-same-length : tie.Need-same-length
-same-length c = search needs
-
 returns : tie.Need-returns
 returns c =
     let r = c .before .before .before .before in
@@ -43,11 +22,11 @@ pub put-front-spec : {M : Type 1} → statement M
 put-front-spec =
     tie.close
     (tie.spec
-    is-complete-requires
-    unasked-or-complete-requires
-    progress-of-requires
-    edge-of-requires
-    response-sent-requires
-    put-fields-requires
-    same-length
+    (λ c κs. search needs)
+    (λ c κs. search needs)
+    (λ c κs. search needs)
+    (λ c κs. search needs)
+    (λ c κs. search needs)
+    (λ c κs. search needs)
+    (λ c. search needs)
     returns)

@@ -13,9 +13,6 @@ put-pairs-requires c κs =
     let e : s .args .width ≡ 2 = omega arith in
     (s .pre .1, s .pre .2, rw e at (s .pre .3))
 
-same-length : tie.Need-same-length
-same-length c = search needs
-
 returns : tie.Need-returns
 returns c =
     let put-pairs-place = c .before .before in
@@ -28,9 +25,6 @@ put-pairs-requires-2 c κs =
     let s = c .before .before .before .before .before in
     let e : s .args .width ≡ 4 = omega arith in
     (s .pre .1, s .pre .2, rw e at (s .pre .3))
-
-same-length-2 : tie.Need-same-length-2
-same-length-2 c = search needs
 
 returns-2 : tie.Need-returns-2
 returns-2 c =
@@ -45,9 +39,6 @@ put-pairs-requires-3 c κs =
     let e : s .args .width ≡ 8 = omega arith in
     (s .pre .1, s .pre .2, rw e at (s .pre .3))
 
-same-length-3 : tie.Need-same-length-3
-same-length-3 c = search needs
-
 returns-3 : tie.Need-returns-3
 returns-3 c =
     let put-pairs3-place = c .before .before in
@@ -61,9 +52,6 @@ put-pairs-requires-4 c κs =
     let e : s .args .width ≡ 16 = width-wide (s .pre .0) (λ z. omega arith) (λ z. omega arith) (λ z. omega arith) in
     (s .pre .1, s .pre .2, rw e at (s .pre .3))
 
-same-length-4 : tie.Need-same-length-4
-same-length-4 c = search needs
-
 returns-4 : tie.Need-returns-4
 returns-4 c =
     let put-pairs4-place = c .before .before in
@@ -76,14 +64,14 @@ put-holes-spec =
     tie.close
     (tie.spec
     put-pairs-requires
-    same-length
+    (λ c. search needs)
     returns
     put-pairs-requires-2
-    same-length-2
+    (λ c. search needs)
     returns-2
     put-pairs-requires-3
-    same-length-3
+    (λ c. search needs)
     returns-3
     put-pairs-requires-4
-    same-length-4
+    (λ c. search needs)
     returns-4)

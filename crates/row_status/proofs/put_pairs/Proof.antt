@@ -55,12 +55,6 @@ add-j c =
     let r = s .args .rows in
     omega (arith, length-runs (now (s .args .buf)) (r .starts) (r .stops) (r .count), holes-few (runsIn (now (s .args .buf)) r) (s .pre .0 .canonical), s .pre .0 .fit .starts-fit)
 
-sub-left : tie.Need-sub-left Inv-loop μ-loop
-sub-left c = omega arith
-
-loop-less : tie.Need-loop-less Inv-loop μ-loop
-loop-less c = omega arith
-
 loop-again : tie.Need-loop-again Inv-loop μ-loop
 loop-again c =
     let put-hole-place = c .before .before in
@@ -97,8 +91,8 @@ put-pairs-spec =
     mul-at
     add-at
     add-j
-    sub-left
-    loop-less
+    (λ c. omega arith)
+    (λ c. omega arith)
     loop-again
     same-length
     returns)

@@ -15,14 +15,8 @@ use Rattle.transfer.proofs.StatusWriter.{sent-room, transfer-refused, transfer-
 use Rattle.row_status.proofs.write_rows.Statement.{statement}
 use Rattle.row_status.proofs.write_rows.Tie as tie
 
-hole-count-requires : tie.Need-hole-count-requires
-hole-count-requires c κs = search needs
-
 size-refusal-requires : tie.Need-size-refusal-requires
 size-refusal-requires c κs = width-le (c .before .before .before .pre .1)
-
-refuse-requires : tie.Need-refuse-requires
-refuse-requires c κs = search needs
 
 -- the refusal, by the transfer's holes
 number : (c : tie.After-size-refusal)
@@ -65,12 +59,6 @@ known c =
       sent-room (a .key .width) n (a .skip) (length (now (a .out))) (s .pre .1) z (c .holes-to-send .result) (omega arith),
     )
 
-holes-to-send-requires : tie.Need-holes-to-send-requires
-holes-to-send-requires c κs = search needs
-
-partial-sent-requires : tie.Need-partial-sent-requires
-partial-sent-requires c κs = search needs
-
 mul-fields : tie.Need-mul-fields
 mul-fields c = omega (arith, known (c .before) .1)
 
@@ -99,9 +87,6 @@ put-holes-requires c κs =
     let k = known (before-place .before) in
     (s .pre .1, s .pre .0, omega (arith, k .0), search needs)
 
-same-length : tie.Need-same-length
-same-length c = search needs
-
 returns-2 : tie.Need-returns-2
 returns-2 c =
     let put-holes-place = c .before .before in
@@ -120,12 +105,12 @@ pub write-rows-spec : {M : Type 1} → statement M
 write-rows-spec =
     tie.close
     (tie.spec
-    hole-count-requires
+    (λ c κs. search needs)
     size-refusal-requires
-    refuse-requires
+    (λ c κs. search needs)
     returns
-    holes-to-send-requires
-    partial-sent-requires
+    (λ c κs. search needs)
+    (λ c κs. search needs)
     mul-fields
     add-fields
     mul-size
@@ -133,5 +118,5 @@ write-rows-spec =
     add-size
     put-front-requires
     put-holes-requires
-    same-length
+    (λ c. search needs)
     returns-2)

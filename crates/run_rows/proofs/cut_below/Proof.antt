@@ -8,14 +8,8 @@ use Rattle.run_rows.proofs.cut_below.Tie as tie
 returns : tie.Need-returns
 returns c = below-zero _ _ _ _ (omega arith)
 
-sub-cut-to : tie.Need-sub-cut-to
-sub-cut-to c = search needs
-
-cut-to-requires : tie.Need-cut-to-requires
-cut-to-requires c κs = search needs
-
 returns-2 : tie.Need-returns-2
 returns-2 c = below-some _ _ _ _ _ (omega arith) (c .cut-to .ensures)
 
 pub cut-below-spec : {M : Type 1} → statement M
-cut-below-spec = tie.close (tie.spec returns sub-cut-to cut-to-requires returns-2)
+cut-below-spec = tie.close (tie.spec returns (λ c. search needs) (λ c κs. search needs) returns-2)

@@ -9,17 +9,8 @@ use Rattle.run_rows.proofs.edge_of.Tie as tie
 returns : tie.Need-returns
 returns c = let a = c .before .before .args in edge-none (now (a .buf)) (a .rows) (omega arith)
 
-sub-word : tie.Need-sub-word
-sub-word c = search needs
-
-add-word : tie.Need-add-word
-add-word c = search needs
-
-word-requires : tie.Need-word-requires
-word-requires c κs = search needs
-
 returns-2 : tie.Need-returns-2
 returns-2 c = let a = c .before .before .before .before .args in edge-some (now (a .buf)) (a .rows) _ (omega arith) (c .word .ensures)
 
 pub edge-of-spec : {M : Type 1} → statement M
-edge-of-spec = tie.close (tie.spec returns sub-word add-word word-requires returns-2)
+edge-of-spec = tie.close (tie.spec returns (λ c. search needs) (λ c. search needs) (λ c κs. search needs) returns-2)

@@ -54,9 +54,6 @@ returns-2 c =
     hole-first (now (s .args .buf)) (s .args .rows) _ (s .args .j) (p .before .word .ensures) (s .pre .0 .canonical) (s .pre .1) (omega arith)
     (omega arith)
 
-sub-word : tie.Need-sub-word
-sub-word c = search needs
-
 add-word-4 : tie.Need-add-word-4
 add-word-4 c = omega (arith, high (c .before .before))
 
@@ -88,7 +85,7 @@ hole-at-spec =
     word-requires-3
     returns
     returns-2
-    sub-word
+    (λ c. search needs)
     add-word-4
     word-requires-4
     add-word-5

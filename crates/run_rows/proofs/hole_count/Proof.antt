@@ -10,16 +10,10 @@ use Rattle.run_rows.proofs.hole_count.Tie as tie
 returns : tie.Need-returns
 returns c = let a = c .before .before .args in holes-none (now (a .buf)) (a .rows) (omega arith)
 
-word-requires : tie.Need-word-requires
-word-requires c κs = search needs
-
 returns-2 : tie.Need-returns-2
 returns-2 c =
     let s = c .before .before .before .before in
     holes-high (now (s .args .buf)) (s .args .rows) _ (omega arith) (c .before .word .ensures) (s .pre .canonical) (omega arith)
-
-sub-result : tie.Need-sub-result
-sub-result c = search needs
 
 returns-3 : tie.Need-returns-3
 returns-3 c =
@@ -27,4 +21,4 @@ returns-3 c =
     holes-low (now (s .args .buf)) (s .args .rows) _ (omega arith) (c .before .word .ensures) (s .pre .canonical) (omega arith)
 
 pub hole-count-spec : {M : Type 1} → statement M
-hole-count-spec = tie.close (tie.spec returns word-requires returns-2 sub-result returns-3)
+hole-count-spec = tie.close (tie.spec returns (λ c κs. search needs) returns-2 (λ c. search needs) returns-3)

@@ -9,12 +9,6 @@ use Rattle.run_rows.proofs.joined_start.Tie as tie
 returns : tie.Need-returns
 returns c = let a = c .before .before .args in start-alone (now (a .buf)) (a .rows) (a .i) (a .j) (a .from) (omega arith)
 
-add-word : tie.Need-add-word
-add-word c = search needs
-
-word-requires : tie.Need-word-requires
-word-requires c κs = search needs
-
 returns-2 : tie.Need-returns-2
 returns-2 c =
     let start = c .before .before .before .before .before in
@@ -28,4 +22,4 @@ returns-3 c =
     start-joined (now (a .buf)) (a .rows) (a .i) (a .j) _ (omega arith) (omega arith) (a .from) _ (c .before .word .ensures) (omega arith)
 
 pub joined-start-spec : {M : Type 1} → statement M
-joined-start-spec = tie.close (tie.spec returns add-word word-requires returns-2 returns-3)
+joined-start-spec = tie.close (tie.spec returns (λ c. search needs) (λ c κs. search needs) returns-2 returns-3)

@@ -9,15 +9,6 @@ use Rattle.run_rows.proofs.joined_stop.Tie as tie
 returns : tie.Need-returns
 returns c = let a = c .before .before .args in stop-alone (now (a .buf)) (a .rows) (a .i) (a .j) (a .to) (omega arith)
 
-sub-word : tie.Need-sub-word
-sub-word c = search needs
-
-add-word : tie.Need-add-word
-add-word c = search needs
-
-word-requires : tie.Need-word-requires
-word-requires c κs = search needs
-
 returns-2 : tie.Need-returns-2
 returns-2 c =
     let start = c .before .before .before .before .before in
@@ -31,4 +22,4 @@ returns-3 c =
     stop-joined (now (a .buf)) (a .rows) (a .i) (a .j) _ (omega arith) (omega arith) (a .to) _ (c .before .word .ensures) (omega arith)
 
 pub joined-stop-spec : {M : Type 1} → statement M
-joined-stop-spec = tie.close (tie.spec returns sub-word add-word word-requires returns-2 returns-3)
+joined-stop-spec = tie.close (tie.spec returns (λ c. search needs) (λ c. search needs) (λ c κs. search needs) returns-2 returns-3)

@@ -9,17 +9,11 @@ use Rattle.run_rows.proofs.progress_of.Tie as tie
 returns : tie.Need-returns
 returns c = let a = c .before .before .before .args in progress-none (now (a .buf)) (a .rows) (omega arith)
 
-word-requires : tie.Need-word-requires
-word-requires c κs = search needs
-
 returns-2 : tie.Need-returns-2
 returns-2 c =
     let start = c .before .before .before .before .before in
     let a = start .args in
     progress-high (now (a .buf)) (a .rows) _ (omega arith) (c .before .word .ensures) (omega arith)
-
-word-requires-2 : tie.Need-word-requires-2
-word-requires-2 c κs = search needs
 
 returns-3 : tie.Need-returns-3
 returns-3 c =
@@ -29,4 +23,4 @@ returns-3 c =
     progress-low (now (a .buf)) (a .rows) _ (omega arith) (word-place .word .ensures) _ (omega arith) (c .word2 .ensures)
 
 pub progress-of-spec : {M : Type 1} → statement M
-progress-of-spec = tie.close (tie.spec returns word-requires returns-2 word-requires-2 returns-3)
+progress-of-spec = tie.close (tie.spec returns (λ c κs. search needs) returns-2 (λ c κs. search needs) returns-3)

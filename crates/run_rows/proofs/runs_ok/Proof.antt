@@ -23,12 +23,6 @@ returns c =
     let a = c .before .before .args in
     runs-none (now (a .buf)) (a .rows .starts) (a .rows .stops) (a .rows .count) (a .size) (omega arith)
 
-word-requires : tie.Need-word-requires Inv-loop μ-loop
-word-requires c κs = search needs
-
-word-requires-2 : tie.Need-word-requires-2 Inv-loop μ-loop
-word-requires-2 c κs = search needs
-
 returns-2 : tie.Need-returns-2 Inv-loop μ-loop
 returns-2 c =
     let word-place = c .before .before in
@@ -46,22 +40,10 @@ loop-holds c =
       first-more (now (a .buf)) (a .rows .starts) (a .rows .stops) (a .rows .count) (a .size) _ _ (omega arith) (c .before .word2 .ensures) (word-place .word .ensures) (omega arith),
     )
 
-add-word : tie.Need-add-word Inv-loop μ-loop
-add-word c = search needs
-
-word-requires-3 : tie.Need-word-requires-3 Inv-loop μ-loop
-word-requires-3 c κs = search needs
-
 returns-3 : tie.Need-returns-3 Inv-loop μ-loop
 returns-3 c =
     let l = c .before .before .before .loop in
     later-touches _ _ _ _ _ _ _ _ (l .inv .2) _ (omega arith) (c .before .word3 .ensures) (omega arith)
-
-add-word-2 : tie.Need-add-word-2 Inv-loop μ-loop
-add-word-2 c = search needs
-
-word-requires-4 : tie.Need-word-requires-4 Inv-loop μ-loop
-word-requires-4 c κs = search needs
 
 returns-4 : tie.Need-returns-4 Inv-loop μ-loop
 returns-4 c =
@@ -69,12 +51,6 @@ returns-4 c =
     let loop-place = word3-place .before .before in
     let l = loop-place .loop in
     later-empty _ _ _ _ _ _ _ _ (l .inv .2) _ (omega arith) (word3-place .word3 .ensures) _ (c .before .word4 .ensures) (omega arith) (omega arith)
-
-add-k : tie.Need-add-k Inv-loop μ-loop
-add-k c = search needs
-
-loop-less : tie.Need-loop-less Inv-loop μ-loop
-loop-less c = search needs
 
 loop-again : tie.Need-loop-again Inv-loop μ-loop
 loop-again c =
@@ -96,17 +72,17 @@ runs-ok-spec =
     Inv-loop
     μ-loop
     returns
-    word-requires
-    word-requires-2
+    (λ c κs. search needs)
+    (λ c κs. search needs)
     returns-2
     loop-holds
-    add-word
-    word-requires-3
+    (λ c. search needs)
+    (λ c κs. search needs)
     returns-3
-    add-word-2
-    word-requires-4
+    (λ c. search needs)
+    (λ c κs. search needs)
     returns-4
-    add-k
-    loop-less
+    (λ c. search needs)
+    (λ c. search needs)
     loop-again
     returns-5)

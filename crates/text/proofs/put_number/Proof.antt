@@ -13,27 +13,12 @@ use borrow.Author.Needs.{needs}
 use Rattle.text.proofs.put_number.Statement.{statement}
 use Rattle.text.proofs.put_number.Tie as tie
 
-slice-aggregate-write-number : tie.Need-slice-aggregate-write-number
-slice-aggregate-write-number c = search needs
-
-write-number-requires : tie.Need-write-number-requires
-write-number-requires c κs = search needs
-
-array-share-prefix-room : tie.Need-array-share-prefix-room
-array-share-prefix-room c = search needs
-
 slice-aggregate-put-hex : tie.Need-slice-aggregate-put-hex
 slice-aggregate-put-hex c =
     let write-number-place = c .before .before .before in
     let start = write-number-place .before .before .before in
     let w = write-number-place .write-number in
     sym (length-take-le (start .args .d) (w .last .0) (omega (arith, w .kept .0)))
-
-put-hex-requires : tie.Need-put-hex-requires
-put-hex-requires c κs = search needs
-
-same-length : tie.Need-same-length
-same-length c = search needs
 
 returns : tie.Need-returns
 returns c =
@@ -50,10 +35,10 @@ pub put-number-spec : {M : Type 1} → statement M
 put-number-spec =
     tie.close
     (tie.spec
-    slice-aggregate-write-number
-    write-number-requires
-    array-share-prefix-room
+    (λ c. search needs)
+    (λ c κs. search needs)
+    (λ c. search needs)
     slice-aggregate-put-hex
-    put-hex-requires
-    same-length
+    (λ c κs. search needs)
+    (λ c. search needs)
     returns)

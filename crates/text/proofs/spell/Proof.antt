@@ -23,15 +23,6 @@ loop-holds c =
     let d : drop 20 (now (c .args .text)) ≡ [] = drop-of-length-le (now (c .args .text)) {i = 20} (omega arith) in
     (omega arith, c .pre, rw d)
 
-cast-text : tie.Need-cast-text Inv-loop μ-loop
-cast-text c = omega arith
-
-add-text : tie.Need-add-text Inv-loop μ-loop
-add-text c = omega arith
-
-slice-write-text : tie.Need-slice-write-text Inv-loop μ-loop
-slice-write-text c = omega arith
-
 same-length : tie.Need-same-length Inv-loop μ-loop
 same-length c = length-set (c .before .before .loop .text) _ _ ∙ c .before .before .loop .inv .1 ∙ sym (c .before .before .before .pre)
 
@@ -40,21 +31,6 @@ returns c =
     let l = c .before .before .loop in
     (omega arith, digit-small (l .text) (l .i) (l .rest) (omega arith) (omega arith) ∙ l .inv .2)
 
-cast-text-2 : tie.Need-cast-text-2 Inv-loop μ-loop
-cast-text-2 c = omega arith
-
-add-text-2 : tie.Need-add-text-2 Inv-loop μ-loop
-add-text-2 c = omega arith
-
-slice-write-text-2 : tie.Need-slice-write-text-2 Inv-loop μ-loop
-slice-write-text-2 c = omega arith
-
-sub-i : tie.Need-sub-i Inv-loop μ-loop
-sub-i c = omega arith
-
-loop-less : tie.Need-loop-less Inv-loop μ-loop
-loop-less c = omega arith
-
 loop-again : tie.Need-loop-again Inv-loop μ-loop
 loop-again c =
     let l = c .before .before .loop in (
@@ -62,15 +38,6 @@ loop-again c =
       length-set (l .text) _ _ ∙ l .inv .1,
       digit-next (l .text) (l .i) (l .rest) (omega arith) (omega arith) (omega arith) ∙ l .inv .2,
     )
-
-cast-text-3 : tie.Need-cast-text-3 Inv-loop μ-loop
-cast-text-3 c = omega arith
-
-add-text-3 : tie.Need-add-text-3 Inv-loop μ-loop
-add-text-3 c = omega arith
-
-slice-write-text-3 : tie.Need-slice-write-text-3 Inv-loop μ-loop
-slice-write-text-3 c = omega arith
 
 same-length-2 : tie.Need-same-length-2 Inv-loop μ-loop
 same-length-2 c = length-set (c .before .loop .text) _ _ ∙ c .before .loop .inv .1 ∙ sym (c .before .before .pre)
@@ -87,19 +54,19 @@ spell-spec =
     Inv-loop
     μ-loop
     loop-holds
-    cast-text
-    add-text
-    slice-write-text
+    (λ c. omega arith)
+    (λ c. omega arith)
+    (λ c. omega arith)
     same-length
     returns
-    cast-text-2
-    add-text-2
-    slice-write-text-2
-    sub-i
-    loop-less
+    (λ c. omega arith)
+    (λ c. omega arith)
+    (λ c. omega arith)
+    (λ c. omega arith)
+    (λ c. omega arith)
     loop-again
-    cast-text-3
-    add-text-3
-    slice-write-text-3
+    (λ c. omega arith)
+    (λ c. omega arith)
+    (λ c. omega arith)
     same-length-2
     returns-2)

@@ -46,9 +46,6 @@ returns-4 c =
     let a = start .args in
     rw (within (a .key) (a .d) (omega arith) (omega arith), ne-eqb (a .d .eod) 1 (omega arith))
 
-add-if5 : tie.Need-add-if5
-add-if5 c = search needs
-
 returns-5 : tie.Need-returns-5
 returns-5 c =
     let start = c .before .before .before .before .before .before .before .before .before .before .before .before .before in
@@ -63,4 +60,4 @@ returns-6 c =
 
 pub key-refusal-spec : {M : Type 1} → statement M
 key-refusal-spec =
-    tie.close (tie.spec returns returns-2 returns-3 returns-4 add-if5 returns-5 returns-6)
+    tie.close (tie.spec returns returns-2 returns-3 returns-4 (λ c. search needs) returns-5 returns-6)

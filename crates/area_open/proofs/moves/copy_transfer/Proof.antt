@@ -8,39 +8,6 @@ use Rattle.area_open.proofs.CopyLaws.{moved-at, copied}
 use Rattle.area_open.proofs.moves.copy_transfer.Statement.{statement}
 use Rattle.area_open.proofs.moves.copy_transfer.Tie as tie
 
-head-requires : tie.Need-head-requires
-head-requires c κs = search needs
-
-head-at-requires : tie.Need-head-at-requires
-head-at-requires c κs = search needs
-
-head-at-requires-2 : tie.Need-head-at-requires-2
-head-at-requires-2 c κs = search needs
-
-move-words-requires : tie.Need-move-words-requires
-move-words-requires c κs = search needs
-
-starts-at-requires : tie.Need-starts-at-requires
-starts-at-requires c κs = search needs
-
-starts-at-requires-2 : tie.Need-starts-at-requires-2
-starts-at-requires-2 c κs = search needs
-
-move-words-requires-2 : tie.Need-move-words-requires-2
-move-words-requires-2 c κs = search needs
-
-stops-at-requires : tie.Need-stops-at-requires
-stops-at-requires c κs = search needs
-
-stops-at-requires-2 : tie.Need-stops-at-requires-2
-stops-at-requires-2 c κs = search needs
-
-move-words-requires-3 : tie.Need-move-words-requires-3
-move-words-requires-3 c κs = search needs
-
-same-length : tie.Need-same-length
-same-length c = search needs
-
 returns : tie.Need-returns
 returns c =
     let z = c .before .before in
@@ -60,15 +27,15 @@ pub copy-transfer-spec : {M : Type 1} → statement M
 copy-transfer-spec =
     tie.close
     (tie.spec
-    head-requires
-    head-at-requires
-    head-at-requires-2
-    move-words-requires
-    starts-at-requires
-    starts-at-requires-2
-    move-words-requires-2
-    stops-at-requires
-    stops-at-requires-2
-    move-words-requires-3
-    same-length
+    (λ c κs. search needs)
+    (λ c κs. search needs)
+    (λ c κs. search needs)
+    (λ c κs. search needs)
+    (λ c κs. search needs)
+    (λ c κs. search needs)
+    (λ c κs. search needs)
+    (λ c κs. search needs)
+    (λ c κs. search needs)
+    (λ c κs. search needs)
+    (λ c. search needs)
     returns)

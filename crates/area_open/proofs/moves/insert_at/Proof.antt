@@ -24,37 +24,16 @@ loop-holds c =
     let s = c .before .before .before in
     open-start (now (s .args .area)) (s .args .place) _ _ (s .pre .0) (s .pre .1) (s .pre .2) (c .open-count .ensures)
 
-sub-copy-transfer : tie.Need-sub-copy-transfer Inv-loop μ-loop
-sub-copy-transfer c = search needs
-
 copy-transfer-requires : tie.Need-copy-transfer-requires Inv-loop μ-loop
 copy-transfer-requires c κs =
     let l = c .before .before .loop in
     (open-long _ _ _ _ _ _ (l .inv), omega (arith, l .inv .few), omega (arith, l .inv .few), open-count _ _ _ _ _ _ (l .inv) (omega arith))
-
-sub-q : tie.Need-sub-q Inv-loop μ-loop
-sub-q c = search needs
-
-loop-less : tie.Need-loop-less Inv-loop μ-loop
-loop-less c = search needs
 
 loop-again : tie.Need-loop-again Inv-loop μ-loop
 loop-again c =
     let p = c .before .before in
     let l = p .before .before .before .loop in
     open-next _ _ _ _ _ _ (l .inv) (omega arith) _ (p .copy-transfer .ensures)
-
-put-head-requires : tie.Need-put-head-requires Inv-loop μ-loop
-put-head-requires c κs = search needs
-
-add-put-word : tie.Need-add-put-word Inv-loop μ-loop
-add-put-word c = search needs
-
-put-word-requires : tie.Need-put-word-requires Inv-loop μ-loop
-put-word-requires c κs = search needs
-
-same-length : tie.Need-same-length Inv-loop μ-loop
-same-length c = search needs
 
 returns : tie.Need-returns Inv-loop μ-loop
 returns c =
@@ -71,13 +50,13 @@ insert-at-spec =
     μ-loop
     open-count-requires
     loop-holds
-    sub-copy-transfer
+    (λ c. search needs)
     copy-transfer-requires
-    sub-q
-    loop-less
+    (λ c. search needs)
+    (λ c. search needs)
     loop-again
-    put-head-requires
-    add-put-word
-    put-word-requires
-    same-length
+    (λ c κs. search needs)
+    (λ c. search needs)
+    (λ c κs. search needs)
+    (λ c. search needs)
     returns)

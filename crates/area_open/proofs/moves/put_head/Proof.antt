@@ -9,33 +9,6 @@ use Rattle.area_open.proofs.CopyLaws.{put-at-word, head-put}
 use Rattle.area_open.proofs.moves.put_head.Statement.{statement}
 use Rattle.area_open.proofs.moves.put_head.Tie as tie
 
-head-at-requires : tie.Need-head-at-requires
-head-at-requires c κs = search needs
-
-put-word-requires : tie.Need-put-word-requires
-put-word-requires c κs = search needs
-
-head-at-requires-2 : tie.Need-head-at-requires-2
-head-at-requires-2 c κs = search needs
-
-put-word-requires-2 : tie.Need-put-word-requires-2
-put-word-requires-2 c κs = search needs
-
-head-at-requires-3 : tie.Need-head-at-requires-3
-head-at-requires-3 c κs = search needs
-
-put-word-requires-3 : tie.Need-put-word-requires-3
-put-word-requires-3 c κs = search needs
-
-head-at-requires-4 : tie.Need-head-at-requires-4
-head-at-requires-4 c κs = search needs
-
-put-word-requires-4 : tie.Need-put-word-requires-4
-put-word-requires-4 c κs = search needs
-
-same-length : tie.Need-same-length
-same-length c = search needs
-
 -- the numbers of a key fit their words
 fits : (c : tie.Start) → (c .args .key .id < 2 ^ 64) × (c .args .key .width < 2 ^ 64) × (c .args .key .length < 2 ^ 64)
 fits c = (omega arith, omega arith, omega arith)
@@ -59,13 +32,13 @@ pub put-head-spec : {M : Type 1} → statement M
 put-head-spec =
     tie.close
     (tie.spec
-    head-at-requires
-    put-word-requires
-    head-at-requires-2
-    put-word-requires-2
-    head-at-requires-3
-    put-word-requires-3
-    head-at-requires-4
-    put-word-requires-4
-    same-length
+    (λ c κs. search needs)
+    (λ c κs. search needs)
+    (λ c κs. search needs)
+    (λ c κs. search needs)
+    (λ c κs. search needs)
+    (λ c κs. search needs)
+    (λ c κs. search needs)
+    (λ c κs. search needs)
+    (λ c. search needs)
     returns)

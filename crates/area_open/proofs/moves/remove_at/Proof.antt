@@ -24,37 +24,16 @@ loop-holds c =
     let s = c .before .before .before in
     close-start (now (s .args .area)) (s .args .place) _ (s .pre .0) (s .pre .1) (c .open-count .ensures)
 
-add-loop : tie.Need-add-loop Inv-loop μ-loop
-add-loop c = search needs
-
-add-copy-transfer : tie.Need-add-copy-transfer Inv-loop μ-loop
-add-copy-transfer c = search needs
-
 copy-transfer-requires : tie.Need-copy-transfer-requires Inv-loop μ-loop
 copy-transfer-requires c κs =
     let l = c .before .before .loop in
     (close-long _ _ _ _ _ (l .inv), omega (arith, l .inv .few), omega (arith, l .inv .few), close-count _ _ _ _ _ (l .inv) (omega arith))
-
-add-q : tie.Need-add-q Inv-loop μ-loop
-add-q c = search needs
-
-loop-less : tie.Need-loop-less Inv-loop μ-loop
-loop-less c = search needs
 
 loop-again : tie.Need-loop-again Inv-loop μ-loop
 loop-again c =
     let p = c .before .before in
     let l = p .before .before .before .loop in
     close-next _ _ _ _ _ (l .inv) (omega arith) _ (p .copy-transfer .ensures)
-
-sub-put-word : tie.Need-sub-put-word Inv-loop μ-loop
-sub-put-word c = search needs
-
-put-word-requires : tie.Need-put-word-requires Inv-loop μ-loop
-put-word-requires c κs = search needs
-
-same-length : tie.Need-same-length Inv-loop μ-loop
-same-length c = search needs
 
 returns : tie.Need-returns Inv-loop μ-loop
 returns c =
@@ -71,13 +50,13 @@ remove-at-spec =
     μ-loop
     open-count-requires
     loop-holds
-    add-loop
-    add-copy-transfer
+    (λ c. search needs)
+    (λ c. search needs)
     copy-transfer-requires
-    add-q
-    loop-less
+    (λ c. search needs)
+    (λ c. search needs)
     loop-again
-    sub-put-word
-    put-word-requires
-    same-length
+    (λ c. search needs)
+    (λ c κs. search needs)
+    (λ c. search needs)
     returns)

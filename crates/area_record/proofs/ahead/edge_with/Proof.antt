@@ -8,9 +8,6 @@ use Rattle.area_record.proofs.AheadLaws.{edge-with-above, edge-with-joi
 use Rattle.area_record.proofs.ahead.edge_with.Statement.{statement}
 use Rattle.area_record.proofs.ahead.edge_with.Tie as tie
 
-edge-of-requires : tie.Need-edge-of-requires
-edge-of-requires c κs = search needs
-
 returns : tie.Need-returns
 returns c =
     let a = c .before .before .before .before .args in
@@ -20,4 +17,4 @@ returns-2 : tie.Need-returns-2
 returns-2 c = let a = c .before .before .before .args in sym (edge-with-joined (now (a .area)) (a .rows) (a .j) (a .hi) (omega arith))
 
 pub edge-with-spec : {M : Type 1} → statement M
-edge-with-spec = tie.close (tie.spec edge-of-requires returns returns-2)
+edge-with-spec = tie.close (tie.spec (λ c κs. search needs) returns returns-2)

@@ -9,9 +9,6 @@ use Rattle.area_record.proofs.AheadLaws.{progress-with-below, progress-
 use Rattle.area_record.proofs.ahead.progress_with.Statement.{statement}
 use Rattle.area_record.proofs.ahead.progress_with.Tie as tie
 
-progress-of-requires : tie.Need-progress-of-requires
-progress-of-requires c κs = search needs
-
 returns : tie.Need-returns
 returns c =
     let a = c .before .before .before .args in
@@ -24,4 +21,4 @@ returns-3 : tie.Need-returns-3
 returns-3 c = let a = c .before .before .before .args in sym (progress-with-low (runsIn (now (a .area)) (a .rows)) (a .i) (a .lo) (a .hi) (omega arith) (omega arith))
 
 pub progress-with-spec : {M : Type 1} → statement M
-progress-with-spec = tie.close (tie.spec progress-of-requires returns returns-2 returns-3)
+progress-with-spec = tie.close (tie.spec (λ c κs. search needs) returns returns-2 returns-3)

@@ -46,14 +46,8 @@ cuts c = (c .cut-below .ensures .inside, c .before .cut-to .ensures .inside, row
 add-after : tie.Need-add-after
 add-after c = omega (arith, cuts c)
 
-sub-after : tie.Need-sub-after
-sub-after c = search needs
-
 add-after-2 : tie.Need-add-after-2
 add-after-2 c = omega (arith, cuts c)
-
-refuse-requires : tie.Need-refuse-requires
-refuse-requires c κs = search needs
 
 returns : tie.Need-returns
 returns c =
@@ -92,9 +86,6 @@ inside c =
     let f = cuts c in
     omega (arith, length-runs (now (r .before .before .args .area)) (w .starts) (w .stops) (w .count))
 
-sub-absorbed : tie.Need-sub-absorbed
-sub-absorbed c = search needs
-
 returns-2 : tie.Need-returns-2
 returns-2 c =
     let v = c .before in
@@ -119,13 +110,13 @@ try-extend-spec =
     cut-to-requires
     cut-below-requires
     add-after
-    sub-after
+    (λ c. search needs)
     add-after-2
-    refuse-requires
+    (λ c κs. search needs)
     returns
     joined-start-requires
     joined-stop-requires
     edge-with-requires
     progress-with-requires
-    sub-absorbed
+    (λ c. search needs)
     returns-2)

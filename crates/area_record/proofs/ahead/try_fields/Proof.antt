@@ -16,12 +16,6 @@ use Rattle.area_record.proofs.RecordLaws.{fields-missing, fields-refuse
 use Rattle.area_record.proofs.ahead.try_fields.Statement.{statement}
 use Rattle.area_record.proofs.ahead.try_fields.Tie as tie
 
-find-place-requires : tie.Need-find-place-requires
-find-place-requires c κs = search needs
-
-refuse-requires : tie.Need-refuse-requires
-refuse-requires c κs = search needs
-
 -- the area's values are octets
 octets : (c : tie.After-shared-slice-known) → Octets (now (c .before .args .area))
 octets c i = c .shared-slice-known .given i .fits
@@ -48,12 +42,6 @@ key-at-requires : tie.Need-key-at-requires
 key-at-requires c κs =
     let s = c .before .before .before .before in
     kept-known (now (s .args .area)) (s .args .d .id) _ (open-known c) (s .pre .0)
-
-key-refusal-requires : tie.Need-key-refusal-requires
-key-refusal-requires c κs = search needs
-
-refuse-requires-2 : tie.Need-refuse-requires-2
-refuse-requires-2 c κs = search needs
 
 returns-2 : tie.Need-returns-2
 returns-2 c =
@@ -97,12 +85,12 @@ pub try-fields-spec : {M : Type 1} → statement M
 try-fields-spec =
     tie.close
     (tie.spec
-    find-place-requires
-    refuse-requires
+    (λ c κs. search needs)
+    (λ c κs. search needs)
     returns
     key-at-requires
-    key-refusal-requires
-    refuse-requires-2
+    (λ c κs. search needs)
+    (λ c κs. search needs)
     returns-2
     add-try-extend
     try-extend-requires

@@ -18,15 +18,6 @@ use Rattle.area_record.proofs.RecordLaws.{fields-some, record-unheld, r
 use Rattle.area_record.proofs.ahead.try_record.Statement.{statement}
 use Rattle.area_record.proofs.ahead.try_record.Tie as tie
 
-judge-requires : tie.Need-judge-requires
-judge-requires c κs = search needs
-
-data-refusal-requires : tie.Need-data-refusal-requires
-data-refusal-requires c κs = search needs
-
-refuse-requires : tie.Need-refuse-requires
-refuse-requires c κs = search needs
-
 returns : tie.Need-returns
 returns c =
     let j = c .before .before .before in
@@ -39,9 +30,6 @@ returns c =
 passed : (c : tie.Else1) → judged (now (c .before .before .before .before .before .args .area)) ≡ true
 passed c = sym (c .before .before .judge .ensures) ∙ not-false _ (c .if1 .left)
 
-refuse-requires-2 : tie.Need-refuse-requires-2
-refuse-requires-2 c κs = search needs
-
 returns-2 : tie.Need-returns-2
 returns-2 c =
     let e = c .before .before in
@@ -51,9 +39,6 @@ returns-2 c =
     ap Refused (c .refuse2 .ensures)
     ∙ ap (λ (o : OnArea Recorded). o .answer)
     (record-unread (now (s .args .area)) (passed e) (now (s .args .packet)) (u .data-refusal .result) (λ i. k .shared-slice-known .given i .fits) (u .data-refusal .ensures) (omega arith))
-
-data-fields-requires : tie.Need-data-fields-requires
-data-fields-requires c κs = search needs
 
 try-fields-requires : tie.Need-try-fields-requires
 try-fields-requires c κs =
@@ -76,12 +61,12 @@ pub try-record-spec : {M : Type 1} → statement M
 try-record-spec =
     tie.close
     (tie.spec
-    judge-requires
-    data-refusal-requires
-    refuse-requires
+    (λ c κs. search needs)
+    (λ c κs. search needs)
+    (λ c κs. search needs)
     returns
-    refuse-requires-2
+    (λ c κs. search needs)
     returns-2
-    data-fields-requires
+    (λ c κs. search needs)
     try-fields-requires
     returns-3)

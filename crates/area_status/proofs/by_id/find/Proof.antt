@@ -14,12 +14,6 @@ use Rattle.area_status.proofs.ByIdLaws.{found-unheld, found-free, found
 use Rattle.area_status.proofs.by_id.find.Statement.{statement}
 use Rattle.area_status.proofs.by_id.find.Tie as tie
 
-judge-requires : tie.Need-judge-requires
-judge-requires c κs = search needs
-
-refuse-requires : tie.Need-refuse-requires
-refuse-requires c κs = search needs
-
 returns : tie.Need-returns
 returns c =
     let a = c .before .before .before .before .args in
@@ -31,9 +25,6 @@ passed c = sym (c .before .judge .ensures) ∙ not-false (c .before .judge .resu
 
 find-place-requires : tie.Need-find-place-requires
 find-place-requires c κs = passed c
-
-refuse-requires-2 : tie.Need-refuse-requires-2
-refuse-requires-2 c κs = search needs
 
 returns-2 : tie.Need-returns-2
 returns-2 c =
@@ -70,11 +61,11 @@ pub find-spec : {M : Type 1} → statement M
 find-spec =
     tie.close
     (tie.spec
-    judge-requires
-    refuse-requires
+    (λ c κs. search needs)
+    (λ c κs. search needs)
     returns
     find-place-requires
-    refuse-requires-2
+    (λ c κs. search needs)
     returns-2
     listing-at-requires
     returns-3)

@@ -19,12 +19,6 @@ use Rattle.area_status.proofs.ByIdLaws.{hole-unheld, hole-free, hole-pa
 use Rattle.area_status.proofs.by_id.transfer_hole.Statement.{statement}
 use Rattle.area_status.proofs.by_id.transfer_hole.Tie as tie
 
-judge-requires : tie.Need-judge-requires
-judge-requires c κs = search needs
-
-refuse-requires : tie.Need-refuse-requires
-refuse-requires c κs = search needs
-
 returns : tie.Need-returns
 returns c =
     let a = c .before .before .before .before .args in
@@ -36,9 +30,6 @@ passed c = sym (c .before .judge .ensures) ∙ not-false (c .before .judge .resu
 
 find-place-requires : tie.Need-find-place-requires
 find-place-requires c κs = passed c
-
-refuse-requires-2 : tie.Need-refuse-requires-2
-refuse-requires-2 c κs = search needs
 
 returns-2 : tie.Need-returns-2
 returns-2 c =
@@ -65,9 +56,6 @@ rows-at-requires c κs = let u = used c in (u .long, u .low)
 
 hole-count-requires : tie.Need-hole-count-requires
 hole-count-requires c κs = rw (c .rows-at .ensures) (used (c .before) .rows)
-
-refuse-requires-3 : tie.Need-refuse-requires-3
-refuse-requires-3 c κs = search needs
 
 returns-3 : tie.Need-returns-3
 returns-3 c =
@@ -107,15 +95,15 @@ pub transfer-hole-spec : {M : Type 1} → statement M
 transfer-hole-spec =
     tie.close
     (tie.spec
-    judge-requires
-    refuse-requires
+    (λ c κs. search needs)
+    (λ c κs. search needs)
     returns
     find-place-requires
-    refuse-requires-2
+    (λ c κs. search needs)
     returns-2
     rows-at-requires
     hole-count-requires
-    refuse-requires-3
+    (λ c κs. search needs)
     returns-3
     hole-at-requires
     returns-4)

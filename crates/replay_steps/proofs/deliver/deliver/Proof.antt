@@ -8,48 +8,6 @@ use Rattle.replay_steps.proofs.CaseLaws.{of-packet}
 use Rattle.replay_steps.proofs.deliver.deliver.Statement.{statement}
 use Rattle.replay_steps.proofs.deliver.deliver.Tie as tie
 
-read-packet-requires : tie.Need-read-packet-requires
-read-packet-requires c κs = search needs
-
-enum-known-r : tie.Need-enum-known-r
-enum-known-r c = search needs
-
-put-beacon-requires : tie.Need-put-beacon-requires
-put-beacon-requires c κs = search needs
-
-enum-known-r-2 : tie.Need-enum-known-r-2
-enum-known-r-2 c = search needs
-
-open-requires : tie.Need-open-requires
-open-requires c κs = search needs
-
-enum-known-r-3 : tie.Need-enum-known-r-3
-enum-known-r-3 c = search needs
-
-record-requires : tie.Need-record-requires
-record-requires c κs = search needs
-
-enum-known-r-4 : tie.Need-enum-known-r-4
-enum-known-r-4 c = search needs
-
-put-success-requires : tie.Need-put-success-requires
-put-success-requires c κs = search needs
-
-enum-known-r-5 : tie.Need-enum-known-r-5
-enum-known-r-5 c = search needs
-
-put-failure-requires : tie.Need-put-failure-requires
-put-failure-requires c κs = search needs
-
-enum-known-r-6 : tie.Need-enum-known-r-6
-enum-known-r-6 c = search needs
-
-put-refusal-requires : tie.Need-put-refusal-requires
-put-refusal-requires c κs = search needs
-
-same-length : tie.Need-same-length
-same-length c = search needs
-
 returns : tie.Need-returns
 unfolding deliverLines deliverArea
 returns c =
@@ -60,15 +18,6 @@ returns c =
     let a = start .args in
     of-packet (a .number) (now (a .p)) (now (a .area)) (now (a .lent)) (sym (r-place .r .given .1) ∙ read-packet-place .read-packet .ensures)
     (put-beacon-place .put-beacon .ensures, refl)
-
-same-length-2 : tie.Need-same-length-2
-same-length-2 c = search needs
-
-same-length-3 : tie.Need-same-length-3
-same-length-3 c = search needs
-
-same-length-4 : tie.Need-same-length-4
-same-length-4 c = search needs
 
 returns-2 : tie.Need-returns-2
 unfolding deliverLines deliverArea
@@ -81,15 +30,6 @@ returns-2 c =
     of-packet (a .number) (now (a .p)) (now (a .area)) (now (a .lent)) (sym (r2-place .r2 .given .1) ∙ read-packet-place .read-packet .ensures)
     (open-place .«open» .ensures)
 
-same-length-5 : tie.Need-same-length-5
-same-length-5 c = search needs
-
-same-length-6 : tie.Need-same-length-6
-same-length-6 c = search needs
-
-same-length-7 : tie.Need-same-length-7
-same-length-7 c = search needs
-
 returns-3 : tie.Need-returns-3
 unfolding deliverLines deliverArea
 returns-3 c =
@@ -100,9 +40,6 @@ returns-3 c =
     let a = start .args in
     of-packet (a .number) (now (a .p)) (now (a .area)) (now (a .lent)) (sym (r3-place .r3 .given .1) ∙ read-packet-place .read-packet .ensures)
     (record-place .«record» .ensures)
-
-same-length-8 : tie.Need-same-length-8
-same-length-8 c = search needs
 
 returns-4 : tie.Need-returns-4
 unfolding deliverLines deliverArea
@@ -115,9 +52,6 @@ returns-4 c =
     of-packet (a .number) (now (a .p)) (now (a .area)) (now (a .lent)) (sym (r4-place .r4 .given .1) ∙ read-packet-place .read-packet .ensures)
     (put-success-place .put-success .ensures, refl)
 
-same-length-9 : tie.Need-same-length-9
-same-length-9 c = search needs
-
 returns-5 : tie.Need-returns-5
 unfolding deliverLines deliverArea
 returns-5 c =
@@ -128,12 +62,6 @@ returns-5 c =
     let a = start .args in
     of-packet (a .number) (now (a .p)) (now (a .area)) (now (a .lent)) (sym (r5-place .r5 .given .1) ∙ read-packet-place .read-packet .ensures)
     (put-failure-place .put-failure .ensures, refl)
-
-same-length-10 : tie.Need-same-length-10
-same-length-10 c = search needs
-
-same-length-11 : tie.Need-same-length-11
-same-length-11 c = search needs
 
 returns-6 : tie.Need-returns-6
 unfolding deliverLines deliverArea
@@ -150,33 +78,33 @@ pub deliver-spec : {M : Type 1} → statement M
 deliver-spec =
     tie.close
     (tie.spec
-    read-packet-requires
-    enum-known-r
-    put-beacon-requires
-    enum-known-r-2
-    open-requires
-    enum-known-r-3
-    record-requires
-    enum-known-r-4
-    put-success-requires
-    enum-known-r-5
-    put-failure-requires
-    enum-known-r-6
-    put-refusal-requires
-    same-length
+    (λ c κs. search needs)
+    (λ c. search needs)
+    (λ c κs. search needs)
+    (λ c. search needs)
+    (λ c κs. search needs)
+    (λ c. search needs)
+    (λ c κs. search needs)
+    (λ c. search needs)
+    (λ c κs. search needs)
+    (λ c. search needs)
+    (λ c κs. search needs)
+    (λ c. search needs)
+    (λ c κs. search needs)
+    (λ c. search needs)
     returns
-    same-length-2
-    same-length-3
-    same-length-4
+    (λ c. search needs)
+    (λ c. search needs)
+    (λ c. search needs)
     returns-2
-    same-length-5
-    same-length-6
-    same-length-7
+    (λ c. search needs)
+    (λ c. search needs)
+    (λ c. search needs)
     returns-3
-    same-length-8
+    (λ c. search needs)
     returns-4
-    same-length-9
+    (λ c. search needs)
     returns-5
-    same-length-10
-    same-length-11
+    (λ c. search needs)
+    (λ c. search needs)
     returns-6)

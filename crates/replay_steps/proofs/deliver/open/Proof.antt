@@ -9,21 +9,6 @@ use Rattle.replay_steps.specs.Deliver.{openedLines}
 use Rattle.replay_steps.proofs.deliver.open.Statement.{statement}
 use Rattle.replay_steps.proofs.deliver.open.Tie as tie
 
-open-requires : tie.Need-open-requires
-open-requires c κs = search needs
-
-put-opened-requires : tie.Need-put-opened-requires
-put-opened-requires c κs = search needs
-
-same-length : tie.Need-same-length
-same-length c = search needs
-
-same-length-2 : tie.Need-same-length-2
-same-length-2 c = search needs
-
-same-length-3 : tie.Need-same-length-3
-same-length-3 c = search needs
-
 returns : tie.Need-returns
 returns c =
     let put-opened-place = c .before .before .before .before in
@@ -36,4 +21,4 @@ returns c =
 pub open-spec : {M : Type 1} → statement M
 open-spec =
     tie.close
-    (tie.spec open-requires put-opened-requires same-length same-length-2 same-length-3 returns)
+    (tie.spec (λ c κs. search needs) (λ c κs. search needs) (λ c. search needs) (λ c. search needs) (λ c. search needs) returns)

@@ -29,12 +29,6 @@ returns-2 c =
     let a = start .args in
     rw (ne-eqb (a .code) 0 (c .before .if1 .left), lt-ltb (length (now (a .p))) 8 (c .if2 .taken)) (added-none (now (a .out)) (a .at) (start .pre))
 
-word-requires : tie.Need-word-requires
-word-requires c κs = search needs
-
-split-requires : tie.Need-split-requires
-split-requires c κs = search needs
-
 -- the type is at hand
 typed : (c : tie.After-split) → c .split .result .ptype ≡ typeOf (wordOf (now (c .before .before .before .before .before .before .before .args .p)))
 typed c = c .split .ensures .ptype-is ∙ ap typeOf (c .before .word .ensures)
@@ -54,21 +48,6 @@ returns-3 c =
       eq-eqb (typeOf (wordOf (now (a .p)))) 0 (omega arith),
     )
     (added-none (now (a .out)) (a .at) (start .pre))
-
-id-requires : tie.Need-id-requires
-id-requires c κs = search needs
-
-write-failure-requires : tie.Need-write-failure-requires
-write-failure-requires c κs = search needs
-
-put-sent-requires : tie.Need-put-sent-requires
-put-sent-requires c κs = search needs
-
-same-length : tie.Need-same-length
-same-length c = search needs
-
-same-length-2 : tie.Need-same-length-2
-same-length-2 c = search needs
 
 returns-4 : tie.Need-returns-4
 unfolding failureSent
@@ -98,12 +77,12 @@ put-failure-sent-spec =
     (tie.spec
     returns
     returns-2
-    word-requires
-    split-requires
+    (λ c κs. search needs)
+    (λ c κs. search needs)
     returns-3
-    id-requires
-    write-failure-requires
-    put-sent-requires
-    same-length
-    same-length-2
+    (λ c κs. search needs)
+    (λ c κs. search needs)
+    (λ c κs. search needs)
+    (λ c. search needs)
+    (λ c. search needs)
     returns-4)

@@ -9,21 +9,6 @@ use Rattle.replay_steps.specs.Deliver.{failureSent, openedLines}
 use Rattle.replay_steps.proofs.deliver.put_opened.Statement.{statement}
 use Rattle.replay_steps.proofs.deliver.put_opened.Tie as tie
 
-put-opening-requires : tie.Need-put-opening-requires
-put-opening-requires c κs = search needs
-
-opened-code-requires : tie.Need-opened-code-requires
-opened-code-requires c κs = search needs
-
-put-failure-sent-requires : tie.Need-put-failure-sent-requires
-put-failure-sent-requires c κs = search needs
-
-same-length : tie.Need-same-length
-same-length c = search needs
-
-same-length-2 : tie.Need-same-length-2
-same-length-2 c = search needs
-
 returns : tie.Need-returns
 unfolding openedLines
 returns c =
@@ -38,9 +23,9 @@ pub put-opened-spec : {M : Type 1} → statement M
 put-opened-spec =
     tie.close
     (tie.spec
-    put-opening-requires
-    opened-code-requires
-    put-failure-sent-requires
-    same-length
-    same-length-2
+    (λ c κs. search needs)
+    (λ c κs. search needs)
+    (λ c κs. search needs)
+    (λ c. search needs)
+    (λ c. search needs)
     returns)

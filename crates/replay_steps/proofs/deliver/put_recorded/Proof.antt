@@ -6,18 +6,6 @@ use Rattle.replay_steps.specs.Deliver.{recordedLines}
 use Rattle.replay_steps.proofs.deliver.put_recorded.Statement.{statement}
 use Rattle.replay_steps.proofs.deliver.put_recorded.Tie as tie
 
-put-recording-requires : tie.Need-put-recording-requires
-put-recording-requires c κs = search needs
-
-put-recorded-sent-requires : tie.Need-put-recorded-sent-requires
-put-recorded-sent-requires c κs = search needs
-
-same-length : tie.Need-same-length
-same-length c = search needs
-
-same-length-2 : tie.Need-same-length-2
-same-length-2 c = search needs
-
 returns : tie.Need-returns
 unfolding recordedLines
 returns c =
@@ -28,4 +16,4 @@ returns c =
 pub put-recorded-spec : {M : Type 1} → statement M
 put-recorded-spec =
     tie.close
-    (tie.spec put-recording-requires put-recorded-sent-requires same-length same-length-2 returns)
+    (tie.spec (λ c κs. search needs) (λ c κs. search needs) (λ c. search needs) (λ c. search needs) returns)

@@ -9,24 +9,6 @@ use Rattle.replay_steps.specs.Deliver.{recordedSent}
 use Rattle.replay_steps.proofs.deliver.put_recorded_sent.Statement.{statement}
 use Rattle.replay_steps.proofs.deliver.put_recorded_sent.Tie as tie
 
-enum-told : tie.Need-enum-told
-enum-told c = search needs
-
-put-wanted-sent-requires : tie.Need-put-wanted-sent-requires
-put-wanted-sent-requires c κs = search needs
-
-enum-known-a : tie.Need-enum-known-a
-enum-known-a c = search needs
-
-put-failure-sent-requires : tie.Need-put-failure-sent-requires
-put-failure-sent-requires c κs = search needs
-
-same-length : tie.Need-same-length
-same-length c = search needs
-
-same-length-2 : tie.Need-same-length-2
-same-length-2 c = search needs
-
 returns : tie.Need-returns
 unfolding recordedSent
 returns c =
@@ -35,12 +17,6 @@ returns c =
     let start = enum-told-place .before .before .before .before .before .before in
     let a = start .args in
     added-as (ap (λ (x : Recorded). recordedSent (a .number) (now (a .p)) (a .d) x (now (a .area)) (now (a .lent))) (sym (enum-told-place .enum-told .given .1))) (put-wanted-sent-place .put-wanted-sent .ensures)
-
-same-length-3 : tie.Need-same-length-3
-same-length-3 c = search needs
-
-same-length-4 : tie.Need-same-length-4
-same-length-4 c = search needs
 
 returns-2 : tie.Need-returns-2
 unfolding recordedSent
@@ -55,13 +31,13 @@ pub put-recorded-sent-spec : {M : Type 1} → statement M
 put-recorded-sent-spec =
     tie.close
     (tie.spec
-    enum-told
-    put-wanted-sent-requires
-    enum-known-a
-    put-failure-sent-requires
-    same-length
-    same-length-2
+    (λ c. search needs)
+    (λ c κs. search needs)
+    (λ c. search needs)
+    (λ c κs. search needs)
+    (λ c. search needs)
+    (λ c. search needs)
     returns
-    same-length-3
-    same-length-4
+    (λ c. search needs)
+    (λ c. search needs)
     returns-2)

@@ -6,18 +6,6 @@ use Rattle.replay_steps.specs.Deliver.{refusalLines}
 use Rattle.replay_steps.proofs.deliver.put_refusal.Statement.{statement}
 use Rattle.replay_steps.proofs.deliver.put_refusal.Tie as tie
 
-put-refused-requires : tie.Need-put-refused-requires
-put-refused-requires c κs = search needs
-
-put-failure-sent-requires : tie.Need-put-failure-sent-requires
-put-failure-sent-requires c κs = search needs
-
-same-length : tie.Need-same-length
-same-length c = search needs
-
-same-length-2 : tie.Need-same-length-2
-same-length-2 c = search needs
-
 returns : tie.Need-returns
 unfolding refusalLines
 returns c =
@@ -28,4 +16,4 @@ returns c =
 pub put-refusal-spec : {M : Type 1} → statement M
 put-refusal-spec =
     tie.close
-    (tie.spec put-refused-requires put-failure-sent-requires same-length same-length-2 returns)
+    (tie.spec (λ c κs. search needs) (λ c κs. search needs) (λ c. search needs) (λ c. search needs) returns)

@@ -18,18 +18,6 @@ returns c =
     let a = start .args in
     rw (eq-eqb (a .d .wanted) 0 (omega arith)) (added-none (now (a .out)) (a .at) (start .pre))
 
-write-status-requires : tie.Need-write-status-requires
-write-status-requires c κs = search needs
-
-put-sent-requires : tie.Need-put-sent-requires
-put-sent-requires c κs = search needs
-
-same-length : tie.Need-same-length
-same-length c = search needs
-
-same-length-2 : tie.Need-same-length-2
-same-length-2 c = search needs
-
 returns-2 : tie.Need-returns-2
 unfolding wantedSent
 returns-2 c =
@@ -44,4 +32,4 @@ returns-2 c =
 pub put-wanted-sent-spec : {M : Type 1} → statement M
 put-wanted-sent-spec =
     tie.close
-    (tie.spec returns write-status-requires put-sent-requires same-length same-length-2 returns-2)
+    (tie.spec returns (λ c κs. search needs) (λ c κs. search needs) (λ c. search needs) (λ c. search needs) returns-2)

@@ -11,21 +11,6 @@ use Rattle.replay_steps.specs.Deliver.{recordedLines}
 use Rattle.replay_steps.proofs.deliver.record.Statement.{statement}
 use Rattle.replay_steps.proofs.deliver.record.Tie as tie
 
-record-requires : tie.Need-record-requires
-record-requires c κs = search needs
-
-put-recorded-requires : tie.Need-put-recorded-requires
-put-recorded-requires c κs = search needs
-
-same-length : tie.Need-same-length
-same-length c = search needs
-
-same-length-2 : tie.Need-same-length-2
-same-length-2 c = search needs
-
-same-length-3 : tie.Need-same-length-3
-same-length-3 c = search needs
-
 returns : tie.Need-returns
 returns c =
     let put-recorded-place = c .before .before .before .before in
@@ -39,9 +24,9 @@ pub record-spec : {M : Type 1} → statement M
 record-spec =
     tie.close
     (tie.spec
-    record-requires
-    put-recorded-requires
-    same-length
-    same-length-2
-    same-length-3
+    (λ c κs. search needs)
+    (λ c κs. search needs)
+    (λ c. search needs)
+    (λ c. search needs)
+    (λ c. search needs)
     returns)

@@ -6,18 +6,6 @@ use Rattle.replay_steps.proofs.RoomLaws.{record-lines-whole}
 use Rattle.replay_steps.proofs.records.answer.Statement.{statement}
 use Rattle.replay_steps.proofs.records.answer.Tie as tie
 
-lines-requires : tie.Need-lines-requires
-lines-requires c κs = search needs
-
-same-length : tie.Need-same-length
-same-length c = search needs
-
-same-length-2 : tie.Need-same-length-2
-same-length-2 c = search needs
-
-same-length-3 : tie.Need-same-length-3
-same-length-3 c = search needs
-
 returns : tie.Need-returns
 returns c =
     let before-place = c .before .before .before .before .before in
@@ -32,4 +20,4 @@ returns c =
     )
 
 pub answer-spec : {M : Type 1} → statement M
-answer-spec = tie.close (tie.spec lines-requires same-length same-length-2 same-length-3 returns)
+answer-spec = tie.close (tie.spec (λ c κs. search needs) (λ c. search needs) (λ c. search needs) (λ c. search needs) returns)

@@ -14,9 +14,6 @@ returns c =
     let a = c .before .before .args in
     rw (lt-ltb (length (now (a .head))) 5 (c .if1 .taken))
 
-read-four-requires : tie.Need-read-four-requires
-read-four-requires c κs = omega arith
-
 returns-2 : tie.Need-returns-2
 unfolding bodyLength
 returns-2 c =
@@ -24,4 +21,4 @@ returns-2 c =
     rw (le-ltb (length (now (a .head))) 5 (c .before .if1 .left)) (c .read-four .ensures)
 
 pub body-length-spec : {M : Type 1} → statement M
-body-length-spec = tie.close (tie.spec returns read-four-requires returns-2)
+body-length-spec = tie.close (tie.spec returns (λ c κs. omega arith) returns-2)

@@ -14,12 +14,6 @@ use Rattle.replay_steps.specs.Records.{closeLines, closeAfter}
 use Rattle.replay_steps.proofs.records.close.Statement.{statement}
 use Rattle.replay_steps.proofs.records.close.Tie as tie
 
-put-bad-length-requires : tie.Need-put-bad-length-requires
-put-bad-length-requires c κs = search needs
-
-same-length : tie.Need-same-length
-same-length c = search needs
-
 returns : tie.Need-returns
 unfolding closeLines closeAfter
 returns c =
@@ -29,21 +23,6 @@ returns c =
     let a = start .args in
     let z = ne-eqb (length (now (a .body))) 4 (if1-place .if1 .taken) in
     (rw z (put-bad-length-place .put-bad-length .ensures), rw z)
-
-read-four-requires : tie.Need-read-four-requires
-read-four-requires c κs = omega arith
-
-close-requires : tie.Need-close-requires
-close-requires c κs = search needs
-
-put-close-requires : tie.Need-put-close-requires
-put-close-requires c κs = search needs
-
-same-length-2 : tie.Need-same-length-2
-same-length-2 c = search needs
-
-same-length-3 : tie.Need-same-length-3
-same-length-3 c = search needs
 
 returns-2 : tie.Need-returns-2
 unfolding closeLines closeAfter
@@ -65,12 +44,12 @@ pub close-spec : {M : Type 1} → statement M
 close-spec =
     tie.close
     (tie.spec
-    put-bad-length-requires
-    same-length
+    (λ c κs. search needs)
+    (λ c. search needs)
     returns
-    read-four-requires
-    close-requires
-    put-close-requires
-    same-length-2
-    same-length-3
+    (λ c κs. omega arith)
+    (λ c κs. search needs)
+    (λ c κs. search needs)
+    (λ c. search needs)
+    (λ c. search needs)
     returns-2)

@@ -11,12 +11,6 @@ use Rattle.replay_steps.specs.Records.{freshLines, freshAfter}
 use Rattle.replay_steps.proofs.records.fresh.Statement.{statement}
 use Rattle.replay_steps.proofs.records.fresh.Tie as tie
 
-put-bad-length-requires : tie.Need-put-bad-length-requires
-put-bad-length-requires c κs = search needs
-
-same-length : tie.Need-same-length
-same-length c = search needs
-
 returns : tie.Need-returns
 unfolding freshLines freshAfter
 returns c =
@@ -26,18 +20,6 @@ returns c =
     let a = start .args in
     let z = ne-eqb (length (now (a .body))) 0 (if1-place .if1 .taken) in
     (rw z (put-bad-length-place .put-bad-length .ensures), rw z)
-
-fresh-requires : tie.Need-fresh-requires
-fresh-requires c κs = search needs
-
-put-fresh-requires : tie.Need-put-fresh-requires
-put-fresh-requires c κs = search needs
-
-same-length-2 : tie.Need-same-length-2
-same-length-2 c = search needs
-
-same-length-3 : tie.Need-same-length-3
-same-length-3 c = search needs
 
 returns-2 : tie.Need-returns-2
 unfolding freshLines freshAfter
@@ -55,11 +37,11 @@ pub fresh-spec : {M : Type 1} → statement M
 fresh-spec =
     tie.close
     (tie.spec
-    put-bad-length-requires
-    same-length
+    (λ c κs. search needs)
+    (λ c. search needs)
     returns
-    fresh-requires
-    put-fresh-requires
-    same-length-2
-    same-length-3
+    (λ c κs. search needs)
+    (λ c κs. search needs)
+    (λ c. search needs)
+    (λ c. search needs)
     returns-2)

@@ -9,15 +9,6 @@ use Rattle.replay_steps.proofs.CaseLaws.{of-kind}
 use Rattle.replay_steps.proofs.records.lines.Statement.{statement}
 use Rattle.replay_steps.proofs.records.lines.Tie as tie
 
-fresh-requires : tie.Need-fresh-requires
-fresh-requires c κs = search needs
-
-same-length : tie.Need-same-length
-same-length c = search needs
-
-same-length-2 : tie.Need-same-length-2
-same-length-2 c = search needs
-
 returns : tie.Need-returns
 unfolding recordLines areaAfter
 returns c =
@@ -27,15 +18,6 @@ returns c =
     let a = start .args in
     of-kind (a .number) (now (a .body)) (now (a .area)) (now (a .lent)) (if1-place .if1 .taken)
     (fresh-place .fresh .ensures)
-
-open-requires : tie.Need-open-requires
-open-requires c κs = search needs
-
-same-length-3 : tie.Need-same-length-3
-same-length-3 c = search needs
-
-same-length-4 : tie.Need-same-length-4
-same-length-4 c = search needs
 
 returns-2 : tie.Need-returns-2
 unfolding recordLines areaAfter
@@ -47,15 +29,6 @@ returns-2 c =
     of-kind (a .number) (now (a .body)) (now (a .area)) (now (a .lent)) (if2-place .if2 .taken)
     (open-place .«open» .ensures)
 
-record-requires : tie.Need-record-requires
-record-requires c κs = search needs
-
-same-length-5 : tie.Need-same-length-5
-same-length-5 c = search needs
-
-same-length-6 : tie.Need-same-length-6
-same-length-6 c = search needs
-
 returns-3 : tie.Need-returns-3
 unfolding recordLines areaAfter
 returns-3 c =
@@ -65,12 +38,6 @@ returns-3 c =
     let a = start .args in
     of-kind (a .number) (now (a .body)) (now (a .area)) (now (a .lent)) (if3-place .if3 .taken)
     (record-place .«record» .ensures)
-
-read-requires : tie.Need-read-requires
-read-requires c κs = search needs
-
-same-length-7 : tie.Need-same-length-7
-same-length-7 c = search needs
 
 returns-4 : tie.Need-returns-4
 unfolding recordLines areaAfter
@@ -82,18 +49,6 @@ returns-4 c =
     of-kind (a .number) (now (a .body)) (now (a .area)) (now (a .lent)) (if4-place .if4 .taken)
     (read-place .read .ensures, refl)
 
-status-requires : tie.Need-status-requires
-status-requires c κs = search needs
-
-same-length-8 : tie.Need-same-length-8
-same-length-8 c = search needs
-
-same-length-9 : tie.Need-same-length-9
-same-length-9 c = search needs
-
-same-length-10 : tie.Need-same-length-10
-same-length-10 c = search needs
-
 returns-5 : tie.Need-returns-5
 unfolding recordLines areaAfter
 returns-5 c =
@@ -103,15 +58,6 @@ returns-5 c =
     let a = start .args in
     of-kind (a .number) (now (a .body)) (now (a .area)) (now (a .lent)) (if5-place .if5 .taken)
     (status-place .status .ensures, refl)
-
-close-requires : tie.Need-close-requires
-close-requires c κs = search needs
-
-same-length-11 : tie.Need-same-length-11
-same-length-11 c = search needs
-
-same-length-12 : tie.Need-same-length-12
-same-length-12 c = search needs
 
 returns-6 : tie.Need-returns-6
 unfolding recordLines areaAfter
@@ -123,18 +69,6 @@ returns-6 c =
     of-kind (a .number) (now (a .body)) (now (a .area)) (now (a .lent)) (if6-place .if6 .taken)
     (close-place .close .ensures)
 
-deliver-requires : tie.Need-deliver-requires
-deliver-requires c κs = search needs
-
-same-length-13 : tie.Need-same-length-13
-same-length-13 c = search needs
-
-same-length-14 : tie.Need-same-length-14
-same-length-14 c = search needs
-
-same-length-15 : tie.Need-same-length-15
-same-length-15 c = search needs
-
 returns-7 : tie.Need-returns-7
 unfolding recordLines areaAfter
 returns-7 c =
@@ -144,12 +78,6 @@ returns-7 c =
     let a = start .args in
     of-kind (a .number) (now (a .body)) (now (a .area)) (now (a .lent)) (if7-place .if7 .taken)
     (deliver-place .deliver .ensures)
-
-time-requires : tie.Need-time-requires
-time-requires c κs = search needs
-
-same-length-16 : tie.Need-same-length-16
-same-length-16 c = search needs
 
 returns-8 : tie.Need-returns-8
 unfolding recordLines areaAfter
@@ -161,12 +89,6 @@ returns-8 c =
     of-kind (a .number) (now (a .body)) (now (a .area)) (now (a .lent)) (if8-place .if8 .taken)
     (time-place .time .ensures, refl)
 
-plan-record-requires : tie.Need-plan-record-requires
-plan-record-requires c κs = search needs
-
-same-length-17 : tie.Need-same-length-17
-same-length-17 c = search needs
-
 returns-9 : tie.Need-returns-9
 unfolding recordLines areaAfter
 returns-9 c =
@@ -177,12 +99,6 @@ returns-9 c =
     of-kind (a .number) (now (a .body)) (now (a .area)) (now (a .lent)) (if9-place .if9 .taken)
     (plan-record-place .plan-record .ensures, refl)
 
-check-record-requires : tie.Need-check-record-requires
-check-record-requires c κs = search needs
-
-same-length-18 : tie.Need-same-length-18
-same-length-18 c = search needs
-
 returns-10 : tie.Need-returns-10
 unfolding recordLines areaAfter
 returns-10 c =
@@ -192,12 +108,6 @@ returns-10 c =
     let a = start .args in
     of-kind (a .number) (now (a .body)) (now (a .area)) (now (a .lent)) (if10-place .if10 .taken)
     (check-record-place .check-record .ensures, refl)
-
-put-unknown-requires : tie.Need-put-unknown-requires
-put-unknown-requires c κs = search needs
-
-same-length-19 : tie.Need-same-length-19
-same-length-19 c = search needs
 
 returns-11 : tie.Need-returns-11
 unfolding recordLines areaAfter
@@ -231,44 +141,44 @@ pub lines-spec : {M : Type 1} → statement M
 lines-spec =
     tie.close
     (tie.spec
-    fresh-requires
-    same-length
-    same-length-2
+    (λ c κs. search needs)
+    (λ c. search needs)
+    (λ c. search needs)
     returns
-    open-requires
-    same-length-3
-    same-length-4
+    (λ c κs. search needs)
+    (λ c. search needs)
+    (λ c. search needs)
     returns-2
-    record-requires
-    same-length-5
-    same-length-6
+    (λ c κs. search needs)
+    (λ c. search needs)
+    (λ c. search needs)
     returns-3
-    read-requires
-    same-length-7
+    (λ c κs. search needs)
+    (λ c. search needs)
     returns-4
-    status-requires
-    same-length-8
-    same-length-9
-    same-length-10
+    (λ c κs. search needs)
+    (λ c. search needs)
+    (λ c. search needs)
+    (λ c. search needs)
     returns-5
-    close-requires
-    same-length-11
-    same-length-12
+    (λ c κs. search needs)
+    (λ c. search needs)
+    (λ c. search needs)
     returns-6
-    deliver-requires
-    same-length-13
-    same-length-14
-    same-length-15
+    (λ c κs. search needs)
+    (λ c. search needs)
+    (λ c. search needs)
+    (λ c. search needs)
     returns-7
-    time-requires
-    same-length-16
+    (λ c κs. search needs)
+    (λ c. search needs)
     returns-8
-    plan-record-requires
-    same-length-17
+    (λ c κs. search needs)
+    (λ c. search needs)
     returns-9
-    check-record-requires
-    same-length-18
+    (λ c κs. search needs)
+    (λ c. search needs)
     returns-10
-    put-unknown-requires
-    same-length-19
+    (λ c κs. search needs)
+    (λ c. search needs)
     returns-11)

@@ -7,21 +7,6 @@ use Rattle.replay_answers.specs.AnswerLines.{openText}
 use Rattle.replay_steps.proofs.records.open.Statement.{statement}
 use Rattle.replay_steps.proofs.records.open.Tie as tie
 
-open-requires : tie.Need-open-requires
-open-requires c κs = search needs
-
-read-metadata-requires : tie.Need-read-metadata-requires
-read-metadata-requires c κs = search needs
-
-put-open-requires : tie.Need-put-open-requires
-put-open-requires c κs = search needs
-
-same-length : tie.Need-same-length
-same-length c = search needs
-
-same-length-2 : tie.Need-same-length-2
-same-length-2 c = search needs
-
 returns : tie.Need-returns
 returns c =
     let put-open-place = c .before .before in
@@ -36,9 +21,9 @@ pub open-spec : {M : Type 1} → statement M
 open-spec =
     tie.close
     (tie.spec
-    open-requires
-    read-metadata-requires
-    put-open-requires
-    same-length
-    same-length-2
+    (λ c κs. search needs)
+    (λ c κs. search needs)
+    (λ c κs. search needs)
+    (λ c. search needs)
+    (λ c. search needs)
     returns)

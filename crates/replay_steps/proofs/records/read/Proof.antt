@@ -8,15 +8,6 @@ use Rattle.replay_answers.specs.AnswerLines.{readText}
 use Rattle.replay_steps.proofs.records.read.Statement.{statement}
 use Rattle.replay_steps.proofs.records.read.Tie as tie
 
-read-packet-requires : tie.Need-read-packet-requires
-read-packet-requires c κs = search needs
-
-put-read-requires : tie.Need-put-read-requires
-put-read-requires c κs = search needs
-
-same-length : tie.Need-same-length
-same-length c = search needs
-
 returns : tie.Need-returns
 returns c =
     let put-read-place = c .before .before in
@@ -26,4 +17,4 @@ returns c =
     added-as (ap (readText (a .number) (now (a .p))) (read-packet-place .read-packet .ensures)) (put-read-place .put-read .ensures)
 
 pub read-spec : {M : Type 1} → statement M
-read-spec = tie.close (tie.spec read-packet-requires put-read-requires same-length returns)
+read-spec = tie.close (tie.spec (λ c κs. search needs) (λ c κs. search needs) (λ c. search needs) returns)

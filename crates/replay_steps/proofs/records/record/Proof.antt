@@ -7,21 +7,6 @@ use Rattle.replay_answers.specs.AnswerLines.{recordText}
 use Rattle.replay_steps.proofs.records.record.Statement.{statement}
 use Rattle.replay_steps.proofs.records.record.Tie as tie
 
-record-requires : tie.Need-record-requires
-record-requires c κs = search needs
-
-read-data-requires : tie.Need-read-data-requires
-read-data-requires c κs = search needs
-
-put-record-requires : tie.Need-put-record-requires
-put-record-requires c κs = search needs
-
-same-length : tie.Need-same-length
-same-length c = search needs
-
-same-length-2 : tie.Need-same-length-2
-same-length-2 c = search needs
-
 returns : tie.Need-returns
 returns c =
     let put-record-place = c .before .before in
@@ -36,9 +21,9 @@ pub record-spec : {M : Type 1} → statement M
 record-spec =
     tie.close
     (tie.spec
-    record-requires
-    read-data-requires
-    put-record-requires
-    same-length
-    same-length-2
+    (λ c κs. search needs)
+    (λ c κs. search needs)
+    (λ c κs. search needs)
+    (λ c. search needs)
+    (λ c. search needs)
     returns)

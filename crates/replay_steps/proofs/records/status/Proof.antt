@@ -17,12 +17,6 @@ use Rattle.replay_steps.specs.Records.{writtenLine, statusLines}
 use Rattle.replay_steps.proofs.records.status.Statement.{statement}
 use Rattle.replay_steps.proofs.records.status.Tie as tie
 
-put-bad-length-requires : tie.Need-put-bad-length-requires
-put-bad-length-requires c κs = search needs
-
-same-length : tie.Need-same-length
-same-length c = search needs
-
 returns : tie.Need-returns
 unfolding statusLines
 returns c =
@@ -32,38 +26,11 @@ returns c =
     let a = start .args in
     rw (ne-eqb (length (now (a .body))) 17 (if1-place .if1 .taken)) (put-bad-length-place .put-bad-length .ensures)
 
-read-four-requires : tie.Need-read-four-requires
-read-four-requires c κs = omega arith
-
-read-eight-requires : tie.Need-read-eight-requires
-read-eight-requires c κs = omega arith
-
-shared-slice-read-unasked : tie.Need-shared-slice-read-unasked
-shared-slice-read-unasked c = search needs
-
-read-four-requires-2 : tie.Need-read-four-requires-2
-read-four-requires-2 c κs = omega arith
-
-within-requires : tie.Need-within-requires
-within-requires c κs = search needs
-
-slice-relend-prefix-write : tie.Need-slice-relend-prefix-write
-slice-relend-prefix-write c = search needs
-
 slice-aggregate-write : tie.Need-slice-aggregate-write
 slice-aggregate-write c =
     let start = c .before .before .before .before .before .before .before .before .before .before .before in
     let a = start .args in
     sym (length-take-le (c .before .within .result) (now (a .lent)) (omega (arith, c .before .within .ensures)))
-
-write-requires : tie.Need-write-requires
-write-requires c κs = search needs
-
-same-length-2 : tie.Need-same-length-2
-same-length-2 c = search needs
-
-same-length-3 : tie.Need-same-length-3
-same-length-3 c = search needs
 
 returns-2 : tie.Need-returns-2
 unfolding statusLines
@@ -92,17 +59,17 @@ pub status-spec : {M : Type 1} → statement M
 status-spec =
     tie.close
     (tie.spec
-    put-bad-length-requires
-    same-length
+    (λ c κs. search needs)
+    (λ c. search needs)
     returns
-    read-four-requires
-    read-eight-requires
-    shared-slice-read-unasked
-    read-four-requires-2
-    within-requires
-    slice-relend-prefix-write
+    (λ c κs. omega arith)
+    (λ c κs. omega arith)
+    (λ c. search needs)
+    (λ c κs. omega arith)
+    (λ c κs. search needs)
+    (λ c. search needs)
     slice-aggregate-write
-    write-requires
-    same-length-2
-    same-length-3
+    (λ c κs. search needs)
+    (λ c. search needs)
+    (λ c. search needs)
     returns-2)

@@ -10,12 +10,6 @@ use Rattle.replay_steps.specs.Records.{timeLines}
 use Rattle.replay_steps.proofs.records.time.Statement.{statement}
 use Rattle.replay_steps.proofs.records.time.Tie as tie
 
-put-bad-length-requires : tie.Need-put-bad-length-requires
-put-bad-length-requires c κs = search needs
-
-same-length : tie.Need-same-length
-same-length c = search needs
-
 returns : tie.Need-returns
 unfolding timeLines
 returns c =
@@ -33,4 +27,4 @@ returns-2 c =
     rw (eq-eqb (length (now (a .body))) 8 (c .if1 .left)) (added-none (now (a .out)) 0 (omega arith))
 
 pub time-spec : {M : Type 1} → statement M
-time-spec = tie.close (tie.spec put-bad-length-requires same-length returns returns-2)
+time-spec = tie.close (tie.spec (λ c κs. search needs) (λ c. search needs) returns returns-2)

@@ -8,18 +8,6 @@ use Rattle.replay_steps.specs.Records.{writtenLine}
 use Rattle.replay_steps.proofs.records.write.Statement.{statement}
 use Rattle.replay_steps.proofs.records.write.Tie as tie
 
-write-status-requires : tie.Need-write-status-requires
-write-status-requires c κs = search needs
-
-put-written-requires : tie.Need-put-written-requires
-put-written-requires c κs = search needs
-
-same-length : tie.Need-same-length
-same-length c = search needs
-
-same-length-2 : tie.Need-same-length-2
-same-length-2 c = search needs
-
 returns : tie.Need-returns
 unfolding writtenLine
 returns c =
@@ -33,4 +21,4 @@ returns c =
 pub write-spec : {M : Type 1} → statement M
 write-spec =
     tie.close
-    (tie.spec write-status-requires put-written-requires same-length same-length-2 returns)
+    (tie.spec (λ c κs. search needs) (λ c κs. search needs) (λ c. search needs) (λ c. search needs) returns)

@@ -7,18 +7,6 @@ use Rattle.saratoga.specs.declared.receiver.RecordedAnswer.{RecordedAnsw
 use Rattle.saratoga.proofs.bitmaps.saratoga_bitmap_record.Statement.{statement}
 use Rattle.saratoga.proofs.bitmaps.saratoga_bitmap_record.Tie as tie
 
-key-from-requires : tie.Need-key-from-requires
-key-from-requires c κs = search needs
-
-record-requires : tie.Need-record-requires
-record-requires c κs = search needs
-
-recorded-answer-requires : tie.Need-recorded-answer-requires
-recorded-answer-requires c κs = search needs
-
-same-length : tie.Need-same-length
-same-length c = search needs
-
 returns : tie.Need-returns
 returns c =
     let r = c .before .before .before in
@@ -29,4 +17,4 @@ returns c =
     )
 
 pub saratoga-bitmap-record-spec : {M : Type 1} → statement M
-saratoga-bitmap-record-spec = tie.close (tie.spec key-from-requires record-requires recorded-answer-requires same-length returns)
+saratoga-bitmap-record-spec = tie.close (tie.spec (λ c κs. search needs) (λ c κs. search needs) (λ c κs. search needs) (λ c. search needs) returns)

@@ -5,18 +5,6 @@ use Rattle.saratoga.specs.Answers.{writtenAnswer}
 use Rattle.saratoga.proofs.bitmaps.saratoga_bitmap_status.Statement.{statement}
 use Rattle.saratoga.proofs.bitmaps.saratoga_bitmap_status.Tie as tie
 
-key-from-requires : tie.Need-key-from-requires
-key-from-requires c κs = search needs
-
-write-status-requires : tie.Need-write-status-requires
-write-status-requires c κs = search needs
-
-written-answer-requires : tie.Need-written-answer-requires
-written-answer-requires c κs = search needs
-
-same-length : tie.Need-same-length
-same-length c = search needs
-
 returns : tie.Need-returns
 returns c =
     let w = c .before .before .before in
@@ -24,4 +12,4 @@ returns c =
     (c .written-answer .ensures ∙ ap writtenAnswer (rw k at (w .write-status .ensures .0)), rw k at (w .write-status .ensures .1))
 
 pub saratoga-bitmap-status-spec : {M : Type 1} → statement M
-saratoga-bitmap-status-spec = tie.close (tie.spec key-from-requires write-status-requires written-answer-requires same-length returns)
+saratoga-bitmap-status-spec = tie.close (tie.spec (λ c κs. search needs) (λ c κs. search needs) (λ c κs. search needs) (λ c. search needs) returns)

@@ -3,11 +3,8 @@ use borrow.Author.Needs.{needs}
 use Rattle.saratoga.proofs.packets.no_data.Statement.{statement}
 use Rattle.saratoga.proofs.packets.no_data.Tie as tie
 
-no-part-requires : tie.Need-no-part-requires
-no-part-requires c κs = search needs
-
 returns : tie.Need-returns
 returns c = cc
 
 pub no-data-spec : {M : Type 1} → statement M
-no-data-spec = tie.close (tie.spec no-part-requires returns)
+no-data-spec = tie.close (tie.spec (λ c κs. search needs) returns)

@@ -5,18 +5,9 @@ use borrow.Author.Needs.{needs}
 use Rattle.saratoga.proofs.packets.saratoga_write_beacon.Statement.{statement}
 use Rattle.saratoga.proofs.packets.saratoga_write_beacon.Tie as tie
 
-write-beacon-requires : tie.Need-write-beacon-requires
-write-beacon-requires c κs = search needs
-
-written-answer-requires : tie.Need-written-answer-requires
-written-answer-requires c κs = search needs
-
-same-length : tie.Need-same-length
-same-length c = search needs
-
 returns : tie.Need-returns
 returns c = (c .written-answer .ensures ∙ ap writtenAnswer (c .before .before .before .write-beacon .ensures .0), c .before .before .before .write-beacon .ensures .1)
 
 pub saratoga-write-beacon-spec : {M : Type 1} → statement M
 saratoga-write-beacon-spec =
-    tie.close (tie.spec write-beacon-requires written-answer-requires same-length returns)
+    tie.close (tie.spec (λ c κs. search needs) (λ c κs. search needs) (λ c. search needs) returns)

@@ -5,18 +5,9 @@ use borrow.Author.Needs.{needs}
 use Rattle.saratoga.proofs.packets.saratoga_write_metadata.Statement.{statement}
 use Rattle.saratoga.proofs.packets.saratoga_write_metadata.Tie as tie
 
-write-metadata-requires : tie.Need-write-metadata-requires
-write-metadata-requires c κs = search needs
-
-written-answer-requires : tie.Need-written-answer-requires
-written-answer-requires c κs = search needs
-
-same-length : tie.Need-same-length
-same-length c = search needs
-
 returns : tie.Need-returns
 returns c = (c .written-answer .ensures ∙ ap writtenAnswer (c .before .before .before .write-metadata .ensures .0), c .before .before .before .write-metadata .ensures .1)
 
 pub saratoga-write-metadata-spec : {M : Type 1} → statement M
 saratoga-write-metadata-spec =
-    tie.close (tie.spec write-metadata-requires written-answer-requires same-length returns)
+    tie.close (tie.spec (λ c κs. search needs) (λ c κs. search needs) (λ c. search needs) returns)

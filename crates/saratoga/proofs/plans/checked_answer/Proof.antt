@@ -6,12 +6,6 @@ use borrow.Author.Needs.{needs}
 use Rattle.saratoga.proofs.plans.checked_answer.Statement.{statement}
 use Rattle.saratoga.proofs.plans.checked_answer.Tie as tie
 
-refuse-requires : tie.Need-refuse-requires
-refuse-requires c κs = search needs
-
-check-passed-requires : tie.Need-check-passed-requires
-check-passed-requires c κs = search needs
-
 returns : tie.Need-returns
 returns c =
     let e : passed (c .before .before .before .args .k) ≡ true = sym (c .before .check-passed .ensures) ∙ c .if1 .taken in
@@ -23,4 +17,4 @@ returns-2 c =
     rw (c .before .before .refuse .ensures, e)
 
 pub checked-answer-spec : {M : Type 1} → statement M
-checked-answer-spec = tie.close (tie.spec refuse-requires check-passed-requires returns returns-2)
+checked-answer-spec = tie.close (tie.spec (λ c κs. search needs) (λ c κs. search needs) returns returns-2)

@@ -3,11 +3,8 @@ use borrow.Author.Needs.{needs}
 use Rattle.saratoga.proofs.plans.planned_answer.Statement.{statement}
 use Rattle.saratoga.proofs.plans.planned_answer.Tie as tie
 
-refuse-requires : tie.Need-refuse-requires
-refuse-requires c κs = search needs
-
 returns : tie.Need-returns
 returns c = rw (c .refuse .ensures)
 
 pub planned-answer-spec : {M : Type 1} → statement M
-planned-answer-spec = tie.close (tie.spec refuse-requires returns)
+planned-answer-spec = tie.close (tie.spec (λ c κs. search needs) returns)

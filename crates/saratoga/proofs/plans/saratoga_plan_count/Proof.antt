@@ -6,14 +6,8 @@ use borrow.Author.Needs.{needs}
 use Rattle.saratoga.proofs.plans.saratoga_plan_count.Statement.{statement}
 use Rattle.saratoga.proofs.plans.saratoga_plan_count.Tie as tie
 
-count-plan-requires : tie.Need-count-plan-requires
-count-plan-requires c κs = search needs
-
-planned-answer-requires : tie.Need-planned-answer-requires
-planned-answer-requires c κs = search needs
-
 returns : tie.Need-returns
 returns c = c .planned-answer .ensures ∙ ap (λ (p : Plan). plannedAnswer p) (c .before .count-plan .ensures)
 
 pub saratoga-plan-count-spec : {M : Type 1} → statement M
-saratoga-plan-count-spec = tie.close (tie.spec count-plan-requires planned-answer-requires returns)
+saratoga-plan-count-spec = tie.close (tie.spec (λ c κs. search needs) (λ c κs. search needs) returns)

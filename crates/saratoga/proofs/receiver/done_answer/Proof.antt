@@ -5,12 +5,6 @@ use borrow.Author.Needs.{needs}
 use Rattle.saratoga.proofs.receiver.done_answer.Statement.{statement}
 use Rattle.saratoga.proofs.receiver.done_answer.Tie as tie
 
-enum-told : tie.Need-enum-told
-enum-told c = search needs
-
-enum-known-a : tie.Need-enum-known-a
-enum-known-a c = search needs
-
 returns : tie.Need-returns
 returns c = ap doneAnswer (sym (c .enum-told .given .1))
 
@@ -18,4 +12,4 @@ returns-2 : tie.Need-returns-2
 returns-2 c = ap doneAnswer (sym (c .before .a .given .1))
 
 pub done-answer-spec : {M : Type 1} → statement M
-done-answer-spec = tie.close (tie.spec enum-told enum-known-a returns returns-2)
+done-answer-spec = tie.close (tie.spec (λ c. search needs) (λ c. search needs) returns returns-2)

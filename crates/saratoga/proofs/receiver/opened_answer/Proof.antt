@@ -5,21 +5,6 @@ use borrow.Author.Needs.{needs}
 use Rattle.saratoga.proofs.receiver.opened_answer.Statement.{statement}
 use Rattle.saratoga.proofs.receiver.opened_answer.Tie as tie
 
-enum-known-a : tie.Need-enum-known-a
-enum-known-a c = search needs
-
-one-if-requires : tie.Need-one-if-requires
-one-if-requires c κs = search needs
-
-enum-known-a-2 : tie.Need-enum-known-a-2
-enum-known-a-2 c = search needs
-
-one-if-requires-2 : tie.Need-one-if-requires-2
-one-if-requires-2 c κs = search needs
-
-enum-known-a-3 : tie.Need-enum-known-a-3
-enum-known-a-3 c = search needs
-
 returns : tie.Need-returns
 returns c = rw (c .one-if .ensures) (ap openedAnswer (sym (c .before .before .a .given .1)))
 
@@ -33,11 +18,11 @@ pub opened-answer-spec : {M : Type 1} → statement M
 opened-answer-spec =
     tie.close
     (tie.spec
-    enum-known-a
-    one-if-requires
-    enum-known-a-2
-    one-if-requires-2
-    enum-known-a-3
+    (λ c. search needs)
+    (λ c κs. search needs)
+    (λ c. search needs)
+    (λ c κs. search needs)
+    (λ c. search needs)
     returns
     returns-2
     returns-3)

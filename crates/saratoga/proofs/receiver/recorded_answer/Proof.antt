@@ -5,15 +5,6 @@ use borrow.Author.Needs.{needs}
 use Rattle.saratoga.proofs.receiver.recorded_answer.Statement.{statement}
 use Rattle.saratoga.proofs.receiver.recorded_answer.Tie as tie
 
-enum-known-a : tie.Need-enum-known-a
-enum-known-a c = search needs
-
-one-if-requires : tie.Need-one-if-requires
-one-if-requires c κs = search needs
-
-enum-known-a-2 : tie.Need-enum-known-a-2
-enum-known-a-2 c = search needs
-
 returns : tie.Need-returns
 returns c = rw (c .one-if .ensures) (ap recordedAnswer (sym (c .before .before .a .given .1)))
 
@@ -22,4 +13,4 @@ returns-2 c = ap recordedAnswer (sym (c .before .a2 .given .1))
 
 pub recorded-answer-spec : {M : Type 1} → statement M
 recorded-answer-spec =
-    tie.close (tie.spec enum-known-a one-if-requires enum-known-a-2 returns returns-2)
+    tie.close (tie.spec (λ c. search needs) (λ c κs. search needs) (λ c. search needs) returns returns-2)

@@ -5,17 +5,8 @@ use borrow.Author.Needs.{needs}
 use Rattle.saratoga.proofs.receiver.saratoga_close.Statement.{statement}
 use Rattle.saratoga.proofs.receiver.saratoga_close.Tie as tie
 
-close-requires : tie.Need-close-requires
-close-requires c κs = search needs
-
-done-answer-requires : tie.Need-done-answer-requires
-done-answer-requires c κs = search needs
-
-same-length : tie.Need-same-length
-same-length c = search needs
-
 returns : tie.Need-returns
 returns c = (c .done-answer .ensures ∙ ap doneAnswer (c .before .before .before .close .ensures .0), c .before .before .before .close .ensures .1)
 
 pub saratoga-close-spec : {M : Type 1} → statement M
-saratoga-close-spec = tie.close (tie.spec close-requires done-answer-requires same-length returns)
+saratoga-close-spec = tie.close (tie.spec (λ c κs. search needs) (λ c κs. search needs) (λ c. search needs) returns)

@@ -5,17 +5,8 @@ use borrow.Author.Needs.{needs}
 use Rattle.saratoga.proofs.receiver.saratoga_fresh.Statement.{statement}
 use Rattle.saratoga.proofs.receiver.saratoga_fresh.Tie as tie
 
-fresh-requires : tie.Need-fresh-requires
-fresh-requires c κs = search needs
-
-done-answer-requires : tie.Need-done-answer-requires
-done-answer-requires c κs = search needs
-
-same-length : tie.Need-same-length
-same-length c = search needs
-
 returns : tie.Need-returns
 returns c = (c .done-answer .ensures ∙ ap doneAnswer (c .before .before .before .fresh .ensures .0), c .before .before .before .fresh .ensures .1)
 
 pub saratoga-fresh-spec : {M : Type 1} → statement M
-saratoga-fresh-spec = tie.close (tie.spec fresh-requires done-answer-requires same-length returns)
+saratoga-fresh-spec = tie.close (tie.spec (λ c κs. search needs) (λ c κs. search needs) (λ c. search needs) returns)

@@ -5,17 +5,8 @@ use borrow.Author.Needs.{needs}
 use Rattle.saratoga.proofs.receiver.saratoga_open.Statement.{statement}
 use Rattle.saratoga.proofs.receiver.saratoga_open.Tie as tie
 
-open-requires : tie.Need-open-requires
-open-requires c κs = search needs
-
-opened-answer-requires : tie.Need-opened-answer-requires
-opened-answer-requires c κs = search needs
-
-same-length : tie.Need-same-length
-same-length c = search needs
-
 returns : tie.Need-returns
 returns c = (c .opened-answer .ensures ∙ ap openedAnswer (c .before .before .before .«open» .ensures .0), c .before .before .before .«open» .ensures .1)
 
 pub saratoga-open-spec : {M : Type 1} → statement M
-saratoga-open-spec = tie.close (tie.spec open-requires opened-answer-requires same-length returns)
+saratoga-open-spec = tie.close (tie.spec (λ c κs. search needs) (λ c κs. search needs) (λ c. search needs) returns)

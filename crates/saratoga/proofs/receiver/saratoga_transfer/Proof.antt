@@ -5,14 +5,8 @@ use borrow.Author.Needs.{needs}
 use Rattle.saratoga.proofs.receiver.saratoga_transfer.Statement.{statement}
 use Rattle.saratoga.proofs.receiver.saratoga_transfer.Tie as tie
 
-transfer-requires : tie.Need-transfer-requires
-transfer-requires c κs = search needs
-
-listed-answer-requires : tie.Need-listed-answer-requires
-listed-answer-requires c κs = search needs
-
 returns : tie.Need-returns
 returns c = c .listed-answer .ensures ∙ ap listedAnswer (c .before .transfer .ensures)
 
 pub saratoga-transfer-spec : {M : Type 1} → statement M
-saratoga-transfer-spec = tie.close (tie.spec transfer-requires listed-answer-requires returns)
+saratoga-transfer-spec = tie.close (tie.spec (λ c κs. search needs) (λ c κs. search needs) returns)

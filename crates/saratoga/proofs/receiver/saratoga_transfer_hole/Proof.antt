@@ -5,14 +5,8 @@ use borrow.Author.Needs.{needs}
 use Rattle.saratoga.proofs.receiver.saratoga_transfer_hole.Statement.{statement}
 use Rattle.saratoga.proofs.receiver.saratoga_transfer_hole.Tie as tie
 
-transfer-hole-requires : tie.Need-transfer-hole-requires
-transfer-hole-requires c κs = search needs
-
-hole-answer-requires : tie.Need-hole-answer-requires
-hole-answer-requires c κs = search needs
-
 returns : tie.Need-returns
 returns c = c .hole-answer .ensures ∙ ap holeAnswer (c .before .transfer-hole .ensures)
 
 pub saratoga-transfer-hole-spec : {M : Type 1} → statement M
-saratoga-transfer-hole-spec = tie.close (tie.spec transfer-hole-requires hole-answer-requires returns)
+saratoga-transfer-hole-spec = tie.close (tie.spec (λ c κs. search needs) (λ c κs. search needs) returns)

@@ -5,14 +5,8 @@ use borrow.Author.Needs.{needs}
 use Rattle.saratoga.proofs.receiver.saratoga_try_record.Statement.{statement}
 use Rattle.saratoga.proofs.receiver.saratoga_try_record.Tie as tie
 
-try-record-requires : tie.Need-try-record-requires
-try-record-requires c κs = search needs
-
-recorded-answer-requires : tie.Need-recorded-answer-requires
-recorded-answer-requires c κs = search needs
-
 returns : tie.Need-returns
 returns c = c .recorded-answer .ensures ∙ ap recordedAnswer (c .before .try-record .ensures)
 
 pub saratoga-try-record-spec : {M : Type 1} → statement M
-saratoga-try-record-spec = tie.close (tie.spec try-record-requires recorded-answer-requires returns)
+saratoga-try-record-spec = tie.close (tie.spec (λ c κs. search needs) (λ c κs. search needs) returns)

@@ -5,18 +5,9 @@ use borrow.Author.Needs.{needs}
 use Rattle.saratoga.proofs.receiver.saratoga_write_status.Statement.{statement}
 use Rattle.saratoga.proofs.receiver.saratoga_write_status.Tie as tie
 
-write-status-requires : tie.Need-write-status-requires
-write-status-requires c κs = search needs
-
-written-answer-requires : tie.Need-written-answer-requires
-written-answer-requires c κs = search needs
-
-same-length : tie.Need-same-length
-same-length c = search needs
-
 returns : tie.Need-returns
 returns c = (c .written-answer .ensures ∙ ap writtenAnswer (c .before .before .before .write-status .ensures .0), c .before .before .before .write-status .ensures .1)
 
 pub saratoga-write-status-spec : {M : Type 1} → statement M
 saratoga-write-status-spec =
-    tie.close (tie.spec write-status-requires written-answer-requires same-length returns)
+    tie.close (tie.spec (λ c κs. search needs) (λ c κs. search needs) (λ c. search needs) returns)

@@ -16,11 +16,5 @@ hole-room-requires c κs =
     let a = c .args in
     fields-room (a .width) (a .holes) (a .skip) (a .room) (c .pre .0) (c .pre .1)
 
-lesser-requires : tie.Need-lesser-requires
-lesser-requires c κs = search needs
-
-returns : tie.Need-returns
-returns c = search needs
-
 pub holes-to-send-spec : {M : Type 1} → statement M
-holes-to-send-spec = tie.close (tie.spec sub-left hole-room-requires lesser-requires returns)
+holes-to-send-spec = tie.close (tie.spec sub-left hole-room-requires (λ c κs. search needs) (λ c. search needs))

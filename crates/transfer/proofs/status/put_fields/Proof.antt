@@ -9,31 +9,10 @@ use Rattle.transfer.specs.WriteStatus.{statusFlags}
 use Rattle.transfer.proofs.status.put_fields.Statement.{statement}
 use Rattle.transfer.proofs.status.put_fields.Tie as tie
 
-status-flags-requires : tie.Need-status-flags-requires
-status-flags-requires c κs = search needs
-
 join-requires : tie.Need-join-requires
 join-requires c κs =
     let a = c .before .before .before .args in
     (omega arith, rw (c .before .status-flags .ensures) (flags-fit (a .key .width) (a .partial) (a .unasked)))
-
-write-number-requires : tie.Need-write-number-requires
-write-number-requires c κs = search needs
-
-write-number-requires-2 : tie.Need-write-number-requires-2
-write-number-requires-2 c κs = search needs
-
-write-number-requires-3 : tie.Need-write-number-requires-3
-write-number-requires-3 c κs = search needs
-
-add-write-number : tie.Need-add-write-number
-add-write-number c = search needs
-
-write-number-requires-4 : tie.Need-write-number-requires-4
-write-number-requires-4 c κs = search needs
-
-same-length : tie.Need-same-length
-same-length c = search needs
 
 returns : tie.Need-returns
 returns c =
@@ -54,12 +33,12 @@ pub put-fields-spec : {M : Type 1} → statement M
 put-fields-spec =
     tie.close
     (tie.spec
-    status-flags-requires
+    (λ c κs. search needs)
     join-requires
-    write-number-requires
-    write-number-requires-2
-    write-number-requires-3
-    add-write-number
-    write-number-requires-4
-    same-length
+    (λ c κs. search needs)
+    (λ c κs. search needs)
+    (λ c κs. search needs)
+    (λ c. search needs)
+    (λ c κs. search needs)
+    (λ c. search needs)
     returns)

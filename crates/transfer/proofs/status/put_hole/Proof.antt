@@ -10,18 +10,6 @@ use native.Mathlib.Omega.{arith}
 use Rattle.transfer.proofs.status.put_hole.Statement.{statement}
 use Rattle.transfer.proofs.status.put_hole.Tie as tie
 
-write-number-requires : tie.Need-write-number-requires
-write-number-requires c κs = search needs
-
-add-write-number : tie.Need-add-write-number
-add-write-number c = search needs
-
-write-number-requires-2 : tie.Need-write-number-requires-2
-write-number-requires-2 c κs = search needs
-
-same-length : tie.Need-same-length
-same-length c = search needs
-
 returns : tie.Need-returns
 returns c =
     let a = c .before .before .before .before .before .before .before .before .before .args in
@@ -33,4 +21,4 @@ returns c =
 pub put-hole-spec : {M : Type 1} → statement M
 put-hole-spec =
     tie.close
-    (tie.spec write-number-requires add-write-number write-number-requires-2 same-length returns)
+    (tie.spec (λ c κs. search needs) (λ c. search needs) (λ c κs. search needs) (λ c. search needs) returns)

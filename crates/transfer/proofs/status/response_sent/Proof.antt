@@ -12,9 +12,6 @@ use Rattle.transfer.proofs.status.response_sent.Tie as tie
 returns : tie.Need-returns
 returns c = let e : c .before .args .complete ≡ false = not-true _ (c .if1 .taken) in rw e
 
-sub-result : tie.Need-sub-result
-sub-result c = search needs
-
 returns-2 : tie.Need-returns-2
 returns-2 c =
     let a = c .before .before .args in
@@ -28,4 +25,4 @@ returns-3 c =
     rw (e, last-is) (omega arith)
 
 pub response-sent-spec : {M : Type 1} → statement M
-response-sent-spec = tie.close (tie.spec returns sub-result returns-2 returns-3)
+response-sent-spec = tie.close (tie.spec returns (λ c. search needs) returns-2 returns-3)

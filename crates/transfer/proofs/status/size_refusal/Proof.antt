@@ -9,18 +9,12 @@ use native.Mathlib.Omega.{arith}
 use Rattle.transfer.proofs.status.size_refusal.Statement.{statement}
 use Rattle.transfer.proofs.status.size_refusal.Tie as tie
 
-skips-too-many-requires : tie.Need-skips-too-many-requires
-skips-too-many-requires c κs = search needs
-
 returns : tie.Need-returns
 unfolding sizeRefusal
 returns c =
     let a = c .before .before .args in
     let t : skipsTooMany (a .skip) (a .holes) ≡ true = sym (c .before .skips-too-many .ensures) ∙ c .if1 .taken in
     rw t
-
-least-room-requires : tie.Need-least-room-requires
-least-room-requires c κs = search needs
 
 -- where 19 is not given
 allowed : (c : tie.Else1) → skipsTooMany (c .before .before .args .skip) (c .before .before .args .holes) ≡ false
@@ -40,4 +34,4 @@ returns-3 c =
 
 pub size-refusal-spec : {M : Type 1} → statement M
 size-refusal-spec =
-    tie.close (tie.spec skips-too-many-requires returns least-room-requires returns-2 returns-3)
+    tie.close (tie.spec (λ c κs. search needs) returns (λ c κs. search needs) returns-2 returns-3)

@@ -5,15 +5,6 @@ use borrow.Author.Needs.{needs}
 use Rattle.transfer.proofs.status.status_flags.Statement.{statement}
 use Rattle.transfer.proofs.status.status_flags.Tie as tie
 
-width-bits-requires : tie.Need-width-bits-requires
-width-bits-requires c κs = search needs
-
-bit-of-requires : tie.Need-bit-of-requires
-bit-of-requires c κs = search needs
-
-bit-of-requires-2 : tie.Need-bit-of-requires-2
-bit-of-requires-2 c κs = search needs
-
 returns : tie.Need-returns
 returns c =
     let a = c .before .before .before .args in
@@ -22,4 +13,4 @@ returns c =
 
 pub status-flags-spec : {M : Type 1} → statement M
 status-flags-spec =
-    tie.close (tie.spec width-bits-requires bit-of-requires bit-of-requires-2 returns)
+    tie.close (tie.spec (λ c κs. search needs) (λ c κs. search needs) (λ c κs. search needs) returns)

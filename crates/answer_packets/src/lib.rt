@@ -1,16 +1,15 @@
-// Packets: reading any of them, one hole of a STATUS, and writing BEACON, METADATA, DATA and failure STATUS.
+// What C is answered of a packet that was read, by its case, of one hole of a STATUS, and of BEACON, METADATA, DATA and failure STATUS
+// that are written.
 ghost use mathlib.Core.Path.{_≡_};
-ghost use Rattle.packet.specs.Read.{readPacket};
 ghost use Rattle.packet_beacon.specs.WriteBeacon.{beaconWritten, beaconBuffer};
 ghost use Rattle.packet_data.specs.WriteData.{dataWritten, dataBuffer};
 ghost use Rattle.packet_metadata.specs.WriteMetadata.{metadataWritten, metadataBuffer};
 ghost use Rattle.packet_status.specs.Status.{readHole};
 ghost use Rattle.packet_status.specs.WriteFailure.{failureWritten, failureBuffer};
-ghost use Rattle.answer_packets.specs.PacketAnswers.{noPart, noMetadata, noData, noStatus, noBeacon, stateNumber, beaconPacket, metadataPacket, dataPacket, successPacket, failurePacket, refusedPacket, packetAnswer};
+ghost use Rattle.answer_packets.specs.PacketAnswers.{noPart, noMetadata, noData, noStatus, noBeacon, stateNumber, beaconPacket, metadataPacket, dataPacket, successPacket, failurePacket, refusedPacket};
 ghost use Rattle.answers.specs.Answers.{holeAnswer, writtenAnswer};
 use answers::HoleAnswer;
 use answers::WrittenAnswer;
-use packet::Read;
 use packet_beacon::Beacon;
 use packet_beacon::Willingness;
 use packet_data::Data;
@@ -169,7 +168,7 @@ fn beacon_part(b: Beacon) -> BeaconPart
     }
 }
 
-fn beacon_packet(b: Beacon) -> PacketAnswer
+pub fn beacon_packet(b: Beacon) -> PacketAnswer
     ensures { λ r. ⌜ r ≡ beaconPacket b ⌝ }
 {
     PacketAnswer {
@@ -187,7 +186,7 @@ fn beacon_packet(b: Beacon) -> PacketAnswer
     }
 }
 
-fn metadata_packet(m: Metadata) -> PacketAnswer
+pub fn metadata_packet(m: Metadata) -> PacketAnswer
     ensures { λ r. ⌜ r ≡ metadataPacket m ⌝ }
 {
     PacketAnswer {
@@ -218,7 +217,7 @@ fn metadata_packet(m: Metadata) -> PacketAnswer
     }
 }
 
-fn data_packet(d: Data) -> PacketAnswer
+pub fn data_packet(d: Data) -> PacketAnswer
     ensures { λ r. ⌜ r ≡ dataPacket d ⌝ }
 {
     PacketAnswer {
@@ -245,7 +244,7 @@ fn data_packet(d: Data) -> PacketAnswer
     }
 }
 
-fn success_packet(s: SuccessStatus) -> PacketAnswer
+pub fn success_packet(s: SuccessStatus) -> PacketAnswer
     ensures { λ r. ⌜ r ≡ successPacket s ⌝ }
 {
     PacketAnswer {
@@ -272,7 +271,7 @@ fn success_packet(s: SuccessStatus) -> PacketAnswer
     }
 }
 
-fn failure_packet(f: FailureStatus) -> PacketAnswer
+pub fn failure_packet(f: FailureStatus) -> PacketAnswer
     ensures { λ r. ⌜ r ≡ failurePacket f ⌝ }
 {
     PacketAnswer {
@@ -296,7 +295,7 @@ fn failure_packet(f: FailureStatus) -> PacketAnswer
     }
 }
 
-fn refused_packet(refusal: Refusal) -> PacketAnswer
+pub fn refused_packet(refusal: Refusal) -> PacketAnswer
     ensures { λ r. ⌜ r ≡ refusedPacket refusal ⌝ }
 {
     PacketAnswer {
@@ -311,25 +310,6 @@ fn refused_packet(refusal: Refusal) -> PacketAnswer
         data: no_data(),
         status: no_status(),
         beacon: no_beacon(),
-    }
-}
-
-// DATA comes most often and is answered first, without the enum. Each case has its own `return`: where they met in one
-// place, the compiler would bring 33 fields there over the stack.
-pub fn read(packet: &[u8]) -> PacketAnswer
-    ensures { λ r. ⌜ r ≡ packetAnswer (readPacket (now (packet .entry))) ⌝ }
-{
-    if packet_data::data_refusal(packet) == 0 {
-        return data_packet(packet_data::data_fields(packet));
-    }
-    let a = packet::read_packet(packet);
-    match a {
-        Read::Beacon(b) => return beacon_packet(b),
-        Read::Metadata(m) => return metadata_packet(m),
-        Read::Data(d) => return data_packet(d),
-        Read::Success(s) => return success_packet(s),
-        Read::Failure(f) => return failure_packet(f),
-        Read::Refused(r) => return refused_packet(r),
     }
 }
 

@@ -1,5 +1,5 @@
 // The public face: what C calls, on numbers and octet slices. include/saratoga.h declares it and says what each field means.
-// Each function is one call of the function below it that has the same contract.
+// Each function but `saratoga_read` is one call of the function below it that has the same contract.
 pub mod bitmaps;
 pub mod packets;
 pub mod plans;

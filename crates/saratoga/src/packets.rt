@@ -11,12 +11,26 @@ ghost use Rattle.answer_packets.specs.PacketAnswers.{packetAnswer};
 use answer_packets::PacketAnswer;
 use answers::HoleAnswer;
 use answers::WrittenAnswer;
+use packet::Read;
 
+// DATA comes most often and is answered first, without the enum. Each case has its own `return`, and stands here and not in one
+// function below: where the cases met in one place, the compiler would bring 33 fields there over the stack.
 #[no_mangle]
 pub extern "C" fn saratoga_read(packet: &[u8]) -> PacketAnswer
     ensures { λ r. ⌜ r ≡ packetAnswer (readPacket (now (packet .entry))) ⌝ }
 {
-    answer_packets::read(packet)
+    if packet_data::data_refusal(packet) == 0 {
+        return answer_packets::data_packet(packet_data::data_fields(packet));
+    }
+    let a = packet::read_packet(packet);
+    match a {
+        Read::Beacon(b) => return answer_packets::beacon_packet(b),
+        Read::Metadata(m) => return answer_packets::metadata_packet(m),
+        Read::Data(d) => return answer_packets::data_packet(d),
+        Read::Success(s) => return answer_packets::success_packet(s),
+        Read::Failure(f) => return answer_packets::failure_packet(f),
+        Read::Refused(r) => return answer_packets::refused_packet(r),
+    }
 }
 
 #[no_mangle]

@@ -1,15 +1,15 @@
--- `answer_packets::read` meets its contract: DATA that is not refused, and else what the reader answers, case by case.
+-- `saratoga::packets::saratoga_read` meets its contract: DATA that is not refused, and else what the reader answers, case by case.
 -- Assumes nothing.
 use mathlib.Core.Path.{_≡_, sym, ap, _∙_}
 use denote.Ref.{now}
 use Rattle.packet_data.specs.Data.{dataRefusal}
 use Rattle.packet.specs.declared.Read.the-variants.{Data}
 use Rattle.packet.proofs.CaseLaws.{data-taken}
 use Rattle.answer_packets.specs.PacketAnswers.{packetAnswer}
 use borrow.Author.Needs.{needs}
 use native.Mathlib.Omega.{arith}
-use Rattle.answer_packets.proofs.read.Statement.{statement}
-use Rattle.answer_packets.proofs.read.Tie as tie
+use Rattle.saratoga.proofs.packets.saratoga_read.Statement.{statement}
+use Rattle.saratoga.proofs.packets.saratoga_read.Tie as tie
 
 returns : tie.Need-returns
 returns c =
@@ -36,8 +36,8 @@ returns-6 c = c .failure-packet .ensures ∙ ap packetAnswer (sym (c .before .be
 returns-7 : tie.Need-returns-7
 returns-7 c = c .refused-packet .ensures ∙ ap packetAnswer (sym (c .before .before .a6 .given .1) ∙ c .before .before .before .before .read-packet .ensures)
 
-pub read-spec : {M : Type 1} → statement M
-read-spec =
+pub saratoga-read-spec : {M : Type 1} → statement M
+saratoga-read-spec =
     tie.close
     (tie.spec
     (λ c κs. search needs)

@@ -72,9 +72,9 @@ fn opened_answer(a: Opened) -> OpenedAnswer
             complete: answers::one_if(x.complete),
             already_open: 1,
         },
-        Opened::Refused(refusal) => OpenedAnswer {
-            number: refusal.number,
-            code: refusal.code,
+        Opened::Refused(refused) => OpenedAnswer {
+            number: refused.number,
+            code: refused.code,
             edge: 0,
             complete: 0,
             already_open: 0,
@@ -96,9 +96,9 @@ fn listed_answer(a: Listed) -> ListedAnswer
             complete: answers::one_if(x.complete),
             runs: x.runs,
         },
-        Listed::Refused(refusal) => ListedAnswer {
-            number: refusal.number,
-            code: refusal.code,
+        Listed::Refused(r) => ListedAnswer {
+            number: r.number,
+            code: r.code,
             id: 0,
             width: 0,
             length: 0,

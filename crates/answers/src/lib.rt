@@ -70,9 +70,9 @@ pub fn hole_answer(a: HoleRead) -> HoleAnswer
             start: h.start,
             end: h.end,
         },
-        HoleRead::Refused(refusal) => HoleAnswer {
-            number: refusal.number,
-            code: refusal.code,
+        HoleRead::Refused(r) => HoleAnswer {
+            number: r.number,
+            code: r.code,
             start: 0,
             end: 0,
         },
@@ -91,9 +91,9 @@ pub fn recorded_answer(a: Recorded) -> RecordedAnswer
             complete: one_if(x.reached.complete),
             absorbed: x.absorbed,
         },
-        Recorded::Refused(refusal) => RecordedAnswer {
-            number: refusal.number,
-            code: refusal.code,
+        Recorded::Refused(refused) => RecordedAnswer {
+            number: refused.number,
+            code: refused.code,
             edge: 0,
             complete: 0,
             absorbed: 0,

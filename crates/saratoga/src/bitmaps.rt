@@ -3,90 +3,19 @@ ghost use mathlib.Core.Path.{_≡_};
 ghost use Rattle.bitmap.specs.Open.{openMarks};
 ghost use Rattle.bitmap.specs.Record.{recordMarks};
 ghost use Rattle.bitmap.specs.WriteStatus.{marksWritten, marksBuffer};
-ghost use Rattle.saratoga.specs.Answers.{writtenAnswer};
-ghost use Rattle.saratoga.specs.TableAnswers.{isUnasked};
-ghost use Rattle.saratoga.specs.BitmapAnswers.{keyFrom, bitmapOf, bitmapOpenedAnswer, bitmapRecordedAnswer};
-use crate::packets::WrittenAnswer;
-use crate::receiver::RecordedAnswer;
-use bitmap::Opened;
-use transfer::Key;
-
-// struct saratoga_bitmap.
-#[repr(C)]
-pub struct Bitmap {
-    pub id: u64,
-    pub width: u64,
-    pub length: u64,
-}
-
-// struct saratoga_bitmap_opened.
-#[repr(C)]
-pub struct BitmapOpenedAnswer {
-    pub number: u64,
-    pub code: u64,
-    pub edge: u64,
-    pub complete: u64,
-    pub transfer: Bitmap,
-}
-
-// struct saratoga_bitmap_recorded: what recording in a table answers, and the record.
-#[repr(C)]
-pub struct BitmapRecordedAnswer {
-    pub answer: RecordedAnswer,
-    pub transfer: Bitmap,
-}
-
-fn key_from(b: Bitmap) -> Key
-    ensures { λ r. ⌜ r ≡ keyFrom b ⌝ }
-{
-    Key {
-        id: b.id,
-        width: b.width as usize,
-        length: b.length,
-    }
-}
-
-fn bitmap_of(key: Key) -> Bitmap
-    ensures { λ r. ⌜ r ≡ bitmapOf key ⌝ }
-{
-    Bitmap {
-        id: key.id,
-        width: key.width as u64,
-        length: key.length,
-    }
-}
-
-fn bitmap_opened_answer(a: Opened) -> BitmapOpenedAnswer
-    ensures { λ r. ⌜ r ≡ bitmapOpenedAnswer a ⌝ }
-{
-    match a {
-        Opened::New(x) => BitmapOpenedAnswer {
-            number: 0,
-            code: 0,
-            edge: x.reached.edge,
-            complete: crate::receiver::one_if(x.reached.complete),
-            transfer: bitmap_of(x.key),
-        },
-        Opened::Refused(refusal) => BitmapOpenedAnswer {
-            number: refusal.number,
-            code: refusal.code,
-            edge: 0,
-            complete: 0,
-            transfer: Bitmap {
-                id: 0,
-                width: 0,
-                length: 0,
-            },
-        },
-    }
-}
+ghost use Rattle.answers.specs.Answers.{isUnasked, writtenAnswer};
+ghost use Rattle.answer_marks.specs.BitmapAnswers.{keyFrom, bitmapOpenedAnswer, bitmapRecordedAnswer};
+use answer_marks::Bitmap;
+use answer_marks::BitmapOpenedAnswer;
+use answer_marks::BitmapRecordedAnswer;
+use answers::WrittenAnswer;
 
 #[no_mangle]
 pub extern "C" fn saratoga_bitmap_open(marks: &mut [u8], packet: &[u8]) -> BitmapOpenedAnswer
     ensures { λ r. ⌜ (r ≡ bitmapOpenedAnswer (openMarks (now (marks .entry)) (now (packet .entry)) .answer))
         × (now (marks .exit) ≡ openMarks (now (marks .entry)) (now (packet .entry)) .marks) ⌝ }
 {
-    bitmap_opened_answer(bitmap::open(marks, packet))
+    answer_marks::open(marks, packet)
 }
 
 #[no_mangle]
@@ -98,11 +27,7 @@ pub extern "C" fn saratoga_bitmap_record(
     ensures { λ r. ⌜ (r ≡ bitmapRecordedAnswer b (recordMarks (keyFrom b) (now (marks .entry)) (now (packet .entry)) .answer))
         × (now (marks .exit) ≡ recordMarks (keyFrom b) (now (marks .entry)) (now (packet .entry)) .marks) ⌝ }
 {
-    let answer = crate::receiver::recorded_answer(bitmap::record(key_from(b), marks, packet));
-    BitmapRecordedAnswer {
-        answer,
-        transfer: b,
-    }
+    answer_marks::record(b, marks, packet)
 }
 
 #[no_mangle]
@@ -116,11 +41,5 @@ pub extern "C" fn saratoga_bitmap_status(
     ensures { λ r. ⌜ (r ≡ writtenAnswer (marksWritten (keyFrom b) (now (marks .entry)) skip (isUnasked unasked) (now (out .entry))))
         × (now (out .exit) ≡ marksBuffer (keyFrom b) (now (marks .entry)) skip (isUnasked unasked) (now (out .entry))) ⌝ }
 {
-    crate::packets::written_answer(bitmap::write_status(
-        key_from(b),
-        marks,
-        skip,
-        unasked != 0,
-        out,
-    ))
+    answer_marks::write_status(b, marks, skip, unasked, out)
 }

@@ -6,386 +6,30 @@ ghost use Rattle.packet_data.specs.WriteData.{dataWritten, dataBuffer};
 ghost use Rattle.packet_metadata.specs.WriteMetadata.{metadataWritten, metadataBuffer};
 ghost use Rattle.packet_status.specs.Status.{readHole};
 ghost use Rattle.packet_status.specs.WriteFailure.{failureWritten, failureBuffer};
-ghost use Rattle.saratoga.specs.PacketAnswers.{noPart, noMetadata, noData, noStatus, noBeacon, stateNumber, beaconPacket, metadataPacket, dataPacket, successPacket, failurePacket, refusedPacket, packetAnswer};
-ghost use Rattle.saratoga.specs.Answers.{holeAnswer, writtenAnswer};
+ghost use Rattle.answers.specs.Answers.{holeAnswer, writtenAnswer};
+ghost use Rattle.answer_packets.specs.PacketAnswers.{packetAnswer};
+use answer_packets::PacketAnswer;
+use answers::HoleAnswer;
+use answers::WrittenAnswer;
 use packet::Read;
-use packet_beacon::Beacon;
-use packet_beacon::Willingness;
-use packet_data::Data;
-use packet_metadata::Metadata;
-use packet_status::FailureStatus;
-use packet_status::HoleRead;
-use packet_status::SuccessStatus;
-use refusals::Refusal;
-use refusals::Written;
 
-// A part of the packet: its place and its length, in octets.
-#[repr(C)]
-pub struct Part {
-    pub at: usize,
-    pub len: usize,
-}
-
-// What METADATA alone has.
-#[repr(C)]
-pub struct MetadataPart {
-    pub checksum: Part,
-    pub properties: u64,
-    pub size: u64,
-    pub mtime: u64,
-    pub ctime: u64,
-    pub path: Part,
-}
-
-// What DATA alone has.
-#[repr(C)]
-pub struct DataPart {
-    pub offset: u64,
-    pub payload: Part,
-}
-
-// What STATUS alone has.
-#[repr(C)]
-pub struct StatusPart {
-    pub status: u64,
-    pub progress: u64,
-    pub in_response_to: u64,
-    pub holes_at: usize,
-    pub hole_count: usize,
-}
-
-// What BEACON alone has.
-#[repr(C)]
-pub struct BeaconPart {
-    pub largest_width: usize,
-    pub bundles: u64,
-    pub streams: u64,
-    pub send: u64,
-    pub receive: u64,
-    pub free_width: usize,
-    pub free_space: u64,
-    pub endpoint: Part,
-}
-
-// struct saratoga_packet, part by part; `ptype` is its field `type`. Parts of 64-bit fields lie in memory as the fields do.
-#[repr(C)]
-pub struct PacketAnswer {
-    pub number: u64,
-    pub code: u64,
-    pub ptype: u64,
-    pub flags: u64,
-    pub id: u64,
-    pub width: usize,
-    pub timestamp: Part,
-    pub metadata: MetadataPart,
-    pub data: DataPart,
-    pub status: StatusPart,
-    pub beacon: BeaconPart,
-}
-
-// struct saratoga_hole.
-#[repr(C)]
-pub struct HoleAnswer {
-    pub number: u64,
-    pub code: u64,
-    pub start: u64,
-    pub end: u64,
-}
-
-// struct saratoga_written.
-#[repr(C)]
-pub struct WrittenAnswer {
-    pub number: u64,
-    pub code: u64,
-    pub size: usize,
-}
-
-fn no_part() -> Part
-    ensures { λ r. ⌜ r ≡ noPart ⌝ }
-{
-    Part { at: 0, len: 0 }
-}
-
-fn no_metadata() -> MetadataPart
-    ensures { λ r. ⌜ r ≡ noMetadata ⌝ }
-{
-    MetadataPart {
-        checksum: no_part(),
-        properties: 0,
-        size: 0,
-        mtime: 0,
-        ctime: 0,
-        path: no_part(),
-    }
-}
-
-fn no_data() -> DataPart
-    ensures { λ r. ⌜ r ≡ noData ⌝ }
-{
-    DataPart {
-        offset: 0,
-        payload: no_part(),
-    }
-}
-
-fn no_status() -> StatusPart
-    ensures { λ r. ⌜ r ≡ noStatus ⌝ }
-{
-    StatusPart {
-        status: 0,
-        progress: 0,
-        in_response_to: 0,
-        holes_at: 0,
-        hole_count: 0,
-    }
-}
-
-fn no_beacon() -> BeaconPart
-    ensures { λ r. ⌜ r ≡ noBeacon ⌝ }
-{
-    BeaconPart {
-        largest_width: 0,
-        bundles: 0,
-        streams: 0,
-        send: 0,
-        receive: 0,
-        free_width: 0,
-        free_space: 0,
-        endpoint: no_part(),
-    }
-}
-
-// The number of a state.
-fn state_number(w: Willingness) -> u64
-    ensures { λ r. ⌜ r ≡ stateNumber w ⌝ }
-{
-    match w {
-        Willingness::Cannot => 0,
-        Willingness::NotNow => 1,
-        Willingness::Willing => 2,
-    }
-}
-
-fn beacon_part(b: Beacon) -> BeaconPart
-    ensures { λ r. ⌜ r ≡ beaconPacket b .beacon ⌝ }
-{
-    let send = b.send;
-    let receive = b.receive;
-    BeaconPart {
-        largest_width: b.largest,
-        bundles: b.bundles,
-        streams: b.streams,
-        send: state_number(send),
-        receive: state_number(receive),
-        free_width: b.width,
-        free_space: b.free,
-        endpoint: Part {
-            at: b.start,
-            len: b.length,
-        },
-    }
-}
-
-fn beacon_packet(b: Beacon) -> PacketAnswer
-    ensures { λ r. ⌜ r ≡ beaconPacket b ⌝ }
-{
-    PacketAnswer {
-        number: 0,
-        code: 0,
-        ptype: 0,
-        flags: b.flags,
-        id: 0,
-        width: 0,
-        timestamp: no_part(),
-        metadata: no_metadata(),
-        data: no_data(),
-        status: no_status(),
-        beacon: beacon_part(b),
-    }
-}
-
-fn metadata_packet(m: Metadata) -> PacketAnswer
-    ensures { λ r. ⌜ r ≡ metadataPacket m ⌝ }
-{
-    PacketAnswer {
-        number: 0,
-        code: 0,
-        ptype: 2,
-        flags: m.flags,
-        id: m.id,
-        width: m.width,
-        timestamp: no_part(),
-        metadata: MetadataPart {
-            checksum: Part {
-                at: 8,
-                len: m.checksum,
-            },
-            properties: m.entry.properties,
-            size: m.entry.size,
-            mtime: m.entry.mtime,
-            ctime: m.entry.ctime,
-            path: Part {
-                at: m.entry.path,
-                len: m.entry.length,
-            },
-        },
-        data: no_data(),
-        status: no_status(),
-        beacon: no_beacon(),
-    }
-}
-
-fn data_packet(d: Data) -> PacketAnswer
-    ensures { λ r. ⌜ r ≡ dataPacket d ⌝ }
-{
-    PacketAnswer {
-        number: 0,
-        code: 0,
-        ptype: 3,
-        flags: d.flags,
-        id: d.id,
-        width: d.width,
-        timestamp: Part {
-            at: 8,
-            len: d.timestamp,
-        },
-        metadata: no_metadata(),
-        data: DataPart {
-            offset: d.offset,
-            payload: Part {
-                at: d.start,
-                len: d.length,
-            },
-        },
-        status: no_status(),
-        beacon: no_beacon(),
-    }
-}
-
-fn success_packet(s: SuccessStatus) -> PacketAnswer
-    ensures { λ r. ⌜ r ≡ successPacket s ⌝ }
-{
-    PacketAnswer {
-        number: 0,
-        code: 0,
-        ptype: 4,
-        flags: s.flags,
-        id: s.id,
-        width: s.width,
-        timestamp: Part {
-            at: 8,
-            len: s.timestamp,
-        },
-        metadata: no_metadata(),
-        data: no_data(),
-        status: StatusPart {
-            status: 0,
-            progress: s.progress,
-            in_response_to: s.response,
-            holes_at: s.holes,
-            hole_count: s.count,
-        },
-        beacon: no_beacon(),
-    }
-}
-
-fn failure_packet(f: FailureStatus) -> PacketAnswer
-    ensures { λ r. ⌜ r ≡ failurePacket f ⌝ }
-{
-    PacketAnswer {
-        number: 0,
-        code: 0,
-        ptype: 4,
-        flags: f.flags,
-        id: f.id,
-        width: 0,
-        timestamp: no_part(),
-        metadata: no_metadata(),
-        data: no_data(),
-        status: StatusPart {
-            status: f.status,
-            progress: 0,
-            in_response_to: 0,
-            holes_at: 0,
-            hole_count: 0,
-        },
-        beacon: no_beacon(),
-    }
-}
-
-fn refused_packet(refusal: Refusal) -> PacketAnswer
-    ensures { λ r. ⌜ r ≡ refusedPacket refusal ⌝ }
-{
-    PacketAnswer {
-        number: refusal.number,
-        code: refusal.code,
-        ptype: 0,
-        flags: 0,
-        id: 0,
-        width: 0,
-        timestamp: no_part(),
-        metadata: no_metadata(),
-        data: no_data(),
-        status: no_status(),
-        beacon: no_beacon(),
-    }
-}
-
-// What C gets of a written packet.
-pub fn written_answer(a: Written) -> WrittenAnswer
-    ensures { λ r. ⌜ r ≡ writtenAnswer a ⌝ }
-{
-    match a {
-        Written::Size(size) => WrittenAnswer {
-            number: 0,
-            code: 0,
-            size,
-        },
-        Written::Refused(refusal) => WrittenAnswer {
-            number: refusal.number,
-            code: refusal.code,
-            size: 0,
-        },
-    }
-}
-
-// What C gets of a hole.
-pub fn hole_answer(a: HoleRead) -> HoleAnswer
-    ensures { λ r. ⌜ r ≡ holeAnswer a ⌝ }
-{
-    match a {
-        HoleRead::Accepted(h) => HoleAnswer {
-            number: 0,
-            code: 0,
-            start: h.start,
-            end: h.end,
-        },
-        HoleRead::Refused(refusal) => HoleAnswer {
-            number: refusal.number,
-            code: refusal.code,
-            start: 0,
-            end: 0,
-        },
-    }
-}
-
-// DATA comes most often and is answered first, without the enum. Each case has its own `return`: where they met in one
-// place, the compiler would bring 33 fields there over the stack.
+// DATA comes most often and is answered first, without the enum. Each case has its own `return`, and stands here and not in one
+// function below: where the cases met in one place, the compiler would bring 33 fields there over the stack.
 #[no_mangle]
 pub extern "C" fn saratoga_read(packet: &[u8]) -> PacketAnswer
     ensures { λ r. ⌜ r ≡ packetAnswer (readPacket (now (packet .entry))) ⌝ }
 {
     if packet_data::data_refusal(packet) == 0 {
-        return data_packet(packet_data::data_fields(packet));
+        return answer_packets::data_packet(packet_data::data_fields(packet));
     }
     let a = packet::read_packet(packet);
     match a {
-        Read::Beacon(b) => return beacon_packet(b),
-        Read::Metadata(m) => return metadata_packet(m),
-        Read::Data(d) => return data_packet(d),
-        Read::Success(s) => return success_packet(s),
-        Read::Failure(f) => return failure_packet(f),
-        Read::Refused(r) => return refused_packet(r),
+        Read::Beacon(b) => return answer_packets::beacon_packet(b),
+        Read::Metadata(m) => return answer_packets::metadata_packet(m),
+        Read::Data(d) => return answer_packets::data_packet(d),
+        Read::Success(s) => return answer_packets::success_packet(s),
+        Read::Failure(f) => return answer_packets::failure_packet(f),
+        Read::Refused(r) => return answer_packets::refused_packet(r),
     }
 }
 
@@ -393,7 +37,7 @@ pub extern "C" fn saratoga_read(packet: &[u8]) -> PacketAnswer
 pub extern "C" fn saratoga_read_hole(packet: &[u8], index: u64) -> HoleAnswer
     ensures { λ r. ⌜ r ≡ holeAnswer (readHole index (now (packet .entry))) ⌝ }
 {
-    hole_answer(packet_status::read_hole(packet, index))
+    answer_packets::read_hole(packet, index)
 }
 
 #[no_mangle]
@@ -406,7 +50,7 @@ pub extern "C" fn saratoga_write_beacon(
     ensures { λ r. ⌜ (r ≡ writtenAnswer (beaconWritten flags free (now (endpoint .entry)) (now (out .entry))))
         × (now (out .exit) ≡ beaconBuffer flags free (now (endpoint .entry)) (now (out .entry))) ⌝ }
 {
-    written_answer(packet_beacon::write_beacon(out, flags, free, endpoint))
+    answer_packets::write_beacon(flags, free, endpoint, out)
 }
 
 #[no_mangle]
@@ -424,8 +68,7 @@ pub extern "C" fn saratoga_write_metadata(
     ensures { λ r. ⌜ (r ≡ writtenAnswer (metadataWritten flags id (now (checksum .entry)) properties size mtime ctime (now (path .entry)) (now (out .entry))))
         × (now (out .exit) ≡ metadataBuffer flags id (now (checksum .entry)) properties size mtime ctime (now (path .entry)) (now (out .entry))) ⌝ }
 {
-    written_answer(packet_metadata::write_metadata(
-        out,
+    answer_packets::write_metadata(
         flags,
         id,
         checksum,
@@ -434,7 +77,8 @@ pub extern "C" fn saratoga_write_metadata(
         mtime,
         ctime,
         path,
-    ))
+        out,
+    )
 }
 
 #[no_mangle]
@@ -449,7 +93,7 @@ pub extern "C" fn saratoga_write_data(
     ensures { λ r. ⌜ (r ≡ writtenAnswer (dataWritten flags id (now (timestamp .entry)) offset (now (payload .entry)) (now (out .entry))))
         × (now (out .exit) ≡ dataBuffer flags id (now (timestamp .entry)) offset (now (payload .entry)) (now (out .entry))) ⌝ }
 {
-    written_answer(packet_data::write_data(out, flags, id, timestamp, offset, payload))
+    answer_packets::write_data(flags, id, timestamp, offset, payload, out)
 }
 
 #[no_mangle]
@@ -457,5 +101,5 @@ pub extern "C" fn saratoga_write_failure(id: u64, status: u64, out: &mut [u8]) -
     ensures { λ r. ⌜ (r ≡ writtenAnswer (failureWritten id status (now (out .entry))))
         × (now (out .exit) ≡ failureBuffer id status (now (out .entry))) ⌝ }
 {
-    written_answer(packet_status::write_failure(out, id, status))
+    answer_packets::write_failure(id, status, out)
 }

@@ -3,156 +3,20 @@ ghost use mathlib.Core.Path.{_≡_};
 ghost use Rattle.area.specs.Operations.{freshArea, openArea, recordArea, closeArea, areaStatusWritten, areaStatusBuffer};
 ghost use Rattle.area_status.specs.Listing.{listedArea};
 ghost use Rattle.area_status.specs.ById.{foundArea, holeArea};
-ghost use Rattle.transfer.specs.WriteStatus.{bit};
-ghost use Rattle.saratoga.specs.Answers.{writtenAnswer, holeAnswer};
-ghost use Rattle.saratoga.specs.TableAnswers.{isUnasked, doneAnswer, openedAnswer, recordedAnswer, listedAnswer};
-use crate::packets::HoleAnswer;
-use crate::packets::WrittenAnswer;
-use area_status::Listed;
-use table::Finished;
-use table::Opened;
-use table::Recorded;
-
-// struct saratoga_done.
-#[repr(C)]
-pub struct DoneAnswer {
-    pub number: u64,
-    pub code: u64,
-}
-
-// struct saratoga_opened.
-#[repr(C)]
-pub struct OpenedAnswer {
-    pub number: u64,
-    pub code: u64,
-    pub edge: u64,
-    pub complete: u64,
-    pub already_open: u64,
-}
-
-// struct saratoga_recorded.
-#[repr(C)]
-pub struct RecordedAnswer {
-    pub number: u64,
-    pub code: u64,
-    pub edge: u64,
-    pub complete: u64,
-    pub absorbed: u64,
-}
-
-// struct saratoga_listed.
-#[repr(C)]
-pub struct ListedAnswer {
-    pub number: u64,
-    pub code: u64,
-    pub id: u64,
-    pub width: u64,
-    pub length: u64,
-    pub edge: u64,
-    pub complete: u64,
-    pub runs: usize,
-}
-
-// 1 for yes, 0 for no.
-pub fn one_if(yes: bool) -> u64
-    ensures { λ r. ⌜ r ≡ bit yes ⌝ }
-{
-    if yes { 1 } else { 0 }
-}
-
-fn done_answer(a: Finished) -> DoneAnswer
-    ensures { λ r. ⌜ r ≡ doneAnswer a ⌝ }
-{
-    match a {
-        Finished::Done => DoneAnswer { number: 0, code: 0 },
-        Finished::Refused(refusal) => DoneAnswer {
-            number: refusal.number,
-            code: refusal.code,
-        },
-    }
-}
-
-fn opened_answer(a: Opened) -> OpenedAnswer
-    ensures { λ r. ⌜ r ≡ openedAnswer a ⌝ }
-{
-    match a {
-        Opened::New(x) => OpenedAnswer {
-            number: 0,
-            code: 0,
-            edge: x.edge,
-            complete: one_if(x.complete),
-            already_open: 0,
-        },
-        Opened::AlreadyOpen(x) => OpenedAnswer {
-            number: 0,
-            code: 0,
-            edge: x.edge,
-            complete: one_if(x.complete),
-            already_open: 1,
-        },
-        Opened::Refused(refusal) => OpenedAnswer {
-            number: refusal.number,
-            code: refusal.code,
-            edge: 0,
-            complete: 0,
-            already_open: 0,
-        },
-    }
-}
-
-pub fn recorded_answer(a: Recorded) -> RecordedAnswer
-    ensures { λ r. ⌜ r ≡ recordedAnswer a ⌝ }
-{
-    match a {
-        Recorded::Accepted(x) => RecordedAnswer {
-            number: 0,
-            code: 0,
-            edge: x.reached.edge,
-            complete: one_if(x.reached.complete),
-            absorbed: x.absorbed,
-        },
-        Recorded::Refused(refusal) => RecordedAnswer {
-            number: refusal.number,
-            code: refusal.code,
-            edge: 0,
-            complete: 0,
-            absorbed: 0,
-        },
-    }
-}
-
-fn listed_answer(a: Listed) -> ListedAnswer
-    ensures { λ r. ⌜ r ≡ listedAnswer a ⌝ }
-{
-    match a {
-        Listed::Open(x) => ListedAnswer {
-            number: 0,
-            code: 0,
-            id: x.id,
-            width: x.width,
-            length: x.length,
-            edge: x.edge,
-            complete: one_if(x.complete),
-            runs: x.runs,
-        },
-        Listed::Refused(refusal) => ListedAnswer {
-            number: refusal.number,
-            code: refusal.code,
-            id: 0,
-            width: 0,
-            length: 0,
-            edge: 0,
-            complete: 0,
-            runs: 0,
-        },
-    }
-}
+ghost use Rattle.answers.specs.Answers.{isUnasked, writtenAnswer, holeAnswer, recordedAnswer};
+ghost use Rattle.answer_table.specs.TableAnswers.{doneAnswer, openedAnswer, listedAnswer};
+use answer_table::DoneAnswer;
+use answer_table::ListedAnswer;
+use answer_table::OpenedAnswer;
+use answers::HoleAnswer;
+use answers::RecordedAnswer;
+use answers::WrittenAnswer;
 
 #[no_mangle]
 pub extern "C" fn saratoga_fresh(area: &mut [u8]) -> DoneAnswer
     ensures { λ r. ⌜ (r ≡ doneAnswer (freshArea (now (area .entry)) .answer)) × (now (area .exit) ≡ freshArea (now (area .entry)) .area) ⌝ }
 {
-    done_answer(area_open::fresh(area))
+    answer_table::fresh(area)
 }
 
 #[no_mangle]
@@ -160,7 +24,7 @@ pub extern "C" fn saratoga_open(area: &mut [u8], packet: &[u8]) -> OpenedAnswer
     ensures { λ r. ⌜ (r ≡ openedAnswer (openArea (now (area .entry)) (now (packet .entry)) .answer))
         × (now (area .exit) ≡ openArea (now (area .entry)) (now (packet .entry)) .area) ⌝ }
 {
-    opened_answer(area_open::open(area, packet))
+    answer_table::open(area, packet)
 }
 
 #[no_mangle]
@@ -168,21 +32,21 @@ pub extern "C" fn saratoga_record(area: &mut [u8], packet: &[u8]) -> RecordedAns
     ensures { λ r. ⌜ (r ≡ recordedAnswer (recordArea (now (area .entry)) (now (packet .entry)) .answer))
         × (now (area .exit) ≡ recordArea (now (area .entry)) (now (packet .entry)) .area) ⌝ }
 {
-    recorded_answer(area_record::record(area, packet))
+    answer_table::record(area, packet)
 }
 
 #[no_mangle]
 pub extern "C" fn saratoga_try_record(area: &[u8], packet: &[u8]) -> RecordedAnswer
     ensures { λ r. ⌜ r ≡ recordedAnswer (recordArea (now (area .entry)) (now (packet .entry)) .answer) ⌝ }
 {
-    recorded_answer(area_record::ahead::try_record(area, packet))
+    answer_table::try_record(area, packet)
 }
 
 #[no_mangle]
 pub extern "C" fn saratoga_close(area: &mut [u8], id: u64) -> DoneAnswer
     ensures { λ r. ⌜ (r ≡ doneAnswer (closeArea (now (area .entry)) id .answer)) × (now (area .exit) ≡ closeArea (now (area .entry)) id .area) ⌝ }
 {
-    done_answer(area_open::close(area, id))
+    answer_table::close(area, id)
 }
 
 #[no_mangle]
@@ -196,26 +60,26 @@ pub extern "C" fn saratoga_write_status(
     ensures { λ r. ⌜ (r ≡ writtenAnswer (areaStatusWritten (now (area .entry)) id skip (isUnasked unasked) (now (out .entry))))
         × (now (out .exit) ≡ areaStatusBuffer (now (area .entry)) id skip (isUnasked unasked) (now (out .entry))) ⌝ }
 {
-    crate::packets::written_answer(area_status::write_status(area, id, skip, unasked != 0, out))
+    answer_table::write_status(area, id, skip, unasked, out)
 }
 
 #[no_mangle]
 pub extern "C" fn saratoga_transfer(area: &[u8], index: u64) -> ListedAnswer
     ensures { λ r. ⌜ r ≡ listedAnswer (listedArea (now (area .entry)) index) ⌝ }
 {
-    listed_answer(area_status::transfer(area, index))
+    answer_table::transfer(area, index)
 }
 
 #[no_mangle]
 pub extern "C" fn saratoga_find(area: &[u8], id: u64) -> ListedAnswer
     ensures { λ r. ⌜ r ≡ listedAnswer (foundArea (now (area .entry)) id) ⌝ }
 {
-    listed_answer(area_status::by_id::find(area, id))
+    answer_table::find(area, id)
 }
 
 #[no_mangle]
 pub extern "C" fn saratoga_transfer_hole(area: &[u8], id: u64, index: u64) -> HoleAnswer
     ensures { λ r. ⌜ r ≡ holeAnswer (holeArea (now (area .entry)) id index) ⌝ }
 {
-    crate::packets::hole_answer(area_status::by_id::transfer_hole(area, id, index))
+    answer_table::transfer_hole(area, id, index)
 }

@@ -1,11 +1,11 @@
--- `saratoga::saratoga_read` meets its contract: DATA that is not refused, and else what the reader answers, case by case.
+-- `saratoga::packets::saratoga_read` meets its contract: DATA that is not refused, and else what the reader answers, case by case.
 -- Assumes nothing.
 use mathlib.Core.Path.{_≡_, sym, ap, _∙_}
 use denote.Ref.{now}
 use Rattle.packet_data.specs.Data.{dataRefusal}
 use Rattle.packet.specs.declared.Read.the-variants.{Data}
 use Rattle.packet.proofs.CaseLaws.{data-taken}
-use Rattle.saratoga.specs.PacketAnswers.{packetAnswer}
+use Rattle.answer_packets.specs.PacketAnswers.{packetAnswer}
 use borrow.Author.Needs.{needs}
 use native.Mathlib.Omega.{arith}
 use Rattle.saratoga.proofs.packets.saratoga_read.Statement.{statement}

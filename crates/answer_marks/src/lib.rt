@@ -1,0 +1,133 @@
+// The bitmap receiver: one transfer, with one mark for each of its octets, and a record that C hands in and gets back.
+ghost use mathlib.Core.Path.{_≡_};
+ghost use Rattle.bitmap.specs.Open.{openMarks};
+ghost use Rattle.bitmap.specs.Record.{recordMarks};
+ghost use Rattle.bitmap.specs.WriteStatus.{marksWritten, marksBuffer};
+ghost use Rattle.answers.specs.Answers.{isUnasked, writtenAnswer};
+ghost use Rattle.answer_marks.specs.BitmapAnswers.{keyFrom, bitmapOf, noBitmap, bitmapOpenedAnswer, bitmapRecordedAnswer};
+use answers::RecordedAnswer;
+use answers::WrittenAnswer;
+use bitmap::Opened;
+use table::Recorded;
+use transfer::Key;
+
+// struct saratoga_bitmap.
+#[repr(C)]
+pub struct Bitmap {
+    pub id: u64,
+    pub width: u64,
+    pub length: u64,
+}
+
+// struct saratoga_bitmap_opened.
+#[repr(C)]
+pub struct BitmapOpenedAnswer {
+    pub number: u64,
+    pub code: u64,
+    pub edge: u64,
+    pub complete: u64,
+    pub transfer: Bitmap,
+}
+
+// struct saratoga_bitmap_recorded: what recording in a table answers, and the record where it was accepted.
+#[repr(C)]
+pub struct BitmapRecordedAnswer {
+    pub answer: RecordedAnswer,
+    pub transfer: Bitmap,
+}
+
+fn key_from(b: Bitmap) -> Key
+    ensures { λ r. ⌜ r ≡ keyFrom b ⌝ }
+{
+    Key {
+        id: b.id,
+        width: b.width as usize,
+        length: b.length,
+    }
+}
+
+fn bitmap_of(key: Key) -> Bitmap
+    ensures { λ r. ⌜ r ≡ bitmapOf key ⌝ }
+{
+    Bitmap {
+        id: key.id,
+        width: key.width as u64,
+        length: key.length,
+    }
+}
+
+// The record of no transfer, which comes with a refusal.
+fn no_bitmap() -> Bitmap
+    ensures { λ r. ⌜ r ≡ noBitmap ⌝ }
+{
+    Bitmap {
+        id: 0,
+        width: 0,
+        length: 0,
+    }
+}
+
+fn bitmap_opened_answer(a: Opened) -> BitmapOpenedAnswer
+    ensures { λ r. ⌜ r ≡ bitmapOpenedAnswer a ⌝ }
+{
+    match a {
+        Opened::New(x) => BitmapOpenedAnswer {
+            number: 0,
+            code: 0,
+            edge: x.reached.edge,
+            complete: answers::one_if(x.reached.complete),
+            transfer: bitmap_of(x.key),
+        },
+        Opened::Refused(refusal) => BitmapOpenedAnswer {
+            number: refusal.number,
+            code: refusal.code,
+            edge: 0,
+            complete: 0,
+            transfer: no_bitmap(),
+        },
+    }
+}
+
+fn bitmap_recorded_answer(b: Bitmap, a: Recorded) -> BitmapRecordedAnswer
+    ensures { λ r. ⌜ r ≡ bitmapRecordedAnswer b a ⌝ }
+{
+    let answer = answers::recorded_answer(a);
+    let none = no_bitmap();
+    match a {
+        Recorded::Accepted(_) => BitmapRecordedAnswer {
+            answer,
+            transfer: b,
+        },
+        Recorded::Refused(_) => BitmapRecordedAnswer {
+            answer,
+            transfer: none,
+        },
+    }
+}
+
+pub fn open(marks: &mut [u8], packet: &[u8]) -> BitmapOpenedAnswer
+    ensures { λ r. ⌜ (r ≡ bitmapOpenedAnswer (openMarks (now (marks .entry)) (now (packet .entry)) .answer))
+        × (now (marks .exit) ≡ openMarks (now (marks .entry)) (now (packet .entry)) .marks) ⌝ }
+{
+    bitmap_opened_answer(bitmap::open(marks, packet))
+}
+
+pub fn record(b: Bitmap, marks: &mut [u8], packet: &[u8]) -> BitmapRecordedAnswer
+    ensures { λ r. ⌜ (r ≡ bitmapRecordedAnswer b (recordMarks (keyFrom b) (now (marks .entry)) (now (packet .entry)) .answer))
+        × (now (marks .exit) ≡ recordMarks (keyFrom b) (now (marks .entry)) (now (packet .entry)) .marks) ⌝ }
+{
+    bitmap_recorded_answer(b, bitmap::record(key_from(b), marks, packet))
+}
+
+pub fn write_status(
+    b: Bitmap,
+    marks: &[u8],
+    skip: u64,
+    unasked: u64,
+    out: &mut [u8],
+) -> WrittenAnswer
+    ensures { λ r. ⌜ (r ≡ writtenAnswer (marksWritten (keyFrom b) (now (marks .entry)) skip (isUnasked unasked) (now (out .entry))))
+        × (now (out .exit) ≡ marksBuffer (keyFrom b) (now (marks .entry)) skip (isUnasked unasked) (now (out .entry))) ⌝ }
+{
+    answers::written_answer(bitmap::write_status(key_from(b), marks, skip, unasked != 0, out))
+}

@@ -1,0 +1,10 @@
+-- `answer_packets::data_packet` meets its contract, part by part. Assumes nothing.
+use borrow.Author.Needs.{needs}
+use Rattle.answer_packets.proofs.data_packet.Statement.{statement}
+use Rattle.answer_packets.proofs.data_packet.Tie as tie
+
+returns : tie.Need-returns
+returns c = cc
+
+pub data-packet-spec : {M : Type 1} → statement M
+data-packet-spec = tie.close (tie.spec (λ c κs. search needs) (λ c κs. search needs) (λ c κs. search needs) returns)

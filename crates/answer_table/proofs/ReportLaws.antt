@@ -1,0 +1,102 @@
+-- What `record` and `open` answer of a transfer is what the area that they leave has received; and the runs that a packet absorbed,
+-- as `record` tells them.
+-- Assumes nothing.
+use Prim.Native.Nat.{ℕ, _+_}
+use mathlib.Core.Path.{_≡_, refl}
+use mathlib.Core.Bool.{true, false, true≢false, false≢true}
+use mathlib.Core.List.{List}
+use mathlib.Core.Logic.{_⊎_, inl, inr, Iff·trans}
+use Rattle.octets.specs.Numbers.{Octets}
+use Rattle.packet_metadata.specs.Metadata.{readMetadata}
+use Rattle.packet_metadata.specs.declared.Metadata.{Metadata}
+use Rattle.packet_metadata.specs.declared.MetadataRead.the-variants as metadata-read
+use Rattle.packet_data.specs.Data.{readData}
+use Rattle.packet_data.specs.declared.Data.{Data}
+use Rattle.packet_data.specs.declared.DataRead.the-variants as data-read
+use Rattle.transfer.specs.declared.Reached.{Reached}
+use Rattle.transfer.specs.WriteStatus.{bit}
+use Rattle.transfer.proofs.StatusFlags.{bit-iff}
+use Rattle.table.specs.Open.{openAccepted}
+use Rattle.table.specs.Record.{recordAccepted}
+use Rattle.table.specs.declared.Opened.{Opened}
+use Rattle.table.specs.declared.Opened.the-variants as opened
+use Rattle.table.specs.declared.Recorded.{Recorded}
+use Rattle.table.specs.declared.Recorded.the-variants as recorded
+use Rattle.area.specs.Operations.{openArea, recordArea, runsHeld}
+use Rattle.area.proofs.ToldLaws.{AreaTold, area-open-told, AreaRecording, area-record-told}
+use Rattle.answers.specs.Answers.{recordedAnswer}
+use Rattle.answer_table.specs.TableAnswers.{openedAnswer}
+use Rattle.answer_table.specs.Reported.{Reported}
+
+-- the two numbers of an answer, from what is told
+reported : (a : List ℕ) (id : ℕ) (x : Reached) → AreaTold a id x → Reported a id (x .edge) (bit (x .complete))
+reported a id x h =
+    let t = h .told in
+    record {
+      table = h .table;
+      held = h .held;
+      key = t .key;
+      found = t .found;
+      complete-iff = Iff·trans (bit-iff (x .complete)) (t .tells .complete-iff);
+      edge-iff = t .tells .edge-iff;
+      edge-none = t .tells .edge-none;
+    }
+
+module _ (a packet : List ℕ) where
+  -- an accepted recording
+  pub record-reports : recordAccepted (recordArea a packet .answer) ≡ true
+      → (d : Data) × (readData packet ≡ data-read.Accepted d)
+      × Reported (recordArea a packet .area) (d .id) (recordedAnswer (recordArea a packet .answer) .edge) (recordedAnswer (recordArea a packet .answer) .complete)
+  record-reports = go (recordArea a packet .answer) refl
+    where
+      go : (r : Recorded) → recordArea a packet .answer ≡ r → recordAccepted r ≡ true
+          → (d : Data) × (readData packet ≡ data-read.Accepted d)
+          × Reported (recordArea a packet .area) (d .id) (recordedAnswer r .edge) (recordedAnswer r .complete)
+      go (recorded.Accepted x) e h = let q = area-record-told a packet x e in (q .brought, q .read, reported (recordArea a packet .area) (q .brought .id) (x .reached) (q .told))
+      go (recorded.Refused r) e h = absurd (false≢true h)
+
+  -- document 02: "runs after equal runs before plus one minus that number"
+  pub record-counts : recordAccepted (recordArea a packet .answer) ≡ true
+      → (d : Data) × (readData packet ≡ data-read.Accepted d)
+      × (runsHeld (recordArea a packet .area) (d .id) + recordedAnswer (recordArea a packet .answer) .absorbed ≡ runsHeld a (d .id) + 1)
+  record-counts = go (recordArea a packet .answer) refl
+    where
+      go : (r : Recorded) → recordArea a packet .answer ≡ r → recordAccepted r ≡ true
+          → (d : Data) × (readData packet ≡ data-read.Accepted d)
+          × (runsHeld (recordArea a packet .area) (d .id) + recordedAnswer r .absorbed ≡ runsHeld a (d .id) + 1)
+      go (recorded.Accepted x) e h = let q = area-record-told a packet x e in (q .brought, q .read, q .counted)
+      go (recorded.Refused r) e h = absurd (false≢true h)
+
+  -- an accepted opening, of a transfer that is new or that was open already
+  pub open-reports : Octets packet → openAccepted (openArea a packet .answer) ≡ true
+      → (m : Metadata) × (readMetadata packet ≡ metadata-read.Accepted m)
+      × Reported (openArea a packet .area) (m .id) (openedAnswer (openArea a packet .answer) .edge) (openedAnswer (openArea a packet .answer) .complete)
+  open-reports octets = go (openArea a packet .answer) refl
+    where
+      told : (x : Reached) → (openArea a packet .answer ≡ opened.New x) ⊎ (openArea a packet .answer ≡ opened.AlreadyOpen x)
+          → (m : Metadata) × (readMetadata packet ≡ metadata-read.Accepted m) × Reported (openArea a packet .area) (m .id) (x .edge) (bit (x .complete))
+      told x e = let q = area-open-told a packet x octets e in (q .0, q .1, reported (openArea a packet .area) (q .0 .id) x (q .2))
+
+      go : (r : Opened) → openArea a packet .answer ≡ r → openAccepted r ≡ true
+          → (m : Metadata) × (readMetadata packet ≡ metadata-read.Accepted m)
+          × Reported (openArea a packet .area) (m .id) (openedAnswer r .edge) (openedAnswer r .complete)
+      go (opened.New x) e h = told x (inl e)
+      go (opened.AlreadyOpen x) e h = told x (inr e)
+      go (opened.Refused r) e h = absurd (false≢true h)
+
+  -- a refused call reports no page complete, and no run absorbed
+  pub record-refused-none : recordAccepted (recordArea a packet .answer) ≡ false
+      → (recordedAnswer (recordArea a packet .answer) .complete ≡ 0) × (recordedAnswer (recordArea a packet .answer) .absorbed ≡ 0)
+  record-refused-none = go (recordArea a packet .answer)
+    where
+      go : (r : Recorded) → recordAccepted r ≡ false → (recordedAnswer r .complete ≡ 0) × (recordedAnswer r .absorbed ≡ 0)
+      go (recorded.Accepted x) h = absurd (true≢false h)
+      go (recorded.Refused r) h = (refl, refl)
+
+  pub open-refused-none : openAccepted (openArea a packet .answer) ≡ false → openedAnswer (openArea a packet .answer) .complete ≡ 0
+  open-refused-none = go (openArea a packet .answer)
+    where
+      go : (r : Opened) → openAccepted r ≡ false → openedAnswer r .complete ≡ 0
+      go (opened.New x) h = absurd (true≢false h)
+      go (opened.AlreadyOpen x) h = absurd (true≢false h)
+      go (opened.Refused r) h = refl

@@ -182,7 +182,7 @@ pub extern "C" fn saratoga_try_record(area: &[u8], packet: &[u8]) -> RecordedAns
 pub extern "C" fn saratoga_close(area: &mut [u8], id: u64) -> DoneAnswer
     ensures { λ r. ⌜ (r ≡ doneAnswer (closeArea (now (area .entry)) id .answer)) × (now (area .exit) ≡ closeArea (now (area .entry)) id .area) ⌝ }
 {
-    done_answer(area_open::close(area, id))
+    done_answer(area_close::close(area, id))
 }
 
 #[no_mangle]

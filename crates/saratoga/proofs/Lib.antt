@@ -1,3 +1,4 @@
 pub mod ReportLaws
 pub mod Walking
 pub mod CheckAnswerLaws
+pub mod PlanChecked

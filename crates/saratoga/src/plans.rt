@@ -6,9 +6,9 @@ ghost use Rattle.packet_status.specs.Status.{holeList};
 ghost use Rattle.plan.specs.Pieces.{planOf};
 ghost use Rattle.plan.specs.Planning.{resendRefusal, planRefusal, plannedOf, recordsAfter};
 ghost use Rattle.saratoga.specs.PlanAnswers.{plannedAnswer, checkedAnswer, CheckAnswer};
-use plan::Check;
 use plan::Piece;
 use plan::Plan;
+use plan_check::Check;
 
 // struct saratoga_planned.
 #[repr(C)]
@@ -41,7 +41,7 @@ fn checked_answer(k: Check) -> CheckedAnswer
     ensures { λ r. ⌜ r ≡ checkedAnswer k ⌝ }
 {
     let refusal = refusals::refuse(k.number);
-    if plan::check_passed(k) {
+    if plan_check::check_passed(k) {
         return CheckedAnswer {
             number: k.number,
             code: refusal.code,
@@ -88,10 +88,10 @@ pub extern "C" fn saratoga_check_plan(
     ensures { λ r. ⌜ CheckAnswer largest (now (status .entry)) (now (pieces .entry)) r ⌝ }
 {
     let n = pieces.len();
-    let mut k = plan::check_start(status, largest);
+    let mut k = plan_check::check_start(status, largest);
     let mut i: usize = 0;
     while i < n {
-        k = plan::check_step(status, k, largest, pieces[i]);
+        k = plan_check::check_step(status, k, largest, pieces[i]);
         i = i + 1;
     }
     checked_answer(k)

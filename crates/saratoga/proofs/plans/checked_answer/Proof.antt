@@ -1,7 +1,7 @@
 -- `saratoga::checked_answer` meets its contract. Assumes nothing.
 use mathlib.Core.Path.{_≡_, sym, _∙_}
 use mathlib.Core.Bool.{true, false}
-use Rattle.plan.specs.Checking.{passed}
+use Rattle.plan_check.specs.Checking.{passed}
 use borrow.Author.Needs.{needs}
 use Rattle.saratoga.proofs.plans.checked_answer.Statement.{statement}
 use Rattle.saratoga.proofs.plans.checked_answer.Tie as tie

@@ -1,13 +1,13 @@
--- `plan::check_step` meets its contract. Assumes nothing.
+-- `plan_check::check_step` meets its contract. Assumes nothing.
 use mathlib.Core.Path.{_≡_, sym, ap, _∙_}
 use mathlib.Core.Bool.{true, false}
-use Rattle.plan.specs.Checking.{fits, checkStep}
-use Rattle.plan.specs.declared.Check.{Check}
+use Rattle.plan_check.specs.Checking.{fits, checkStep}
+use Rattle.plan_check.specs.declared.Check.{Check}
 use Rattle.plan.specs.declared.Cursor.{Cursor}
-use Rattle.plan.proofs.GoodPlanLaws.{fits-means}
+use Rattle.plan_check.proofs.GoodPlanLaws.{fits-means}
 use borrow.Author.Needs.{needs}
-use Rattle.plan.proofs.check_step.Statement.{statement}
-use Rattle.plan.proofs.check_step.Tie as tie
+use Rattle.plan_check.proofs.check_step.Statement.{statement}
+use Rattle.plan_check.proofs.check_step.Tie as tie
 
 advance-requires : tie.Need-advance-requires
 advance-requires c κs =

@@ -1,12 +1,12 @@
--- `plan::piece_fits` meets its contract. Assumes nothing.
+-- `plan_check::piece_fits` meets its contract. Assumes nothing.
 use Prim.Native.Nat.{_+_}
 use mathlib.Core.Path.{refl}
 use native.Mathlib.Omega.{arith}
 use borrow.Author.Tests.{lt-ltb, le-ltb, le-leb, lt-leb, eq-eqb, ne-eqb}
-use Rattle.plan.specs.Checking.{fits}
-use Rattle.plan.proofs.GoodPlanLaws.{ends-shifted}
-use Rattle.plan.proofs.piece_fits.Statement.{statement}
-use Rattle.plan.proofs.piece_fits.Tie as tie
+use Rattle.plan_check.specs.Checking.{fits}
+use Rattle.plan_check.proofs.GoodPlanLaws.{ends-shifted}
+use Rattle.plan_check.proofs.piece_fits.Statement.{statement}
+use Rattle.plan_check.proofs.piece_fits.Tie as tie
 
 returns : tie.Need-returns
 unfolding fits

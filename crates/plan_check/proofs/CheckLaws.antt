@@ -10,13 +10,13 @@ use lib.Seq.{take-suc, take-length}
 use lib.Dec.{ltb}
 use Rattle.packet_status.specs.Status.{holeList}
 use Rattle.runs.specs.declared.Hole.{Hole}
 use Rattle.plan.specs.Planning.{resendRefusal, cursorAt, advanced, Readable}
-use Rattle.plan.specs.Checking.{fits, checkStart, checkStep, checkAll}
+use Rattle.plan_check.specs.Checking.{fits, checkStart, checkStep, checkAll}
 use Rattle.plan.specs.declared.Piece.{Piece}
 use Rattle.plan.specs.declared.Cursor.{Cursor}
-use Rattle.plan.specs.declared.Check.{Check}
+use Rattle.plan_check.specs.declared.Check.{Check}
 use Rattle.plan.proofs.CursorLaws.{noPiece}
 use Rattle.plan.proofs.ResendLaws.{resend-fine, readable}
 
 -- whichever of two cursors it is
 either : (t : Bool) (a b : Cursor) (n : ℕ) → a .count ≡ n → b .count ≡ n → cond t a b .count ≡ n

@@ -10,11 +10,11 @@ use lib.ListN.{length}
 use lib.Dec.{ltb, leb}
 use borrow.Author.Tests.{ltb-true, ltb-false, lt-ltb, leb-true, leb-false}
 use Rattle.runs.specs.declared.Hole.{Hole}
 use Rattle.plan.specs.Pieces.{piece, pieceCount, holePieces, planOf}
-use Rattle.plan.specs.GoodPlan.{GoodPlan}
+use Rattle.plan_check.specs.GoodPlan.{GoodPlan}
 use Rattle.plan.specs.declared.Piece.{Piece}
 use Rattle.plan.proofs.PieceLaws.{hole, length-pieces, no-pieces, first-piece}
-use Rattle.plan.proofs.GoodPlanLaws.{Spaced, Fits, means-fits, goes, goes-means}
+use Rattle.plan_check.proofs.GoodPlanLaws.{Spaced, Fits, means-fits, goes, goes-means}
 
 module _ (m : ℕ) (some : 0 < m) where
   -- the first piece is not empty, and goes no further than the hole

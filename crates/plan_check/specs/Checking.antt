@@ -7,9 +7,9 @@ use mathlib.Core.List.{List, [], _∷_}
 use lib.ListN.{length}
 use lib.Dec.{ltb, leb, eqb}
 use Rattle.runs.specs.declared.Hole.{Hole}
 use Rattle.plan.specs.Planning.{cursorAt, advanced}
 use Rattle.plan.specs.declared.Piece.{Piece}
-use Rattle.plan.specs.declared.Check.{Check}
+use Rattle.plan_check.specs.declared.Check.{Check}
 
 -- of the octets from `at` to `end` of a hole the piece is the lowest: it begins there, is neither empty nor longer than m, and ends in time
 unfoldable pub fits : ℕ → ℕ → ℕ → Piece → Bool

@@ -11,10 +11,11 @@ use lib.Dec.{ltb, leb, eqb}
 use borrow.Author.Tests.{ltb-true, ltb-false, leb-true, leb-false, eqb-true, lt-ltb, le-leb, lt-leb, eq-eqb}
 use Rattle.runs.specs.declared.Hole.{Hole}
 use Rattle.refusals.proofs.TestLaws.{and-iff}
-use Rattle.plan.specs.GoodPlan.{Each, Some, InPiece, InHole, LiesIn, GoodPlan}
-use Rattle.plan.specs.Checking.{fits}
+use Rattle.plan_check.specs.GoodPlan.{Each, Some, InPiece, InHole, LiesIn, GoodPlan}
+use Rattle.plan_check.specs.Checking.{fits}
 use Rattle.plan.specs.declared.Piece.{Piece}
 use Rattle.plan.proofs.PieceLaws.{hole}
+use Rattle.plan.proofs.CursorLaws.{afterDone}
 
 -- ---- each and some
 
@@ -74,10 +75,6 @@ means-fits m at end p f =
 pub ends-shifted : (at len end : ℕ) → at ≤ end → (t : Bool) → leb len (end - at) ≡ t → t ≡ leb (at + len) end
 ends-shifted at len end h true e = sym (le-leb (at + len) end (omega (arith, leb-true len (end - at) e)))
 ends-shifted at len end h false e = sym (lt-leb (at + len) end (omega (arith, leb-false len (end - at) e)))
-
--- the holes once n octets of the first, which ends at `end`, are done up to `at`
-abbrev pub afterDone : ℕ → ℕ → List Hole → List Hole
-afterDone at end hs = cond (ltb at end) (hole at end ∷ hs) hs
 
 module _ (at end : ℕ) (hs : List Hole) (spaced : Spaced end hs) (l : at ≤ end) where
   abbrev Left : Bool → List Hole

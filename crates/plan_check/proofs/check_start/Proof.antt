@@ -1,4 +1,4 @@
--- `plan::check_start` meets its contract. Assumes nothing.
+-- `plan_check::check_start` meets its contract. Assumes nothing.
 use Prim.Native.Nat.{ℕ, zero, suc}
 use mathlib.Core.Path.{_≡_, refl, ap, _∙_}
 use mathlib.Core.List.{List}
@@ -9,15 +9,15 @@ use lib.Dec.{eqb}
 use borrow.Author.Tests.{ne-eqb}
 use Rattle.packet_status.specs.Status.{holeList}
 use Rattle.runs.specs.declared.Hole.{Hole}
 use Rattle.plan.specs.Planning.{resendRefusal, judgedOf, cursorAt}
-use Rattle.plan.specs.Checking.{checkStart}
+use Rattle.plan_check.specs.Checking.{checkStart}
 use Rattle.plan.specs.declared.Judged.{Judged}
-use Rattle.plan.specs.declared.Check.{Check}
+use Rattle.plan_check.specs.declared.Check.{Check}
 use Rattle.plan.specs.declared.Cursor.{Cursor}
 use Rattle.plan.proofs.ResendLaws.{judged-readable}
 use borrow.Author.Needs.{needs}
-use Rattle.plan.proofs.check_start.Statement.{statement}
-use Rattle.plan.proofs.check_start.Tie as tie
+use Rattle.plan_check.proofs.check_start.Statement.{statement}
+use Rattle.plan_check.proofs.check_start.Tie as tie
 
 cursor-at-requires : tie.Need-cursor-at-requires
 cursor-at-requires c κs =

@@ -1,7 +1,7 @@
--- `plan::check_passed` meets its contract. Assumes nothing.
-use Rattle.plan.specs.Checking.{passed}
-use Rattle.plan.proofs.check_passed.Statement.{statement}
-use Rattle.plan.proofs.check_passed.Tie as tie
+-- `plan_check::check_passed` meets its contract. Assumes nothing.
+use Rattle.plan_check.specs.Checking.{passed}
+use Rattle.plan_check.proofs.check_passed.Statement.{statement}
+use Rattle.plan_check.proofs.check_passed.Tie as tie
 
 returns : tie.Need-returns
 unfolding passed

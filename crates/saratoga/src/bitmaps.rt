@@ -1,8 +1,8 @@
 // The bitmap receiver: one transfer, with one mark for each of its octets, and a record that C hands in and gets back.
 ghost use mathlib.Core.Path.{_≡_};
 ghost use Rattle.bitmap.specs.Open.{openMarks};
-ghost use Rattle.bitmap.specs.Record.{recordMarks};
-ghost use Rattle.bitmap.specs.WriteStatus.{marksWritten, marksBuffer};
+ghost use Rattle.bitmap_record.specs.Record.{recordMarks};
+ghost use Rattle.bitmap_status.specs.WriteStatus.{marksWritten, marksBuffer};
 ghost use Rattle.saratoga.specs.Answers.{writtenAnswer};
 ghost use Rattle.saratoga.specs.TableAnswers.{isUnasked};
 ghost use Rattle.saratoga.specs.BitmapAnswers.{keyFrom, bitmapOf, bitmapOpenedAnswer, bitmapRecordedAnswer};
@@ -98,7 +98,11 @@ pub extern "C" fn saratoga_bitmap_record(
     ensures { λ r. ⌜ (r ≡ bitmapRecordedAnswer b (recordMarks (keyFrom b) (now (marks .entry)) (now (packet .entry)) .answer))
         × (now (marks .exit) ≡ recordMarks (keyFrom b) (now (marks .entry)) (now (packet .entry)) .marks) ⌝ }
 {
-    let answer = crate::receiver::recorded_answer(bitmap::record(key_from(b), marks, packet));
+    let answer = crate::receiver::recorded_answer(bitmap_record::record(
+        key_from(b),
+        marks,
+        packet,
+    ));
     BitmapRecordedAnswer {
         answer,
         transfer: b,
@@ -116,7 +120,7 @@ pub extern "C" fn saratoga_bitmap_status(
     ensures { λ r. ⌜ (r ≡ writtenAnswer (marksWritten (keyFrom b) (now (marks .entry)) skip (isUnasked unasked) (now (out .entry))))
         × (now (out .exit) ≡ marksBuffer (keyFrom b) (now (marks .entry)) skip (isUnasked unasked) (now (out .entry))) ⌝ }
 {
-    crate::packets::written_answer(bitmap::write_status(
+    crate::packets::written_answer(bitmap_status::write_status(
         key_from(b),
         marks,
         skip,

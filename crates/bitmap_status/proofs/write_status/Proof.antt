@@ -1,4 +1,4 @@
--- `bitmap::write_status` meets its contract: 20 and 22, 12, and then the STATUS of the runs that the walk found.
+-- `bitmap_status::write_status` meets its contract: 20 and 22, 12, and then the STATUS of the runs that the walk found.
 -- Assumes nothing.
 use mathlib.Core.Path.{_≡_, sym, ap, _∙_}
 use native.Mathlib.Omega.{arith}
@@ -6,10 +6,10 @@ use borrow.Author.Needs.{needs}
 use denote.Ref.{now}
 use Rattle.run_rows.specs.Rows.{runsIn}
 use Rattle.run_rows.specs.declared.Rows.{Rows}
 use Rattle.bitmap.specs.State.{stateRefusal}
-use Rattle.bitmap.proofs.StatusLaws.{rows-fine, state-width, status-unfit, status-no-id, status-done}
-use Rattle.bitmap.proofs.write_status.Statement.{statement}
-use Rattle.bitmap.proofs.write_status.Tie as tie
+use Rattle.bitmap_status.proofs.StatusLaws.{rows-fine, state-width, status-unfit, status-no-id, status-done}
+use Rattle.bitmap_status.proofs.write_status.Statement.{statement}
+use Rattle.bitmap_status.proofs.write_status.Tie as tie
 
 returns : tie.Need-returns
 returns c =

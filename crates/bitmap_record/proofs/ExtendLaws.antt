@@ -25,9 +25,9 @@ use Rattle.marks.specs.MarkedRuns.{markedRuns}
 use Rattle.marks.specs.Walk.{runRows, FirstWith}
 use Rattle.marks.proofs.MarkLaws.{marked-canonical, runs-inserted}
 use Rattle.marks.proofs.FoundLaws.{progress-found}
 use Rattle.bitmap.specs.State.{longest}
 use Rattle.bitmap.specs.Judged.{RunsStand}
-use Rattle.bitmap.specs.Record.{recordAs}
+use Rattle.bitmap_record.specs.Record.{recordAs}
 
 -- the runs of the marks that a packet leaves
 pub marks-extended : (s : List ℕ) (d : Data) → 0 < d .length → stopOf d ≤ longest → markOctets ≤ length s

@@ -1,4 +1,4 @@
--- `bitmap::extend` meets its contract: 16 by the places that the cuts found, or the runs with the packet's stretch inserted.
+-- `bitmap_record::extend` meets its contract: 16 by the places that the cuts found, or the runs with the packet's stretch inserted.
 -- Assumes nothing.
 use mathlib.Core.Path.{ap, subst, _∙_}
 use native.Mathlib.Omega.{arith}
@@ -8,10 +8,10 @@ use Rattle.runs.specs.Holes.{edge}
 use Rattle.run_rows.specs.Rows.{runsIn, CutTo, CutBelow}
 use Rattle.run_rows.specs.declared.Rows.{Rows}
 use Rattle.transfer.specs.Record.{stopOf}
 use Rattle.bitmap.proofs.StateLaws.{rows-fit}
-use Rattle.bitmap.proofs.ExtendLaws.{extend-refused, extend-done}
-use Rattle.bitmap.proofs.extend.Statement.{statement}
-use Rattle.bitmap.proofs.extend.Tie as tie
+use Rattle.bitmap_record.proofs.ExtendLaws.{extend-refused, extend-done}
+use Rattle.bitmap_record.proofs.extend.Statement.{statement}
+use Rattle.bitmap_record.proofs.extend.Tie as tie
 
 cut-to-requires : tie.Need-cut-to-requires
 cut-to-requires c κs = rw (c .rows-of .ensures) (search needs)

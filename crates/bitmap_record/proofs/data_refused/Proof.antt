@@ -1,11 +1,11 @@
--- `bitmap::data_refused` meets its contract: 12, then what the key refuses.
+-- `bitmap_record::data_refused` meets its contract: 12, then what the key refuses.
 -- Assumes nothing.
 use mathlib.Core.Path.{_∙_}
 use native.Mathlib.Omega.{arith}
 use borrow.Author.Needs.{needs}
-use Rattle.bitmap.proofs.RecordLaws.{another-id, same-id}
-use Rattle.bitmap.proofs.data_refused.Statement.{statement}
-use Rattle.bitmap.proofs.data_refused.Tie as tie
+use Rattle.bitmap_record.proofs.RecordLaws.{another-id, same-id}
+use Rattle.bitmap_record.proofs.data_refused.Statement.{statement}
+use Rattle.bitmap_record.proofs.data_refused.Tie as tie
 
 returns : tie.Need-returns
 returns c = let a = c .before .before .before .args in another-id (a .key) (a .d) (λ e. omega arith)

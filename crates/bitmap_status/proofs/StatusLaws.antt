@@ -21,10 +21,10 @@ use Rattle.transfer.proofs.LengthLaws.{length-passed}
 use Rattle.marks.specs.MarkedRuns.{markedRuns}
 use Rattle.marks.specs.Walk.{runRows}
 use Rattle.marks.proofs.MarkLaws.{marked-canonical}
 use Rattle.bitmap.specs.State.{stateRefusal}
 use Rattle.bitmap.specs.Judged.{RunsStand}
-use Rattle.bitmap.specs.WriteStatus.{idRefusal, statusRefusal, marksWritten, marksBuffer}
+use Rattle.bitmap_status.specs.WriteStatus.{idRefusal, statusRefusal, marksWritten, marksBuffer}
 use Rattle.bitmap.proofs.StateLaws.{state-known, rows-fit}
 
 -- ---- what the writer of rows asks
 

@@ -18,9 +18,9 @@ use Rattle.transfer.proofs.FieldLaws.{data-some}
 use Rattle.table.specs.declared.Recorded.{Recorded}
 use Rattle.table.specs.declared.Recorded.the-variants.{Refused}
 use Rattle.marks.specs.MarkedRuns.{markedRuns}
 use Rattle.bitmap.specs.State.{longest, stateRefusal}
 use Rattle.bitmap.proofs.StateLaws.{state-known}
-use Rattle.bitmap.specs.Record.{dataRefused, recordRefusal, recordAs, recordMarks}
+use Rattle.bitmap_record.specs.Record.{dataRefused, recordRefusal, recordAs, recordMarks}
 
 -- ---- 12 to 15
 

@@ -1,8 +1,8 @@
 // The bitmap receiver: one transfer, with one mark for each of its octets, and a record that C hands in and gets back.
 ghost use mathlib.Core.Path.{_≡_};
 ghost use Rattle.bitmap.specs.Open.{openMarks};
-ghost use Rattle.bitmap.specs.Record.{recordMarks};
-ghost use Rattle.bitmap.specs.WriteStatus.{marksWritten, marksBuffer};
+ghost use Rattle.bitmap_record.specs.Record.{recordMarks};
+ghost use Rattle.bitmap_status.specs.WriteStatus.{marksWritten, marksBuffer};
 ghost use Rattle.answers.specs.Answers.{isUnasked, writtenAnswer};
 ghost use Rattle.answer_marks.specs.BitmapAnswers.{keyFrom, bitmapOf, noBitmap, bitmapOpenedAnswer, bitmapRecordedAnswer};
 use answers::RecordedAnswer;
@@ -116,7 +116,7 @@ pub fn record(b: Bitmap, marks: &mut [u8], packet: &[u8]) -> BitmapRecordedAnswe
     ensures { λ r. ⌜ (r ≡ bitmapRecordedAnswer b (recordMarks (keyFrom b) (now (marks .entry)) (now (packet .entry)) .answer))
         × (now (marks .exit) ≡ recordMarks (keyFrom b) (now (marks .entry)) (now (packet .entry)) .marks) ⌝ }
 {
-    bitmap_recorded_answer(b, bitmap::record(key_from(b), marks, packet))
+    bitmap_recorded_answer(b, bitmap_record::record(key_from(b), marks, packet))
 }
 
 pub fn write_status(
@@ -129,5 +129,5 @@ pub fn write_status(
     ensures { λ r. ⌜ (r ≡ writtenAnswer (marksWritten (keyFrom b) (now (marks .entry)) skip (isUnasked unasked) (now (out .entry))))
         × (now (out .exit) ≡ marksBuffer (keyFrom b) (now (marks .entry)) skip (isUnasked unasked) (now (out .entry))) ⌝ }
 {
-    answers::written_answer(bitmap::write_status(key_from(b), marks, skip, unasked != 0, out))
+    answers::written_answer(bitmap_status::write_status(key_from(b), marks, skip, unasked != 0, out))
 }

@@ -11,10 +11,10 @@ use Rattle.packet_status.specs.Status.{holeList}
 use Rattle.transfer.specs.WriteStatus.{bit}
 use Rattle.transfer.proofs.StatusFlags.{bit-iff}
 use Rattle.plan.specs.Planning.{resendRefusal}
-use Rattle.plan.specs.Checking.{checkStart, checkAll, passed}
+use Rattle.plan_check.specs.Checking.{checkStart, checkAll, passed}
 use Rattle.plan.specs.declared.Piece.{Piece}
-use Rattle.plan.proofs.ResendLaws.{passes-iff}
-use Rattle.plan.proofs.CheckLaws.{number-all, number-start}
+use Rattle.plan_check.proofs.PassLaws.{passes-iff}
+use Rattle.plan_check.proofs.CheckLaws.{number-all, number-start}
 use Rattle.answer_plans.specs.PlanAnswers.{checkedAnswer, CheckAnswer}
 
 bit-small : (t : Bool) → bit t ≤ 1

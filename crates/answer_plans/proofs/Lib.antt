@@ -1,3 +1,4 @@
 pub mod Walking
 pub mod Passing
 pub mod CheckAnswerLaws
+pub mod PlanChecked

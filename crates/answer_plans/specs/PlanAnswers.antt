@@ -7,12 +7,12 @@ use mathlib.Core.Logic.{_↔_}
 use Rattle.refusals.specs.Refusals.{codeOf}
 use Rattle.packet_status.specs.Status.{holeList}
 use Rattle.transfer.specs.WriteStatus.{bit}
-use Rattle.plan.specs.GoodPlan.{GoodPlan}
+use Rattle.plan_check.specs.GoodPlan.{GoodPlan}
 use Rattle.plan.specs.Planning.{resendRefusal}
-use Rattle.plan.specs.Checking.{passed}
+use Rattle.plan_check.specs.Checking.{passed}
 use Rattle.plan.specs.declared.Piece.{Piece}
 use Rattle.plan.specs.declared.Plan.{Plan}
-use Rattle.plan.specs.declared.Check.{Check}
+use Rattle.plan_check.specs.declared.Check.{Check}
 use Rattle.answer_plans.specs.declared.PlannedAnswer.{PlannedAnswer}
 use Rattle.answer_plans.specs.declared.CheckedAnswer.{CheckedAnswer}
 

@@ -6,7 +6,7 @@ ghost use Rattle.packet_status.specs.Status.{holeList};
 ghost use Rattle.plan.specs.Pieces.{planOf};
 ghost use Rattle.plan.specs.Planning.{resendRefusal, planRefusal, plannedOf, recordsAfter};
 ghost use Rattle.answer_plans.specs.PlanAnswers.{plannedAnswer, checkedAnswer, CheckAnswer};
-use plan::Check;
+use plan_check::Check;
 use plan::Piece;
 use plan::Plan;
 
@@ -41,7 +41,7 @@ fn checked_answer(k: Check) -> CheckedAnswer
     ensures { λ r. ⌜ r ≡ checkedAnswer k ⌝ }
 {
     let refusal = refusals::refuse(k.number);
-    if plan::check_passed(k) {
+    if plan_check::check_passed(k) {
         return CheckedAnswer {
             number: k.number,
             code: refusal.code,
@@ -81,10 +81,10 @@ pub fn check_plan(status: &[u8], largest: u64, pieces: &[Piece]) -> CheckedAnswe
     ensures { λ r. ⌜ CheckAnswer largest (now (status .entry)) (now (pieces .entry)) r ⌝ }
 {
     let n = pieces.len();
-    let mut k = plan::check_start(status, largest);
+    let mut k = plan_check::check_start(status, largest);
     let mut i: usize = 0;
     while i < n {
-        k = plan::check_step(status, k, largest, pieces[i]);
+        k = plan_check::check_step(status, k, largest, pieces[i]);
         i = i + 1;
     }
     checked_answer(k)

@@ -138,7 +138,7 @@ pub fn try_record(area: &[u8], packet: &[u8]) -> RecordedAnswer
 pub fn close(area: &mut [u8], id: u64) -> DoneAnswer
     ensures { λ r. ⌜ (r ≡ doneAnswer (closeArea (now (area .entry)) id .answer)) × (now (area .exit) ≡ closeArea (now (area .entry)) id .area) ⌝ }
 {
-    done_answer(area_open::close(area, id))
+    done_answer(area_close::close(area, id))
 }
 
 pub fn write_status(area: &[u8], id: u64, skip: u64, unasked: u64, out: &mut [u8]) -> WrittenAnswer

@@ -1,7 +1,2 @@
-pub mod ChangeLaws
-pub mod CopyLaws
-pub mod TransferMoves
-pub mod TakeOutLaws
-pub mod PutInLaws
 pub mod FreshLaws
 pub mod OpenLaws

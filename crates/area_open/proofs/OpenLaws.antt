@@ -1,4 +1,4 @@
--- Opening and closing by place: what the table's rules give where an Id's place is known.
+-- Opening by place: what the table's rule gives where an Id's place is known.
 -- Assumes nothing.
 use Prim.Native.Nat.{ℕ, _≤_, _<_}
 use mathlib.Core.Path.{_≡_, refl, sym, ap, _∙_}
@@ -18,13 +18,11 @@ use Rattle.transfer.specs.Transfers.{Transfer, empty, reached, keyOf}
 use Rattle.table.specs.Tables.{FineFrom, keys, find}
 use Rattle.table.specs.Open.{judgeFound, judgeOpen, openAs, openKey, openRead, openPacket}
 use Rattle.table.specs.Open.Verdict.{already, refuse}
-use Rattle.table.specs.Close.{closeFound, closeId}
 use Rattle.table.specs.declared.Opened.the-variants as opened
-use Rattle.table.specs.declared.Finished.the-variants as finished
 use Rattle.table.proofs.TableLaws.{length-keys}
 use Rattle.area.specs.Layout.{transferPlaces}
-use Rattle.area.specs.Places.{keyAt, readTable, nth, insertAt, removeAt}
-use Rattle.area.proofs.FindLaws.{found-at, runs-at, remove-at, missing-at, add-at}
+use Rattle.area.specs.Places.{keyAt, readTable, nth, insertAt}
+use Rattle.area.proofs.FindLaws.{found-at, runs-at, missing-at, add-at}
 use Rattle.area.specs.Places.{KeptAt}
 use Rattle.area.proofs.KeptLaws.{FreeAt, kept-placed, kept-transfer}
 
@@ -77,19 +75,6 @@ module _ (t : List Transfer) (k : Key) (p : ℕ) (h : FreeAt (k .id) t p) (f : F
   open-new g =
       rw (not-found, length-keys t, lt-ltb (length t) transferPlaces g)
       (ap (λ (u : List Transfer). record { answer = opened.New (reached k []); table = u }) (add-at k (h .place) (h .other)))
-
--- ---- closing
-
-pub close-done : (t : List Transfer) (id p : ℕ) → KeptAt id t p → closeId t id ≡ record { answer = finished.Done; table = removeAt p t }
-unfolding closeId closeFound
-close-done t id p h =
-    rw (found-at id (kept-placed h) (h .inside) (h .same))
-    (ap (λ (u : List Transfer). record { answer = finished.Done; table = u }) (remove-at id (kept-placed h) (h .inside) (h .same)))
-
-pub close-missing : (t : List Transfer) (id p : ℕ) → FreeAt id t p → FineFrom 0 t
-    → closeId t id ≡ record { answer = finished.Refused (refusalOf 12); table = t }
-unfolding closeId closeFound
-close-missing t id p h f = rw (missing-at id 0 (h .place) f (h .other))
 
 -- ---- METADATA that is refused, and that is not
 

@@ -1,4 +1,4 @@
-// Making a table fresh in a lent area, opening by METADATA, and closing: 22 before all, and every change in place.
+// Making a table fresh in a lent area, and opening by METADATA: 22 before all, and every change in place.
 ghost use mathlib.Core.Path.{_≡_};
 ghost use mathlib.Core.Bool.{true};
 ghost use Prim.Native.Nat.{_+_, _*_, _≤_};
@@ -7,13 +7,11 @@ ghost use Rattle.table.specs.Open.{openKey};
 ghost use Rattle.area.specs.Places.{readTable, KeptAt};
 ghost use Rattle.area.specs.Judge.{judged};
 ghost use Rattle.area.specs.Stored.{storedIn};
-ghost use Rattle.area.specs.Operations.{freshArea, openArea, closeArea};
+ghost use Rattle.area.specs.Operations.{freshArea, openArea};
 ghost use Rattle.area_open.specs.Fresh.{noNumbers, WordsPut};
 use table::Finished;
 use table::Opened;
 use transfer::Key;
-
-mod moves;
 
 // ---- fresh
 
@@ -98,39 +96,23 @@ fn open_key(area: &mut [u8], key: Key) -> Opened
     if (area::TRANSFERS as u64) <= area::open_count(area) {
         return Opened::Refused(refusals::refuse(17));
     }
-    moves::insert_at(area, place.at, key);
+    area_move::insert_at(area, place.at, key);
     Opened::New(transfer::reached_new(key))
 }
 
-// Opens by a packet that has to be METADATA.
+// Opens by a packet that has to be METADATA. That the area holds no table counts before what the packet is.
 pub fn open(area: &mut [u8], packet: &[u8]) -> Opened
     ensures { λ r. ⌜ (r ≡ openArea (now (area .entry)) (now (packet .entry)) .answer)
         × (now (area .exit) ≡ openArea (now (area .entry)) (now (packet .entry)) .area) ⌝ }
 {
-    if area::judge(area) {
-        let n = packet_metadata::metadata_refusal(packet);
-        if n != 0 {
-            return Opened::Refused(refusals::refuse(n));
-        }
-        let key = transfer::key_of(packet_metadata::metadata_fields(packet));
-        return open_key(area, key);
+    let held = area::judge(area);
+    let unread = packet_metadata::metadata_refusal(packet);
+    if !held {
+        return Opened::Refused(refusals::refuse(22));
     }
-    Opened::Refused(refusals::refuse(22))
-}
-
-// ---- closing
-
-// Closes an Id; its place is used again.
-pub fn close(area: &mut [u8], id: u64) -> Finished
-    ensures { λ r. ⌜ (r ≡ closeArea (now (area .entry)) id .answer) × (now (area .exit) ≡ closeArea (now (area .entry)) id .area) ⌝ }
-{
-    if area::judge(area) {
-        let kept = area::find_place(area, id);
-        if kept.open {
-            moves::remove_at(area, kept.at);
-            return Finished::Done;
-        }
-        return Finished::Refused(refusals::refuse(12));
+    if unread != 0 {
+        return Opened::Refused(refusals::refuse(unread));
     }
-    Finished::Refused(refusals::refuse(22))
+    let key = transfer::key_of(packet_metadata::metadata_fields(packet));
+    open_key(area, key)
 }

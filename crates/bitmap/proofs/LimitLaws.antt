@@ -1,5 +1,5 @@
--- "Given exactly when", for the bitmap receiver: 20 and 22 of the marks, 9 of opening, 12 of recording and of STATUS, 16; and that an
--- operation answers a refusal exactly when its definition gives the number.
+-- "Given exactly when", for the bitmap receiver: 20 and 22 of the marks, and 9 of opening; and that opening answers a refusal exactly
+-- when its definition gives the number.
 -- Assumes nothing.
 use Prim.Native.Nat.{ℕ, zero, suc, _-_, _^_, _≤_, _<_}
 use mathlib.Core.Path.{_≡_, refl, ap}
@@ -8,31 +8,24 @@ use mathlib.Core.List.{List}
 use mathlib.Core.Logic.{_⊎_, inl, inr, ⊎-elim, _↔_, Iff·trans}
 use native.Mathlib.Omega.{arith}
 use lib.ListN.{length}
-use lib.Dec.{ltb, leb, eqb}
+use lib.Dec.{ltb, leb}
 use borrow.Author.Tests.{leb-true, leb-false, le-leb, lt-leb, le-ltb}
 use Rattle.octets.specs.Numbers.{Width}
 use Rattle.refusals.specs.Refusals.{_▹_, when, refusalOf}
 use Rattle.refusals.specs.declared.Refusal.{Refusal}
-use Rattle.refusals.proofs.TestLaws.{ltb-iff, ltb-not, eqb-not, not-iff, and-iff, both}
-use Rattle.refusals.proofs.RefusalLaws.{given-here, given-later, after-none, when-given, when-other}
+use Rattle.refusals.proofs.TestLaws.{ltb-iff, ltb-not, not-iff, and-iff, both}
+use Rattle.refusals.proofs.RefusalLaws.{given-here, given-later, when-given, when-other}
 use Rattle.runs.specs.Holes.{edge}
 use Rattle.runs.proofs.EdgeLaws.{edge-member, edge-above}
 use Rattle.packet_metadata.specs.Metadata.{metadataRefusal, metadataOf}
-use Rattle.packet_data.specs.Data.{dataRefusal, dataOf}
-use Rattle.packet_data.specs.declared.Data.{Data}
 use Rattle.transfer.specs.declared.Key.{Key}
 use Rattle.transfer.specs.Transfers.{keyOf, lengthTest}
-use Rattle.transfer.specs.Record.{keyRefusal, extended}
 use Rattle.transfer.proofs.LengthLaws.{length-passed, length-passes}
-use Rattle.transfer.proofs.LimitLaws.{key-refusal-not-12, sixteen-iff}
-use Rattle.table.specs.declared.Recorded.the-variants as recorded
 use Rattle.marks.specs.Marks.{markOctets, markCount, marked}
 use Rattle.marks.specs.MarkedRuns.{markedRuns}
 use Rattle.marks.proofs.MarkLaws.{marked-canonical, marked-member}
 use Rattle.bitmap.specs.State.{longest, openable, stateTest, marksRefusal, stateRefusal}
 use Rattle.bitmap.specs.Open.{openRefusal, openAs, openMarks}
-use Rattle.bitmap.specs.Record.{dataRefused, recordRefusal, recordAs, recordMarks}
-use Rattle.bitmap.specs.WriteStatus.{idRefusal}
 use Rattle.bitmap.specs.declared.Opened.the-variants as opened
 
 -- ---- 20 and 22
@@ -100,7 +93,7 @@ module _ (k : Key) (s : List ℕ) where
       (both (ltb-not (length s) markOctets) (Iff·trans (when-given (not (stateTest k s)) 22 (λ e. omega arith)) (Iff·trans (not-iff (stateTest k s)) unfit-iff)))
 
   -- no other number is given of the marks
-  state-le : (n : ℕ) → stateRefusal k s ≡ n → (n ≡ 0 → ⊥) → (n ≡ 20 → ⊥) → (n ≡ 22 → ⊥) → ⊥
+  pub state-le : (n : ℕ) → stateRefusal k s ≡ n → (n ≡ 0 → ⊥) → (n ≡ 20 → ⊥) → (n ≡ 22 → ⊥) → ⊥
   unfolding stateRefusal marksRefusal
   state-le n e a b c = go (ltb (length s) markOctets) (not (stateTest k s)) e
     where
@@ -109,13 +102,6 @@ module _ (k : Key) (s : List ℕ) where
       go false true e = c (omega arith)
       go false false e = a (omega arith)
 
-  -- ---- 12 of STATUS: an Id over 32 bits is open nowhere
-  pub status-twelve-iff : (idRefusal k s ≡ 12) ↔ ((stateRefusal k s ≡ 0) × (2 ^ 32 ≤ k .id))
-  unfolding idRefusal
-  status-twelve-iff =
-      Iff·trans (after-none (stateRefusal k s) (when (leb (2 ^ 32) (k .id)) 12) 12 (λ e. omega arith) (λ e. state-le 12 e (λ z. omega arith) (λ z. omega arith) (λ z. omega arith)))
-      (both ((λ e. e), (λ e. e)) (Iff·trans (when-given (leb (2 ^ 32) (k .id)) 12 (λ e. omega arith)) (leb-true (2 ^ 32) (k .id), le-leb (2 ^ 32) (k .id))))
-
 -- ---- 9 of opening, after the marks and the reader's
 pub nine-iff : (s packet : List ℕ) → markOctets ≤ length s → metadataRefusal packet ≡ 0
     → (openRefusal s packet ≡ 9) ↔ (longest < keyOf (metadataOf packet) .length)
@@ -123,19 +109,6 @@ unfolding openRefusal marksRefusal
 nine-iff s packet long read =
     rw (le-ltb (length s) markOctets long, read)
     (Iff·trans (when-given (ltb longest (keyOf (metadataOf packet) .length)) 9 (λ e. omega arith)) (ltb-iff longest (keyOf (metadataOf packet) .length)))
-
--- ---- 12 of recording: the packet is of another Id
-pub twelve-iff : (k : Key) (d : Data) → (dataRefused k d ≡ 12) ↔ (d .id ≡ k .id → ⊥)
-unfolding dataRefused
-twelve-iff k d =
-    Iff·trans (given-here (not (eqb (d .id) (k .id))) 12 (keyRefusal k d) (λ e. omega arith) (key-refusal-not-12 k d))
-    (Iff·trans (not-iff (eqb (d .id) (k .id))) (eqb-not (d .id) (k .id)))
-
--- ---- 16, after the others
-pub sixteen-after-iff : (k : Key) (s packet : List ℕ) → stateRefusal k s ≡ 0 → dataRefusal packet ≡ 0 → dataRefused k (dataOf packet) ≡ 0
-    → (recordRefusal k s packet ≡ 16) ↔ (64 < length (extended (markedRuns s) (dataOf packet)))
-unfolding recordRefusal
-sixteen-after-iff k s packet fit read judged = rw (fit, read, judged) (sixteen-iff (extended (markedRuns s) (dataOf packet)))
 
 -- ---- the answers
 
@@ -150,16 +123,3 @@ open-as-iff (suc m) n s k = (
 pub open-refused-iff : (s packet : List ℕ) (n : ℕ) → (openMarks s packet .answer ≡ opened.Refused (refusalOf (suc n))) ↔ (openRefusal s packet ≡ suc n)
 unfolding openMarks
 open-refused-iff s packet n = open-as-iff (openRefusal s packet) n s (keyOf (metadataOf packet))
-
-record-as-iff : (m n : ℕ) (k : Key) (s : List ℕ) (d : Data) → (recordAs m k s d .answer ≡ recorded.Refused (refusalOf (suc n))) ↔ (m ≡ suc n)
-unfolding recordAs
-record-as-iff zero n k s d = ((λ e. absurd (let z : _≡_ {A = ℕ} 0 1 = cc in omega arith)), (λ e. absurd (omega arith)))
-record-as-iff (suc m) n k s d = (
-  (λ e. let r : refusalOf (suc m) ≡ refusalOf (suc n) = cc in ap (λ (x : Refusal). x .number) r),
-  (λ e. ap (λ (i : ℕ). recorded.Refused (refusalOf i)) e),
-)
-
-pub record-refused-iff : (k : Key) (s packet : List ℕ) (n : ℕ)
-    → (recordMarks k s packet .answer ≡ recorded.Refused (refusalOf (suc n))) ↔ (recordRefusal k s packet ≡ suc n)
-unfolding recordMarks
-record-refused-iff k s packet n = record-as-iff (recordRefusal k s packet) n k s (dataOf packet)

@@ -1,5 +1,3 @@
 pub mod State
 pub mod Open
-pub mod Record
-pub mod WriteStatus
 pub mod Judged

@@ -20,9 +20,9 @@ use Rattle.area.proofs.OperationLaws.{record-held, record-leaves, from-held}
 use Rattle.marks.specs.Marks.{cleared}
 use Rattle.marks.proofs.MarkLaws.{runs-cleared}
 use Rattle.bitmap.specs.State.{longest}
-use Rattle.bitmap.specs.Record.{recordMarks}
+use Rattle.bitmap_record.specs.Record.{recordMarks}
 use Rattle.bitmap.specs.declared.Opening.{Opening}
-use Rattle.bitmap.proofs.StatusLaws.{status-of}
+use Rattle.bitmap_status.proofs.StatusLaws.{status-of}
 use Rattle.both_receivers.specs.Both.{onArea, onMarks, answers, after, ForNoOther, NoneForAnother, SameStatus, Alike, BothReceivers}
 use Rattle.both_receivers.proofs.RecordLaws.{Agree, found-in, no-fault, follows}
 use Rattle.both_receivers.proofs.OpenLaws.{keyIn, marks-opened, area-opened, length-cleared}

@@ -43,8 +43,8 @@ use Rattle.marks.proofs.MarkLaws.{runs-cleared}
 use Rattle.bitmap.specs.Open as marks-open
 use Rattle.bitmap.specs.declared.Opened.the-variants as by-marks
 use Rattle.bitmap.specs.State.{marksRefusal, stateRefusal}
-use Rattle.bitmap.specs.Record.{dataRefused, recordMarks}
-use Rattle.bitmap.proofs.RecordLaws.{record-refused}
+use Rattle.bitmap_record.specs.Record.{dataRefused, recordMarks}
+use Rattle.bitmap_record.proofs.RecordLaws.{record-refused}
 use Rattle.both_receivers.specs.Both.{NoneForAnother, Alike}
 use Rattle.both_receivers.proofs.RecordLaws.{no-fault}
 use Rattle.both_receivers.proofs.OpenLaws.{marks-opened, length-cleared}

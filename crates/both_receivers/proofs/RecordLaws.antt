@@ -30,10 +30,10 @@ use Rattle.marks.specs.Marks.{markOctets, withMarks}
 use Rattle.marks.specs.MarkedRuns.{markedRuns}
 use Rattle.marks.proofs.MarkLaws.{length-marks}
 use Rattle.bitmap.specs.State.{Left, longest, stateRefusal}
-use Rattle.bitmap.specs.Record as by-marks
+use Rattle.bitmap_record.specs.Record as by-marks
 use Rattle.bitmap.proofs.StateLaws.{known-state}
-use Rattle.bitmap.proofs.RecordLaws.{another-id, same-id, payload-some}
-use Rattle.bitmap.proofs.ExtendLaws.{marks-extended}
+use Rattle.bitmap_record.proofs.RecordLaws.{another-id, same-id, payload-some}
+use Rattle.bitmap_record.proofs.ExtendLaws.{marks-extended}
 
 -- a transfer that was opened with the key k, and is open among the keys ks, that any other transfers have
 module _ (ks : List Key) (k : Key) (found : find (k .id) ks ≡ some k) (short : k .length ≤ longest) where

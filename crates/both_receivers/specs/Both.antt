@@ -21,8 +21,8 @@ use Rattle.table.specs.declared.Recorded.{Recorded}
 use Rattle.area.specs.Judge.{tableOf}
 use Rattle.area.specs.Operations.{openArea, recordArea, areaStatusWritten, areaStatusBuffer}
 use Rattle.bitmap.specs.Open.{openMarks}
-use Rattle.bitmap.specs.Record.{recordMarks}
-use Rattle.bitmap.specs.WriteStatus.{marksWritten, marksBuffer}
+use Rattle.bitmap_record.specs.Record.{recordMarks}
+use Rattle.bitmap_status.specs.WriteStatus.{marksWritten, marksBuffer}
 use Rattle.bitmap.specs.declared.Opening.{Opening}
 use Rattle.bitmap.specs.declared.Opened.the-variants as by-marks
 

@@ -1,30 +1,30 @@
--- What is left at a cursor, as a hole list: a piece further on it is shorter by that piece. So a plan is made piece by piece, and
--- a check ends as the test that goes once through both lists.
+-- What is left at a cursor, as a hole list: a piece further on it is shorter by that piece. So a plan is made piece by piece.
 -- Assumes nothing.
 use Prim.Native.Nat.{ℕ, zero, suc, _+_, _-_, _≤_, _<_, min}
 use mathlib.Core.Path.{_≡_, refl, sym, ap, _∙_}
-use mathlib.Core.Bool.{Bool, true, false, cond, _&&_}
+use mathlib.Core.Bool.{Bool, true, false, cond}
 use mathlib.Core.List.{List, [], _∷_, _++_}
 use native.Mathlib.Nat.{min-le-right}
 use native.Mathlib.Omega.{arith}
 use lib.ListN.{length, getD, drop, drop-of-length-le, length-drop}
 use lib.Seq.{drop-cons}
-use lib.Dec.{ltb, eqb}
-use borrow.Author.Tests.{ltb-true, ltb-false, lt-ltb, le-ltb, eq-eqb, ne-eqb}
+use lib.Dec.{ltb}
+use borrow.Author.Tests.{ltb-true, ltb-false, lt-ltb, le-ltb}
 use Rattle.runs.specs.declared.Hole.{Hole}
 use Rattle.packet_status.proofs.AcceptedLaws.{nth}
 use Rattle.plan.specs.Pieces.{piece, holePieces, planOf}
 use Rattle.plan.specs.Planning.{cursorAt, advanced, pieceAt, nextCursor, cursorAfter}
-use Rattle.plan.specs.Checking.{fits, checkStep, checkAll, passed}
 use Rattle.plan.specs.declared.Piece.{Piece}
 use Rattle.plan.specs.declared.Cursor.{Cursor}
-use Rattle.plan.specs.declared.Check.{Check}
 use Rattle.plan.proofs.PieceLaws.{hole, no-pieces, first-piece}
-use Rattle.plan.proofs.GoodPlanLaws.{fits-means, afterDone, goes}
 
 -- a piece, for what lies past the end of a list
 abbrev pub noPiece : Piece
 noPiece = piece 0 0
+
+-- the holes once n octets of the first, which ends at `end`, are done up to `at`
+abbrev pub afterDone : ℕ → ℕ → List Hole → List Hole
+afterDone at end hs = cond (ltb at end) (hole at end ∷ hs) hs
 
 abbrev pub left : List Hole → Cursor → List Hole
 left hs c = afterDone (c .offset) (c .end) (drop (c .next) hs)
@@ -81,7 +81,7 @@ module _ (hs : List Hole) (full : (i : ℕ) → i < length hs → nth hs i .star
     unfolding advanced
     left-advanced = advanced-by (ltb (c .offset + n) (c .end)) refl .1
 
-  nothing-left : (c : Cursor) → Reached hs c → c .end ≤ c .offset → left hs c ≡ []
+  pub nothing-left : (c : Cursor) → Reached hs c → c .end ≤ c .offset → left hs c ≡ []
   nothing-left c r l = rw (le-ltb (c .offset) (c .end) l) (drop-of-length-le hs (r .done (omega (arith, r .ordered))))
 
   -- ---- a plan, piece by piece
@@ -137,39 +137,3 @@ module _ (hs : List Hole) (full : (i : ℕ) → i < length hs → nth hs i .star
           let e : pieceAt m k ∷ planOf m (left hs (nextCursor hs m k)) ≡ getD plan i noPiece ∷ drop (suc i) plan =
           sym (plan-next k (p .0) h) ∙ p .1 ∙ drop-cons plan i noPiece l in
           cc
-
-  -- ---- a check, piece by piece
-
-  module _ (m : ℕ) where
-    ends-by : (c : Cursor) → Reached hs c → (t : Bool) → ltb (c .offset) (c .end) ≡ t → eqb (c .offset) (c .end) ≡ goes m (left hs c) []
-    ends-by c r true e = let l = ltb-true (c .offset) (c .end) e in rw (ne-eqb (c .offset) (c .end) (λ z. omega arith), e)
-    ends-by c r false e =
-        let l = ltb-false (c .offset) (c .end) e in
-        rw (eq-eqb (c .offset) (c .end) (omega (arith, r .ordered)), nothing-left c r l)
-
-    -- a piece that does not fit, and one that does
-    fails-by : (c : Cursor) (p : Piece) (ps : List Piece) → Reached hs c → fits m (c .offset) (c .end) p ≡ false → (t : Bool) → ltb (c .offset) (c .end) ≡ t → goes m (left hs c) (p ∷ ps) ≡ false
-    fails-by c p ps r f true e = rw (e, f)
-    fails-by c p ps r f false e = rw (nothing-left c r (ltb-false (c .offset) (c .end) e))
-
-    goes-on : (c : Cursor) (p : Piece) (ps : List Piece) → Reached hs c → fits m (c .offset) (c .end) p ≡ true
-        → goes m (left hs c) (p ∷ ps) ≡ goes m (left hs (advanced hs (p .length) c)) ps
-    goes-on c p ps r f =
-        let k = fits-means m (c .offset) (c .end) p f in
-        rw (lt-ltb (c .offset) (c .end) (omega (arith, k .some, k .ends)), f, left-advanced (p .length) c r (k .ends))
-
-    checked-by : (k : Check) (p : Piece) (ps : List Piece) → Reached hs (k .cursor) → (a b : Bool) → k .fine ≡ a → fits m (k .cursor .offset) (k .cursor .end) p ≡ b
-        → ((k : Check) → Reached hs (k .cursor) → passed (checkAll hs m k ps) ≡ k .fine && goes m (left hs (k .cursor)) ps)
-        → passed (checkAll hs m (cond (a && b) (record { number = k .number; fine = true; cursor = advanced hs (p .length) (k .cursor) }) (record { number = k .number; fine = false; cursor = k .cursor })) ps)
-        ≡ a && goes m (left hs (k .cursor)) (p ∷ ps)
-    checked-by k p ps r false b e f later = later (record { number = k .number; fine = false; cursor = k .cursor }) r
-    checked-by k p ps r true false e f later =
-        later (record { number = k .number; fine = false; cursor = k .cursor }) r ∙ sym (fails-by (k .cursor) p ps r f (ltb (k .cursor .offset) (k .cursor .end)) refl)
-    checked-by k p ps r true true e f later =
-        let g = fits-means m (k .cursor .offset) (k .cursor .end) p f in
-        later (record { number = k .number; fine = true; cursor = advanced hs (p .length) (k .cursor) }) (reached-advanced (p .length) (k .cursor) r (g .ends)) ∙ sym (goes-on (k .cursor) p ps r f)
-
-    pub checked : (ps : List Piece) (k : Check) → Reached hs (k .cursor) → passed (checkAll hs m k ps) ≡ k .fine && goes m (left hs (k .cursor)) ps
-    unfolding passed checkStep
-    checked [] k r = ap (λ (t : Bool). k .fine && t) (ends-by (k .cursor) r (ltb (k .cursor .offset) (k .cursor .end)) refl)
-    checked (p ∷ ps) k r = checked-by k p ps r (k .fine) (fits m (k .cursor .offset) (k .cursor .end) p) refl refl (checked ps)

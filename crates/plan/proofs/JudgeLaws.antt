@@ -22,6 +22,10 @@ pub judged-number : (n holes : ℕ) → judgedOf n holes .number ≡ n
 judged-number zero holes = refl
 judged-number (suc n) holes = refl
 
+pub planned-number : (n m : ℕ) (hs : List Hole) → plannedOf n m hs .number ≡ n
+planned-number zero m hs = refl
+planned-number (suc n) m hs = refl
+
 pub planned-refused : (n m : ℕ) (hs : List Hole) → (n ≡ 0 → ⊥) → record { number = n; count = 0; holes = 0 } ≡ plannedOf n m hs
 planned-refused zero m hs h = absurd (h refl)
 planned-refused (suc n) m hs h = refl

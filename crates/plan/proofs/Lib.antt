@@ -1,9 +1,6 @@
 pub mod PieceLaws
-pub mod GoodPlanLaws
-pub mod PlanLaws
 pub mod CursorLaws
 pub mod ResendLaws
 pub mod JudgeLaws
 pub mod PlanningLaws
-pub mod CheckLaws
 pub mod LimitLaws

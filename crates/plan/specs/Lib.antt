@@ -1,4 +1,2 @@
 pub mod Pieces
-pub mod GoodPlan
 pub mod Planning
-pub mod Checking

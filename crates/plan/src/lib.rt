@@ -1,4 +1,4 @@
-// What to send again: the pieces that fill the holes of a STATUS, and the check of a list of pieces.
+// What to send again: the pieces that fill the holes of a STATUS.
 // A list of pieces is walked by what C calls (crate saratoga); here is what there is to compute, on numbers and on a Piece by value.
 ghost use mathlib.Core.Path.{_≡_};
 ghost use Prim.Native.Nat.{_+_, _-_, _<_, _≤_, min};
@@ -8,10 +8,9 @@ ghost use lib.Dec.{eqb};
 ghost use Rattle.header.specs.FirstWord.{descriptorOctets};
 ghost use Rattle.header.specs.Start.{wordOf};
 ghost use Rattle.packet_status.specs.Status.{holeList};
-ghost use Rattle.plan.specs.Pieces.{piece, pieceCount, planOf};
+ghost use Rattle.plan.specs.Pieces.{pieceCount, planOf};
 ghost use Rattle.refusals.specs.Refusals.{when};
 ghost use Rattle.plan.specs.Planning.{allowed, resendRefusal, planRefusal, judgedOf, plannedOf, cursorAt, advanced, pieceAt, nextCursor, Readable};
-ghost use Rattle.plan.specs.Checking.{fits, checkStart, checkStep, passed};
 
 // Octets to send: the first one's offset, and how many. struct saratoga_piece.
 #[repr(C)]
@@ -40,13 +39,6 @@ pub struct Cursor {
     pub end: u64,
     pub next: usize,
     pub count: usize,
-}
-
-// A check under way: the refusal, 0 for none; whether all pieces so far are fine; and how far they have come.
-pub struct Check {
-    pub number: u64,
-    pub fine: bool,
-    pub cursor: Cursor,
 }
 
 // Refusal 21 of a largest payload; 0 for none.
@@ -87,7 +79,7 @@ fn resend_refusal(status: &[u8], largest: u64) -> u64
 }
 
 // The same, with the number of holes to fill.
-fn judge(status: &[u8], largest: u64) -> Judged
+pub fn judge(status: &[u8], largest: u64) -> Judged
     ensures { λ r. ⌜ r ≡ judgedOf (resendRefusal largest (now (status .entry))) (length (holeList (now (status .entry)))) ⌝ }
 {
     let n = resend_refusal(status, largest);
@@ -202,7 +194,7 @@ pub fn cursor_at(status: &[u8], count: usize, index: usize) -> Cursor
 }
 
 // The cursor `n` octets further on, in the hole or at its end.
-fn advance(status: &[u8], c: Cursor, n: u64) -> Cursor
+pub fn advance(status: &[u8], c: Cursor, n: u64) -> Cursor
     requires { ⌜ Readable (now status) (c .count) × (c .offset + n ≤ c .end) ⌝ }
     ensures { λ r. ⌜ r ≡ advanced (holeList (now (status .entry))) n c ⌝ }
 {
@@ -247,67 +239,4 @@ pub fn next_cursor(status: &[u8], c: Cursor, largest: u64) -> Cursor
     ensures { λ r. ⌜ r ≡ nextCursor (holeList (now (status .entry))) largest c ⌝ }
 {
     advance(status, c, piece_length(c.offset, c.end, largest))
-}
-
-// Whether a piece begins at `at`, is neither empty nor longer than `largest`, and does not go past `end`.
-fn piece_fits(at: u64, end: u64, largest: u64, offset: u64, length: u64) -> bool
-    ensures { λ r. ⌜ r ≡ fits largest at end (piece offset length) ⌝ }
-{
-    if offset != at {
-        return false;
-    }
-    if length == 0 {
-        return false;
-    }
-    if largest < length {
-        return false;
-    }
-    if end < at {
-        return false;
-    }
-    length <= end - at
-}
-
-// A check before the first piece.
-pub fn check_start(status: &[u8], largest: u64) -> Check
-    ensures { λ r. ⌜ r ≡ checkStart (resendRefusal largest (now (status .entry))) (holeList (now (status .entry))) ⌝ }
-{
-    let j = judge(status, largest);
-    Check {
-        number: j.number,
-        fine: j.number == 0,
-        cursor: cursor_at(status, j.holes, 0),
-    }
-}
-
-// A check after one more piece.
-pub fn check_step(status: &[u8], k: Check, largest: u64, p: Piece) -> Check
-    requires { ⌜ Readable (now status) (k .cursor .count) ⌝ }
-    ensures { λ r. ⌜ r ≡ checkStep (holeList (now (status .entry))) largest k p ⌝ }
-{
-    let c = k.cursor;
-    if k.fine {
-        if piece_fits(c.offset, c.end, largest, p.offset, p.length) {
-            return Check {
-                number: k.number,
-                fine: true,
-                cursor: advance(status, c, p.length),
-            };
-        }
-    }
-    Check {
-        number: k.number,
-        fine: false,
-        cursor: c,
-    }
-}
-
-// Whether all pieces were fine, and nothing is left.
-pub fn check_passed(k: Check) -> bool
-    ensures { λ r. ⌜ r ≡ passed k ⌝ }
-{
-    if k.fine {
-        return k.cursor.offset == k.cursor.end;
-    }
-    false
 }

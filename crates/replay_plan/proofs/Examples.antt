@@ -11,7 +11,7 @@ use Rattle.packet_status.specs.HoleList.{startsWell, holesWell, pointsToLast, l
 use Rattle.packet_status.specs.Status.{holeList, descriptorsRefusal, listRefusal, successRefusal, statusRefusal}
 use Rattle.plan.specs.Pieces.{pieceCount, holePieces, planOf}
 use Rattle.plan.specs.Planning.{resendRefusal, planRefusal, cursorAt, advanced}
-use Rattle.plan.specs.Checking.{fits, checkStep, passed}
+use Rattle.plan_check.specs.Checking.{fits, checkStep, passed}
 use Rattle.text.specs.Decimal.{decimalOnto, decimalOf}
 use Rattle.replay_lines.specs.Lines.{refusedLine}
 use Rattle.replay_plan.specs.PlanLines.{piecesText, planLine, piecesIn, checkPasses, checkLine}

@@ -7,19 +7,14 @@ use mathlib.Core.List.{List}
 use mathlib.Core.Logic.{_↔_}
 use Rattle.refusals.specs.Refusals.{refusalOf}
 use Rattle.packet_status.specs.Status.{holeList}
-use Rattle.runs.specs.declared.Hole.{Hole}
-use Rattle.plan.specs.GoodPlan.{GoodPlan}
-use Rattle.plan.specs.Planning.{resendRefusal, plannedOf}
-use Rattle.plan.specs.Checking.{checkStart, checkAll}
+use Rattle.plan_check.specs.GoodPlan.{GoodPlan}
+use Rattle.plan.specs.Planning.{resendRefusal}
+use Rattle.plan_check.specs.Checking.{checkStart, checkAll}
 use Rattle.plan.specs.declared.Piece.{Piece}
-use Rattle.plan.proofs.CheckLaws.{number-all, number-start}
-use Rattle.plan.proofs.ResendLaws.{passes-iff}
+use Rattle.plan_check.proofs.CheckLaws.{number-all, number-start}
+use Rattle.plan_check.proofs.PassLaws.{passes-iff}
 use Rattle.replay_lines.specs.Lines.{refusedLine}
 use Rattle.replay_plan.specs.PlanLines.{plannedText, checkPasses, checkedText}
-
-pub planned-number : (number m : ℕ) (hs : List Hole) → plannedOf number m hs .number ≡ number
-planned-number zero m hs = refl
-planned-number (suc number) m hs = refl
 
 pub planned-refused : (n number : ℕ) (ps : List Piece) → (number ≡ 0 → ⊥) → refusedLine n (refusalOf number) ≡ plannedText n number ps
 planned-refused n zero ps h = absurd (h refl)

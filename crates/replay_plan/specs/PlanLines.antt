@@ -8,7 +8,7 @@ use Rattle.refusals.specs.Refusals.{refusalOf}
 use Rattle.packet_status.specs.Status.{holeList}
 use Rattle.plan.specs.Pieces.{piece, planOf}
 use Rattle.plan.specs.Planning.{resendRefusal, planRefusal, plannedOf}
-use Rattle.plan.specs.Checking.{checkStart, checkAll, passed}
+use Rattle.plan_check.specs.Checking.{checkStart, checkAll, passed}
 use Rattle.plan.specs.declared.Piece.{Piece}
 use Rattle.plan.specs.declared.Plan.{Plan}
 use Rattle.text.specs.Decimal.{decimalOf}

@@ -6,14 +6,14 @@ ghost use lib.ListN.{length};
 ghost use Rattle.packet_status.specs.Status.{holeList};
 ghost use Rattle.plan.specs.Pieces.{planOf};
 ghost use Rattle.plan.specs.Planning.{planRefusal, cursorAt, Readable};
-ghost use Rattle.plan.specs.Checking.{checkAll};
+ghost use Rattle.plan_check.specs.Checking.{checkAll};
 ghost use Rattle.text.specs.Added.{Added};
 ghost use Rattle.replay_plan.specs.PlanLines.{piecesText, recordsLent, planFor, planLine, pieceIn, piecesIn, checkLine};
 ghost use Rattle.replay_plan.specs.PlanRecords.{planLines, checkLines};
-use plan::Check;
 use plan::Cursor;
 use plan::Piece;
 use plan::Plan;
+use plan_check::Check;
 use replay_fields::flag_of;
 use replay_fields::part;
 use replay_fields::put_field;
@@ -99,7 +99,7 @@ fn check_pieces(status: &[u8], largest: u64, s: &[u8], n: usize, first: Check) -
     let mut i: usize = 0;
     while i < n {
         let p = piece_in(s, i);
-        k = plan::check_step(status, k, largest, p);
+        k = plan_check::check_step(status, k, largest, p);
         i += 1;
     }
     k
@@ -118,13 +118,13 @@ fn put_check(
     requires { ⌜ (at ≤ length (now out)) × (16 * n ≤ length (now s)) ⌝ }
     ensures { λ r. ⌜ Added (now (out .entry)) at (checkLine number largest (now (status .entry)) (piecesIn (now (s .entry)) n)) (now (out .exit)) r ⌝ }
 {
-    let first = plan::check_start(status, largest);
+    let first = plan_check::check_start(status, largest);
     let k = check_pieces(status, largest, s, n, first);
     if k.number != 0 {
         let x = refusals::refuse(k.number);
         return replay_lines::put_refused(out, at, number, x);
     }
-    let passes = flag_of(plan::check_passed(k));
+    let passes = flag_of(plan_check::check_passed(k));
     let a = text::put_decimal(out, at, number);
     let b = put_field(out, a, b" check passes=", passes);
     text::push(out, b, 10)

@@ -51,29 +51,29 @@ use borrow.Author.Tests.{ltb-true, ltb-false}
 use Rattle.packet_status.specs.Status.{holeList}
 use Rattle.runs.specs.declared.Hole.{Hole}
 use Rattle.plan.specs.Planning.{resendRefusal, Readable}
-use Rattle.plan.specs.Checking.{checkStart, checkStep, checkAll}
+use Rattle.plan_check.specs.Checking.{checkStart, checkStep, checkAll}
 use Rattle.plan.specs.declared.Piece.{Piece}
-use Rattle.plan.specs.declared.Check.{Check}
+use Rattle.plan_check.specs.declared.Check.{Check}
 use Rattle.plan.proofs.CursorLaws.{noPiece}
-use Rattle.plan.proofs.CheckLaws.{start-readable, count-all, check-more, check-done}
+use Rattle.plan_check.proofs.CheckLaws.{start-readable, count-all, check-more, check-done}
 use Rattle.answer_plans.specs.PlanAnswers.{checkedAnswer}
 use Rattle.answer_plans.specs.declared.CheckedAnswer.{CheckedAnswer}
 use Rattle.answer_plans.proofs.CheckAnswerLaws.{check-answers}
 use Rattle.answer_plans.proofs.Walking.{num, made, calls-plain, calls-lent, spelt, typed-at}
 use Rattle.plan.proofs.Piece as T
 use Rattle.plan.proofs.Piece.Laws as T′
-use Rattle.plan.proofs.Check as K
-use Rattle.plan.proofs.Check.Laws as K′
+use Rattle.plan_check.proofs.Check as K
+use Rattle.plan_check.proofs.Check.Laws as K′
 use Rattle.answer_plans.proofs.CheckedAnswer as R′
 use Rattle.answer_plans.proofs.CheckedAnswer.Laws as R″
-use Rattle.plan.proofs.check_start as start
-use Rattle.plan.proofs.check_start.Symbol as start-def
-use Rattle.plan.proofs.check_start.Symbol.{name as #plan·check-start}
-use Rattle.plan.proofs.check_start.Met as start-thm
-use Rattle.plan.proofs.check_step as step
-use Rattle.plan.proofs.check_step.Symbol as step-def
-use Rattle.plan.proofs.check_step.Symbol.{name as #plan·check-step}
-use Rattle.plan.proofs.check_step.Met as step-thm
+use Rattle.plan_check.proofs.check_start as start
+use Rattle.plan_check.proofs.check_start.Symbol as start-def
+use Rattle.plan_check.proofs.check_start.Symbol.{name as #plan-check·check-start}
+use Rattle.plan_check.proofs.check_start.Met as start-thm
+use Rattle.plan_check.proofs.check_step as step
+use Rattle.plan_check.proofs.check_step.Symbol as step-def
+use Rattle.plan_check.proofs.check_step.Symbol.{name as #plan-check·check-step}
+use Rattle.plan_check.proofs.check_step.Met as step-thm
 use Rattle.answer_plans.proofs.checked_answer as answer
 use Rattle.answer_plans.proofs.checked_answer.Symbol as answer-def
 use Rattle.answer_plans.proofs.checked_answer.Symbol.{name as #answer-plans·checked-answer}
@@ -227,7 +227,7 @@ module _ {M : Type 1} (𝓤 : URA M) (H : Heap 𝓤) (A : Atoms 𝓤) (W : Given
   all-done : (i : ℕ) → i ≤ N → ltb i N ≡ false → after i ≡ checkAll hs m begun xs
   all-done i l is = ap (λ (j : ℕ). after j) (le-antisymm l (ltb-false i N is)) ∙ check-done hs m begun xs
 
-  module _ (𝓣 : Tables 𝓤 H) (fm : FmC 𝓤 H (W .laws) (𝓣 .C)) (known-step : Triple 𝓤 (𝓣 .C #plan·check-step) (Step 𝓤 H A mem run)) (known-answer : Triple 𝓤 (𝓣 .C #answer-plans·checked-answer) (Answer 𝓤 H A mem run))
+  module _ (𝓣 : Tables 𝓤 H) (fm : FmC 𝓤 H (W .laws) (𝓣 .C)) (known-step : Triple 𝓤 (𝓣 .C #plan-check·check-step) (Step 𝓤 H A mem run)) (known-answer : Triple 𝓤 (𝓣 .C #answer-plans·checked-answer) (Answer 𝓤 H A mem run))
       (l₀ l₁ l₂ l₃ l₄ l₅ l₆ l₇ l₈ l₉ l₁₀ : ℕ) where
     abbrev C : Calls 𝓤 H
     C = 𝓣 .C
@@ -325,7 +325,7 @@ module _ {M : Type 1} (𝓤 : URA M) (H : Heap 𝓤) (A : Atoms 𝓤) (W : Given
         first ! $ blocks ! $ loops ! 𝓣 Nearer Nearer-wf (At σ) (λ i. turn-by σ i (ltb (i .0) N) refl) (0, (zero-le, is-k)))
 
   -- the MIR, up to the first state of the check
-  walk : (𝓣 : Tables 𝓤 H) → FmC 𝓤 H (W .laws) (𝓣 .C) → Triple 𝓤 (𝓣 .C #plan·check-start) (Start 𝓤 H A mem run) → Triple 𝓤 (𝓣 .C #plan·check-step) (Step 𝓤 H A mem run) → Triple 𝓤 (𝓣 .C #answer-plans·checked-answer) (Answer 𝓤 H A mem run)
+  walk : (𝓣 : Tables 𝓤 H) → FmC 𝓤 H (W .laws) (𝓣 .C) → Triple 𝓤 (𝓣 .C #plan-check·check-start) (Start 𝓤 H A mem run) → Triple 𝓤 (𝓣 .C #plan-check·check-step) (Step 𝓤 H A mem run) → Triple 𝓤 (𝓣 .C #answer-plans·checked-answer) (Answer 𝓤 H A mem run)
       → ent 𝓤 (onEntry 𝓤 H A f.signature (κ, (κ′, tt)) (q, (q′, tt)) a vals) (WpFn 𝓤 H (𝓣 .C) (𝓣 .Λ) code.function (w ∷ vint w64 m ∷ v ∷ []) Post)
   walk 𝓣 fm known-start known-step known-answer =
       qed W ((‵ (flft κ q) ⊛ ‵ (flft κ′ q′) ⊛ ‵ ftrue) ∷ ‵ (owns (ShrSlice (named 0) κ u8 ∷ u64 ∷ ShrSlice (named 1) κ′ R ∷ []) a vals) ∷ []) ∵ enter ! (𝓣 .C) (𝓣 .Λ) code.function (w ∷ vint w64 m ∷ v ∷ []) _ $
@@ -342,7 +342,7 @@ module _ {M : Type 1} (𝓤 : URA M) (H : Heap 𝓤) (A : Atoms 𝓤) (W : Given
       opens 𝓣 fm known-step known-answer l₀ l₁ l₂ l₃ l₄ l₅ l₆ l₇ l₈ l₉ l₁₀ (typed-at K.the-type K′.the-laws is-k typed)))))))))))))
 
 module _ {M : Type 1} (𝓤 : URA M) (H : Heap 𝓤) (A : Atoms 𝓤) (W : Given 𝓤 H A) (mem : Memory → SProp 𝓤) (run : Routine → Fun 𝓤) (𝓣 : Tables 𝓤 H)
-    (known-start : Triple 𝓤 (𝓣 .C #plan·check-start) (Start 𝓤 H A mem run)) (known-step : Triple 𝓤 (𝓣 .C #plan·check-step) (Step 𝓤 H A mem run)) (known-answer : Triple 𝓤 (𝓣 .C #answer-plans·checked-answer) (Answer 𝓤 H A mem run)) where
+    (known-start : Triple 𝓤 (𝓣 .C #plan-check·check-start) (Start 𝓤 H A mem run)) (known-step : Triple 𝓤 (𝓣 .C #plan-check·check-step) (Step 𝓤 H A mem run)) (known-answer : Triple 𝓤 (𝓣 .C #answer-plans·checked-answer) (Answer 𝓤 H A mem run)) where
   walks : Walks 𝓤 H A f.ended stayed (WpFn 𝓤 H (𝓣 .C) (𝓣 .Λ) code.function) (f.clauses 𝓤 H A mem run)
   walks = walked 𝓤 H A f.ended stayed (f.clauses 𝓤 H A mem run) (WpFn 𝓤 H (𝓣 .C) (𝓣 .Λ) code.function)
       (λ κs. (slice-vals, (uint-vals w64, (slice-vals, tt)))) (λ κs. (shr-slice-tells (named 0) (κs .0) u8, (uint-tells w64, (shr-slice-tells (named 1) (κs .1 .0) R, tt))))
@@ -359,6 +359,6 @@ check-plan-spec 𝓤 H 𝓜 𝓖 𝓡 =
     entered 𝓤 H (tripleOf 𝓤 H (𝓖 .A) f.signature (f.spec 𝓤 H (𝓖 .A) (𝓜 .mem) (𝓡 .run)))
     (tables 𝓤 H 𝓜 𝓡 code.env .C) (tables 𝓤 H 𝓜 𝓡 code.env .Λ) #answer-plans·check-plan code.function (code.unfolded 𝓤 H 𝓜 𝓡)
     (meets 𝓤 H (𝓖 .A) (givenOf 𝓤 H 𝓜 𝓖) (𝓜 .mem) (𝓡 .run) (tablesOf 𝓤 H 𝓜 (tables 𝓤 H 𝓜 𝓡 code.env))
-    (cited 𝓤 H (Start 𝓤 H (𝓖 .A) (𝓜 .mem) (𝓡 .run)) 𝓜 𝓡 code.env #plan·check-start start-def.routine code.calls-plan·check-start (start-thm.met 𝓤 H 𝓜 𝓖 𝓡))
-    (cited 𝓤 H (Step 𝓤 H (𝓖 .A) (𝓜 .mem) (𝓡 .run)) 𝓜 𝓡 code.env #plan·check-step step-def.routine code.calls-plan·check-step (step-thm.met 𝓤 H 𝓜 𝓖 𝓡))
+    (cited 𝓤 H (Start 𝓤 H (𝓖 .A) (𝓜 .mem) (𝓡 .run)) 𝓜 𝓡 code.env #plan-check·check-start start-def.routine code.calls-plan·check-start (start-thm.met 𝓤 H 𝓜 𝓖 𝓡))
+    (cited 𝓤 H (Step 𝓤 H (𝓖 .A) (𝓜 .mem) (𝓡 .run)) 𝓜 𝓡 code.env #plan-check·check-step step-def.routine code.calls-plan·check-step (step-thm.met 𝓤 H 𝓜 𝓖 𝓡))
     (cited 𝓤 H (Answer 𝓤 H (𝓖 .A) (𝓜 .mem) (𝓡 .run)) 𝓜 𝓡 code.env #answer-plans·checked-answer answer-def.routine code.calls-answer-plans·checked-answer (answer-thm.met 𝓤 H 𝓜 𝓖 𝓡)))

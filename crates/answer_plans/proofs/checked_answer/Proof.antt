@@ -1,7 +1,7 @@
 -- `answer_plans::checked_answer` meets its contract. Assumes nothing.
 use mathlib.Core.Path.{_≡_, sym, _∙_}
 use mathlib.Core.Bool.{true, false}
-use Rattle.plan.specs.Checking.{passed}
+use Rattle.plan_check.specs.Checking.{passed}
 use borrow.Author.Needs.{needs}
 use Rattle.answer_plans.proofs.checked_answer.Statement.{statement}
 use Rattle.answer_plans.proofs.checked_answer.Tie as tie

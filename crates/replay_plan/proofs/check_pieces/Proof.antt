@@ -7,10 +7,10 @@ use native.Mathlib.Numerals.{add-one}
 use native.Mathlib.Omega.{arith}
 use denote.Ref.{now}
 use Rattle.packet_status.specs.Status.{holeList}
-use Rattle.plan.specs.Checking.{checkStep, checkAll}
+use Rattle.plan_check.specs.Checking.{checkStep, checkAll}
 use Rattle.plan.specs.declared.Piece.{Piece}
-use Rattle.plan.specs.declared.Check.{Check}
-use Rattle.plan.proofs.CheckLaws.{all-more, count-all}
+use Rattle.plan_check.specs.declared.Check.{Check}
+use Rattle.plan_check.proofs.CheckLaws.{all-more, count-all}
 use Rattle.replay_plan.specs.PlanLines.{pieceIn, piecesIn}
 use Rattle.replay_plan.proofs.check_pieces.Statement.{statement}
 use Rattle.replay_plan.proofs.check_pieces.Tie as tie

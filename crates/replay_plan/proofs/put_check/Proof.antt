@@ -9,9 +9,9 @@ use borrow.Author.Needs.{needs}
 use Rattle.refusals.specs.declared.Refusal.{Refusal}
 use Rattle.packet_status.specs.Status.{holeList}
 use Rattle.plan.specs.Planning.{resendRefusal}
-use Rattle.plan.specs.Checking.{checkStart, checkAll, passed}
-use Rattle.plan.specs.declared.Check.{Check}
-use Rattle.plan.proofs.CheckLaws.{start-readable}
+use Rattle.plan_check.specs.Checking.{checkStart, checkAll, passed}
+use Rattle.plan_check.specs.declared.Check.{Check}
+use Rattle.plan_check.proofs.CheckLaws.{start-readable}
 use Rattle.text.proofs.AddedLaws.{_then_, added-as}
 use Rattle.replay_fields.specs.Fields.{field, flagOf}
 use Rattle.replay_lines.specs.Lines.{refusedLine}

@@ -13,7 +13,8 @@ use Rattle.plan.specs.declared.Plan.{Plan}
 use Rattle.text.proofs.AddedLaws.{added-as}
 use Rattle.replay_lines.specs.Lines.{refusedLine}
 use Rattle.replay_plan.specs.PlanLines.{recordsLent, plannedText, planLine}
-use Rattle.replay_plan.proofs.LineLaws.{planned-number, planned-refused}
+use Rattle.plan.proofs.JudgeLaws.{planned-number}
+use Rattle.replay_plan.proofs.LineLaws.{planned-refused}
 use Rattle.replay_plan.proofs.put_plan.Statement.{statement}
 use Rattle.replay_plan.proofs.put_plan.Tie as tie
 

@@ -1,0 +1,4 @@
+pub mod ExtendLaws
+pub mod RecordLaws
+pub mod LimitLaws
+pub mod KeptLaws

@@ -1,0 +1,30 @@
+-- Writing STATUS, which only reads the marks.
+-- Assumes nothing.
+use Prim.Native.Nat.{ℕ, _^_}
+use mathlib.Core.Bool.{Bool}
+use mathlib.Core.List.{List}
+use lib.ListN.{length}
+use lib.Dec.{leb}
+use Rattle.refusals.specs.Refusals.{_▹_, when}
+use Rattle.refusals.specs.Writing.{writtenOf, bufferAfter}
+use Rattle.refusals.specs.declared.Written.{Written}
+use Rattle.transfer.specs.declared.Key.{Key}
+use Rattle.transfer.specs.WriteStatus.{transferRefused, statusPacket}
+use Rattle.marks.specs.MarkedRuns.{markedRuns}
+use Rattle.bitmap.specs.State.{stateRefusal}
+
+-- 20, 22, and 12: an Id over 32 bits is open nowhere
+unfoldable pub idRefusal : Key → List ℕ → ℕ
+idRefusal k s = stateRefusal k s ▹ when (leb (2 ^ 32) (k .id)) 12
+
+module _ (k : Key) (s : List ℕ) (skip : ℕ) (unasked : Bool) (old : List ℕ) where
+  -- then 19, and 20 for the buffer
+  abbrev pub statusRefusal : ℕ
+  statusRefusal = idRefusal k s ▹ transferRefused k (markedRuns s) skip unasked old
+
+  -- the answer, and the buffer at exit
+  unfoldable pub marksWritten : Written
+  marksWritten = writtenOf statusRefusal (length (statusPacket k (markedRuns s) skip unasked (length old)))
+
+  unfoldable pub marksBuffer : List ℕ
+  marksBuffer = bufferAfter statusRefusal (statusPacket k (markedRuns s) skip unasked (length old)) old

@@ -1,0 +1,2 @@
+pub mod GoodPlan
+pub mod Checking

@@ -129,5 +129,11 @@ pub fn write_status(
     ensures { λ r. ⌜ (r ≡ writtenAnswer (marksWritten (keyFrom b) (now (marks .entry)) skip (isUnasked unasked) (now (out .entry))))
         × (now (out .exit) ≡ marksBuffer (keyFrom b) (now (marks .entry)) skip (isUnasked unasked) (now (out .entry))) ⌝ }
 {
-    answers::written_answer(bitmap_status::write_status(key_from(b), marks, skip, unasked != 0, out))
+    answers::written_answer(bitmap_status::write_status(
+        key_from(b),
+        marks,
+        skip,
+        unasked != 0,
+        out,
+    ))
 }

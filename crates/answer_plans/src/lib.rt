@@ -6,9 +6,9 @@ ghost use Rattle.packet_status.specs.Status.{holeList};
 ghost use Rattle.plan.specs.Pieces.{planOf};
 ghost use Rattle.plan.specs.Planning.{resendRefusal, planRefusal, plannedOf, recordsAfter};
 ghost use Rattle.answer_plans.specs.PlanAnswers.{plannedAnswer, checkedAnswer, CheckAnswer};
-use plan_check::Check;
 use plan::Piece;
 use plan::Plan;
+use plan_check::Check;
 
 // struct saratoga_planned.
 #[repr(C)]

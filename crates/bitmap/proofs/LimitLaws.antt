@@ -1,20 +1,21 @@
 -- "Given exactly when", for the bitmap receiver: 20 and 22 of the marks, 9 of opening, 12 of recording and of STATUS, 16; and that an
 -- operation answers a refusal exactly when its definition gives the number.
 -- Assumes nothing.
-use Prim.Native.Nat.{ℕ, zero, suc, _-_, _^_, _≤_, _<_}
-use mathlib.Core.Path.{_≡_, refl, ap}
+use Prim.Native.Nat.{ℕ, suc, _-_, _^_, _≤_, _<_}
+use mathlib.Core.Path.{_≡_, refl}
 use mathlib.Core.Bool.{Bool, true, false, not, _&&_}
 use mathlib.Core.List.{List}
-use mathlib.Core.Logic.{_⊎_, inl, inr, ⊎-elim, _↔_, Iff·trans}
+use mathlib.Core.Logic.{_⊎_, inl, inr, ⊎-elim, _↔_, Iff·rfl, Iff·trans}
 use native.Mathlib.Omega.{arith}
 use lib.ListN.{length}
-use lib.Dec.{ltb, leb, eqb}
+use lib.Dec.{leb, eqb}
 use borrow.Author.Tests.{leb-true, leb-false, le-leb, lt-leb, le-ltb}
 use Rattle.octets.specs.Numbers.{Width}
-use Rattle.refusals.specs.Refusals.{_▹_, when, refusalOf}
-use Rattle.refusals.specs.declared.Refusal.{Refusal}
-use Rattle.refusals.proofs.TestLaws.{ltb-iff, ltb-not, eqb-not, not-iff, and-iff, both}
-use Rattle.refusals.proofs.RefusalLaws.{given-here, given-later, after-none, when-given, when-other}
+use Rattle.refusals.specs.Refusals.{refusalOf}
+use Rattle.refusals.proofs.TestLaws.{eqb-not, not-iff, and-iff}
+use Rattle.refusals.proofs.RefusalLaws.{given-here}
+use Rattle.refusals.proofs.LimitLaws.{refused-iff}
+use Rattle.refusals.proofs.ReasonLaws.{Reasons, given, one, below, says, _▸_, named, reworded}
 use Rattle.runs.specs.Holes.{edge}
 use Rattle.runs.proofs.EdgeLaws.{edge-member, edge-above}
 use Rattle.packet_metadata.specs.Metadata.{metadataRefusal, metadataOf}
@@ -87,42 +88,32 @@ module _ (k : Key) (s : List ℕ) where
       middle-false true false c e = refl
       middle-false false b c e = refl
 
-  pub twenty-iff : (stateRefusal k s ≡ 20) ↔ (length s < markOctets)
+  abbrev tests : Reasons
+  tests = one 20 (below (length s) markOctets) ▸ one 22 (says (not (stateTest k s)) (Iff·trans (not-iff (stateTest k s)) unfit-iff))
+
+  state-is : stateRefusal k s ≡ tests .refusal
   unfolding stateRefusal marksRefusal
-  twenty-iff =
-      Iff·trans (given-here (ltb (length s) markOctets) 20 (when (not (stateTest k s)) 22) (λ e. omega arith) (when-other (not (stateTest k s)) 22 20 (λ e. omega arith) (λ e. omega arith)))
-      (ltb-iff (length s) markOctets)
+  state-is = refl
+
+  abbrev reasons : Reasons
+  reasons = named (stateRefusal k s) tests state-is
+
+  pub twenty-iff : (stateRefusal k s ≡ 20) ↔ (length s < markOctets)
+  twenty-iff = given reasons 20
 
   pub twenty-two-iff : (stateRefusal k s ≡ 22) ↔ ((markOctets ≤ length s) × Unfit k s)
-  unfolding stateRefusal marksRefusal
-  twenty-two-iff =
-      Iff·trans (given-later (ltb (length s) markOctets) 20 22 (when (not (stateTest k s)) 22) (λ e. omega arith) (λ e. omega arith))
-      (both (ltb-not (length s) markOctets) (Iff·trans (when-given (not (stateTest k s)) 22 (λ e. omega arith)) (Iff·trans (not-iff (stateTest k s)) unfit-iff)))
-
-  -- no other number is given of the marks
-  state-le : (n : ℕ) → stateRefusal k s ≡ n → (n ≡ 0 → ⊥) → (n ≡ 20 → ⊥) → (n ≡ 22 → ⊥) → ⊥
-  unfolding stateRefusal marksRefusal
-  state-le n e a b c = go (ltb (length s) markOctets) (not (stateTest k s)) e
-    where
-      go : (t u : Bool) → (when t 20 ▹ when u 22) ≡ n → ⊥
-      go true u e = b (omega arith)
-      go false true e = c (omega arith)
-      go false false e = a (omega arith)
+  twenty-two-iff = given reasons 22
 
   -- ---- 12 of STATUS: an Id over 32 bits is open nowhere
   pub status-twelve-iff : (idRefusal k s ≡ 12) ↔ ((stateRefusal k s ≡ 0) × (2 ^ 32 ≤ k .id))
   unfolding idRefusal
-  status-twelve-iff =
-      Iff·trans (after-none (stateRefusal k s) (when (leb (2 ^ 32) (k .id)) 12) 12 (λ e. omega arith) (λ e. state-le 12 e (λ z. omega arith) (λ z. omega arith) (λ z. omega arith)))
-      (both ((λ e. e), (λ e. e)) (Iff·trans (when-given (leb (2 ^ 32) (k .id)) 12 (λ e. omega arith)) (leb-true (2 ^ 32) (k .id), le-leb (2 ^ 32) (k .id))))
+  status-twelve-iff = given (reworded 0 reasons Iff·rfl ▸ one 12 (says (leb (2 ^ 32) (k .id)) (leb-true (2 ^ 32) (k .id), le-leb (2 ^ 32) (k .id)))) 12
 
 -- ---- 9 of opening, after the marks and the reader's
 pub nine-iff : (s packet : List ℕ) → markOctets ≤ length s → metadataRefusal packet ≡ 0
     → (openRefusal s packet ≡ 9) ↔ (longest < keyOf (metadataOf packet) .length)
 unfolding openRefusal marksRefusal
-nine-iff s packet long read =
-    rw (le-ltb (length s) markOctets long, read)
-    (Iff·trans (when-given (ltb longest (keyOf (metadataOf packet) .length)) 9 (λ e. omega arith)) (ltb-iff longest (keyOf (metadataOf packet) .length)))
+nine-iff s packet long read = rw (le-ltb (length s) markOctets long, read) (given (one 9 (below longest (keyOf (metadataOf packet) .length))) 9)
 
 -- ---- 12 of recording: the packet is of another Id
 pub twelve-iff : (k : Key) (d : Data) → (dataRefused k d ≡ 12) ↔ (d .id ≡ k .id → ⊥)
@@ -139,27 +130,15 @@ sixteen-after-iff k s packet fit read judged = rw (fit, read, judged) (sixteen-i
 
 -- ---- the answers
 
-open-as-iff : (m n : ℕ) (s : List ℕ) (k : Key) → (openAs m s k .answer ≡ opened.Refused (refusalOf (suc n))) ↔ (m ≡ suc n)
-unfolding openAs
-open-as-iff zero n s k = ((λ e. absurd (let z : _≡_ {A = ℕ} 0 1 = cc in omega arith)), (λ e. absurd (omega arith)))
-open-as-iff (suc m) n s k = (
-  (λ e. let r : refusalOf (suc m) ≡ refusalOf (suc n) = cc in ap (λ (x : Refusal). x .number) r),
-  (λ e. ap (λ (i : ℕ). opened.Refused (refusalOf i)) e),
-)
-
 pub open-refused-iff : (s packet : List ℕ) (n : ℕ) → (openMarks s packet .answer ≡ opened.Refused (refusalOf (suc n))) ↔ (openRefusal s packet ≡ suc n)
-unfolding openMarks
-open-refused-iff s packet n = open-as-iff (openRefusal s packet) n s (keyOf (metadataOf packet))
-
-record-as-iff : (m n : ℕ) (k : Key) (s : List ℕ) (d : Data) → (recordAs m k s d .answer ≡ recorded.Refused (refusalOf (suc n))) ↔ (m ≡ suc n)
-unfolding recordAs
-record-as-iff zero n k s d = ((λ e. absurd (let z : _≡_ {A = ℕ} 0 1 = cc in omega arith)), (λ e. absurd (omega arith)))
-record-as-iff (suc m) n k s d = (
-  (λ e. let r : refusalOf (suc m) ≡ refusalOf (suc n) = cc in ap (λ (x : Refusal). x .number) r),
-  (λ e. ap (λ (i : ℕ). recorded.Refused (refusalOf i)) e),
-)
+unfolding openMarks openAs
+open-refused-iff s packet n =
+    refused-iff opened.Refused (λ m. openAs m s (keyOf (metadataOf packet)) .answer) (λ m. refl)
+    (λ r e. let z : _≡_ {A = ℕ} 0 1 = cc in omega arith) (λ q r e. cc) (openRefusal s packet) n
 
 pub record-refused-iff : (k : Key) (s packet : List ℕ) (n : ℕ)
     → (recordMarks k s packet .answer ≡ recorded.Refused (refusalOf (suc n))) ↔ (recordRefusal k s packet ≡ suc n)
-unfolding recordMarks
-record-refused-iff k s packet n = record-as-iff (recordRefusal k s packet) n k s (dataOf packet)
+unfolding recordMarks recordAs
+record-refused-iff k s packet n =
+    refused-iff recorded.Refused (λ m. recordAs m k s (dataOf packet) .answer) (λ m. refl)
+    (λ r e. let z : _≡_ {A = ℕ} 0 1 = cc in omega arith) (λ q r e. cc) (recordRefusal k s packet) n

@@ -1,7 +1,7 @@
 -- "Given exactly when": what a chain gives where a number stands in several places, and the room that a packet needs.
 -- Assumes nothing.
 use Prim.Native.Nat.{ℕ, zero, suc, _<_, _≤_}
-use mathlib.Core.Path.{_≡_, refl, sym, ap}
+use mathlib.Core.Path.{_≡_, refl, sym, ap, _∙_}
 use mathlib.Core.Bool.{Bool, true, false, not, false≢true}
 use mathlib.Core.Logic.{_⊎_, inl, inr, ⊎-elim, _↔_, Iff·trans}
 use native.Mathlib.Omega.{arith}
@@ -62,13 +62,18 @@ module _ (size room : ℕ) where
 -- ---- answers
 
 -- an operation answers the refusal n exactly when its number is n
+pub refused-iff : {A : Type 0} (refused : Refusal → A) (answer : ℕ → A) → ((m : ℕ) → answer (suc m) ≡ refused (refusalOf (suc m)))
+    → ((r : Refusal) → answer 0 ≡ refused r → ⊥) → ((q r : Refusal) → refused q ≡ refused r → q ≡ r)
+    → (m n : ℕ) → (answer m ≡ refused (refusalOf (suc n))) ↔ (m ≡ suc n)
+refused-iff refused answer is apart same zero n = ((λ e. absurd (apart (refusalOf (suc n)) e)), (λ e. absurd (omega arith)))
+refused-iff refused answer is apart same (suc m) n = (
+  (λ e. ap (λ (r : Refusal). r .number) (same (refusalOf (suc m)) (refusalOf (suc n)) (sym (is m) ∙ e))),
+  (λ e. is m ∙ ap (λ (i : ℕ). refused (refusalOf i)) e),
+)
+
 pub answered-iff : {A : Type 0} (refused : Refusal → A) (m n : ℕ) (result : A) → ((r : Refusal) → result ≡ refused r → ⊥)
     → ((q r : Refusal) → refused q ≡ refused r → q ≡ r) → (answered refused m result ≡ refused (refusalOf (suc n))) ↔ (m ≡ suc n)
-answered-iff refused zero n result apart same = ((λ e. absurd (apart (refusalOf (suc n)) e)), (λ e. absurd (omega arith)))
-answered-iff refused (suc m) n result apart same = (
-  (λ e. ap (λ (r : Refusal). r .number) (same (refusalOf (suc m)) (refusalOf (suc n)) e)),
-  (λ e. ap (λ (i : ℕ). refused (refusalOf i)) e),
-)
+answered-iff refused m n result apart same = refused-iff refused (λ i. answered refused i result) (λ i. refl) apart same m n
 
 pub written-iff : (m n size : ℕ) → (writtenOf m size ≡ Refused (refusalOf (suc n))) ↔ (m ≡ suc n)
 written-iff m n size = answered-iff Refused m n (Size size) (λ r e. let z : _≡_ {A = ℕ} 0 1 = cc in omega arith) (λ q r e. cc)

@@ -6,8 +6,8 @@ use mathlib.Core.Path.{_≡_, refl, sym, _∙_}
 use mathlib.Core.Bool.{Bool, true, false, not, _&&_, _||_}
 use mathlib.Core.Logic.{_⊎_, inl, inr, ⊎-elim, _↔_, Iff·rfl, Iff·trans}
 use native.Mathlib.Omega.{arith}
-use lib.Dec.{ltb, eqb}
-use borrow.Author.Tests.{eqb-true, eqb-false}
+use lib.Dec.{ltb, leb, eqb}
+use borrow.Author.Tests.{eqb-true, eqb-false, leb-false}
 use Rattle.refusals.specs.Refusals.{_▹_, when}
 use Rattle.refusals.proofs.TestLaws.{eqb-iff, eqb-not, ltb-iff, ltb-not, not-iff, not-not, and-iff, or-iff, test-not, both, either}
 use Rattle.refusals.proofs.RefusalLaws.{when-given, when-other, when-none, when-all, chain-iff, chain-none, first-only}
@@ -183,6 +183,15 @@ reworded {A} (suc k) a i =
       none-iff = a .none-iff;
       given-iff = λ n. else-given a (suc k) i n (eqb (suc n) (suc k)) refl;
     }
+
+-- a refusal that gives no number above k, each in its own words
+pub within-given : (k m : ℕ) → m ≤ k → (n : ℕ) (b : Bool) → leb n k ≡ b → (m ≡ n) ↔ Means (whyIf b (m ≡ n))
+within-given k m h n true e = Iff·rfl
+within-given k m h n false e = ((λ q. omega (arith, leb-false n k e)), (λ z. absurd z))
+
+abbrev pub within : (k m : ℕ) → m ≤ k → Reasons
+within k m h =
+    record { refusal = m; None = m ≡ 0; why = λ n. whyIf (leb n k) (m ≡ n); none-iff = Iff·rfl; given-iff = λ n. within-given k m h (suc n) (leb (suc n) k) refl }
 
 -- ---- a part that gives k alone: its tests are one
 

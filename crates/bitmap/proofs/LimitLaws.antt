@@ -1,20 +1,20 @@
 -- "Given exactly when", for the bitmap receiver: 20 and 22 of the marks, and 9 of opening; and that opening answers a refusal exactly
 -- when its definition gives the number.
 -- Assumes nothing.
-use Prim.Native.Nat.{ℕ, zero, suc, _-_, _^_, _≤_, _<_}
-use mathlib.Core.Path.{_≡_, refl, ap}
+use Prim.Native.Nat.{ℕ, suc, _-_, _^_, _≤_, _<_}
+use mathlib.Core.Path.{_≡_, refl}
 use mathlib.Core.Bool.{Bool, true, false, not, _&&_}
 use mathlib.Core.List.{List}
 use mathlib.Core.Logic.{_⊎_, inl, inr, ⊎-elim, _↔_, Iff·trans}
 use native.Mathlib.Omega.{arith}
 use lib.ListN.{length}
-use lib.Dec.{ltb, leb}
+use lib.Dec.{leb}
 use borrow.Author.Tests.{leb-true, leb-false, le-leb, lt-leb, le-ltb}
 use Rattle.octets.specs.Numbers.{Width}
-use Rattle.refusals.specs.Refusals.{_▹_, when, refusalOf}
-use Rattle.refusals.specs.declared.Refusal.{Refusal}
-use Rattle.refusals.proofs.TestLaws.{ltb-iff, ltb-not, not-iff, and-iff, both}
-use Rattle.refusals.proofs.RefusalLaws.{given-here, given-later, when-given, when-other}
+use Rattle.refusals.specs.Refusals.{refusalOf}
+use Rattle.refusals.proofs.TestLaws.{not-iff, and-iff}
+use Rattle.refusals.proofs.LimitLaws.{refused-iff}
+use Rattle.refusals.proofs.ReasonLaws.{Reasons, given, one, below, says, _▸_, named}
 use Rattle.runs.specs.Holes.{edge}
 use Rattle.runs.proofs.EdgeLaws.{edge-member, edge-above}
 use Rattle.packet_metadata.specs.Metadata.{metadataRefusal, metadataOf}
@@ -80,46 +80,33 @@ module _ (k : Key) (s : List ℕ) where
       middle-false true false c e = refl
       middle-false false b c e = refl
 
-  pub twenty-iff : (stateRefusal k s ≡ 20) ↔ (length s < markOctets)
+  abbrev tests : Reasons
+  tests = one 20 (below (length s) markOctets) ▸ one 22 (says (not (stateTest k s)) (Iff·trans (not-iff (stateTest k s)) unfit-iff))
+
+  state-is : stateRefusal k s ≡ tests .refusal
   unfolding stateRefusal marksRefusal
-  twenty-iff =
-      Iff·trans (given-here (ltb (length s) markOctets) 20 (when (not (stateTest k s)) 22) (λ e. omega arith) (when-other (not (stateTest k s)) 22 20 (λ e. omega arith) (λ e. omega arith)))
-      (ltb-iff (length s) markOctets)
+  state-is = refl
+
+  abbrev pub reasons : Reasons
+  reasons = named (stateRefusal k s) tests state-is
+
+  pub twenty-iff : (stateRefusal k s ≡ 20) ↔ (length s < markOctets)
+  twenty-iff = given reasons 20
 
   pub twenty-two-iff : (stateRefusal k s ≡ 22) ↔ ((markOctets ≤ length s) × Unfit k s)
-  unfolding stateRefusal marksRefusal
-  twenty-two-iff =
-      Iff·trans (given-later (ltb (length s) markOctets) 20 22 (when (not (stateTest k s)) 22) (λ e. omega arith) (λ e. omega arith))
-      (both (ltb-not (length s) markOctets) (Iff·trans (when-given (not (stateTest k s)) 22 (λ e. omega arith)) (Iff·trans (not-iff (stateTest k s)) unfit-iff)))
+  twenty-two-iff = given reasons 22
 
-  -- no other number is given of the marks
-  pub state-le : (n : ℕ) → stateRefusal k s ≡ n → (n ≡ 0 → ⊥) → (n ≡ 20 → ⊥) → (n ≡ 22 → ⊥) → ⊥
-  unfolding stateRefusal marksRefusal
-  state-le n e a b c = go (ltb (length s) markOctets) (not (stateTest k s)) e
-    where
-      go : (t u : Bool) → (when t 20 ▹ when u 22) ≡ n → ⊥
-      go true u e = b (omega arith)
-      go false true e = c (omega arith)
-      go false false e = a (omega arith)
 
 -- ---- 9 of opening, after the marks and the reader's
 pub nine-iff : (s packet : List ℕ) → markOctets ≤ length s → metadataRefusal packet ≡ 0
     → (openRefusal s packet ≡ 9) ↔ (longest < keyOf (metadataOf packet) .length)
 unfolding openRefusal marksRefusal
-nine-iff s packet long read =
-    rw (le-ltb (length s) markOctets long, read)
-    (Iff·trans (when-given (ltb longest (keyOf (metadataOf packet) .length)) 9 (λ e. omega arith)) (ltb-iff longest (keyOf (metadataOf packet) .length)))
+nine-iff s packet long read = rw (le-ltb (length s) markOctets long, read) (given (one 9 (below longest (keyOf (metadataOf packet) .length))) 9)
 
 -- ---- the answers
 
-open-as-iff : (m n : ℕ) (s : List ℕ) (k : Key) → (openAs m s k .answer ≡ opened.Refused (refusalOf (suc n))) ↔ (m ≡ suc n)
-unfolding openAs
-open-as-iff zero n s k = ((λ e. absurd (let z : _≡_ {A = ℕ} 0 1 = cc in omega arith)), (λ e. absurd (omega arith)))
-open-as-iff (suc m) n s k = (
-  (λ e. let r : refusalOf (suc m) ≡ refusalOf (suc n) = cc in ap (λ (x : Refusal). x .number) r),
-  (λ e. ap (λ (i : ℕ). opened.Refused (refusalOf i)) e),
-)
-
 pub open-refused-iff : (s packet : List ℕ) (n : ℕ) → (openMarks s packet .answer ≡ opened.Refused (refusalOf (suc n))) ↔ (openRefusal s packet ≡ suc n)
-unfolding openMarks
-open-refused-iff s packet n = open-as-iff (openRefusal s packet) n s (keyOf (metadataOf packet))
+unfolding openMarks openAs
+open-refused-iff s packet n =
+    refused-iff opened.Refused (λ m. openAs m s (keyOf (metadataOf packet)) .answer) (λ m. refl)
+    (λ r e. let z : _≡_ {A = ℕ} 0 1 = cc in omega arith) (λ q r e. cc) (openRefusal s packet) n

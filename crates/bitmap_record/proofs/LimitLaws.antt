@@ -1,8 +1,8 @@
 -- "Given exactly when", for recording by marks: 12 and 16; and that recording answers a refusal exactly when its definition gives the
 -- number.
 -- Assumes nothing.
-use Prim.Native.Nat.{ℕ, zero, suc, _<_}
-use mathlib.Core.Path.{_≡_, ap}
+use Prim.Native.Nat.{ℕ, suc, _<_}
+use mathlib.Core.Path.{_≡_, refl}
 use mathlib.Core.Bool.{not}
 use mathlib.Core.List.{List}
 use mathlib.Core.Logic.{_↔_, Iff·trans}
@@ -10,9 +10,9 @@ use native.Mathlib.Omega.{arith}
 use lib.ListN.{length}
 use lib.Dec.{eqb}
 use Rattle.refusals.specs.Refusals.{refusalOf}
-use Rattle.refusals.specs.declared.Refusal.{Refusal}
 use Rattle.refusals.proofs.TestLaws.{eqb-not, not-iff}
 use Rattle.refusals.proofs.RefusalLaws.{given-here}
+use Rattle.refusals.proofs.LimitLaws.{refused-iff}
 use Rattle.packet_data.specs.Data.{dataRefusal, dataOf}
 use Rattle.packet_data.specs.declared.Data.{Data}
 use Rattle.transfer.specs.declared.Key.{Key}
@@ -38,15 +38,9 @@ sixteen-after-iff k s packet fit read judged = rw (fit, read, judged) (sixteen-i
 
 -- ---- the answers
 
-record-as-iff : (m n : ℕ) (k : Key) (s : List ℕ) (d : Data) → (recordAs m k s d .answer ≡ recorded.Refused (refusalOf (suc n))) ↔ (m ≡ suc n)
-unfolding recordAs
-record-as-iff zero n k s d = ((λ e. absurd (let z : _≡_ {A = ℕ} 0 1 = cc in omega arith)), (λ e. absurd (omega arith)))
-record-as-iff (suc m) n k s d = (
-  (λ e. let r : refusalOf (suc m) ≡ refusalOf (suc n) = cc in ap (λ (x : Refusal). x .number) r),
-  (λ e. ap (λ (i : ℕ). recorded.Refused (refusalOf i)) e),
-)
-
 pub record-refused-iff : (k : Key) (s packet : List ℕ) (n : ℕ)
     → (recordMarks k s packet .answer ≡ recorded.Refused (refusalOf (suc n))) ↔ (recordRefusal k s packet ≡ suc n)
-unfolding recordMarks
-record-refused-iff k s packet n = record-as-iff (recordRefusal k s packet) n k s (dataOf packet)
+unfolding recordMarks recordAs
+record-refused-iff k s packet n =
+    refused-iff recorded.Refused (λ m. recordAs m k s (dataOf packet) .answer) (λ m. refl)
+    (λ r e. let z : _≡_ {A = ℕ} 0 1 = cc in omega arith) (λ q r e. cc) (recordRefusal k s packet) n

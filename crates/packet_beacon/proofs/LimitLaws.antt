@@ -1,19 +1,16 @@
 -- "Given exactly when", for BEACON: 26, 1 and 5 of the reader; 21, 26, 2 and 20 of the writer.
 -- Assumes nothing.
 use Prim.Native.Nat.{ℕ, suc, _+_, _^_, _<_, _≤_}
-use mathlib.Core.Path.{_≡_, refl, sym, _∙_}
-use mathlib.Core.Bool.{not}
+use mathlib.Core.Path.{_≡_, refl}
 use mathlib.Core.List.{List}
-use mathlib.Core.Logic.{_⊎_, inl, inr, ⊎-elim, _↔_, Iff·rfl, Iff·trans}
+use mathlib.Core.Logic.{_⊎_, _↔_}
 use native.Mathlib.Omega.{arith}
 use lib.ListN.{length}
-use lib.Dec.{ltb, eqb}
-use Rattle.refusals.specs.Refusals.{_▹_, when, refusalOf}
+use Rattle.refusals.specs.Refusals.{_▹_, refusalOf}
 use Rattle.refusals.specs.Writing.{roomRefusal}
 use Rattle.refusals.specs.declared.Written.the-variants as written
-use Rattle.refusals.proofs.TestLaws.{eqb-iff, both}
-use Rattle.refusals.proofs.RefusalLaws.{after-none, when-given}
 use Rattle.refusals.proofs.LimitLaws as chains
+use Rattle.refusals.proofs.ReasonLaws.{Reasons, given, equal, reaches, unequal, _▸_, named, Alone, sole, _or_, alone, of-start}
 use Rattle.header.specs.Start.{wordOf, startOctets, typeRefusal}
 use Rattle.header.specs.Descriptor.{descriptorRefusal}
 use Rattle.header.proofs.StartLaws.{TypeFine}
@@ -30,35 +27,16 @@ module _ (w : ℕ) where
   abbrev pub FlagsWrong : Type 0
   FlagsWrong = (sendingPair w ≡ 1) ⊎ ((receivingPair w ≡ 1) ⊎ (lastOctet w ≡ 0 → ⊥))
 
+  abbrev flags-wrong : Alone 26
+  flags-wrong = sole (equal (sendingPair w) 1) or sole (equal (receivingPair w) 1) or sole (unequal (lastOctet w) 0)
+
   pub flags-iff : (flagsRefusal w ≡ 26) ↔ FlagsWrong
   unfolding flagsRefusal
-  flags-iff =
-      Iff·trans (chains.given-again (eqb (sendingPair w) 1) 26 _ (λ e. omega arith))
-      (chains.either (eqb-iff (sendingPair w) 1)
-      (Iff·trans (chains.given-again (eqb (receivingPair w) 1) 26 _ (λ e. omega arith))
-      (chains.either (eqb-iff (receivingPair w) 1)
-      (Iff·trans (when-given (not (eqb (lastOctet w) 0)) 26 (λ e. omega arith)) (chains.unequal-iff (lastOctet w) 0)))))
-
-  flags-alone : (flagsRefusal w ≡ 0) ⊎ (flagsRefusal w ≡ 26)
-  unfolding flagsRefusal
-  flags-alone =
-      let P : ℕ → Type 0 = λ m. (m ≡ 0) ⊎ (m ≡ 26) in
-      chains.link-all P (eqb (sendingPair w) 1) 26 _ (inr refl)
-      (chains.link-all P (eqb (receivingPair w) 1) 26 _ (inr refl) (chains.when-all P (not (eqb (lastOctet w) 0)) 26 (inl refl) (inr refl)))
+  flags-iff = given (alone flags-wrong) 26
 
   pub flags-none : (flagsRefusal w ≡ 0) ↔ (FlagsWrong → ⊥)
-  flags-none = chains.alone-none FlagsWrong (flagsRefusal w) 26 (λ e. omega arith) flags-alone flags-iff
-
-  -- a number that comes after 26
-  after-flags : (r n : ℕ) → (n ≡ 0 → ⊥) → (26 ≡ n → ⊥) → (flagsRefusal w ▹ r ≡ n) ↔ ((FlagsWrong → ⊥) × (r ≡ n))
-  after-flags r n z h =
-      Iff·trans (after-none (flagsRefusal w) r n z (⊎-elim (λ e q. z (sym q ∙ e)) (λ e q. h (sym e ∙ q)) flags-alone)) (both flags-none Iff·rfl)
-
-  flags-all : (P : ℕ → Type 0) → P 0 → P 26 → P (flagsRefusal w)
   unfolding flagsRefusal
-  flags-all P z a =
-      chains.link-all P (eqb (sendingPair w) 1) 26 _ a
-      (chains.link-all P (eqb (receivingPair w) 1) 26 _ a (chains.when-all P (not (eqb (lastOctet w) 0)) 26 z a))
+  flags-none = given (alone flags-wrong) 0
 
 -- ---- read
 
@@ -66,43 +44,32 @@ module _ (s : List ℕ) where
   abbrev w : ℕ
   w = wordOf s
 
-  abbrev free : ℕ
-  free = descriptorRefusal (freeOctets w) 4 s
+  -- what comes after the word
+  abbrev fields : Reasons
+  fields = alone (flags-wrong w) ▸ header.descriptor-reasons (freeOctets w) 4 s
+
+  read-is : beaconRefusal s ≡ typeRefusal 0 s ▹ fields .refusal
+  unfolding beaconRefusal flagsRefusal descriptorRefusal
+  read-is = refl
+
+  abbrev reasons : Reasons
+  reasons = named (beaconRefusal s) (header.type-reasons 0 s ▸ fields) read-is
 
   -- 2, 3 and 4 come of what the packet begins with (header: LimitLaws)
   pub start-iff : (n : ℕ) → 2 ≤ n → n ≤ 4 → (beaconRefusal s ≡ n) ↔ (typeRefusal 0 s ≡ n)
-  unfolding beaconRefusal
-  start-iff n lo hi =
-      let P : ℕ → Type 0 = λ m. m ≡ n → ⊥ in
-      chains.first-only (typeRefusal 0 s) _ n (λ e. omega arith)
-      (chains.chain-all P (flagsRefusal w) _ (flags-all w P (λ e. omega arith) (λ e. omega arith))
-      (header.descriptor-all (freeOctets w) 4 s P (λ e. omega arith) (λ e. omega arith) (λ e. omega arith)))
+  start-iff = rw read-is (of-start (typeRefusal 0 s) fields (λ z. z) (λ z. z) (λ z. z))
 
   -- 26, "next after 4"
   pub twenty-six-iff : (beaconRefusal s ≡ 26) ↔ (TypeFine 0 s × FlagsWrong w)
-  unfolding beaconRefusal
-  twenty-six-iff =
-      Iff·trans (header.after-type 0 s _ 26 (omega arith))
-      (both Iff·rfl
-      (Iff·trans (chains.first-only (flagsRefusal w) _ 26 (λ e. omega arith) (header.descriptor-all (freeOctets w) 4 s (λ m. m ≡ 26 → ⊥) (λ e. omega arith) (λ e. omega arith) (λ e. omega arith)))
-      (flags-iff w)))
+  twenty-six-iff = given reasons 26
 
   -- 5: "where free space is present", one of its upper eight octets isn't zero, "once its octets are there"
   pub five-iff : (beaconRefusal s ≡ 5) ↔ (TypeFine 0 s × ((FlagsWrong w → ⊥) × ((endpointAt w ≤ length s) × header.Large (freeOctets w) 4 s)))
-  unfolding beaconRefusal
-  five-iff =
-      Iff·trans (header.after-type 0 s _ 5 (omega arith))
-      (both Iff·rfl
-      (Iff·trans (after-flags w _ 5 (λ e. omega arith) (λ e. omega arith)) (both Iff·rfl (header.descriptor-five-iff (freeOctets w) 4 s))))
+  five-iff = given reasons 5
 
   -- 1: "packet ends inside a field": the word or the Id, or then the free space
   pub one-iff : (beaconRefusal s ≡ 1) ↔ ((length s < startOctets w) ⊎ (TypeFine 0 s × ((FlagsWrong w → ⊥) × (length s < endpointAt w))))
-  unfolding beaconRefusal
-  one-iff =
-      Iff·trans (header.one-or-after 0 s _)
-      (chains.either Iff·rfl
-      (both Iff·rfl
-      (Iff·trans (after-flags w _ 1 (λ e. omega arith) (λ e. omega arith)) (both Iff·rfl (header.descriptor-one-iff (freeOctets w) 4 s)))))
+  one-iff = given reasons 1
 
 -- ---- written: lengths of endpoint and buffer
 
@@ -111,67 +78,39 @@ module _ (flags free : ℕ) where
   abbrev pub Excess : Type 0
   Excess = (2 ^ 24 ≤ flags) ⊎ (256 ^ freeOctets flags ≤ free)
 
-  excess-iff : (beaconExcess flags free ≡ 21) ↔ Excess
-  unfolding beaconExcess
-  excess-iff =
-      Iff·trans (chains.given-again (not (ltb flags (2 ^ 24))) 21 _ (λ e. omega arith))
-      (chains.either (chains.not-below-iff flags (2 ^ 24))
-      (Iff·trans (when-given (not (ltb free (256 ^ freeOctets flags))) 21 (λ e. omega arith)) (chains.not-below-iff free (256 ^ freeOctets flags))))
-
-  excess-alone : (beaconExcess flags free ≡ 0) ⊎ (beaconExcess flags free ≡ 21)
-  unfolding beaconExcess
-  excess-alone =
-      let P : ℕ → Type 0 = λ m. (m ≡ 0) ⊎ (m ≡ 21) in
-      chains.link-all P (not (ltb flags (2 ^ 24))) 21 _ (inr refl)
-      (chains.when-all P (not (ltb free (256 ^ freeOctets flags))) 21 (inl refl) (inr refl))
-
-  excess-none : (beaconExcess flags free ≡ 0) ↔ (Excess → ⊥)
-  excess-none = chains.alone-none Excess (beaconExcess flags free) 21 (λ e. omega arith) excess-alone excess-iff
-
-  after-excess : (r n : ℕ) → (n ≡ 0 → ⊥) → (21 ≡ n → ⊥) → (beaconExcess flags free ▹ r ≡ n) ↔ ((Excess → ⊥) × (r ≡ n))
-  after-excess r n z h =
-      Iff·trans (after-none (beaconExcess flags free) r n z (⊎-elim (λ e q. z (sym q ∙ e)) (λ e q. h (sym e ∙ q)) excess-alone))
-      (both excess-none Iff·rfl)
+  abbrev excess : Alone 21
+  excess = sole (reaches flags (2 ^ 24)) or sole (reaches free (256 ^ freeOctets flags))
 
   module _ (endpoint room : ℕ) where
     abbrev size : ℕ
     size = endpointAt flags + endpoint
 
+    abbrev write-tests : Reasons
+    write-tests = alone excess ▸ alone (flags-wrong flags) ▸ chains.room-reasons size room
+
+    write-is : beaconWriteRefusal flags free endpoint room ≡ write-tests .refusal
+    unfolding beaconWriteRefusal beaconExcess flagsRefusal roomRefusal
+    write-is = refl
+
+    abbrev write-reasons : Reasons
+    write-reasons = named (beaconWriteRefusal flags free endpoint room) write-tests write-is
+
     -- 21, before all
     pub write-twenty-one-iff : (beaconWriteRefusal flags free endpoint room ≡ 21) ↔ Excess
-    unfolding beaconWriteRefusal
-    write-twenty-one-iff =
-        let P : ℕ → Type 0 = λ m. m ≡ 21 → ⊥ in
-        Iff·trans (chains.first-only (beaconExcess flags free) _ 21 (λ e. omega arith)
-        (chains.chain-all P (flagsRefusal flags) _ (flags-all flags P (λ e. omega arith) (λ e. omega arith))
-        (chains.room-all size room P (λ e. omega arith) (λ e. omega arith) (λ e. omega arith))))
-        excess-iff
+    write-twenty-one-iff = given write-reasons 21
 
     -- 26, as the reader
     pub write-twenty-six-iff : (beaconWriteRefusal flags free endpoint room ≡ 26) ↔ ((Excess → ⊥) × FlagsWrong flags)
-    unfolding beaconWriteRefusal
-    write-twenty-six-iff =
-        Iff·trans (after-excess _ 26 (λ e. omega arith) (λ e. omega arith))
-        (both Iff·rfl
-        (Iff·trans (chains.first-only (flagsRefusal flags) _ 26 (λ e. omega arith)
-        (chains.room-all size room (λ m. m ≡ 26 → ⊥) (λ e. omega arith) (λ e. omega arith) (λ e. omega arith)))
-        (flags-iff flags)))
-
-    -- the flags are as they should be
-    after-both : (A : Type 0) (n : ℕ) → (n ≡ 0 → ⊥) → (21 ≡ n → ⊥) → (26 ≡ n → ⊥) → (roomRefusal size room ≡ n) ↔ A
-        → (beaconWriteRefusal flags free endpoint room ≡ n) ↔ ((Excess → ⊥) × ((FlagsWrong flags → ⊥) × A))
-    unfolding beaconWriteRefusal
-    after-both A n z a b i = Iff·trans (after-excess _ n z a) (both Iff·rfl (Iff·trans (after-flags flags _ n z b) (both Iff·rfl i)))
+    write-twenty-six-iff = given write-reasons 26
 
     -- 2: "packet over 65,535 octets .. to be written"
     pub write-two-iff : (beaconWriteRefusal flags free endpoint room ≡ 2) ↔ ((Excess → ⊥) × ((FlagsWrong flags → ⊥) × (65535 < size)))
-    write-two-iff = after-both (65535 < size) 2 (λ e. omega arith) (λ e. omega arith) (λ e. omega arith) (chains.two-iff size room)
+    write-two-iff = given write-reasons 2
 
     -- 20: "buffer too small"
     pub write-twenty-iff : (beaconWriteRefusal flags free endpoint room ≡ 20)
         ↔ ((Excess → ⊥) × ((FlagsWrong flags → ⊥) × ((size ≤ 65535) × (room < size))))
-    write-twenty-iff =
-        after-both ((size ≤ 65535) × (room < size)) 20 (λ e. omega arith) (λ e. omega arith) (λ e. omega arith) (chains.twenty-iff size room)
+    write-twenty-iff = given write-reasons 20
 
 -- ---- the answers: refused with the number that these laws speak of
 

@@ -4,15 +4,13 @@ use Prim.Native.Nat.{ℕ, _<_}
 use mathlib.Core.Path.{_≡_, refl, sym}
 use mathlib.Core.Bool.{Bool, true, false, not, _&&_, false≢true}
 use mathlib.Core.List.{List}
-use mathlib.Core.Logic.{_⊎_, inl, inr, ⊎-elim, _↔_, Iff·rfl, Iff·trans}
+use mathlib.Core.Logic.{_⊎_, inl, inr, ⊎-elim, _↔_, Iff·rfl}
 use native.Mathlib.Omega.{arith}
 use lib.ListN.{length}
 use lib.Dec.{ltb, leb, eqb}
 use borrow.Author.Tests.{ltb-true, ltb-false, leb-true, leb-false}
-use Rattle.refusals.specs.Refusals.{when}
-use Rattle.refusals.proofs.TestLaws.{eqb-iff, ltb-iff, not-not, both}
-use Rattle.refusals.proofs.RefusalLaws.{after-none, given-here, given-later, when-given, when-other}
-use Rattle.refusals.proofs.LimitLaws as chains
+use Rattle.refusals.proofs.RefusalLaws.{when-other, when-all, link-all, first-only}
+use Rattle.refusals.proofs.ReasonLaws.{Reasons, given, one, below, unequal, says, _▸_, named, reworded, within}
 use Rattle.header.specs.FirstWord.{statusOf}
 use Rattle.header.specs.Start.{wordOf}
 use Rattle.packet_status.specs.Status.{statusRefusal, holeList}
@@ -40,39 +38,33 @@ module _ (m : ℕ) (s : List ℕ) where
   pub reader-iff : (n : ℕ) → (n ≡ 0 → ⊥) → (n ≡ 11 → ⊥) → (n ≡ 21 → ⊥) → (resendRefusal m s ≡ n) ↔ (statusRefusal s ≡ n)
   unfolding resendRefusal
   reader-iff n z a b =
-      chains.first-only (statusRefusal s) _ n z
-      (chains.link-all (λ k. k ≡ n → ⊥) failure 11 _ (λ e. a (sym e)) (chains.when-all (λ k. k ≡ n → ⊥) (not (allowed m)) 21 (λ e. z (sym e)) (λ e. b (sym e))))
+      first-only (statusRefusal s) _ n z
+      (link-all (λ k. k ≡ n → ⊥) failure 11 _ (λ e. a (sym e)) (when-all (λ k. k ≡ n → ⊥) (not (allowed m)) 21 (λ e. z (sym e)) (λ e. b (sym e))))
+
+  abbrev tests : Reasons
+  tests = within 11 (statusRefusal s) (status-le s) ▸ one 11 (unequal (statusOf (wordOf s)) 0) ▸ one 21 (says (not (allowed m)) (outside-iff m))
+
+  resend-is : resendRefusal m s ≡ tests .refusal
+  unfolding resendRefusal
+  resend-is = refl
+
+  abbrev reasons : Reasons
+  reasons = named (resendRefusal m s) tests resend-is
 
   -- 11: the reader's, or a failure STATUS
   pub eleven-iff : (resendRefusal m s ≡ 11) ↔ ((statusRefusal s ≡ 11) ⊎ ((statusRefusal s ≡ 0) × (statusOf (wordOf s) ≡ 0 → ⊥)))
-  unfolding resendRefusal
-  eleven-iff =
-      Iff·trans (chains.chain-iff (statusRefusal s) _ 11 (λ e. omega arith))
-      (chains.either Iff·rfl (both Iff·rfl
-      (Iff·trans (given-here failure 11 _ (λ e. omega arith) (when-other (not (allowed m)) 21 11 (λ e. omega arith) (λ e. omega arith)))
-      (chains.unequal-iff (statusOf (wordOf s)) 0))))
+  eleven-iff = given reasons 11
 
   -- 21: "1 to 65,000, else refusal 21"
   pub twenty-one-iff : (resendRefusal m s ≡ 21) ↔ ((statusRefusal s ≡ 0) × ((statusOf (wordOf s) ≡ 0) × ((m ≡ 0) ⊎ (65000 < m))))
-  unfolding resendRefusal
-  twenty-one-iff =
-      Iff·trans (after-none (statusRefusal s) _ 21 (λ e. omega arith) (λ e. omega (arith, status-le s)))
-      (both Iff·rfl
-      (Iff·trans (given-later failure 11 21 _ (λ e. omega arith) (λ e. omega arith))
-      (both (Iff·trans (not-not (eqb (statusOf (wordOf s)) 0)) (eqb-iff (statusOf (wordOf s)) 0))
-      (Iff·trans (when-given (not (allowed m)) 21 (λ e. omega arith)) (outside-iff m)))))
-
-  not-twenty : resendRefusal m s ≡ 20 → ⊥
-  not-twenty e = omega (arith, status-le s, reader-iff 20 (λ z. omega arith) (λ z. omega arith) (λ z. omega arith) .0 e)
+  twenty-one-iff = given reasons 21
 
   -- 20: "exactly when it needs more records than were lent"
   pub twenty-iff : (room : ℕ) → (planRefusal m room s ≡ 20) ↔ ((resendRefusal m s ≡ 0) × (room < length (planOf m (holeList s))))
   unfolding planRefusal
-  twenty-iff room =
-      Iff·trans (after-none (resendRefusal m s) _ 20 (λ e. omega arith) not-twenty)
-      (both Iff·rfl (Iff·trans (when-given (ltb room (length (planOf m (holeList s)))) 20 (λ e. omega arith)) (ltb-iff room (length (planOf m (holeList s))))))
+  twenty-iff room = given (reworded 0 reasons Iff·rfl ▸ one 20 (below room (length (planOf m (holeList s))))) 20
 
   -- every other number is that of the check
   pub plan-other-iff : (room n : ℕ) → (n ≡ 0 → ⊥) → (n ≡ 20 → ⊥) → (planRefusal m room s ≡ n) ↔ (resendRefusal m s ≡ n)
   unfolding planRefusal
-  plan-other-iff room n z a = chains.first-only (resendRefusal m s) _ n z (when-other (ltb room (length (planOf m (holeList s)))) 20 n z (λ e. a (sym e)))
+  plan-other-iff room n z a = first-only (resendRefusal m s) _ n z (when-other (ltb room (length (planOf m (holeList s)))) 20 n z (λ e. a (sym e)))

@@ -4,7 +4,7 @@ use Prim.Native.Nat.{ℕ, zero, suc}
 use mathlib.Core.Path.{_≡_, refl, sym, ap}
 use mathlib.Core.Bool.{Bool, true, false, cond, true≢false, false≢true}
 use mathlib.Core.List.{List, [], _∷_}
-use mathlib.Core.Logic.{_↔_}
+use mathlib.Core.Logic.{_⊎_, inl, inr, ⊎-elim, _↔_}
 use native.Mathlib.Omega.{arith}
 use lib.Dec.{eqb}
 use borrow.Author.Tests.{eqb-true}
@@ -57,6 +57,37 @@ when-given false n h = ((λ e. absurd (h (sym e))), (λ e. absurd (false≢true 
 pub when-other : (t : Bool) (m n : ℕ) → (n ≡ 0 → ⊥) → (m ≡ n → ⊥) → when t m ≡ n → ⊥
 when-other true m n h g e = g e
 when-other false m n h g e = h (sym e)
+
+pub when-none : (t : Bool) (n : ℕ) → (n ≡ 0 → ⊥) → (when t n ≡ 0) ↔ (t ≡ false)
+when-none true n h = ((λ e. absurd (h e)), (λ e. absurd (true≢false e)))
+when-none false n h = ((λ e. refl), (λ e. refl))
+
+pub chain-none : (m r : ℕ) → (m ▹ r ≡ 0) ↔ ((m ≡ 0) × (r ≡ 0))
+chain-none zero r = ((λ e. (refl, e)), (λ p. p .1))
+chain-none (suc m) r = ((λ e. absurd (omega arith)), (λ p. absurd (omega (arith, p .0))))
+
+-- n comes from the first part, or that is none and n comes from the rest
+pub chain-iff : (m r n : ℕ) → (n ≡ 0 → ⊥) → (m ▹ r ≡ n) ↔ ((m ≡ n) ⊎ ((m ≡ 0) × (r ≡ n)))
+chain-iff zero r n h = ((λ e. inr (refl, e)), ⊎-elim (λ e. absurd (h (sym e))) (λ p. p .1))
+chain-iff (suc m) r n h = ((λ e. inl e), ⊎-elim (λ e. e) (λ p. absurd (omega (arith, p .0))))
+
+-- the rest does not give n
+pub first-only : (m r n : ℕ) → (n ≡ 0 → ⊥) → (r ≡ n → ⊥) → (m ▹ r ≡ n) ↔ (m ≡ n)
+first-only zero r n h g = ((λ e. absurd (g e)), (λ e. absurd (h (sym e))))
+first-only (suc m) r n h g = ((λ e. e), (λ e. e))
+
+-- what holds of 0 and of every number of a chain holds of what the chain gives
+pub when-all : (P : ℕ → Type 0) (t : Bool) (n : ℕ) → P 0 → P n → P (when t n)
+when-all P true n z p = p
+when-all P false n z p = z
+
+pub chain-all : (P : ℕ → Type 0) (m r : ℕ) → P m → P r → P (m ▹ r)
+chain-all P zero r p q = q
+chain-all P (suc m) r p q = p
+
+pub link-all : (P : ℕ → Type 0) (t : Bool) (n r : ℕ) → P n → P r → P (when t n ▹ r)
+link-all P true n r p q = chain-all P n r p q
+link-all P false n r p q = q
 
 -- ---- answers
 

@@ -42,3 +42,9 @@ test-not false A i = ((λ e a. false≢true (i .1 a)), (λ n. refl))
 
 pub both : {A B C D : Type 0} → A ↔ C → B ↔ D → (A × B) ↔ (C × D)
 both f g = ((λ p. (f .0 (p .0), g .0 (p .1))), (λ p. (f .1 (p .0), g .1 (p .1))))
+
+pub either : {A B C D : Type 0} → A ↔ C → B ↔ D → (A ⊎ B) ↔ (C ⊎ D)
+either f g = (
+  ⊎-elim (λ a. inl (f .0 a)) (λ b. inr (g .0 b)),
+  ⊎-elim (λ c. inl (f .1 c)) (λ d. inr (g .1 d)),
+)

@@ -1,22 +1,21 @@
 -- "Given exactly when", for a table: 12 of recording and of STATUS, 17 and 18 of opening, and 16 after those before it.
 -- Assumes nothing.
 use Prim.Native.Nat.{ℕ, _+_, _<_, _≤_}
-use mathlib.Core.Path.{_≡_, refl, sym, ap, subst, _∙_}
+use mathlib.Core.Path.{_≡_, refl, sym, ap, subst}
 use mathlib.Core.Bool.{Bool, true, false, cond, _&&_, true≢false, false≢true}
 use mathlib.Core.List.{List}
 use mathlib.Core.Option.{Option, none, some}
-use mathlib.Core.Logic.{⊎-elim, _↔_, Iff·trans}
+use mathlib.Core.Logic.{_↔_, Iff·rfl, Iff·trans}
 use native.Mathlib.Omega.{arith}
 use lib.ListN.{length}
 use lib.Dec.{ltb, eqb}
 use Rattle.refusals.proofs.TestLaws.{eqb-iff, ltb-iff, ltb-not, and-iff, test-not, both}
-use Rattle.refusals.proofs.RefusalLaws.{after-none}
+use Rattle.refusals.proofs.ReasonLaws.{given, one, below, _▸_, within}
 use Rattle.packet_data.specs.declared.Data.{Data}
 use Rattle.runs.specs.Runs.{Run}
-use Rattle.runs.proofs.CompareLaws.{le-or-lt}
 use Rattle.transfer.specs.declared.Key.{Key}
 use Rattle.transfer.specs.Record.{runsRefusal}
-use Rattle.transfer.proofs.LimitLaws.{key-refusal-not-12, key-refusal-le, sixteen-iff}
+use Rattle.transfer.proofs.LimitLaws.{key-refusal-not-12, key-refusal-le}
 use Rattle.table.specs.Tables.{find}
 use Rattle.table.specs.Open.{Verdict, judgeFound, judgeOpen}
 use Rattle.table.specs.Open.Verdict.{new, already, refuse}
@@ -40,10 +39,8 @@ judged-le (some k) d = key-refusal-le k d
 
 -- 16, after the others: more than 64 runs
 pub sixteen-after-iff : (o : Option Key) (runs : List Run) (d : Data) → (recordRefusal o runs d ≡ 16) ↔ ((dataJudged o d ≡ 0) × (64 < length runs))
-unfolding recordRefusal
-sixteen-after-iff o runs d =
-    Iff·trans (after-none (dataJudged o d) (runsRefusal runs) 16 (λ e. omega arith) (λ e. omega (arith, judged-le o d)))
-    (both ((λ e. e), (λ e. e)) (sixteen-iff runs))
+unfolding recordRefusal runsRefusal
+sixteen-after-iff o runs d = given (within 15 (dataJudged o d) (judged-le o d) ▸ one 16 (below 64 (length runs))) 16
 
 -- ---- opening
 
@@ -68,6 +65,10 @@ second-iff : (t : Bool) (a b : Verdict) → (a ≡ b → ⊥) → (cond t a b �
 second-iff true a b n = ((λ e. absurd (n e)), (λ e. absurd (true≢false e)))
 second-iff false a b n = ((λ e. refl), (λ e. refl))
 
+neither : (t : Bool) (a b v : Verdict) → (a ≡ v → ⊥) → (b ≡ v → ⊥) → cond t a b ≡ v → ⊥
+neither true a b v n m e = n e
+neither false a b v n m e = m e
+
 -- verdicts as numbers, to tell them apart
 abbrev rank : Verdict → ℕ
 rank new = 0
@@ -79,47 +80,18 @@ apart u v n e = n (ap rank e)
 
 -- ---- by what is open under the Id, and how many are open
 
-module _ (count : ℕ) (k : Key) where
-  already-at : (j : Key) → (judgeFound (some j) count k ≡ already) ↔ Same j k
+module _ (count : ℕ) (k : Key) (v : Verdict) where
+  -- a verdict of an Id that is not open is given for no other, and one of an Id that is open neither
+  none-iff : (already ≡ v → ⊥) → (refuse 18 ≡ v → ⊥) → (o : Option Key) → (judgeFound o count k ≡ v) ↔ ((o ≡ none) × (cond (ltb count 16) new (refuse 17) ≡ v))
   unfolding judgeFound
-  already-at j = Iff·trans (first-iff (same j k) already (refuse 18) (apart (refuse 18) already (λ e. omega arith))) (same-iff j k)
+  none-iff n m none = ((λ e. (refl, e)), (λ p. p .1))
+  none-iff n m (some j) = ((λ e. absurd (neither (same j k) already (refuse 18) v n m e)), (λ p. absurd (some-none (p .0))))
 
-  different-iff : (j : Key) → (same j k ≡ false) ↔ (Same j k → ⊥)
-  different-iff j = test-not (same j k) (Same j k) (same-iff j k)
-
-  eighteen-at : (j : Key) → (judgeFound (some j) count k ≡ refuse 18) ↔ (Same j k → ⊥)
-  unfolding judgeFound
-  eighteen-at j = Iff·trans (second-iff (same j k) already (refuse 18) (apart already (refuse 18) (λ e. omega arith))) (different-iff j)
-
-  new-at : (judgeFound none count k ≡ new) ↔ (count < 16)
-  unfolding judgeFound
-  new-at = Iff·trans (first-iff (ltb count 16) new (refuse 17) (apart (refuse 17) new (λ e. omega arith))) (ltb-iff count 16)
-
-  seventeen-at : (judgeFound none count k ≡ refuse 17) ↔ (16 ≤ count)
-  unfolding judgeFound
-  seventeen-at = Iff·trans (second-iff (ltb count 16) new (refuse 17) (apart new (refuse 17) (λ e. omega arith))) (ltb-not count 16)
-
-  -- no other verdict is given
-  some-others : (j : Key) (v : Verdict) → (already ≡ v → ⊥) → (refuse 18 ≡ v → ⊥) → judgeFound (some j) count k ≡ v → ⊥
-  some-others j v n m e = go (same j k) refl
-    where
-      go : (b : Bool) → same j k ≡ b → ⊥
-      go true s = n (sym (already-at j .1 (same-iff j k .0 s)) ∙ e)
-      go false s = m (sym (eighteen-at j .1 (different-iff j .0 s)) ∙ e)
-
-  none-others : (v : Verdict) → (new ≡ v → ⊥) → (refuse 17 ≡ v → ⊥) → judgeFound none count k ≡ v → ⊥
-  none-others v n m e = ⊎-elim (λ h. m (sym (seventeen-at .1 h) ∙ e)) (λ h. n (sym (new-at .1 h) ∙ e)) (le-or-lt 16 count)
-
-  -- so a verdict of an Id that is not open is given for no other, and one of an Id that is open neither
-  none-iff : (A : Type 0) (v : Verdict) → (judgeFound none count k ≡ v) ↔ A → (already ≡ v → ⊥) → (refuse 18 ≡ v → ⊥) → (o : Option Key)
-      → (judgeFound o count k ≡ v) ↔ ((o ≡ none) × A)
-  none-iff A v i n m none = ((λ e. (refl, i .0 e)), (λ p. i .1 (p .1)))
-  none-iff A v i n m (some j) = ((λ e. absurd (some-others j v n m e)), (λ p. absurd (some-none (p .0))))
-
-  some-iff : (A : Key → Type 0) (v : Verdict) → ((j : Key) → (judgeFound (some j) count k ≡ v) ↔ A j) → (new ≡ v → ⊥) → (refuse 17 ≡ v → ⊥)
+  some-iff : (A : Key → Type 0) → ((j : Key) → (cond (same j k) already (refuse 18) ≡ v) ↔ A j) → (new ≡ v → ⊥) → (refuse 17 ≡ v → ⊥)
       → (o : Option Key) → (judgeFound o count k ≡ v) ↔ ((j : Key) × (o ≡ some j) × A j)
-  some-iff A v i n m none = ((λ e. absurd (none-others v n m e)), (λ p. absurd (some-none (sym (p .1)))))
-  some-iff A v i n m (some j) = (
+  unfolding judgeFound
+  some-iff A i n m none = ((λ e. absurd (neither (ltb count 16) new (refuse 17) v n m e)), (λ p. absurd (some-none (sym (p .1)))))
+  some-iff A i n m (some j) = (
     (λ e. (j, refl, i j .0 e)),
     (λ p. let q : p .0 ≡ j = cc (p .1) in i j .1 (subst A q (p .2))),
   )
@@ -131,26 +103,28 @@ module _ (ks : List Key) (k : Key) where
   pub new-iff : (judgeOpen ks k ≡ new) ↔ ((find (k .id) ks ≡ none) × (length ks < 16))
   unfolding judgeOpen
   new-iff =
-      none-iff (length ks) k (length ks < 16) new (new-at (length ks) k) (apart already new (λ e. omega arith)) (apart (refuse 18) new (λ e. omega arith))
-      (find (k .id) ks)
+      Iff·trans (none-iff (length ks) k new (apart already new (λ e. omega arith)) (apart (refuse 18) new (λ e. omega arith)) (find (k .id) ks))
+      (both Iff·rfl (Iff·trans (first-iff (ltb (length ks) 16) new (refuse 17) (apart (refuse 17) new (λ e. omega arith))) (ltb-iff (length ks) 16)))
 
   -- 17: "new Id and 16 open"
   pub seventeen-iff : (judgeOpen ks k ≡ refuse 17) ↔ ((find (k .id) ks ≡ none) × (16 ≤ length ks))
   unfolding judgeOpen
   seventeen-iff =
-      none-iff (length ks) k (16 ≤ length ks) (refuse 17) (seventeen-at (length ks) k) (apart already (refuse 17) (λ e. omega arith))
-      (apart (refuse 18) (refuse 17) (λ e. omega arith)) (find (k .id) ks)
+      Iff·trans (none-iff (length ks) k (refuse 17) (apart already (refuse 17) (λ e. omega arith)) (apart (refuse 18) (refuse 17) (λ e. omega arith)) (find (k .id) ks))
+      (both Iff·rfl (Iff·trans (second-iff (ltb (length ks) 16) new (refuse 17) (apart new (refuse 17) (λ e. omega arith))) (ltb-not (length ks) 16)))
 
   -- "An Id that is open with equal width and L answers already open"
   pub already-iff : (judgeOpen ks k ≡ already) ↔ ((j : Key) × (find (k .id) ks ≡ some j) × Same j k)
   unfolding judgeOpen
   already-iff =
-      some-iff (length ks) k (λ j. Same j k) already (already-at (length ks) k) (apart new already (λ e. omega arith))
-      (apart (refuse 17) already (λ e. omega arith)) (find (k .id) ks)
+      some-iff (length ks) k already (λ j. Same j k)
+      (λ j. Iff·trans (first-iff (same j k) already (refuse 18) (apart (refuse 18) already (λ e. omega arith))) (same-iff j k))
+      (apart new already (λ e. omega arith)) (apart (refuse 17) already (λ e. omega arith)) (find (k .id) ks)
 
   -- 18: "Id open with another width or L"
   pub eighteen-iff : (judgeOpen ks k ≡ refuse 18) ↔ ((j : Key) × (find (k .id) ks ≡ some j) × (Same j k → ⊥))
   unfolding judgeOpen
   eighteen-iff =
-      some-iff (length ks) k (λ j. Same j k → ⊥) (refuse 18) (eighteen-at (length ks) k) (apart new (refuse 18) (λ e. omega arith))
-      (apart (refuse 17) (refuse 18) (λ e. omega arith)) (find (k .id) ks)
+      some-iff (length ks) k (refuse 18) (λ j. Same j k → ⊥)
+      (λ j. Iff·trans (second-iff (same j k) already (refuse 18) (apart already (refuse 18) (λ e. omega arith))) (test-not (same j k) (Same j k) (same-iff j k)))
+      (apart new (refuse 18) (λ e. omega arith)) (apart (refuse 17) (refuse 18) (λ e. omega arith)) (find (k .id) ks)

@@ -4,18 +4,16 @@
  * Every call gives an answer: a result, or a refusal.
  * - Accepted: `number` and `code` are 0.
  * - Refused: `number` is one of SARATOGA_REFUSED_..., `code` is the status code to send to the peer in a failure
- *   STATUS (0: send nothing), and every other field is 0, but `transfer` of struct saratoga_bitmap_recorded. No lent
- *   buffer and no area is touched.
+ *   STATUS (0: send nothing), and every other field is 0. No lent buffer and no area is touched.
  * Where several refusals apply, the first in the order stated at the function is given.
  *
  * Pointers must not be NULL, also where the length is 0, and must be valid for their length: readable where const,
  * else readable and writable. A buffer or an area to be written must not overlap any other argument.
  * Apart from that, any octets and any numbers may be passed.
  *
- * After a refusal whose `code` isn't 0, the failure STATUS goes out by saratoga_write_failure with that code and the Id
- * in octets 4 to 7 of the packet that was refused, the highest octet first. Answer METADATA, DATA and STATUS alone (first
- * octet 0x42, 0x43 or 0x44): their refusals have a code only where the first 8 octets were found. A BEACON (0x40) has no
- * Id, may have four octets only, and is never answered; of other types the octets need not be an Id.
+ * Where a packet is refused with a `code` that isn't 0, has at least 8 octets and is no BEACON, a failure STATUS goes out by
+ * saratoga_write_failure, with that code and the Id in octets 4 to 7 of the packet: every packet begins with a word and an Id,
+ * but for BEACON, which has none and is never answered. saratoga_failure_id gives that Id, or says that there is none.
  *
  * The library is for x86-64. It uses no heap and holds no state; each call needs less than 2,000 octets of stack
  * (docs/AREA.md has them by function).
@@ -152,7 +150,7 @@ extern "C" {
 #define SARATOGA_REFUSED_PATH 8          /* 0x01: path empty, over 1,023 octets, or followed by octets */
 #define SARATOGA_REFUSED_SIZE 9          /* 0x09: size above what the packet's width, or the marks, can hold */
 #define SARATOGA_REFUSED_NO_PAYLOAD 10   /* 0x01: DATA with no payload */
-#define SARATOGA_REFUSED_HOLES 11        /* 0x00: hole list not allowed, or holes asked of a failure STATUS */
+#define SARATOGA_REFUSED_HOLES 11        /* 0x00: hole list not allowed, or a hole or a plan asked of a failure STATUS */
 #define SARATOGA_REFUSED_NOT_OPEN 12     /* 0x06: Id not open, or not the one that the marks are of */
 #define SARATOGA_REFUSED_OTHER_WIDTH 13  /* 0x09: DATA of another descriptor width than the transfer's */
 #define SARATOGA_REFUSED_PAST_END 14     /* 0x09: offset plus payload length above the transfer's length */
@@ -179,9 +177,9 @@ static inline const char *saratoga_refusal_text(uint64_t number)
         "not a plain file",
         "checksum type and length do not go together",
         "path empty, too long, or followed by octets",
-        "size too large for the descriptor width",
+        "size above what the descriptor width, or the marks, can hold",
         "DATA without a payload",
-        "hole list not allowed",
+        "hole list not allowed, or a failure STATUS, which has none",
         "Id not open",
         "descriptor width is not the transfer's",
         "octets past the end of the file",
@@ -191,7 +189,7 @@ static inline const char *saratoga_refusal_text(uint64_t number)
         "Id open with another width or length",
         "no hole has that index",
         "buffer or area too small",
-        "field too large to be written",
+        "field too large to be written, failure code 0, or largest payload not 1 to 65,000",
         "area holds no transfer table, or marks no transfer",
         "unknown refusal",
         "unknown refusal",
@@ -225,6 +223,30 @@ static inline const char *saratoga_code_text(uint64_t code)
         "unexpected error STATUS",
     };
     return code < sizeof texts / sizeof texts[0] ? texts[code] : "unknown status code";
+}
+
+/* The number that `count` octets stand for, the highest first; of more than eight, the last eight count. */
+static inline uint64_t saratoga_number_of(const uint8_t *octets, uint64_t count)
+{
+    uint64_t number = 0, i;
+    for (i = 0; i < count; i++)
+        number = number << 8 | octets[i];
+    return number;
+}
+
+/*
+ * Whether a packet that was refused with this `code` is answered with a failure STATUS: 1, with the Id to be written in `id`;
+ * else 0, and `id` stays.
+ *
+ *     if (saratoga_failure_id(packet, packet_len, refused.code, &id))
+ *         written = saratoga_write_failure(id, refused.code, out, sizeof out);
+ */
+static inline int saratoga_failure_id(const uint8_t *packet, size_t packet_len, uint64_t code, uint64_t *id)
+{
+    if (code == 0 || packet_len < 8 || (packet[0] & 0x3F) == SARATOGA_TYPE_BEACON)
+        return 0;
+    *id = saratoga_number_of(packet + 4, 4);
+    return 1;
 }
 
 /* A written packet: `size` octets from the start of `out`. */
@@ -311,13 +333,30 @@ struct saratoga_packet saratoga_read(const uint8_t *packet, size_t packet_len);
 
 /*
  * Reads hole `index`, counted from 0, of a success STATUS. The whole packet is judged as by saratoga_read, at each call. To
- * walk a long list in one pass, read it once by saratoga_read: its holes are then the `hole_count` pairs of `width` octets each,
- * big-endian, from packet + holes_at on; of 16 octets the first eight are zero.
+ * walk a long list in one pass, read it once by saratoga_read, and ask saratoga_hole_at for each hole.
  *
  * Order of refusals: 2, 1, 3, 4 (any type but STATUS), 11 (a failure STATUS), 1 and 5 as for saratoga_read, 11, 19 (`index`
  * is not below the number of holes).
  */
 struct saratoga_hole saratoga_read_hole(const uint8_t *packet, size_t packet_len, uint64_t index);
+
+/*
+ * Hole `index`, counted from 0, of a packet that saratoga_read gave `read` of: the pair of `width` octets each at that place
+ * of the list from `holes_at` on. Nothing is judged again. Of a success STATUS it is what saratoga_read_hole answers.
+ *
+ * Refusal: 19 (`index` is not below `hole_count`, which is 0 of every other packet and of a refusal).
+ */
+static inline struct saratoga_hole saratoga_hole_at(const uint8_t *packet, const struct saratoga_packet *read, uint64_t index)
+{
+    struct saratoga_hole hole = {SARATOGA_REFUSED_INDEX, SARATOGA_CODE_SUCCESS, 0, 0};
+    if (index < read->hole_count) {
+        const uint8_t *at = packet + read->holes_at + 2 * read->width * index;
+        hole.number = 0;
+        hole.start = saratoga_number_of(at, read->width);
+        hole.end = saratoga_number_of(at + read->width, read->width);
+    }
+    return hole;
+}
 
 /* Octets to send again: `length` of them from `offset` on. */
 struct saratoga_piece {
@@ -447,18 +486,24 @@ struct saratoga_opened {
 };
 
 /*
- * A recorded packet: the transfer as it stands with it, and how many of the runs stored before the packet overlaps or
- * touches. The transfer then has that many runs less, and one more. A repeat absorbs 1, the run that it lies in. Over the
+ * A recorded packet: the transfer as it stands with it; how many of the runs stored before the packet overlaps or touches; and
+ * whether it brings an octet that was not received.
+ *
+ * The transfer then has as many runs less as were absorbed, and one more. A repeat absorbs 1, the run that it lies in. Over the
  * recordings accepted since the transfer was opened, the numbers add up to how many these are, less the runs that it has.
+ *
+ * Where `adds` is 0 every octet of the packet came before, in one packet or in several: the set of received octets stays as it
+ * is, and so does every octet of the area. Its payload need not be written to disk again.
  */
 struct saratoga_recorded {
     uint64_t number, code;
     uint64_t edge;
     uint64_t complete; /* 1 where every octet was received, else 0 */
     uint64_t absorbed; /* at most 64 */
+    uint64_t adds;     /* 0 where the packet brings no octet that was not received, else 1 */
 };
 
-/* An open transfer. */
+/* An open transfer. `received` equals `length` exactly where it is complete: an octet that came twice counts once. */
 struct saratoga_listed {
     uint64_t number, code;
     uint64_t id;
@@ -467,6 +512,7 @@ struct saratoga_listed {
     uint64_t edge;
     uint64_t complete; /* 1 where every octet was received, else 0 */
     uint64_t runs;     /* how many, at most 64 */
+    uint64_t received; /* how many octets of the file were received */
 };
 
 /*
@@ -488,8 +534,8 @@ struct saratoga_done saratoga_fresh(uint8_t *area, size_t area_len);
 struct saratoga_opened saratoga_open(uint8_t *area, size_t area_len, const uint8_t *packet, size_t packet_len);
 
 /*
- * Records a DATA packet: adds the offsets of its payload to those received. A repeat adds nothing and is accepted.
- * Write the payload to disk first (see above).
+ * Records a DATA packet: adds the offsets of its payload to those received. A repeat adds nothing and is accepted, with
+ * `adds` 0. Write the payload to disk first (see above).
  *
  * Order of refusals: 22, the reader's for DATA with 4 for any other type (2, 1, 3, 4, 6, 1, 5, 10: see saratoga_read),
  * 12, 13 (64 and 128 bits are two widths), 14, 15, 16.
@@ -498,7 +544,7 @@ struct saratoga_recorded saratoga_record(uint8_t *area, size_t area_len, const u
 
 /*
  * Answers what saratoga_record would, and records nothing: the area is only read. A program learns so whether a packet is
- * taken before it writes the payload to disk.
+ * taken, and whether it adds anything, before it writes the payload to disk.
  *
  * Order of refusals: as for saratoga_record.
  */
@@ -558,8 +604,13 @@ struct saratoga_hole saratoga_transfer_hole(const uint8_t *area, size_t area_len
  * A second receiver, made to be followed by eye: one transfer of at most SARATOGA_BITMAP_LONGEST octets, with one mark for
  * each. Mark n is bit n of an area of SARATOGA_BITMAP_OCTETS octets, `marks[n / 8] & 0x80 >> n % 8`, and is set once
  * octet n was received (docs/AREA.md). The Id, the width and the length travel in a struct by value: opening hands it out,
- * and the program passes it to each call with the same marks. Nothing else holds any state. The area may be longer:
- * octets past SARATOGA_BITMAP_OCTETS are never read or written.
+ * the program passes it to each call with the same marks, and an accepted recording hands it back. A refusal hands back zeros,
+ * so that a program keeps the struct that it has:
+ *
+ *     if (recorded.number == 0)
+ *         transfer = recorded.transfer;
+ *
+ * Nothing else holds any state. The area may be longer: octets past SARATOGA_BITMAP_OCTETS are never read or written.
  *
  * It answers what the transfer table answers, for every packet of its transfer, and writes the same STATUS.
  *
@@ -593,7 +644,8 @@ struct saratoga_bitmap_recorded {
     uint64_t edge;
     uint64_t complete;               /* 1 where every octet was received, else 0 */
     uint64_t absorbed;               /* at most 64 */
-    struct saratoga_bitmap transfer; /* to be passed to the next call; on refusal it is the one that was passed in */
+    uint64_t adds;                   /* 0 where the packet brings no octet that was not received, else 1 */
+    struct saratoga_bitmap transfer; /* to be passed to the next call; its fields are 0 on refusal */
 };
 
 /*
@@ -607,8 +659,8 @@ struct saratoga_bitmap_opened saratoga_bitmap_open(uint8_t *marks, size_t marks_
                                                    size_t packet_len);
 
 /*
- * Records a DATA packet: sets the marks of its payload's offsets. A repeat sets none and is accepted. Write the payload to
- * disk first (see above).
+ * Records a DATA packet: sets the marks of its payload's offsets. A repeat sets none and is accepted, with `adds` 0. Write the
+ * payload to disk first (see above).
  *
  * Order of refusals: 20, 22, the reader's for DATA with 4 for any other type (see saratoga_record), 12 (another Id), 13, 14,
  * 15, 16.

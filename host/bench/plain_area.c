@@ -118,8 +118,11 @@ static uint64_t progress_at(const uint8_t *area, size_t place)
     return word(area, STOPS + RUNS * place);
 }
 
-/* Adds the offsets from `from` up to, not including, `to`. Whether there is room; and how many runs were absorbed. */
-static int add_run(uint8_t *area, size_t place, uint64_t from, uint64_t to, uint64_t *absorbed)
+/*
+ * Adds the offsets from `from` up to, not including, `to`. Whether there is room; how many runs were absorbed, and whether an
+ * offset is new.
+ */
+static int add_run(uint8_t *area, size_t place, uint64_t from, uint64_t to, uint64_t *absorbed, uint64_t *adds)
 {
     size_t count = head(area, place, COUNT), low = 0, high = count, after, gone;
     uint8_t *starts = area + 8 * (STARTS + RUNS * place), *stops = area + 8 * (STOPS + RUNS * place);
@@ -134,6 +137,7 @@ static int add_run(uint8_t *area, size_t place, uint64_t from, uint64_t to, uint
     while (after < count && word(starts, after) <= to)
         after++;
     *absorbed = after - low;
+    *adds = low == after || word(starts, low) > from || word(stops, low) < to;
     if (low == after) {
         if (count == RUNS)
             return 0;
@@ -230,7 +234,7 @@ struct saratoga_recorded area_record(uint8_t *area, size_t area_len, const uint8
     struct plain_data d;
     unsigned refused;
     size_t place;
-    uint64_t length, absorbed;
+    uint64_t length, absorbed, adds;
     if (!area_allowed(area, area_len))
         return not_recorded(22);
     refused = read_data(packet, packet_len, &d);
@@ -243,10 +247,12 @@ struct saratoga_recorded area_record(uint8_t *area, size_t area_len, const uint8
     refused = data_misfit(&d, head(area, place, WIDTH), length);
     if (refused)
         return not_recorded(refused);
-    if (!add_run(area, place, d.offset, d.offset + d.payload, &absorbed))
+    if (!add_run(area, place, d.offset, d.offset + d.payload, &absorbed, &adds))
         return not_recorded(16);
-    return (struct saratoga_recorded){
-        .edge = edge_at(area, place), .complete = length <= progress_at(area, place), .absorbed = absorbed};
+    return (struct saratoga_recorded){.edge = edge_at(area, place),
+                                      .complete = length <= progress_at(area, place),
+                                      .absorbed = absorbed,
+                                      .adds = adds};
 }
 
 struct saratoga_done area_close(uint8_t *area, size_t area_len, uint64_t id)

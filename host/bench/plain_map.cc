@@ -16,8 +16,9 @@ struct Transfer {
     uint64_t edge() const { return runs.empty() ? 0 : runs.rbegin()->second; }
     uint64_t progress() const { return runs.empty() || runs.begin()->first != 0 ? 0 : runs.begin()->second; }
 
-    // Adds the offsets from `from` up to, not including, `to`. Whether there is room; and how many runs were absorbed.
-    bool add(uint64_t from, uint64_t to, uint64_t *absorbed)
+    // Adds the offsets from `from` up to, not including, `to`. Whether there is room; how many runs were absorbed, and whether
+    // an offset is new.
+    bool add(uint64_t from, uint64_t to, uint64_t *absorbed, uint64_t *adds)
     {
         auto after = runs.upper_bound(to), first = after;
         *absorbed = 0;
@@ -28,6 +29,7 @@ struct Transfer {
             first = before;
             ++*absorbed;
         }
+        *adds = first == after || first->first > from || first->second < to;
         if (first == after) {
             if (runs.size() == RUNS)
                 return false;
@@ -115,7 +117,7 @@ saratoga_recorded map_record(map_table *table, const uint8_t *packet, size_t pac
     refused = data_misfit(&d, t.width, t.length);
     if (refused)
         return refused_with<saratoga_recorded>(refused);
-    if (!t.add(d.offset, d.offset + d.payload, &a.absorbed))
+    if (!t.add(d.offset, d.offset + d.payload, &a.absorbed, &a.adds))
         return refused_with<saratoga_recorded>(16);
     a.edge = t.edge();
     a.complete = t.length <= t.progress();

@@ -15,9 +15,9 @@ static struct saratoga_bitmap_opened not_opened(unsigned number)
     return (struct saratoga_bitmap_opened){.number = number, .code = code_of(number)};
 }
 
-static struct saratoga_bitmap_recorded not_recorded(unsigned number, struct saratoga_bitmap transfer)
+static struct saratoga_bitmap_recorded not_recorded(unsigned number)
 {
-    return (struct saratoga_bitmap_recorded){.number = number, .code = code_of(number), .transfer = transfer};
+    return (struct saratoga_bitmap_recorded){.number = number, .code = code_of(number)};
 }
 
 static struct saratoga_written not_written(unsigned number)
@@ -126,15 +126,15 @@ struct saratoga_bitmap_recorded marks_record(struct saratoga_bitmap transfer, ui
     uint64_t from, to;
     unsigned refused = judge(transfer, marks, marks_len, &runs);
     if (refused)
-        return not_recorded(refused, transfer);
+        return not_recorded(refused);
     refused = read_data(packet, packet_len, &d);
     if (refused)
-        return not_recorded(refused, transfer);
+        return not_recorded(refused);
     if (d.id != transfer.id)
-        return not_recorded(12, transfer);
+        return not_recorded(12);
     refused = data_misfit(&d, transfer.width, transfer.length);
     if (refused)
-        return not_recorded(refused, transfer);
+        return not_recorded(refused);
     from = d.offset;
     to = from + d.payload;
     while (low < runs.count && runs.stops[low] < from)
@@ -142,11 +142,12 @@ struct saratoga_bitmap_recorded marks_record(struct saratoga_bitmap transfer, ui
     for (after = low; after < runs.count && runs.starts[after] <= to; after++)
         ;
     if (low == after && runs.count == RUNS)
-        return not_recorded(16, transfer);
+        return not_recorded(16);
     set_marks(marks, from, to);
     return (struct saratoga_bitmap_recorded){.edge = to > edge_of(&runs) ? to : edge_of(&runs),
                                              .complete = transfer.length <= first(marks, 0, 0),
                                              .absorbed = after - low,
+                                             .adds = low == after || runs.starts[low] > from || runs.stops[low] < to,
                                              .transfer = transfer};
 }
 

@@ -70,13 +70,17 @@ static size_t first_from(const struct transfer *t, uint64_t from)
     return low;
 }
 
-/* Adds the offsets from `from` up to, not including, `to`. Whether there is room; and how many runs were absorbed. */
-static int add_run(struct transfer *t, uint64_t from, uint64_t to, uint64_t *absorbed)
+/*
+ * Adds the offsets from `from` up to, not including, `to`. Whether there is room; how many runs were absorbed, and whether an
+ * offset is new.
+ */
+static int add_run(struct transfer *t, uint64_t from, uint64_t to, uint64_t *absorbed, uint64_t *adds)
 {
     size_t first = first_from(t, from), after = first;
     while (after < t->count && t->runs[after].start <= to)
         after++;
     *absorbed = after - first;
+    *adds = first == after || t->runs[first].start > from || t->runs[first].stop < to;
     if (first == after) {
         if (t->count == RUNS)
             return 0;
@@ -142,7 +146,7 @@ struct saratoga_recorded memory_record(struct memory_table *table, const uint8_t
     unsigned refused = read_data(packet, packet_len, &d);
     struct transfer *t;
     size_t place;
-    uint64_t absorbed;
+    uint64_t absorbed, adds;
     if (refused)
         return not_recorded(refused);
     place = place_of(table, d.id);
@@ -152,10 +156,10 @@ struct saratoga_recorded memory_record(struct memory_table *table, const uint8_t
     refused = data_misfit(&d, t->width, t->length);
     if (refused)
         return not_recorded(refused);
-    if (!add_run(t, d.offset, d.offset + d.payload, &absorbed))
+    if (!add_run(t, d.offset, d.offset + d.payload, &absorbed, &adds))
         return not_recorded(16);
     return (struct saratoga_recorded){
-        .edge = edge_of(t), .complete = t->length <= progress_of(t), .absorbed = absorbed};
+        .edge = edge_of(t), .complete = t->length <= progress_of(t), .absorbed = absorbed, .adds = adds};
 }
 
 struct saratoga_done memory_close(struct memory_table *table, uint64_t id)

@@ -32,6 +32,7 @@ static void same_recorded(const char *what, struct saratoga_bitmap_recorded got,
     SAME(edge);
     SAME(complete);
     SAME(absorbed);
+    SAME(adds);
 }
 
 /* Packets. */
@@ -118,7 +119,10 @@ static void open_as(const char *what, uint64_t width, uint64_t size, struct sara
     free(lent);
 }
 
-/* Records: the answer, the transfer, which comes back as it was, and the marks, of which those of the packet are set. */
+/*
+ * Records: the answer; the transfer, which comes back as it was, or as zeros on refusal; and the marks, of which those of the
+ * packet are set.
+ */
 static void record_as(const char *what, struct saratoga_bitmap transfer, uint8_t *marks, size_t len, uint64_t id,
                       uint64_t width, uint64_t offset, size_t payload, int last, struct saratoga_recorded want)
 {
@@ -130,7 +134,7 @@ static void record_as(const char *what, struct saratoga_bitmap transfer, uint8_t
         mark(left, (size_t)offset, (size_t)offset + payload);
     got = saratoga_bitmap_record(transfer, marks, len, lent, size);
     same_recorded(what, got, want);
-    same_transfer(what, got.transfer, transfer);
+    same_transfer(what, got.transfer, want.number == 0 ? transfer : none);
     same_octets(what, marks, left, len);
     same_octets(what, lent, packet, size);
     free(left);
@@ -138,7 +142,9 @@ static void record_as(const char *what, struct saratoga_bitmap transfer, uint8_t
     free(packet);
 }
 
-#define RECORDED(...) ((struct saratoga_recorded){__VA_ARGS__})
+/* An accepted packet that sets a mark, and one that sets none: the run that this lies in is absorbed. */
+#define RECORDED(...) ((struct saratoga_recorded){.adds = 1, __VA_ARGS__})
+#define REPEATED(...) ((struct saratoga_recorded){.absorbed = 1, __VA_ARGS__})
 #define REFUSED(refusal, send) ((struct saratoga_recorded){.number = (refusal), .code = (send)})
 
 /* Writes STATUS into exactly `room` octets: the answer, every octet of the buffer, and the marks, which are only read. */
@@ -201,17 +207,20 @@ static void both_write(struct saratoga_bitmap transfer, const uint8_t *marks, si
         }
 }
 
-/* A packet comes: both receivers get it, and must answer alike. */
-static struct saratoga_bitmap_recorded comes(const char *told, struct saratoga_bitmap transfer, uint8_t *marks,
+/* A packet comes: both receivers get it, and must answer alike. What is handed back is kept where the packet was taken. */
+static struct saratoga_bitmap_recorded comes(const char *told, struct saratoga_bitmap *transfer, uint8_t *marks,
                                              uint64_t first, size_t octets)
 {
     uint8_t packet[24 + PAGE];
-    size_t size = data(packet, transfer.id, transfer.width, first, octets, 0);
-    struct saratoga_bitmap_recorded recorded = saratoga_bitmap_record(transfer, marks, OCTETS, packet, size);
+    size_t size = data(packet, transfer->id, transfer->width, first, octets, 0);
+    struct saratoga_bitmap_recorded recorded = saratoga_bitmap_record(*transfer, marks, OCTETS, packet, size);
     same_recorded(told, recorded, saratoga_record(area, sizeof area, packet, size));
-    both_write(recorded.transfer, marks, OCTETS);
-    printf("story: Octets %d to %d came: %s. Edge %d, %s, absorbed %d.\n", (int)first, (int)(first + octets - 1), told,
-           (int)recorded.edge, recorded.complete ? "complete" : "not complete", (int)recorded.absorbed);
+    if (recorded.number == 0)
+        *transfer = recorded.transfer;
+    both_write(*transfer, marks, OCTETS);
+    printf("story: Octets %d to %d came: %s. Edge %d, %s, absorbed %d%s.\n", (int)first, (int)(first + octets - 1), told,
+           (int)recorded.edge, recorded.complete ? "complete" : "not complete", (int)recorded.absorbed,
+           recorded.adds ? "" : ", adds nothing");
     show(marks);
     return recorded;
 }
@@ -221,7 +230,8 @@ static void story(void)
     static const char *const at_the_end = "################################################################";
     uint8_t packet[31], out[ROOM], *marks = lend(NULL, OCTETS);
     struct saratoga_bitmap_opened opened;
-    struct saratoga_bitmap_recorded last;
+    struct saratoga_bitmap transfer;
+    struct saratoga_bitmap_recorded again, last;
     struct saratoga_written written;
     struct saratoga_hole hole;
     size_t n;
@@ -231,19 +241,22 @@ static void story(void)
     printf("story: A page of %d octets is announced. It gets one mark for each of them, and none is set.\n",
            (int)opened.transfer.length);
     show(marks);
-    comes("one run", opened.transfer, marks, 0, 12);
-    comes("apart from the first, so there are two runs and a hole", opened.transfer, marks, 24, 16);
-    comes("the first again, and no mark changes", opened.transfer, marks, 0, 12);
-    comes("right behind the first, so both are one run", opened.transfer, marks, 12, 4);
+    transfer = opened.transfer;
+    comes("one run", &transfer, marks, 0, 12);
+    comes("apart from the first, so there are two runs and a hole", &transfer, marks, 24, 16);
+    again = comes("the first again, and no mark changes", &transfer, marks, 0, 12);
+    if (again.adds != 0)
+        fail("the first again", "adds", again.adds, 0);
+    comes("right behind the first, so both are one run", &transfer, marks, 12, 4);
 
-    written = saratoga_bitmap_status(opened.transfer, marks, OCTETS, 0, 0, out, ROOM);
+    written = saratoga_bitmap_status(transfer, marks, OCTETS, 0, 0, out, ROOM);
     hole = saratoga_read_hole(out, written.size, 0);
     printf("story: STATUS names one hole, from %d to %d: the gap above.\n", (int)hole.start, (int)hole.end);
     if (hole.number != 0 || hole.start != 16 || hole.end != 24)
         fail("the hole", "start", hole.start, 16);
 
-    comes("from one run to the other and over both, so they are one", opened.transfer, marks, 14, 12);
-    last = comes("the rest", opened.transfer, marks, 40, 24);
+    comes("from one run to the other and over both, so they are one", &transfer, marks, 14, 12);
+    last = comes("the rest", &transfer, marks, 40, 24);
     for (n = 0; n < PAGE; n++)
         if (marked(marks, n) != (at_the_end[n] == '#'))
             fail("the page", "a mark", n, 0);
@@ -345,7 +358,7 @@ static void passes(void)
     uint8_t *marks = no_marks();
     record_as("first", page, marks, LENT, ID, 2, 0, 1000, 0, RECORDED(.edge = 1000));
     record_as("last", page, marks, LENT, ID, 2, 2000, 1000, 1, RECORDED(.edge = 3000));
-    record_as("a repeat", page, marks, LENT, ID, 2, 0, 1000, 0, RECORDED(.edge = 3000, .absorbed = 1));
+    record_as("a repeat", page, marks, LENT, ID, 2, 0, 1000, 0, REPEATED(.edge = 3000));
     status_as("page", page, marks, LENT, 0, 0, 16, (struct saratoga_written){.size = 16}, with_hole);
     status_refused("15 octets", page, marks, LENT, 0, 15, SARATOGA_REFUSED_BUFFER, 0);
     record_as("between", page, marks, LENT, ID, 2, 1000, 1000, 0,
@@ -397,8 +410,7 @@ static void no_transfers(void)
     both_refuse("another width", transfer_of(UINT64_C(0x100000002), 100), marks, LENT, 22);
     for (i = 0; i < sizeof lengths / sizeof *lengths; i++)
         both_refuse("another length", transfer_of(8, lengths[i]), marks, LENT, 22);
-    record_as("a length that the marks reach", transfer_of(2, 20), marks, LENT, ID, 2, 15, 5, 1,
-              RECORDED(.edge = 20, .absorbed = 1));
+    record_as("a length that the marks reach", transfer_of(2, 20), marks, LENT, ID, 2, 15, 5, 1, REPEATED(.edge = 20));
     for (i = 0; i < sizeof above / sizeof *above; i++) {
         uint8_t *wrong = lend(marks, LENT);
         mark(wrong, above[i], above[i] + 1);
@@ -446,6 +458,7 @@ static void orders(void)
     record_as("early end", page, marks, LENT, ID, 2, 2998, 1, 1, REFUSED(15, 1));
     record_as("a 65th run", page, marks, LENT, ID, 2, 2999, 1, 1, REFUSED(16, 3));
     record_as("taken", page, marks, LENT, ID, 2, 635, 1, 0, RECORDED(.edge = 636, .absorbed = 1));
+    record_as("a repeat", page, marks, LENT, ID, 2, 632, 4, 0, REPEATED(.edge = 636));
 
     long_id.id |= UINT64_C(1) << 32;
     record_as("an Id over 32 bits", long_id, marks, LENT, ID, 2, 0, 1, 0, REFUSED(12, 6));
@@ -465,6 +478,7 @@ static void beside_the_table(void)
     for (i = 0; i < 4; i++) {
         uint8_t packet[24 + 500], *marks = lend(NULL, LENT);
         struct saratoga_bitmap transfer;
+        struct saratoga_bitmap_recorded recorded;
         metadata(packet, ID, widths[i], lengths[i]);
         open_in_table(packet);
         transfer = saratoga_bitmap_open(marks, LENT, packet, 31).transfer;
@@ -472,8 +486,11 @@ static void beside_the_table(void)
             uint64_t offset = (state = state * 1103515245 + 12345) >> 8;
             size_t payload = 1 + ((state = state * 1103515245 + 12345) >> 16) % (j % 9 == 0 ? 500 : 12);
             size = data(packet, ID + (j % 50 == 49), widths[i], offset % (lengths[i] + 3), payload, j % 20 == 19);
-            same_recorded("both", saratoga_bitmap_record(transfer, marks, LENT, packet, size),
-                          saratoga_record(area, sizeof area, packet, size));
+            recorded = saratoga_bitmap_record(transfer, marks, LENT, packet, size);
+            same_recorded("both", recorded, saratoga_record(area, sizeof area, packet, size));
+            same_transfer("both", recorded.transfer, recorded.number == 0 ? transfer : none);
+            if (recorded.number == 0)
+                transfer = recorded.transfer;
             if (j % 60 == 59)
                 both_write(transfer, marks, LENT);
         }

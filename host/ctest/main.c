@@ -1,6 +1,7 @@
 /*
  * Calls each function of saratoga.h that reads or writes METADATA, DATA and STATUS from C, on packets laid out by hand from
- * the papers; beacon.c does the same for BEACON, width.c for descriptors of 128 bits, and plan.c for plans.
+ * the papers; beacon.c does the same for BEACON, width.c for descriptors of 128 bits, and plan.c for plans; header.c tests what
+ * stands in the header itself.
  * Checks every field of the answers and every octet of the lent buffers, and ends with status 1 where one is wrong.
  */
 #include "check.h"
@@ -280,63 +281,6 @@ static void write_failure(void)
     printf("ctest: writing failure STATUS\n");
 }
 
-/* Texts for the numbers from 0 to `last`, none empty and no two alike, and one for all others. */
-static void texts_as(const char *what, const char *(*text)(uint64_t), uint64_t last, const char *none, const char *unknown)
-{
-    uint64_t i, j;
-    for (i = 0; i <= last; i++) {
-        if (text(i)[0] == '\0' || strcmp(text(i), unknown) == 0)
-            fail(what, "without a text: number", i, 0);
-        for (j = 0; j < i; j++)
-            if (strcmp(text(i), text(j)) == 0)
-                fail(what, "the same text: number", i, j);
-    }
-    if (strcmp(text(0), none) != 0 || strcmp(text(last + 1), unknown) != 0 || strcmp(text(UINT64_MAX), unknown) != 0)
-        fail(what, "another text: number", 0, last);
-}
-
-/* The texts, the version, and the limits as the functions have them. */
-static void header_alone(void)
-{
-    static uint8_t path[SARATOGA_PATH_OCTETS + 1], checksum[60], out[SARATOGA_METADATA_OCTETS];
-    uint64_t longest = SARATOGA_WIDTH_64 | 0xFF, properties = SARATOGA_PROPERTIES_WIDTH_128;
-    char version[16];
-    texts_as("refusals", saratoga_refusal_text, SARATOGA_REFUSED_AREA, "accepted", "unknown refusal");
-    if (strcmp(saratoga_refusal_text(SARATOGA_REFUSED_BEACON), "flags of BEACON not allowed") != 0 ||
-        strcmp(saratoga_refusal_text(SARATOGA_REFUSED_BEACON + 1), "unknown refusal") != 0)
-        fail("texts", "number", 0, SARATOGA_REFUSED_BEACON);
-    texts_as("codes", saratoga_code_text, SARATOGA_CODE_UNEXPECTED, "no error", "unknown status code");
-    if (strcmp(saratoga_refusal_text(SARATOGA_REFUSED_NOT_OPEN), "Id not open") != 0 ||
-        strcmp(saratoga_code_text(SARATOGA_CODE_UNKNOWN_ID), "unknown Id") != 0)
-        fail("texts", "number", 0, SARATOGA_REFUSED_NOT_OPEN);
-    snprintf(version, sizeof version, "%d.%d", SARATOGA_VERSION_MAJOR, SARATOGA_VERSION_MINOR);
-    if (strcmp(version, SARATOGA_VERSION) != 0)
-        fail("version", "minor", SARATOGA_VERSION_MINOR, 0);
-
-    memset(path, 'p', sizeof path);
-    same_written("the longest METADATA",
-                 saratoga_write_metadata(longest, 7, checksum, 60, properties, 1, 0, 0, path, SARATOGA_PATH_OCTETS, out,
-                                         sizeof out),
-                 (struct saratoga_written){.size = SARATOGA_METADATA_OCTETS});
-    same_written("a path too long",
-                 saratoga_write_metadata(longest, 7, checksum, 60, properties, 1, 0, 0, path, SARATOGA_PATH_OCTETS + 1,
-                                         out, sizeof out),
-                 (struct saratoga_written){.number = SARATOGA_REFUSED_PATH, .code = SARATOGA_CODE_UNSPECIFIED});
-    same_written("MD5",
-                 saratoga_write_metadata(SARATOGA_WIDTH_32 | SARATOGA_CHECKSUM_MD5, 7, checksum, 16,
-                                         SARATOGA_PROPERTIES_WIDTH_16, 1, 0, 0, path, 1, out, sizeof out),
-                 (struct saratoga_written){.size = 8 + 16 + 2 + 2 + 8 + 2});
-    same_written("CRC32",
-                 saratoga_write_metadata(SARATOGA_WIDTH_16 | SARATOGA_CHECKSUM_CRC32, 7, checksum, 4,
-                                         SARATOGA_PROPERTIES_WIDTH_32, 1, 0, 0, path, 1, out, sizeof out),
-                 (struct saratoga_written){.size = 8 + 4 + 2 + 4 + 8 + 2});
-    same_written("SHA-1",
-                 saratoga_write_metadata(SARATOGA_WIDTH_16 | SARATOGA_CHECKSUM_SHA1, 7, checksum, 20, properties, 1, 0, 0,
-                                         path, 1, out, sizeof out),
-                 (struct saratoga_written){.size = 8 + 20 + 2 + 16 + 8 + 2});
-    printf("ctest: texts, version and limits\n");
-}
-
 int main(void)
 {
     read_metadata();
@@ -346,6 +290,5 @@ int main(void)
     write_metadata();
     write_data();
     write_failure();
-    header_alone();
     return report("ctest main");
 }

@@ -93,6 +93,8 @@ int main(void)
 
     must(octets_that_came == LENGTH, "the sum of octets must equal the length");
     printf("Now %u octets came, and the page has %d. By that sum the plate was burned.\n", octets_that_came, LENGTH);
+    must(saratoga_find(area, sizeof area, ID).received == 2 * PART, "the library must count an octet that came twice once");
+    printf("The library counts an octet that came twice once: %d are received.\n", 2 * PART);
     told = status(&hole);
     must(told.hole_count == 1 && hole.number == 0 && hole.start == 1000 && hole.end == 2000,
          "the STATUS must name the one hole, from 1000 to 2000");
@@ -108,6 +110,7 @@ int main(void)
     must(told.hole_count == 0 && told.flags == SARATOGA_FLAG_UNASKED, "the STATUS must name no hole, and have bit 15");
     must(told.progress == LENGTH && told.in_response_to == LENGTH - 1, "the STATUS must point to the last octet");
     must(memcmp(disk, sent, LENGTH) == 0, "the page on disk must be the page that was sent");
+    must(saratoga_find(area, sizeof area, ID).received == LENGTH, "every octet must be received");
     printf("No hole is left, and the STATUS points to octet %llu, the last.\n", (unsigned long long)told.in_response_to);
     printf("The page on disk is the page that was sent: page 611 may go to plate.\n");
     return 0;

@@ -31,6 +31,7 @@ static void same_recorded(const char *what, struct saratoga_recorded got, struct
     SAME(edge);
     SAME(complete);
     SAME(absorbed);
+    SAME(adds);
 }
 
 static void same_listed(const char *what, struct saratoga_listed got, struct saratoga_listed want)
@@ -43,6 +44,7 @@ static void same_listed(const char *what, struct saratoga_listed got, struct sar
     SAME(edge);
     SAME(complete);
     SAME(runs);
+    SAME(received);
 }
 
 /* `octets` octets of a number, the highest first. */
@@ -106,7 +108,10 @@ static void open_as(const char *what, uint8_t *area, size_t len, uint64_t id, si
     free(lent);
 }
 
-/* DATA with `payload` octets, with end of data or without. What it would be answered is asked before. */
+/*
+ * DATA with `payload` octets, with end of data or without. What it would be answered is asked before. The area stays where
+ * nothing is added, and else the transfer has received more.
+ */
 static void record_as(const char *what, uint8_t *area, size_t len, uint64_t id, size_t width, uint64_t offset,
                       size_t payload, int last, struct saratoga_recorded want)
 {
@@ -120,18 +125,30 @@ static void record_as(const char *what, uint8_t *area, size_t len, uint64_t id, 
     same_recorded(what, saratoga_try_record(area, len, lent, size), want);
     same_recorded(what, saratoga_record(area, len, lent, size), want);
     same_octets(what, lent, packet, size);
-    if (want.number != 0)
+    if (want.adds == 0)
         same_octets(what, area, before, len);
+    else if (saratoga_find(area, len, id).received <= saratoga_find(before, len, id).received)
+        fail(what, "received", saratoga_find(area, len, id).received, saratoga_find(before, len, id).received + 1);
     free(packet);
     free(lent);
     free(before);
 }
 
-/* Records octets of Id 7 at width 16, in an area of AREA octets: the edge, whether it is complete, and the runs absorbed. */
+/*
+ * Records octets of Id 7 at width 16, one of which is new, in an area of AREA octets: the edge, whether it is complete, and
+ * the runs absorbed.
+ */
 static void received(const char *what, uint8_t *area, uint64_t offset, size_t payload, uint64_t edge, uint64_t complete,
                      uint64_t absorbed)
 {
-    struct saratoga_recorded want = {.edge = edge, .complete = complete, .absorbed = absorbed};
+    struct saratoga_recorded want = {.edge = edge, .complete = complete, .absorbed = absorbed, .adds = 1};
+    record_as(what, area, AREA, 7, 2, offset, payload, 0, want);
+}
+
+/* The same of octets that came before: they lie in one run, and add nothing. */
+static void repeated(const char *what, uint8_t *area, uint64_t offset, size_t payload, uint64_t edge, uint64_t complete)
+{
+    struct saratoga_recorded want = {.edge = edge, .complete = complete, .absorbed = 1};
     record_as(what, area, AREA, 7, 2, offset, payload, 0, want);
 }
 
@@ -198,11 +215,18 @@ static void page_with_a_hole(void)
     status_as("one hole in more room", area, AREA, 7, 0, 0, 99, hole, (struct saratoga_written){.size = 16});
     status_as("one hole in 15 octets", area, AREA, 7, 0, 0, 15, hole, REFUSED(written, SARATOGA_REFUSED_BUFFER, 0));
     status_as("one hole, one skipped", area, AREA, 7, 1, 0, 15, hole, REFUSED(written, SARATOGA_REFUSED_INDEX, 0));
-    received("0 to 999 again", area, 0, 1000, 3000, 0, 1);
+    repeated("0 to 999 again", area, 0, 1000, 3000, 0);
+    list_as("3,000 octets came, and 2,000 of them are received", area, AREA, 0,
+            (struct saratoga_listed){.id = 7, .width = 2, .length = 3000, .edge = 3000, .runs = 2, .received = 2000});
     open_as("page again", area, AREA, 7, 2, 3000, (struct saratoga_opened){.edge = 3000, .already_open = 1});
     received("1,000 to 1,999", area, 1000, 1000, 3000, 1, 2);
     status_as("whole", area, AREA, 7, 0, 0, 12, whole, (struct saratoga_written){.size = 12});
     status_as("whole in 11 octets", area, AREA, 7, 0, 0, 11, whole, REFUSED(written, SARATOGA_REFUSED_BUFFER, 0));
+    repeated("all again", area, 0, 3000, 3000, 1);
+    repeated("the last octet again", area, 2999, 1, 3000, 1);
+    list_as("whole", area, AREA, 0,
+            (struct saratoga_listed){
+                .id = 7, .width = 2, .length = 3000, .edge = 3000, .complete = 1, .runs = 1, .received = 3000});
     open_as("whole page again", area, AREA, 7, 2, 3000,
             (struct saratoga_opened){.edge = 3000, .complete = 1, .already_open = 1});
     free(area);
@@ -235,7 +259,7 @@ static void runs_and_holes(void)
     received("0 to 9", area, 0, 10, 10, 0, 0);
     received("10 to 19", area, 10, 10, 20, 0, 1);
     list_as("one run", area, AREA, 0,
-            (struct saratoga_listed){.id = 7, .width = 2, .length = 3000, .edge = 20, .runs = 1});
+            (struct saratoga_listed){.id = 7, .width = 2, .length = 3000, .edge = 20, .runs = 1, .received = 20});
     status_as("no hole", area, AREA, 7, 0, 0, 99, one_run, (struct saratoga_written){.size = 12});
     status_as("no hole, one skipped", area, AREA, 7, 1, 0, 99, one_run, REFUSED(written, SARATOGA_REFUSED_INDEX, 0));
     free(area);
@@ -279,10 +303,10 @@ static void sixty_four_runs(void)
     received("one that joins two", area, 7, 8, 636, 0, 2);
     received("one apart again", area, 2000, 1, 2001, 0, 0);
     list_as("64 runs", area, AREA, 0,
-            (struct saratoga_listed){.id = 7, .width = 2, .length = 3000, .edge = 2001, .runs = 64});
+            (struct saratoga_listed){.id = 7, .width = 2, .length = 3000, .edge = 2001, .runs = 64, .received = 74});
     received("one over all", area, 0, 2500, 2500, 0, 64);
     list_as("one run", area, AREA, 0,
-            (struct saratoga_listed){.id = 7, .width = 2, .length = 3000, .edge = 2500, .runs = 1});
+            (struct saratoga_listed){.id = 7, .width = 2, .length = 3000, .edge = 2500, .runs = 1, .received = 2500});
     free(area);
     printf("ctest: 64 runs\n");
 }
@@ -302,7 +326,10 @@ static void largest_numbers(void)
     record_as("offset 2^64 - 2", area, AREA, id, 8, UINT64_MAX - 1, 2, 0,
               REFUSED(recorded, SARATOGA_REFUSED_PAST_END, 0x09));
     record_as("the last octet", area, AREA, id, 8, UINT64_MAX - 1, 1, 1,
-              (struct saratoga_recorded){.edge = UINT64_MAX});
+              (struct saratoga_recorded){.edge = UINT64_MAX, .adds = 1});
+    list_as("the last octet", area, AREA, 0,
+            (struct saratoga_listed){
+                .id = id, .width = 8, .length = UINT64_MAX, .edge = UINT64_MAX, .runs = 1, .received = 1});
     status_as("the largest hole", area, AREA, id, 0, 0, 40, packet, (struct saratoga_written){.size = 40});
     close_as("Id over 32 bits", area, AREA, id + (UINT64_C(1) << 32), REFUSED(done, SARATOGA_REFUSED_NOT_OPEN, 0x06));
     status_as("Id over 32 bits", area, AREA, UINT64_MAX, 0, 0, 40, packet,
@@ -356,7 +383,7 @@ static void recording_refused(void)
     record_as("past the end", area, AREA, 7, 2, 100, 1, 1, REFUSED(recorded, SARATOGA_REFUSED_PAST_END, 0x09));
     record_as("over the end", area, AREA, 7, 2, 99, 2, 1, REFUSED(recorded, SARATOGA_REFUSED_PAST_END, 0x09));
     record_as("an early end of data", area, AREA, 7, 2, 98, 1, 1, REFUSED(recorded, SARATOGA_REFUSED_EARLY_END, 0x01));
-    record_as("end of data", area, AREA, 7, 2, 99, 1, 1, (struct saratoga_recorded){.edge = 100});
+    record_as("end of data", area, AREA, 7, 2, 99, 1, 1, (struct saratoga_recorded){.edge = 100, .adds = 1});
     record_as("the last octet without it", area, AREA, 7, 2, 99, 1, 0,
               (struct saratoga_recorded){.edge = 100, .absorbed = 1});
     free(area);
@@ -434,16 +461,16 @@ static void example_with(uint8_t other)
     put_word(area, 0, 0);
     open_as("Id 300", area, len, 300, 8, UINT64_C(5000000000), (struct saratoga_opened){0, 0, 0, 0, 0});
     open_as("Id 7", area, len, 7, 2, 3000, (struct saratoga_opened){0, 0, 0, 0, 0});
-    record_as("Id 7", area, len, 7, 2, 2000, 1000, 1, (struct saratoga_recorded){.edge = 3000});
+    record_as("Id 7", area, len, 7, 2, 2000, 1000, 1, (struct saratoga_recorded){.edge = 3000, .adds = 1});
     record_as("Id 300", area, len, 300, 8, UINT64_C(1) << 32, 500, 0,
-              (struct saratoga_recorded){.edge = (UINT64_C(1) << 32) + 500});
-    record_as("Id 7 again", area, len, 7, 2, 0, 1000, 0, (struct saratoga_recorded){.edge = 3000});
+              (struct saratoga_recorded){.edge = (UINT64_C(1) << 32) + 500, .adds = 1});
+    record_as("Id 7 again", area, len, 7, 2, 0, 1000, 0, (struct saratoga_recorded){.edge = 3000, .adds = 1});
     memset(want, other, len);
     PUT_WORDS(want, example);
     same_octets("the example of docs/AREA.md", area, want, len);
 
     record_as("the octets between", area, len, 7, 2, 1000, 1000, 0,
-              (struct saratoga_recorded){.edge = 3000, .complete = 1, .absorbed = 2});
+              (struct saratoga_recorded){.edge = 3000, .complete = 1, .absorbed = 2, .adds = 1});
     PUT_WORDS(want, joined);
     same_octets("the second run's place keeps its numbers", area, want, len);
     close_as("Id 7", area, len, 7, (struct saratoga_done){0, 0});
@@ -454,7 +481,8 @@ static void example_with(uint8_t other)
                                      .width = 8,
                                      .length = UINT64_C(5000000000),
                                      .edge = (UINT64_C(1) << 32) + 500,
-                                     .runs = 1});
+                                     .runs = 1,
+                                     .received = 500});
     close_as("Id 300", area, len, 300, (struct saratoga_done){0, 0});
     put_word(want, 0, 0);
     same_octets("nothing but the count changes", area, want, len);
@@ -473,10 +501,10 @@ static void unused_kept(const uint8_t *octets, size_t word, uint64_t value)
     open_as(what, area, AREA, 7, 2, 3000, (struct saratoga_opened){.edge = 3000, .already_open = 1});
     status_as(what, area, AREA, 7, 0, 0, 16, hole, (struct saratoga_written){.size = 16});
     list_as(what, area, AREA, 0,
-            (struct saratoga_listed){.id = 7, .width = 2, .length = 3000, .edge = 3000, .runs = 2});
+            (struct saratoga_listed){.id = 7, .width = 2, .length = 3000, .edge = 3000, .runs = 2, .received = 2000});
     list_as(what, area, AREA, 2, REFUSED(listed, SARATOGA_REFUSED_NOT_OPEN, 0x06));
     record_as(what, area, AREA, 7, 2, 1000, 1000, 0,
-              (struct saratoga_recorded){.edge = 3000, .complete = 1, .absorbed = 2});
+              (struct saratoga_recorded){.edge = 3000, .complete = 1, .absorbed = 2, .adds = 1});
     PUT_WORDS(want, joined);
     same_octets(what, area, want, AREA);
     close_as(what, area, AREA, 7, (struct saratoga_done){0, 0});
@@ -556,10 +584,10 @@ static void unwritten_words(void)
     received(what, area, 2500, 500, 3000, 0, 1);
     close_as(what, area, AREA, 5, (struct saratoga_done){0, 0});
     same_listed(what, saratoga_transfer(area, AREA, 1),
-                (struct saratoga_listed){.id = 7, .width = 2, .length = 3000, .edge = 3000, .runs = 2});
+                (struct saratoga_listed){.id = 7, .width = 2, .length = 3000, .edge = 3000, .runs = 2, .received = 2000});
     same_listed(what, saratoga_transfer(area, AREA, 4), REFUSED(listed, SARATOGA_REFUSED_NOT_OPEN, 0x06));
     same_listed(what, saratoga_find(area, AREA, 7),
-                (struct saratoga_listed){.id = 7, .width = 2, .length = 3000, .edge = 3000, .runs = 2});
+                (struct saratoga_listed){.id = 7, .width = 2, .length = 3000, .edge = 3000, .runs = 2, .received = 2000});
     same_listed(what, saratoga_find(area, AREA, 10), REFUSED(listed, SARATOGA_REFUSED_NOT_OPEN, 0x06));
     if (saratoga_transfer_hole(area, AREA, 7, 0).end != 2000)
         fail(what, "end", saratoga_transfer_hole(area, AREA, 7, 0).end, 2000);
@@ -580,18 +608,18 @@ static void width_128(void)
 {
     static const uint8_t hole[72] = {0x44, 0xC0, [7] = 7, [38] = 0x0B, 0xB8, [70] = 0x07, 0xD0};
     static const uint8_t whole[40] = {0x44, 0xC1, [7] = 7, [22] = 0x0B, 0xB8, [38] = 0x0B, 0xB7};
-    struct saratoga_recorded complete = {.edge = 3000, .complete = 1, .absorbed = 1};
+    struct saratoga_recorded complete = {.edge = 3000, .complete = 1, .absorbed = 1, .adds = 1};
     uint8_t *area = empty_area(AREA), *want = lend(NULL, AREA), packet[25] = {0x43, 0xC0, [7] = 7, [24] = 'a'};
     const struct numbered_word words[] = {{0, 1}, {1, 7}, {2, 16}, {3, 3000}, {4, 1}, {65, 2000}, {1089, 3000}};
     open_as("width 128", area, AREA, 7, 16, 3000, (struct saratoga_opened){0, 0, 0, 0, 0});
     open_as("width 128 again", area, AREA, 7, 16, 3000, (struct saratoga_opened){.already_open = 1});
     open_as("width 64 after 128", area, AREA, 7, 8, 3000, REFUSED(opened, SARATOGA_REFUSED_OPEN_OTHER, 0x09));
     record_as("width 64 to 128", area, AREA, 7, 8, 0, 1, 0, REFUSED(recorded, SARATOGA_REFUSED_OTHER_WIDTH, 0x09));
-    record_as("width 128", area, AREA, 7, 16, 2000, 1000, 1, (struct saratoga_recorded){.edge = 3000});
+    record_as("width 128", area, AREA, 7, 16, 2000, 1000, 1, (struct saratoga_recorded){.edge = 3000, .adds = 1});
     PUT_WORDS(want, words);
     same_octets("width 128", area, want, AREA);
     list_as("width 128", area, AREA, 0,
-            (struct saratoga_listed){.id = 7, .width = 16, .length = 3000, .edge = 3000, .runs = 1});
+            (struct saratoga_listed){.id = 7, .width = 16, .length = 3000, .edge = 3000, .runs = 1, .received = 1000});
     status_as("width 128", area, AREA, 7, 0, 0, 72, hole, (struct saratoga_written){.size = 72});
     status_as("width 128 in 71 octets", area, AREA, 7, 0, 0, 71, hole, REFUSED(written, SARATOGA_REFUSED_BUFFER, 0));
     for (size_t place = 8; place < 16; place++) {
@@ -622,7 +650,7 @@ static void longest_status(void)
     uint64_t run;
     open_as(what, area, AREA, 7, 16, 3000, (struct saratoga_opened){0, 0, 0, 0, 0});
     for (run = 0; run < SARATOGA_RUNS; run++)
-        record_as(what, area, AREA, 7, 16, 2 * run + 1, 1, 0, (struct saratoga_recorded){.edge = 2 * run + 2});
+        record_as(what, area, AREA, 7, 16, 2 * run + 1, 1, 0, (struct saratoga_recorded){.edge = 2 * run + 2, .adds = 1});
     same_written(what, saratoga_write_status(area, AREA, 7, 0, 0, out, SARATOGA_STATUS_OCTETS),
                  (struct saratoga_written){.size = SARATOGA_STATUS_OCTETS});
     if ((saratoga_read(out, SARATOGA_STATUS_OCTETS).flags & SARATOGA_FLAG_INCOMPLETE) != 0)
@@ -645,13 +673,15 @@ static void asked_alone(void)
     received(what, area, 10, 90, 100, 0, 0);
     received(what, area, 200, 100, 300, 0, 0);
     before = lend(area, AREA);
-    same_recorded(what, saratoga_try_record(area, AREA, data, sizeof data), (struct saratoga_recorded){.edge = 1003});
+    same_recorded(what, saratoga_try_record(area, AREA, data, sizeof data),
+                  (struct saratoga_recorded){.edge = 1003, .adds = 1});
     same_octets(what, area, before, AREA);
     same_recorded(what, saratoga_try_record(area, AREA, data, 10), REFUSED(recorded, SARATOGA_REFUSED_NO_PAYLOAD, 0x01));
     same_recorded(what, saratoga_try_record(area, AREA - 1, data, 10), REFUSED(recorded, SARATOGA_REFUSED_AREA, 0));
     free(before);
 
-    find_as("Id 7", area, AREA, 7, (struct saratoga_listed){.id = 7, .width = 2, .length = 3000, .edge = 300, .runs = 2});
+    find_as("Id 7", area, AREA, 7,
+            (struct saratoga_listed){.id = 7, .width = 2, .length = 3000, .edge = 300, .runs = 2, .received = 190});
     find_as("Id 9", area, AREA, 9, (struct saratoga_listed){.id = 9, .width = 8, .length = 10});
     find_as("Id 8", area, AREA, 8, REFUSED(listed, SARATOGA_REFUSED_NOT_OPEN, 0x06));
     find_as("an Id over 32 bits", area, AREA, 7 + (UINT64_C(1) << 32), REFUSED(listed, SARATOGA_REFUSED_NOT_OPEN, 0x06));

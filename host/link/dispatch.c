@@ -10,15 +10,6 @@
 
 uint64_t unsent;
 
-/* The number that so many octets of a packet stand for. */
-static uint64_t value_of(const uint8_t *octets, uint64_t count)
-{
-    uint64_t value = 0;
-    for (uint64_t i = 0; i < count; i++)
-        value = value << 8 | octets[i];
-    return value;
-}
-
 /* Sends a packet back, or shows what would be sent. A sender may have an address that nothing can be sent to. */
 static void answer(uint64_t number, const struct peer *peer, const uint8_t *octets, size_t count)
 {
@@ -38,22 +29,16 @@ static void send_failure(uint64_t number, const struct peer *peer, uint64_t id, 
         answer(number, peer, out, (size_t)written.size);
 }
 
-/* REQUEST, METADATA, DATA and STATUS have an Id in octets 4 to 7. A BEACON has none; of other types nobody knows. */
-static int has_id(const uint8_t *packet, size_t packet_len)
-{
-    return packet_len >= 8 && (packet[0] & 0x3f) >= 1 && (packet[0] & 0x3f) <= 4;
-}
-
-/* A refusal, and the failure STATUS where it has a code and the packet an Id. */
+/* A refusal, and the failure STATUS where there is one to send. */
 static void refuse(uint64_t number, const struct peer *peer, const uint8_t *packet, size_t packet_len, uint64_t refusal,
                    uint64_t code)
 {
+    uint64_t id;
     say(number, "refused %" PRIu64 " code=%" PRIu64, refusal, code);
     if (refusal == SARATOGA_REFUSED_AREA)
         die("the area in memory holds no transfer table: the program has a fault");
-    if (code == 0 || !has_id(packet, packet_len))
-        return;
-    send_failure(number, peer, value_of(packet + 4, 4), code);
+    if (saratoga_failure_id(packet, packet_len, code, &id))
+        send_failure(number, peer, id, code);
 }
 
 /* Step 6 for an open transfer: its STATUS, once the area on disk and its file hold what the STATUS says. */
@@ -234,17 +219,17 @@ static int store_payload(uint64_t number, const uint8_t *packet, const struct sa
 
 /*
  * Step 1. What is refused is answered, and gives 0: its payload must not be written anywhere. Else: what recording will
- * answer, and whether it adds anything.
+ * answer.
  */
 static int judge(uint64_t number, const struct peer *peer, const uint8_t *packet, size_t packet_len,
-                 const struct saratoga_packet *read, struct saratoga_recorded *recorded, int *adds)
+                 const struct saratoga_packet *read, struct saratoga_recorded *recorded)
 {
     if (is_of_another(transfer_of(read->id), peer)) {
         say(number, "of-another-sender id=%" PRIu64 " code=%d", read->id, SARATOGA_CODE_UNKNOWN_ID);
         send_failure(number, peer, read->id, SARATOGA_CODE_UNKNOWN_ID);
         return 0;
     }
-    *recorded = would_record(packet, packet_len, adds);
+    *recorded = saratoga_try_record(area, sizeof area, packet, packet_len);
     if (recorded->number == SARATOGA_REFUSED_RUNS && options.repair_status) {
         say(number, "refused %" PRIu64 " code=0", recorded->number);
         send_status(number, peer, read->id, 1);
@@ -260,18 +245,17 @@ static void take_data(uint64_t number, const struct peer *peer, const uint8_t *p
 {
     /* 1. Judge. */
     struct saratoga_recorded recorded;
-    int adds;
-    if (!judge(number, peer, packet, packet_len, read, &recorded, &adds))
+    if (!judge(number, peer, packet, packet_len, read, &recorded))
         return;
 
     /* A packet that adds nothing isn't written: a page that was reported complete is never touched again. */
-    if (adds) {
+    if (recorded.adds) {
         /* 2. Payload. */
         if (!store_payload(number, packet, read))
             return;
         cut_point("between payload and recording");
 
-        /* 3. Record. The same octets on an equal area: the answer is the one above. */
+        /* 3. Record. The same packet to the same area: the answer is the one above. */
         recorded = saratoga_record(area, sizeof area, packet, packet_len);
         if (recorded.number != 0)
             die("recording is refused after all, with %" PRIu64 ": the program has a fault", recorded.number);
@@ -298,13 +282,9 @@ static void take_data(uint64_t number, const struct peer *peer, const uint8_t *p
         send_status(number, peer, read->id, !wanted);
 }
 
-/*
- * A success STATUS is for a sender; a receiver only shows it. It may have thousands of holes, and saratoga_read_hole judges
- * all of them at each call: so they are read where they stand, in one pass.
- */
+/* A success STATUS is for a sender; a receiver only shows it. It may have thousands of holes: they are judged once. */
 static void show_success(uint64_t number, const uint8_t *packet, const struct saratoga_packet *read)
 {
-    const uint8_t *hole = packet + read->holes_at;
     if (options.quiet)
         return;
     printf("%" PRIu64 " success id=%" PRIu64 " flags=%06" PRIx64 " width=%" PRIu64 " timestamp=", number, read->id,
@@ -312,9 +292,10 @@ static void show_success(uint64_t number, const uint8_t *packet, const struct sa
     for (uint64_t i = 0; i < read->timestamp_len; i++)
         printf("%02x", packet[read->timestamp_at + i]);
     printf(" progress=%" PRIu64 " in-response-to=%" PRIu64 " holes=", read->progress, read->in_response_to);
-    for (uint64_t i = 0; i < read->hole_count; i++, hole += 2 * read->width)
-        printf("%s%" PRIu64 "-%" PRIu64, i > 0 ? "," : "", value_of(hole, read->width),
-               value_of(hole + read->width, read->width));
+    for (uint64_t i = 0; i < read->hole_count; i++) {
+        struct saratoga_hole hole = saratoga_hole_at(packet, read, i);
+        printf("%s%" PRIu64 "-%" PRIu64, i > 0 ? "," : "", hole.start, hole.end);
+    }
     putchar('\n');
 }
 

@@ -138,7 +138,6 @@ struct transfer *new_transfer(uint64_t id);
 void heard(struct transfer *t);
 struct saratoga_listed listed(uint64_t id);
 void count_recording(struct transfer *t, const struct saratoga_recorded *recorded);
-struct saratoga_recorded would_record(const uint8_t *packet, size_t packet_len, int *adds);
 struct saratoga_opened would_open(const uint8_t *packet, size_t packet_len);
 void table_changed(void);
 int save(void);

@@ -391,9 +391,12 @@ def answers(program, place):
     check(is_complete(link.send(metadata(8, 16, 0)), 0), "an empty page isn't answered")
     check(is_complete(link.send(data(7, 16, 0, b"123456789", END_OF_DATA)), 9), "completion isn't told")
     check(link.send(data(7, 16, 0, b"123456789")) is None, "answered without need")
-    for kind in (0, 5, 6, 31, 63):
-        check(link.send(word(kind, 0) + b"evil" * 5) is None, f"type {kind} is answered")
-    check(link.send(word(1, 0) + b"evil" * 5) == b"\x44\0\0\x0aevil", "REQUEST has an Id")
+    # A packet that is refused with a code is answered to octets 4 to 7, if it has them; a BEACON never is.
+    for kind in (1, 5, 6, 31, 63):
+        check(link.send(word(kind, 0) + b"evil") == b"\x44\0\0\x0aevil", f"type {kind} isn't answered")
+        check(link.send(word(kind, 0) + b"evi") is None, f"type {kind} of 7 octets is answered")
+    check(link.send(word(0, 0) + b"evil" * 5) is None, "BEACON is answered")
+    check(link.send(beacon(b"", free=2**64, free_width=128)) is None, "BEACON refused with a code is answered")
     check(link.end() == 0, link.told)
 
 

@@ -75,23 +75,6 @@ struct saratoga_listed listed(uint64_t id)
     return saratoga_find(area, sizeof area, id);
 }
 
-/*
- * What recording would answer, with the area untouched; and whether it would add anything. A recording that adds
- * nothing leaves every octet of the area as it is, and no other does.
- *
- * A program that needs the answer alone asks saratoga_try_record, and copies nothing. That doesn't tell whether anything
- * is added: a repeat absorbs one run, and so does a packet that makes a run longer. To look through the holes
- * (saratoga_transfer_hole, which judges the area at each call) takes longer than the copy.
- */
-struct saratoga_recorded would_record(const uint8_t *packet, size_t packet_len, int *adds)
-{
-    static uint8_t trial[SARATOGA_AREA_OCTETS];
-    memcpy(trial, area, sizeof area);
-    struct saratoga_recorded recorded = saratoga_record(trial, sizeof trial, packet, packet_len);
-    *adds = memcmp(trial, area, sizeof area) != 0;
-    return recorded;
-}
-
 /* What opening would answer, with the area untouched. */
 struct saratoga_opened would_open(const uint8_t *packet, size_t packet_len)
 {

@@ -558,10 +558,13 @@ WRONG = {
         "        saratoga_record(area, sizeof area, packet, packet_len); table_changed(); save();\n"
         "        if (!store_payload(number, packet, read))"),
     "reports before the last payload is written": (
-        ENDED, "    if (adds) {\n",
-        "    if (adds && recorded.complete) { static char d[MOST_META]; meta_for_report(d, transfer_of(read->id));\n"
+        ENDED, "    if (recorded.adds) {\n",
+        "    if (recorded.adds && recorded.complete) { static char d[MOST_META]; meta_for_report(d, transfer_of(read->id));\n"
         "        report(\"%d complete id=%d length=%d file=%08x.page %s\", 1, (int)read->id, 1, (int)read->id, d); }\n"
-        "    if (adds) {\n"),
+        "    if (recorded.adds) {\n"),
+    "writes octets again that were received": (passes, "    if (recorded.adds) {\n", "    if (1) {\n"),
+    "writes a packet only where it is apart from all runs": (
+        passes, "    if (recorded.adds) {\n", "    if (recorded.absorbed == 0) {\n"),
     "writes the area in place": (
         ENDED, 'snprintf(new_name, sizeof new_name, "%s.new", name);', 'snprintf(new_name, sizeof new_name, "%s", name);',
         "if (!failed && renameat(directory, new_name, directory, name) != 0) {", "if (0) {"),
@@ -598,6 +601,11 @@ WRONG = {
     "ends a transfer for one that isn't taken": (
         plant.kept, "t == NULL || is_lost || is_other))\n        return;", "t == NULL))\n        return;"),
     "answers failure 3 whatever --repair-status says": (plant.runs, "&& options.repair_status) {", "&& 0) {"),
+    "answers no packet of a type that it doesn't know": (
+        plant.answers, "    if (saratoga_failure_id(packet", "    if (packet[0] <= 0x44 && saratoga_failure_id(packet"),
+    "answers a BEACON": (
+        plant.answers, "saratoga_failure_id(packet, packet_len, code, &id))",
+        "code != 0 && packet_len >= 8 && (id = saratoga_number_of(packet + 4, 4), 1))"),
     "takes a file of any length": (plant.command_line, "read->size > options.largest", "0"),
     "counts no recording": (plant.what_is_known, "    t->work.recordings++;\n", ""),
 }

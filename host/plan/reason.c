@@ -6,24 +6,9 @@
 
 #include <stdio.h>
 
-struct hole {
-    uint64_t start, end;
-};
-
-static uint64_t number_at(const uint8_t *at, uint64_t width)
+static struct saratoga_hole hole_at(const struct status *status, uint64_t index)
 {
-    uint64_t number = 0, i;
-    for (i = 0; i < width; i++)
-        number = number << 8 | at[i];
-    return number;
-}
-
-/* One of the holes of a STATUS that was read. */
-static struct hole hole_at(const struct status *status, uint64_t index)
-{
-    uint64_t width = status->read.width;
-    const uint8_t *at = status->octets + status->read.holes_at + 2 * width * index;
-    return (struct hole){number_at(at, width), number_at(at + width, width)};
+    return saratoga_hole_at(status->octets, &status->read, index);
 }
 
 /* How many holes start at `offset` or before it: the last of them is the one hole that an octet there can lie in. */
@@ -51,7 +36,7 @@ static int outside(const struct status *status, const struct list *list, size_t 
 {
     struct saratoga_piece piece = list->pieces[i];
     uint64_t before = holes_up_to(status, piece.offset);
-    struct hole hole = {0, 0};
+    struct saratoga_hole hole = {0, 0, 0, 0};
     if (before > 0)
         hole = hole_at(status, before - 1);
     if (before > 0 && piece.offset < hole.end && piece.length <= hole.end - piece.offset)
@@ -97,7 +82,7 @@ static int uncovered(const struct status *status, const struct list *list)
     size_t next = 0;
     uint64_t i;
     for (i = 0; i < status->read.hole_count; i++) {
-        struct hole hole = hole_at(status, i);
+        struct saratoga_hole hole = hole_at(status, i);
         uint64_t at = hole.start;
         for (; next < list->count && list->pieces[next].offset == at && at < hole.end; next++)
             at += list->pieces[next].length;

@@ -169,6 +169,8 @@ def refusals(program):
             for largest in ("0", "10"):
                 out, told, code = program.run("-m", largest, *words, name)
                 check((out, code) == ("", 2) and f"refused {number}: " in told, f"{packet[:8]!r} {words}: {out} {told} {code}")
+    told = program.run("-m", "10", program.file("bad", failure))[1]
+    check("failure STATUS" in told, f"a failure STATUS: {told}")
     for largest in ("0", "65001", str(TOP)):
         for words in ((), ("--count",), ("--check", program.file("list", b""))):
             out, told, code = program.run("-m", largest, *words, path)

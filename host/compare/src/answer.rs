@@ -113,6 +113,7 @@ pub struct Recorded {
     pub edge: u64,
     pub complete: u64,
     pub absorbed: u64,
+    pub adds: u64,
 }
 
 /// `struct saratoga_bitmap_opened`
@@ -126,7 +127,7 @@ pub struct BitmapOpened {
     pub transfer: Bitmap,
 }
 
-/// `struct saratoga_bitmap_recorded`: the fields of `struct saratoga_recorded`, then the transfer, on refusal too.
+/// `struct saratoga_bitmap_recorded`: the fields of `struct saratoga_recorded`, then the transfer.
 #[repr(C)]
 #[derive(Clone, Copy, Debug, Default, PartialEq, Eq)]
 pub struct BitmapRecorded {
@@ -146,6 +147,7 @@ pub struct Listed {
     pub edge: u64,
     pub complete: u64,
     pub runs: u64,
+    pub received: u64,
 }
 
 impl From<Result<u64, Refusal>> for Planned {
@@ -196,6 +198,7 @@ impl From<Result<table::Recorded, Refusal>> for Recorded {
                 edge: recorded.state.edge,
                 complete: recorded.state.complete.into(),
                 absorbed: recorded.absorbed as u64,
+                adds: recorded.adds.into(),
                 ..Recorded::default()
             },
             Err(refusal) => Recorded { number: refusal.number(), code: refusal.code(), ..Recorded::default() },
@@ -214,6 +217,15 @@ impl From<Result<(Bitmap, table::State), Refusal>> for BitmapOpened {
     }
 }
 
+impl From<Result<(Bitmap, table::Recorded), Refusal>> for BitmapRecorded {
+    fn from(answer: Result<(Bitmap, table::Recorded), Refusal>) -> BitmapRecorded {
+        BitmapRecorded {
+            transfer: answer.map_or(Bitmap::default(), |(transfer, _)| transfer),
+            recorded: answer.map(|(_, recorded)| recorded).into(),
+        }
+    }
+}
+
 impl From<Result<table::Listed, Refusal>> for Listed {
     fn from(answer: Result<table::Listed, Refusal>) -> Listed {
         match answer {
@@ -224,6 +236,7 @@ impl From<Result<table::Listed, Refusal>> for Listed {
                 edge: listed.state.edge,
                 complete: listed.state.complete.into(),
                 runs: listed.runs as u64,
+                received: listed.received,
                 ..Listed::default()
             },
             Err(refusal) => Listed { number: refusal.number(), code: refusal.code(), ..Listed::default() },

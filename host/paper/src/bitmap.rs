@@ -35,15 +35,16 @@ pub fn open(marks: &mut [u8], packet: &[u8]) -> Result<(Bitmap, State), Refusal>
     Ok((transfer, state(&Marks::new(transfer.length as usize))))
 }
 
-/// Recording: 20, 22, the reader's, 12, 13, 14, 15, 16.
-pub fn record(transfer: Bitmap, marks: &mut [u8], packet: &[u8]) -> Result<Recorded, Refusal> {
+/// Recording: 20, 22, the reader's, 12, 13, 14, 15, 16. The record that "an accepted recording hands back" is the one that came:
+/// of a refusal the "other results are 0 or empty".
+pub fn record(transfer: Bitmap, marks: &mut [u8], packet: &[u8]) -> Result<(Bitmap, Recorded), Refusal> {
     let mut received = take_up(transfer, marks)?;
     let Packet::Data(data) = read_types(packet, &[DATA])? else { unreachable!("only DATA is taken") };
     if data.header.id != transfer.id {
         return Err(Refusal::NotOpen);
     }
     let (start, end) = stretch(&data, transfer.width as usize, transfer.length)?;
-    let before = received.runs().len();
+    let (before, adds) = (received.runs().len(), received.adds(start, end));
     received.add(start, end);
     let after = received.runs().len();
     // "refuses for room by the same 64 runs"
@@ -54,7 +55,7 @@ pub fn record(transfer: Bitmap, marks: &mut [u8], packet: &[u8]) -> Result<Recor
         marks[n / 8] |= 0x80 >> (n % 8);
     }
     // "runs after equal runs before plus one minus that number"
-    Ok(Recorded { state: state(&received), absorbed: before + 1 - after })
+    Ok((transfer, Recorded { state: state(&received), absorbed: before + 1 - after, adds }))
 }
 
 /// STATUS: 20 (the area), 22, 12 for an Id over 32 bits, which is open nowhere, 19, 20 (the buffer).

@@ -32,6 +32,16 @@ impl Marks {
         }
     }
 
+    /// Whether one of these offsets was not received.
+    pub fn adds(&self, start: u64, end: u64) -> bool {
+        (start..end).any(|offset| !self.received[offset as usize])
+    }
+
+    /// How many offsets were received.
+    pub fn count(&self) -> u64 {
+        self.received.iter().filter(|&&received| received).count() as u64
+    }
+
     /// "longest unbroken stretch of received offsets"
     pub fn runs(&self) -> Vec<(u64, u64)> {
         self.stretches(true, self.received.len())

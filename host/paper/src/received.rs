@@ -32,6 +32,17 @@ impl Received {
         self.runs().filter(|&run| overlaps(run) || touches(run)).count()
     }
 
+    /// Whether a stretch adds an offset that was not received. "A repeat adds nothing": it lies in a run whole, since
+    /// "touching stretches are one run".
+    pub fn adds(&self, start: u64, end: u64) -> bool {
+        !self.runs().any(|(run, stop)| run <= start && end <= stop)
+    }
+
+    /// How many offsets were received. At most L, so the sum fits.
+    pub fn count(&self) -> u64 {
+        self.runs().map(|(run, stop)| stop - run).sum()
+    }
+
     /// "A **run** is a longest unbroken stretch of received offsets"
     pub fn runs(&self) -> impl Iterator<Item = (u64, u64)> + '_ {
         self.runs.iter().map(|(&start, &stop)| (start, stop))

@@ -38,11 +38,13 @@ pub struct Opened {
     pub already_open: bool,
 }
 
-/// "Each accepted recording reports how many stored runs the packet swallowed".
+/// "Each accepted recording reports how many stored runs the packet swallowed". `adds`: whether the packet brings an offset that
+/// was not received.
 #[derive(Clone, Copy, Debug, PartialEq, Eq)]
 pub struct Recorded {
     pub state: State,
     pub absorbed: usize,
+    pub adds: bool,
 }
 
 /// An open transfer, for a program that takes up an area again.
@@ -53,6 +55,8 @@ pub struct Listed {
     pub length: u64,
     pub state: State,
     pub runs: usize,
+    /// How many offsets were received.
+    pub received: u64,
 }
 
 impl Transfer {
@@ -61,8 +65,14 @@ impl Transfer {
     }
 
     fn listed(&self, id: u64) -> Listed {
-        let runs = self.received.run_count();
-        Listed { id, width: self.width, length: self.length, state: self.state(), runs }
+        Listed {
+            id,
+            width: self.width,
+            length: self.length,
+            state: self.state(),
+            runs: self.received.run_count(),
+            received: self.received.count(),
+        }
     }
 }
 
@@ -117,9 +127,9 @@ impl Table {
         if received.run_count() > MAX_RUNS {
             return Err(Refusal::Runs);
         }
-        let absorbed = transfer.received.absorbed(start, end);
+        let (absorbed, adds) = (transfer.received.absorbed(start, end), transfer.received.adds(start, end));
         transfer.received = received;
-        Ok(Recorded { state: transfer.state(), absorbed })
+        Ok(Recorded { state: transfer.state(), absorbed, adds })
     }
 
     /// What recording would answer; nothing is recorded.

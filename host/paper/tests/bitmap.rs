@@ -4,7 +4,7 @@
 mod common;
 
 use common::{data, hex, last_data, metadata};
-use paper::bitmap::{open, record, write_status, Bitmap, OCTETS};
+use paper::bitmap::{self, open, write_status, Bitmap, OCTETS};
 use paper::refusal::Refusal;
 use paper::table::{Recorded, State, Table};
 
@@ -14,6 +14,13 @@ fn opened(width: usize, length: u64) -> (Bitmap, Vec<u8>) {
     let (transfer, _) = open(&mut marks, &metadata(7, width, length)).unwrap();
     assert_eq!(transfer, Bitmap { id: 7, width: width as u64, length });
     (transfer, marks)
+}
+
+/// What recording answers; an accepted one hands the transfer back.
+fn record(transfer: Bitmap, marks: &mut [u8], packet: &[u8]) -> Result<Recorded, Refusal> {
+    let (handed_back, recorded) = bitmap::record(transfer, marks, packet)?;
+    assert_eq!(handed_back, transfer);
+    Ok(recorded)
 }
 
 /// Stretches recorded at width 16; each must be accepted.
@@ -35,7 +42,12 @@ fn status(page: &(Bitmap, Vec<u8>), skip: u64, unasked: bool, room: usize) -> Re
 }
 
 fn edge(edge: u64, absorbed: usize) -> Result<Recorded, Refusal> {
-    Ok(Recorded { state: State { edge, complete: false }, absorbed })
+    Ok(Recorded { state: State { edge, complete: false }, absorbed, adds: true })
+}
+
+/// Nothing is added: the packet lies in one run.
+fn repeat(edge: u64) -> Result<Recorded, Refusal> {
+    Ok(Recorded { state: State { edge, complete: false }, absorbed: 1, adds: false })
 }
 
 /// "mark n is its bit n", and "Bit 0 is the highest bit of the first octet".
@@ -69,7 +81,7 @@ fn page_with_a_hole() {
     let want = hex("44 00 00 00 00 00 00 07 03 E8 0B B8 03 E8 07 D0");
     assert_eq!(status(&page, 0, false, 16), Ok(want));
     assert_eq!(status(&page, 0, false, 15), Err(Refusal::Buffer));
-    let complete = Recorded { state: State { edge: 3_000, complete: true }, absorbed: 2 };
+    let complete = Recorded { state: State { edge: 3_000, complete: true }, absorbed: 2, adds: true };
     assert_eq!(record(page.0, &mut page.1, &data(7, 2, 1_000, 1_000)), Ok(complete));
     assert_eq!(status(&page, 0, false, 12), Ok(hex("44 01 00 00 00 00 00 07 0B B8 0B B7")));
 }
@@ -106,7 +118,7 @@ fn sixty_four_runs() {
     assert_eq!(record(transfer, &mut marks, &data(7, 2, 5, 1)), edge(635, 1));
     assert_eq!(record(transfer, &mut marks, &data(7, 2, 6, 4)), edge(635, 2));
     assert_eq!(record(transfer, &mut marks, &data(7, 2, 0, 650)), edge(650, 63));
-    assert_eq!(record(transfer, &mut marks, &data(7, 2, 3, 4)), edge(650, 1));
+    assert_eq!(record(transfer, &mut marks, &data(7, 2, 3, 4)), repeat(650));
 }
 
 /// "L up to 65,535 (above that, refusal 9 at opening)"; "less: 20, before all"; and the reader's between them.
@@ -152,7 +164,7 @@ fn no_transfer() {
     // 64 runs are taken, and 65 aren't.
     let (long, mut marks) = opened(2, 3_000);
     marks[..64].fill(0x10);
-    assert_eq!(record(long, &mut marks.clone(), &data(7, 2, 3, 1)), edge(508, 1));
+    assert_eq!(record(long, &mut marks.clone(), &data(7, 2, 3, 1)), repeat(508));
     marks[64] = 0x10;
     assert_eq!(refused(long, &marks), Refusal::Area);
 }

@@ -6,8 +6,15 @@ use paper::received::Received;
 /// Adds a stretch to both, and compares all that they say.
 fn add(received: &mut Received, marks: &mut Marks, length: u64, start: u64, end: u64) {
     let (before, absorbed) = (received.run_count(), received.absorbed(start, end));
+    let (set, adds, count) = (received.clone(), received.adds(start, end), received.count());
+    assert_eq!(marks.adds(start, end), adds);
     received.add(start, end);
     marks.add(start, end);
+    // A stretch adds something exactly where the set changes, and where the number of offsets received does.
+    assert_eq!(adds, *received != set);
+    assert_eq!(adds, received.count() > count);
+    assert_eq!(received.count(), marks.count());
+    assert_eq!(received.complete(length), received.count() == length);
     // "runs after equal runs before plus one minus that number"
     assert_eq!(marks.runs().len(), before + 1 - absorbed);
     assert_eq!(received.runs().collect::<Vec<_>>(), marks.runs());
@@ -21,8 +28,9 @@ fn add(received: &mut Received, marks: &mut Marks, length: u64, start: u64, end:
 #[test]
 fn nothing_received() {
     let (received, marks) = (Received::default(), Marks::new(5));
-    assert_eq!((received.edge(), received.lowest_missing(), received.run_count()), (0, 0, 0));
-    assert_eq!((marks.edge(), marks.lowest_missing(), marks.runs().len()), (0, 0, 0));
+    assert_eq!((received.edge(), received.lowest_missing(), received.run_count(), received.count()), (0, 0, 0, 0));
+    assert_eq!((marks.edge(), marks.lowest_missing(), marks.runs().len(), marks.count()), (0, 0, 0, 0));
+    assert!(received.adds(0, 1) && marks.adds(4, 5));
     assert!(received.holes().is_empty() && marks.holes().is_empty());
     assert!(!received.complete(5) && !marks.complete());
     assert!(received.complete(0) && Marks::new(0).complete());
@@ -79,6 +87,7 @@ fn to_the_last_offset() {
     received.add(0, 1);
     assert_eq!(received.holes(), [(1, u64::MAX - 1)]);
     received.add(1, u64::MAX - 1);
-    assert!(received.complete(u64::MAX));
+    assert!(received.complete(u64::MAX) && !received.adds(0, u64::MAX));
+    assert_eq!(received.count(), u64::MAX);
     assert_eq!(received.run_count(), 1);
 }

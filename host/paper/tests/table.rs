@@ -32,11 +32,16 @@ fn status(table: &Table, skip: u64, unasked: bool, room: usize) -> Result<Vec<u8
 }
 
 fn edge(edge: u64, absorbed: usize) -> Result<Recorded, Refusal> {
-    Ok(Recorded { state: State { edge, complete: false }, absorbed })
+    Ok(Recorded { state: State { edge, complete: false }, absorbed, adds: true })
+}
+
+/// Nothing is added: the packet lies in one run.
+fn repeat(edge: u64) -> Result<Recorded, Refusal> {
+    Ok(Recorded { state: State { edge, complete: false }, absorbed: 1, adds: false })
 }
 
 fn complete(edge: u64, absorbed: usize) -> Result<Recorded, Refusal> {
-    Ok(Recorded { state: State { edge, complete: true }, absorbed })
+    Ok(Recorded { state: State { edge, complete: true }, absorbed, adds: true })
 }
 
 /// "Id 7, width 16, L = 3,000, octets 0 to 999 and 2,000 to 2,999 received"
@@ -56,7 +61,8 @@ fn page_with_a_hole() {
 #[test]
 fn a_repeat_makes_no_page_complete() {
     let mut table = received(3_000, &[(0, 1_000), (2_000, 1_000)]);
-    assert_eq!(table.record(&data(7, 2, 0, 1_000)), edge(3_000, 1));
+    assert_eq!(table.record(&data(7, 2, 0, 1_000)), repeat(3_000));
+    assert_eq!(table.find(7).unwrap().received, 2_000);
     assert_eq!(status(&table, 0, true, 99), Ok(hex("44 01 00 00 00 00 00 07 03 E8 0B B8 03 E8 07 D0")));
 }
 
@@ -240,10 +246,12 @@ fn listing() {
         table.open(&metadata(id, width, length)).unwrap();
     }
     table.record(&data(7, 2, 2, 1)).unwrap();
-    let list = |index| table.transfer(index).map(|t| (t.id, t.width, t.length, t.state.edge, t.state.complete, t.runs));
-    assert_eq!(list(0), Ok((7, 2, 3, 3, false, 1)));
-    assert_eq!(list(1), Ok((300, 8, u64::MAX, 0, false, 0)));
-    assert_eq!(list(2), Ok((0xFFFF_FFFF, 4, 0, 0, true, 0)));
+    let list = |index| {
+        table.transfer(index).map(|t| (t.id, t.width, t.length, t.state.edge, t.state.complete, t.runs, t.received))
+    };
+    assert_eq!(list(0), Ok((7, 2, 3, 3, false, 1, 1)));
+    assert_eq!(list(1), Ok((300, 8, u64::MAX, 0, false, 0, 0)));
+    assert_eq!(list(2), Ok((0xFFFF_FFFF, 4, 0, 0, true, 0, 0)));
     assert_eq!(list(3), Err(Refusal::NotOpen));
     assert_eq!(list(u64::MAX), Err(Refusal::NotOpen));
 }
@@ -252,10 +260,11 @@ fn listing() {
 fn asked_before_recording() {
     let table = received(9, &[(1, 1), (3, 1)]);
     let before = table.clone();
-    let tried =
-        |packet: &[u8]| table.try_record(packet).map(|told| (told.state.edge, told.state.complete, told.absorbed));
-    assert_eq!(tried(&data(7, 2, 0, 9)), Ok((9, true, 2)));
-    assert_eq!(tried(&data(7, 2, 4, 1)), Ok((5, false, 1)));
+    let tried = |packet: &[u8]| table.try_record(packet);
+    assert_eq!(tried(&data(7, 2, 0, 9)), complete(9, 2));
+    assert_eq!(tried(&data(7, 2, 4, 1)), edge(5, 1));
+    assert_eq!(tried(&data(7, 2, 3, 1)), repeat(4));
+    assert_eq!(tried(&data(7, 2, 2, 2)), edge(4, 2));
     assert_eq!(tried(&data(7, 2, 9, 1)), Err(Refusal::PastEnd));
     assert_eq!(tried(&data(8, 2, 0, 1)), Err(Refusal::NotOpen));
     assert_eq!(table, before);
@@ -266,6 +275,7 @@ fn by_id() {
     let table = received(9, &[(1, 1), (3, 1)]);
     let found = table.find(7).unwrap();
     assert_eq!((found.id, found.width, found.length, found.state.edge, found.runs), (7, 2, 9, 4, 2));
+    assert_eq!(found.received, 2);
     assert_eq!(table.find(8), Err(Refusal::NotOpen));
     assert_eq!(table.find(7 + (1 << 32)), Err(Refusal::NotOpen));
     let hole = |index| table.hole(7, index).map(|hole| (hole.start, hole.end));

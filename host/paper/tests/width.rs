@@ -205,7 +205,7 @@ fn longest_hole_list() {
 
 /// The answer to the first recording of a transfer: there is no run to absorb.
 fn first(edge: u64, complete: bool) -> Recorded {
-    Recorded { state: State { edge, complete }, absorbed: 0 }
+    Recorded { state: State { edge, complete }, absorbed: 0, adds: true }
 }
 
 #[test]

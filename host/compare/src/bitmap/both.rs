@@ -5,7 +5,7 @@
 use paper::read::{read, Packet};
 use paper::table::Table;
 
-use crate::answer::{BitmapOpened, BitmapRecorded, Opened};
+use crate::answer::{Bitmap, BitmapOpened, BitmapRecorded, Opened};
 use crate::bitmap::cases::short_file;
 use crate::bitmap::held::{describe, Marked};
 use crate::check::{describe_packet, require, Check, Step};
@@ -34,8 +34,9 @@ pub fn trial(check: &mut Check) -> Step {
                 continue;
             }
             let one = check.record(&mut desk, &packet)?;
+            let handed_back = if one.number == 0 { marked.transfer } else { Bitmap::default() };
+            let want = BitmapRecorded { recorded: one, transfer: handed_back };
             let other = check.bitmap_record(&mut marked, &packet)?;
-            let want = BitmapRecorded { recorded: one, transfer: marked.transfer };
             require(other == want, || differ(&one, &other, &packet, &desk, &marked))?;
             sent.push(packet);
         }

@@ -29,7 +29,7 @@ impl Check<'_> {
         Ok(got)
     }
 
-    /// `saratoga_bitmap_record`.
+    /// `saratoga_bitmap_record`; the transfer that an accepted one hands back is kept.
     pub fn bitmap_record(&mut self, marked: &mut Marked, packet: &[u8]) -> Result<BitmapRecorded, Stop> {
         self.count()?;
         let before = marked.clone();
@@ -41,6 +41,9 @@ impl Check<'_> {
         self.same_marks(Function::BitmapRecord, &got, &want, marked, context)?;
         same_octets(Function::BitmapRecord, "packet", &lent, &lent_before, context)?;
         self.tally.add(Function::BitmapRecord, got.recorded.number);
+        if got.recorded.number == 0 {
+            marked.transfer = got.transfer;
+        }
         Ok(got)
     }
 

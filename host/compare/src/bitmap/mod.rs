@@ -26,9 +26,8 @@ impl BitmapReceiver for Paper {
         bitmap::open(marks, packet).into()
     }
 
-    /// The transfer is the one that was handed in, on refusal too.
     fn bitmap_record(&self, transfer: Bitmap, marks: &mut [u8], packet: &[u8]) -> BitmapRecorded {
-        BitmapRecorded { recorded: bitmap::record(transfer, marks, packet).into(), transfer }
+        bitmap::record(transfer, marks, packet).into()
     }
 
     fn bitmap_status(&self, transfer: Bitmap, marks: &[u8], skip: u64, unasked: u64, out: &mut [u8]) -> Written {

@@ -53,10 +53,12 @@ wrong! {
     RunsBeforeEndOfData,
     /// End of data is not looked at.
     EndOfDataIgnored,
-    /// The transfer of a refused recording is 0.
-    RefusedWithoutTransfer,
-    /// The transfer that is handed back has the packet's Id.
-    TransferOfPacket,
+    /// A refused recording hands the transfer back.
+    RefusedHandsBack,
+    /// An accepted recording hands no transfer back.
+    NothingHandedBack,
+    /// The transfer that is handed back has the edge for its length.
+    EdgeHandedBack,
 
     // The runs absorbed.
     /// Runs that touch the packet are not counted.
@@ -67,6 +69,20 @@ wrong! {
     NewRunCounted,
     /// A refused packet tells what it would have absorbed.
     CountedOnRefusal,
+
+    // Whether anything is added.
+    /// A repeat adds something, as every packet does.
+    RepeatAdds,
+    /// A packet adds something where as many octets as it has are still missing.
+    AddsByOctets,
+    /// A packet adds something where its first mark is not set.
+    AddsByFirst,
+    /// A packet adds something where its last mark is not set.
+    AddsByLast,
+    /// Looked at after the marks are set, no packet adds anything.
+    AddsNothing,
+    /// A refused packet tells whether it would have added something.
+    AddsOnRefusal,
 
     // Opening.
     /// The marks are left as they were.
@@ -158,8 +174,16 @@ pub const BESIDE_THE_TABLE: &[Wrong] = &[
     CountsOctets,
     EdgeOfPacket,
     OtherIdTaken,
+    RefusedHandsBack,
+    NothingHandedBack,
+    EdgeHandedBack,
     TouchingUncounted,
     RepeatUncounted,
+    RepeatAdds,
+    AddsByOctets,
+    AddsByFirst,
+    AddsByLast,
+    AddsOnRefusal,
     OpeningKeepsMarks,
     OpeningKeepsAbove,
     LongestRefused,
@@ -244,8 +268,11 @@ impl BitmapReceiver for Wrong {
                 let recorded = Recorded { number: read.number, code: read.code, ..Recorded::default() };
                 answer(recorded, transfer)
             }
-            (RefusedWithoutTransfer, _) if right.recorded.number != 0 => answer(right.recorded, Bitmap::default()),
-            (TransferOfPacket, _) => answer(right.recorded, Bitmap { id: read.id, ..transfer }),
+            (RefusedHandsBack, _) if right.recorded.number != 0 => BitmapRecorded { transfer, ..right },
+            (NothingHandedBack, _) => BitmapRecorded { transfer: Bitmap::default(), ..right },
+            (EdgeHandedBack, _) if right.recorded.number == 0 => {
+                answer(right.recorded, Bitmap { length: right.recorded.edge, ..transfer })
+            }
             (_, Ok(received)) if read.number == 0 && read.kind == 3 => {
                 let recorded = self.record_to(transfer, &before, marks, packet, &received, right.recorded);
                 answer(recorded, transfer)
@@ -350,6 +377,16 @@ impl Wrong {
             RepeatUncounted if accepted && union.runs() == runs => return Recorded { absorbed: 0, ..right },
             NewRunCounted if accepted => return Recorded { absorbed: right.absorbed + 1, ..right },
             CountedOnRefusal if !accepted => return Recorded { absorbed: overlapping as u64, ..right },
+            RepeatAdds if accepted => return Recorded { adds: 1, ..right },
+            AddsByOctets if accepted => {
+                return Recorded { adds: u64::from(len <= transfer.length - received.count()), ..right }
+            }
+            AddsByFirst if accepted => return Recorded { adds: received.adds(start, start + 1).into(), ..right },
+            AddsByLast if accepted => return Recorded { adds: received.adds(end - 1, end).into(), ..right },
+            AddsNothing => return Recorded { adds: 0, ..right },
+            AddsOnRefusal if !accepted && inside => {
+                return Recorded { adds: received.adds(start, end).into(), ..right }
+            }
             // What is judged of the packet.
             OtherIdTaken if right.number == 12 => {
                 return Paper.bitmap_record(Bitmap { id: data.header.id, ..transfer }, marks, packet).recorded;
@@ -423,8 +460,9 @@ impl Wrong {
     }
 }
 
+/// The transfer is handed back where the recording is accepted.
 fn answer(recorded: Recorded, transfer: Bitmap) -> BitmapRecorded {
-    BitmapRecorded { recorded, transfer }
+    BitmapRecorded { recorded, transfer: if recorded.number == 0 { transfer } else { Bitmap::default() } }
 }
 
 /// 12 to 16 and 22 with their codes.

@@ -14,6 +14,7 @@ pub mod words;
 pub mod wrong;
 pub mod wrong_areas;
 pub mod wrong_calls;
+pub mod wrong_counts;
 
 use paper::area;
 

@@ -73,6 +73,24 @@ wrong! {
     /// What recording would absorb isn't told.
     TryUncounted,
 
+    // Whether anything is added.
+    /// A repeat adds something, as every packet does.
+    RepeatAdds,
+    /// A packet adds something where as many octets as it has are still missing.
+    AddsByOctets,
+    /// A packet that overlaps a run adds nothing.
+    OverlapAddsNothing,
+    /// A packet that touches a run, or joins two, adds nothing.
+    TouchingAddsNothing,
+    /// A packet adds something where the edge moves.
+    AddsByEdge,
+    /// A packet adds something where the number of runs is another.
+    AddsByRuns,
+    /// A refused packet tells whether it would have added something.
+    AddsOnRefusal,
+    /// What recording would add isn't told.
+    TryAddsNothing,
+
     // Opening.
     /// A 17th Id is opened.
     SeventeenIds,
@@ -110,6 +128,14 @@ wrong! {
     IndexWraps,
     /// Holes are listed for runs.
     HolesForRuns,
+    /// The octets that came are listed as received: repeats count twice.
+    RepeatsListed,
+    /// The edge is listed as the number received.
+    EdgeListed,
+    /// Of each run the last octet isn't counted.
+    LastOctetsUncounted,
+    /// A transfer that is found by its Id has no number received.
+    FoundUncounted,
 
     // Asking before recording, and by the Id.
     /// What recording would answer is told of the transfer as it stands.

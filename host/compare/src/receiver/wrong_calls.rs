@@ -9,6 +9,7 @@ use crate::codec::{Codec, Paper};
 use crate::receiver::words::{self, entries, store, Entry, OCTETS};
 use crate::receiver::wrong::Wrong::{self, *};
 use crate::receiver::wrong_areas::unused_heads;
+use crate::receiver::wrong_counts::{forget_all_repeats, forget_repeats};
 use crate::receiver::{Ask, Receiver};
 use crate::wrong_width::{wide_descriptors, with_upper_cleared};
 
@@ -26,6 +27,7 @@ impl Receiver for Wrong {
                 return Done { number: 22, code: 0 };
             }
             FreshTouchesShort if right.number == 20 && !area.is_empty() => area[0] ^= 1,
+            RepeatsListed => forget_all_repeats(),
             _ => self.clear_past(area, right.number),
         }
         right
@@ -61,6 +63,7 @@ impl Receiver for Wrong {
                 return refused(17, 0x03);
             }
             (FullBeforeOther, _) if right.number == 18 && table.transfers.len() == 16 => return refused(17, 0x03),
+            (RepeatsListed, None) if right.number == 0 => forget_repeats(read.id),
             (AgainForgets, Some(_)) if right.already_open == 1 => {
                 change_entry(area, read.id, |entry| entry.runs.clear());
             }
@@ -142,6 +145,7 @@ impl Receiver for Wrong {
             }
             TryNeverSixteen if right.number == 16 => Recorded::default(),
             TryUncounted => Recorded { absorbed: 0, ..right },
+            TryAddsNothing => Recorded { adds: 0, ..right },
             _ => right,
         }
     }
@@ -168,6 +172,7 @@ impl Receiver for Wrong {
             {
                 return Done::default()
             }
+            RepeatsListed => forget_repeats(id),
             _ => {}
         }
         right
@@ -208,7 +213,7 @@ impl Receiver for Wrong {
                 let holes = take_up(area).unwrap_or_default().transfers[&right.id].received.holes().len();
                 Listed { runs: holes as u64, ..right }
             }
-            _ => right,
+            _ => self.listed(right),
         }
     }
 
@@ -224,7 +229,8 @@ impl Receiver for Wrong {
                 let table = take_up(area).unwrap_or_default();
                 Paper.transfer(area, table.transfers.range(..id).count() as u64)
             }
-            _ => right,
+            FoundUncounted => Listed { received: 0, ..right },
+            _ => self.listed(right),
         }
     }
 
@@ -347,7 +353,7 @@ impl Wrong {
             EndBeforeWidth if right.number == 13 && end > length => refused(14, 0x09),
             EndOfDataBeforeEnd if right.number == 14 && packet[2] >> 7 == 1 => refused(15, 0x01),
             RunsBeforeEndOfData if right.number == 15 && union.run_count() > 64 => refused(16, 0x03),
-            _ => return right,
+            _ => return self.told(data.header.id, (start, end), transfer, right),
         };
         area.copy_from_slice(before);
         wrong

@@ -492,8 +492,8 @@ struct saratoga_opened {
  * The transfer then has as many runs less as were absorbed, and one more. A repeat absorbs 1, the run that it lies in. Over the
  * recordings accepted since the transfer was opened, the numbers add up to how many these are, less the runs that it has.
  *
- * Where `adds` is 0 every octet of the packet came before, in one packet or in several: the set of received octets stays as it
- * is, and so does every octet of the area. Its payload need not be written to disk again.
+ * Where an accepted packet has `adds` 0, every octet of it came before, in one packet or in several: the set of received octets
+ * stays as it is, and so does every octet of the area. Its payload need not be written to disk again.
  */
 struct saratoga_recorded {
     uint64_t number, code;

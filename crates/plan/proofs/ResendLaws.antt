@@ -17,7 +17,6 @@ use Rattle.header.specs.Start.{wordOf}
 use Rattle.packet_status.specs.Status.{progressOf, responseOf, partialTold, unaskedTold, holeCount, holeList, statusRefusal, holeRefusal}
 use Rattle.packet_status.proofs.AcceptedLaws.{ListAccepted, nth}
 use Rattle.packet_status.proofs.StatusLaws.{status-fine, success-fine, length-list}
-use Rattle.runs.specs.declared.Hole.{Hole}
 use Rattle.plan.specs.Planning.{allowed, resendRefusal, judgedOf, Readable}
 
 pub record ResendFine (m : ℕ) (s : List ℕ) : Type 0 where

@@ -1,5 +1,5 @@
 -- The check, piece by piece: a list is fine so far where each piece begins at the cursor, and passes where nothing is left in the end.
--- proofs/CheckLaws.antt shows that the lists which pass so are the good plans.
+-- proofs/PassLaws.antt shows that the lists which pass so are the good plans.
 -- Assumes nothing.
 use Prim.Native.Nat.{ℕ, zero, suc, _+_}
 use mathlib.Core.Bool.{Bool, true, false, cond, _&&_}

@@ -1,3 +1,4 @@
 pub mod ReadLaws
 pub mod CaseLaws
 pub mod RoundTrip
+pub mod LimitLaws

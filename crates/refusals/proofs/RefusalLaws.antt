@@ -113,79 +113,24 @@ sendless (c ∷ cs) n s = go (sendless cs n (s .1)) (eqb (c .0) n) refl
     go h true e = s .0 (eqb-true (c .0) n e)
     go h false e = h
 
+infixr 20 _also_
+_also_ : {A B : Type 0} → A → B → A × B
+a also b = (a, b)
+
+-- a number that has code 0, and one that n is not
+none : {A : Type 0} {k : ℕ} → A → k ≡ k
+none a = refl
+
+other : {m n k : ℕ} → (n ≡ m → ⊥) → m ≡ n → k ≡ 0
+other a e = absurd (a (sym e))
+
 -- any other number
 pub no-code : (n : ℕ) → (n ≡ 4 → ⊥) → (n ≡ 5 → ⊥) → (n ≡ 6 → ⊥) → (n ≡ 7 → ⊥) → (n ≡ 8 → ⊥) → (n ≡ 9 → ⊥) → (n ≡ 10 → ⊥) → (n ≡ 12 → ⊥)
     → (n ≡ 13 → ⊥) → (n ≡ 14 → ⊥) → (n ≡ 15 → ⊥) → (n ≡ 16 → ⊥) → (n ≡ 17 → ⊥) → (n ≡ 18 → ⊥) → 0 ≡ codeOf n
 unfolding codeOf
 no-code n a4 a5 a6 a7 a8 a9 a10 a12 a13 a14 a15 a16 a17 a18 =
     sym
-    (sendless codes n (
-      (λ e. refl),
-      (
-        (λ e. refl),
-        (
-          (λ e. refl),
-          (
-            (λ e. absurd (a4 (sym e))),
-            (
-              (λ e. absurd (a5 (sym e))),
-              (
-                (λ e. absurd (a6 (sym e))),
-                (
-                  (λ e. absurd (a7 (sym e))),
-                  (
-                    (λ e. absurd (a8 (sym e))),
-                    (
-                      (λ e. absurd (a9 (sym e))),
-                      (
-                        (λ e. absurd (a10 (sym e))),
-                        (
-                          (λ e. refl),
-                          (
-                            (λ e. absurd (a12 (sym e))),
-                            (
-                              (λ e. absurd (a13 (sym e))),
-                              (
-                                (λ e. absurd (a14 (sym e))),
-                                (
-                                  (λ e. absurd (a15 (sym e))),
-                                  (
-                                    (λ e. absurd (a16 (sym e))),
-                                    (
-                                      (λ e. absurd (a17 (sym e))),
-                                      (
-                                        (λ e. absurd (a18 (sym e))),
-                                        (
-                                          (λ e. refl),
-                                          (
-                                            (λ e. refl),
-                                            (
-                                              (λ e. refl),
-                                              (
-                                                (λ e. refl),
-                                                (
-                                                  (λ e. refl),
-                                                  tt,
-                                                ),
-                                              ),
-                                            ),
-                                          ),
-                                        ),
-                                      ),
-                                    ),
-                                  ),
-                                ),
-                              ),
-                            ),
-                          ),
-                        ),
-                      ),
-                    ),
-                  ),
-                ),
-              ),
-            ),
-          ),
-        ),
-      ),
-    ))
+    (sendless codes n
+    (none also none also none also other a4 also other a5 also other a6 also other a7 also other a8 also other a9 also other a10 also none
+    also other a12 also other a13 also other a14 also other a15 also other a16 also other a17 also other a18
+    also none also none also none also none also none also tt))

@@ -15,16 +15,10 @@ Inv-loop area id n i₀ i = Search area id n i
 abbrev μ-loop : tie.MeasureT-loop
 μ-loop area id n i₀ i = n - i
 
-open-count-requires : tie.Need-open-count-requires Inv-loop μ-loop
-open-count-requires c κs = judged-passed (now (c .before .args .area)) (c .before .pre) .0
-
 loop-holds : tie.Need-loop-holds Inv-loop μ-loop
 loop-holds c =
     let s = c .before .before in
     search-start (now (s .args .area)) (s .args .id) (c .open-count .result) (s .pre) (c .open-count .ensures)
-
-head-requires : tie.Need-head-requires Inv-loop μ-loop
-head-requires c κs = omega (arith, c .before .loop .inv .few, c .before .loop .inv .long)
 
 returns : tie.Need-returns Inv-loop μ-loop
 returns c =
@@ -35,12 +29,6 @@ returns c =
     let l = loop-place .loop in
     let w = c .before .head in
     search-here (now (s .args .area)) (s .args .id) (open-count-place .open-count .result) (l .i) (l .inv) (w .result) (omega arith) (w .ensures) (omega arith)
-
-add-i : tie.Need-add-i Inv-loop μ-loop
-add-i c = omega (arith, c .before .before .before .loop .inv .few)
-
-loop-less : tie.Need-loop-less Inv-loop μ-loop
-loop-less c = omega (arith, c .before .before .before .loop .inv .few)
 
 loop-again : tie.Need-loop-again Inv-loop μ-loop
 loop-again c =
@@ -64,11 +52,11 @@ find-place-spec =
     (tie.spec
     Inv-loop
     μ-loop
-    open-count-requires
+    (λ c κs. judged-passed (now (c .before .args .area)) (c .before .pre) .0)
     loop-holds
-    head-requires
+    (λ c κs. omega (arith, c .before .loop .inv .few, c .before .loop .inv .long))
     returns
-    add-i
-    loop-less
+    (λ c. omega (arith, c .before .before .before .loop .inv .few))
+    (λ c. omega (arith, c .before .before .before .loop .inv .few))
     loop-again
     returns-2)

@@ -12,9 +12,6 @@ use Rattle.area.proofs.LoopLaws.{id-not, width-not, runs-not, runs-deci
 use Rattle.area.proofs.transfer_ok.Statement.{statement}
 use Rattle.area.proofs.transfer_ok.Tie as tie
 
-returns : tie.Need-returns
-returns c = let a = c .before .before .before .args in id-not (now (a .area)) (a .i) _ (c .before .head .ensures) (omega arith)
-
 returns-2 : tie.Need-returns-2
 returns-2 c =
     let p = c .before .before .before .before in
@@ -53,7 +50,7 @@ transfer-ok-spec =
     tie.close
     (tie.spec
     (λ c κs. search needs)
-    returns
+    (λ c. let a = c .before .before .before .args in id-not (now (a .area)) (a .i) _ (c .before .head .ensures) (omega arith))
     (λ c κs. search needs)
     (λ c κs. search needs)
     (λ c κs. search needs)

@@ -18,9 +18,6 @@ Inv-loop area n least₀ i₀ least i = (i ≤ n) × (fineTest least (transfersF
 abbrev μ-loop : tie.MeasureT-loop
 μ-loop area n least₀ i₀ least i = n - i
 
-loop-holds : tie.Need-loop-holds Inv-loop μ-loop
-loop-holds c = (omega arith, rw sub-zero)
-
 returns : tie.Need-returns Inv-loop μ-loop
 returns c =
     let l = c .before .before .before .loop in
@@ -55,16 +52,13 @@ returns-2 c =
     let h = head-place .head in
     fine-not _ _ _ _ _ (l .inv .1) _ (omega arith) (h .ensures) _ (omega arith) (t .ensures) (c .if2 .left)
 
-returns-3 : tie.Need-returns-3 Inv-loop μ-loop
-returns-3 c = fine-end _ _ _ _ _ (c .before .loop .inv .1) (omega arith)
-
 pub transfers-ok-spec : {M : Type 1} → statement M
 transfers-ok-spec =
     tie.close
     (tie.spec
     Inv-loop
     μ-loop
-    loop-holds
+    (λ c. (omega arith, rw sub-zero))
     (λ c κs. search needs)
     returns
     (λ c κs. search needs)
@@ -73,4 +67,4 @@ transfers-ok-spec =
     (λ c. search needs)
     loop-again
     returns-2
-    returns-3)
+    (λ c. fine-end _ _ _ _ _ (c .before .loop .inv .1) (omega arith)))

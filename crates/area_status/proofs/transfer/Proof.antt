@@ -26,9 +26,6 @@ returns c =
 passed : (c : tie.Else1) → judged (now (c .before .before .before .args .area)) ≡ true
 passed c = sym (c .before .judge .ensures) ∙ not-false (c .before .judge .result) (c .if1 .left)
 
-open-count-requires : tie.Need-open-count-requires
-open-count-requires c κs = judged-passed (now (c .before .before .before .args .area)) (passed c) .0
-
 returns-2 : tie.Need-returns-2
 returns-2 c =
     let p = c .before .before .before in
@@ -57,7 +54,7 @@ transfer-spec =
     (λ c κs. search needs)
     (λ c κs. search needs)
     returns
-    open-count-requires
+    (λ c κs. judged-passed (now (c .before .before .before .args .area)) (passed c) .0)
     (λ c κs. search needs)
     returns-2
     listing-at-requires

@@ -25,9 +25,6 @@ returns c =
 passed : (c : tie.Else1) → judged (now (c .before .before .before .before .args .area)) ≡ true
 passed c = sym (c .before .judge .ensures) ∙ not-false (c .before .judge .result) (c .if1 .left)
 
-find-place-requires : tie.Need-find-place-requires
-find-place-requires c κs = passed c
-
 returns-2 : tie.Need-returns-2
 returns-2 c =
     let f = c .before .before .before in
@@ -48,12 +45,6 @@ used c =
     let p = f .find-place in
     used-place (now (a .area)) (p .result .at) (passed (f .before))
     (open-used (now (a .area)) (a .id) (passed (f .before)) (p .result) (p .ensures) (is-open c))
-
-key-at-requires : tie.Need-key-at-requires
-key-at-requires c κs = let u = used c in (u .long, u .low)
-
-rows-at-requires : tie.Need-rows-at-requires
-rows-at-requires c κs = let u = used (c .before) in (u .long, u .low)
 
 write-rows-requires : tie.Need-write-rows-requires
 write-rows-requires c κs =
@@ -81,11 +72,11 @@ write-status-spec =
     (λ c κs. search needs)
     (λ c κs. search needs)
     returns
-    find-place-requires
+    (λ c κs. passed c)
     (λ c κs. search needs)
     returns-2
-    key-at-requires
-    rows-at-requires
+    (λ c κs. let u = used c in (u .long, u .low))
+    (λ c κs. let u = used (c .before) in (u .long, u .low))
     write-rows-requires
     (λ c. search needs)
     returns-3)

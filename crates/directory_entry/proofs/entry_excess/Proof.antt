@@ -1,8 +1,10 @@
 -- `directory_entry::entry_excess` meets its contract: a return for each test. Assumes nothing.
 use Prim.Native.Nat.{ℕ, _^_}
 use mathlib.Core.Path.{_≡_, sym, ap, _∙_}
+use mathlib.Core.Bool.{not}
 use borrow.Author.Tests.{lt-ltb, le-ltb, not-true, not-false}
 use lib.Dec.{ltb}
+use Rattle.refusals.specs.Refusals.{_▹_, when}
 use Rattle.directory_entry.specs.Properties.{sizeOctets}
 use Rattle.directory_entry.specs.WriteEntry.{entryExcess}
 use borrow.Author.Needs.{needs}
@@ -24,31 +26,28 @@ returns-2 c =
     let a = c .before .before .before .before .args in
     rw (lt-ltb (a .properties) (2 ^ 16) (omega arith), tested (c .before), not-true (c .before .fits2 .result) (c .if2 .taken))
 
-returns-3 : tie.Need-returns-3
+-- the times alone are left
+left : (c : tie.Else2) → let a = c .before .before .before .before .args in
+    entryExcess (a .properties) (a .size) (a .mtime) (a .ctime) ≡ when (not (ltb (a .mtime) (2 ^ 32))) 21 ▹ when (not (ltb (a .ctime) (2 ^ 32))) 21
 unfolding entryExcess
+left c =
+    let a = c .before .before .before .before .args in
+    rw (lt-ltb (a .properties) (2 ^ 16) (omega arith), tested (c .before), not-false (c .before .fits2 .result) (c .if2 .left))
+
+returns-3 : tie.Need-returns-3
 returns-3 c =
-    let fits2-place = c .before .before in
-    let start = fits2-place .before .before .before in
-    let a = start .args in
-    rw (lt-ltb (a .properties) (2 ^ 16) (omega arith), tested (c .before .before), not-false (fits2-place .fits2 .result) (c .before .if2 .left), le-ltb (a .mtime) (2 ^ 32) (omega arith))
+    let a = c .before .before .before .before .before .args in
+    rw (left (c .before), le-ltb (a .mtime) (2 ^ 32) (omega arith))
 
 returns-4 : tie.Need-returns-4
-unfolding entryExcess
 returns-4 c =
-    let before-place = c .before .before in
-    let fits2-place = before-place .before in
-    let start = fits2-place .before .before .before in
-    let a = start .args in
-    rw (lt-ltb (a .properties) (2 ^ 16) (omega arith), tested (before-place .before), not-false (fits2-place .fits2 .result) (before-place .if2 .left), lt-ltb (a .mtime) (2 ^ 32) (omega arith), le-ltb (a .ctime) (2 ^ 32) (omega arith))
+    let a = c .before .before .before .before .before .before .args in
+    rw (left (c .before .before), lt-ltb (a .mtime) (2 ^ 32) (omega arith), le-ltb (a .ctime) (2 ^ 32) (omega arith))
 
 returns-5 : tie.Need-returns-5
-unfolding entryExcess
 returns-5 c =
-    let before-place = c .before .before in
-    let fits2-place = before-place .before in
-    let start = fits2-place .before .before .before in
-    let a = start .args in
-    rw (lt-ltb (a .properties) (2 ^ 16) (omega arith), tested (before-place .before), not-false (fits2-place .fits2 .result) (before-place .if2 .left), lt-ltb (a .mtime) (2 ^ 32) (omega arith), lt-ltb (a .ctime) (2 ^ 32) (omega arith))
+    let a = c .before .before .before .before .before .before .args in
+    rw (left (c .before .before), lt-ltb (a .mtime) (2 ^ 32) (omega arith), lt-ltb (a .ctime) (2 ^ 32) (omega arith))
 
 pub entry-excess-spec : {M : Type 1} → statement M
 entry-excess-spec =

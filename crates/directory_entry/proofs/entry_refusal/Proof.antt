@@ -1,10 +1,13 @@
 -- `directory_entry::entry_refusal` meets its contract: the first refusal stands. Assumes nothing.
 use Prim.Native.Nat.{ℕ, _+_, _^_, _≤_}
 use mathlib.Core.Path.{_≡_, sym, ap, _∙_}
+use mathlib.Core.Bool.{not}
+use mathlib.Core.List.{List}
 use denote.Ref.{now}
 use lib.ListN.{length, drop}
 use lib.Dec.{ltb}
 use borrow.Author.Tests.{lt-ltb, le-ltb, not-true, not-false}
+use Rattle.refusals.specs.Refusals.{_▹_, when}
 use Rattle.refusals.proofs.RefusalLaws.{stays}
 use Rattle.header.specs.Descriptor.{descriptorAt, descriptorRefusal}
 use Rattle.directory_entry.specs.Properties.{sizeOctets, pathAt, propertyRefusal}
@@ -33,18 +36,13 @@ returns-2 c =
     rw (le-ltb (length e) 2 (omega arith)) (p ∙ sym (stays (propertyRefusal (propertiesOf e)) _ (omega arith)))
 
 known : (c : tie.After-size-octets)
-    → (c .size-octets .result ≡ sizeOctets (propertiesOf (now (c .before .before .before .before .before .before .args .e)))) × (c .size-octets .result ≤ 16) × (propertyRefusal (propertiesOf (now (c .before .before .before .before .before .before .args .e))) ≡ 0)
+    → let x = propertiesOf (now (c .before .before .before .before .before .before .args .e)) in
+    (c .size-octets .result ≡ sizeOctets x) × (c .size-octets .result ≤ 16) × (propertyRefusal x ≡ 0)
 known c =
     let read-two-place = c .before .before .before in
-    let start = read-two-place .before .before .before in
-    let k : c .size-octets .result ≡ sizeOctets (propertiesOf (now (start .args .e))) = c .size-octets .ensures ∙ ap (λ (x : ℕ). sizeOctets x) (read-two-place .read-two .ensures) in
-    (k, omega (arith, size-le (propertiesOf (now (start .args .e)))), omega (arith, property (c .before .before)))
-
-add-at : tie.Need-add-at
-add-at c = omega (arith, known c)
-
-descriptor-refusal-requires : tie.Need-descriptor-refusal-requires
-descriptor-refusal-requires c κs = (rw (known c .0) (size-width _), omega (arith, known c))
+    let x = propertiesOf (now (read-two-place .before .before .before .args .e)) in
+    let k : c .size-octets .result ≡ sizeOctets x = c .size-octets .ensures ∙ ap (λ (x : ℕ). sizeOctets x) (read-two-place .read-two .ensures) in
+    (k, omega (arith, size-le x), omega (arith, property (c .before .before)))
 
 judged : (c : tie.After-descriptor-refusal)
     → let e = now (c .before .before .before .before .before .before .before .args .e) in
@@ -54,101 +52,65 @@ judged c = c .descriptor-refusal .ensures ∙ rw (known (c .before) .0)
 returns-3 : tie.Need-returns-3
 unfolding entryRefusal
 returns-3 c =
-    let before-place-7 = c .before .before .before .before .before .before .before in
-    let start = before-place-7 .before in
+    let start = c .before .before .before .before .before .before .before .before in
     let e = now (start .args .e) in
-    let k = known (c .before .before) in
     let j = judged (c .before) in
-    rw (le-ltb (length e) 2 (omega arith), k .2) (j ∙ sym (stays (descriptorRefusal (sizeOctets (propertiesOf e)) 2 e) _ (omega arith)))
+    rw (le-ltb (length e) 2 (omega arith), known (c .before .before) .2) (j ∙ sym (stays (descriptorRefusal (sizeOctets (propertiesOf e)) 2 e) _ (omega arith)))
 
--- the size is all there, and its upper octets are zero
-there : (c : tie.Else3) → let e = now (c .before .before .before .before .before .before .before .before .args .e) in descriptorRefusal (sizeOctets (propertiesOf e)) 2 e ≡ 0
+-- what was given, where the size is all there and its upper octets are zero
+abbrev given : tie.Else3 → tie.Start
+given c = c .before .before .before .before .before .before .before .before
+
+abbrev e : tie.Else3 → List ℕ
+e c = now (given c .args .e)
+
+there : (c : tie.Else3) → descriptorRefusal (sizeOctets (propertiesOf (e c))) 2 (e c) ≡ 0
 there c = omega (arith, judged (c .before))
 
-returns-4 : tie.Need-returns-4
+-- what is left to judge there
+left : (c : tie.Else3) → entryRefusal (given c .args .d) (e c)
+    ≡ when (ltb (length (e c)) (pathAt (propertiesOf (e c)))) 1 ▹ pathRefusal (afterTimes (e c)) ▹ when (not (ltb (sizeOf (e c)) (256 ^ given c .args .d))) 9
 unfolding entryRefusal
-returns-4 c =
-    let before-place = c .before .before in
-    let start = before-place .before .before .before .before .before .before .before in
-    let e = now (start .args .e) in
-    let k = known (before-place .before) in
-    rw (le-ltb (length e) 2 (omega arith), k .2, there (c .before), lt-ltb (length e) (pathAt (propertiesOf e)) (omega arith))
+left c = rw (le-ltb (length (e c)) 2 (omega arith), known (c .before .before) .2, there c)
 
-path : (c : tie.After-path-refusal) → c .path-refusal .result ≡ pathRefusal (afterTimes (now (c .before .before .before .before .before .before .before .before .before .before .before .args .e)))
+returns-4 : tie.Need-returns-4
+returns-4 c = rw (left (c .before), lt-ltb (length (e (c .before))) (pathAt (propertiesOf (e (c .before)))) (omega (arith, known (c .before .before .before))))
+
+path : (c : tie.After-path-refusal) → c .path-refusal .result ≡ pathRefusal (afterTimes (e (c .before .before .before)))
 path c =
-    let before-place = c .before .before .before .before in
-    let start = before-place .before .before .before .before .before .before .before in
-    let e = now (start .args .e) in
-    let p = before-place .before in
-    c .path-refusal .ensures ∙ ap pathRefusal (rest-part e (10 + p .size-octets .result) ∙ ap (λ (n : ℕ). drop (10 + n) e) (known p .0))
+    let p = c .before .before .before .before .before in
+    c .path-refusal .ensures
+    ∙ ap pathRefusal (rest-part (e (c .before .before .before)) (10 + p .size-octets .result) ∙ ap (λ (n : ℕ). drop (10 + n) (e (c .before .before .before))) (known p .0))
 
 returns-5 : tie.Need-returns-5
-unfolding entryRefusal
 returns-5 c =
-    let before-place = c .before .before .before in
-    let before-place-5 = before-place .before .before in
-    let start = before-place-5 .before .before .before .before .before .before .before in
-    let e = now (start .args .e) in
-    let k = known (before-place-5 .before) in
+    let place = c .before .before .before .before in
+    let k = known (place .before .before) in
     let p = path (c .before) in
-    rw (le-ltb (length e) 2 (omega arith), k .2, there (before-place .before), le-ltb (length e) (pathAt (propertiesOf e)) (omega arith))
-    (p ∙ sym (stays (pathRefusal (afterTimes e)) _ (omega arith)))
+    rw (left place, le-ltb (length (e place)) (pathAt (propertiesOf (e place))) (omega arith)) (p ∙ sym (stays (pathRefusal (afterTimes (e place))) _ (omega arith)))
 
 descriptor-requires : tie.Need-descriptor-requires
 descriptor-requires c κs =
-    let before-place = c .before .before .before in
-    let before-place-5 = before-place .before .before in
-    let start = before-place-5 .before .before .before .before .before .before .before in
-    let e = now (start .args .e) in
-    let k = known (before-place-5 .before) in
-    (rw (k .0) (size-width (propertiesOf e)), rw (k .0) (there (before-place .before)))
+    let place = c .before .before .before .before in
+    let k = known (place .before .before) .0 in
+    (rw k (size-width (propertiesOf (e place))), rw k (there place))
 
-size : (c : tie.After-fits2) → ltb (sizeOf (now (c .before .before .before .before .before .before .before .before .before .before .before .before .before .before .args .e))) (256 ^ c .before .before .before .before .before .before .before .before .before .before .before .before .before .before .args .d) ≡ c .fits2 .result
+-- the size alone is left
+size : (c : tie.After-fits2) → let place = c .before .before .before .before .before .before in entryRefusal (given place .args .d) (e place) ≡ when (not (c .fits2 .result)) 9
 size c =
-    let before-place = c .before .before .before .before .before .before .before in
-    let start = before-place .before .before .before .before .before .before .before in
-    let e = now (start .args .e) in
-    let d = start .args .d in
-    sym (c .fits2 .ensures ∙ ap (λ (n : ℕ). ltb n (256 ^ d)) (c .before .descriptor .ensures ∙ ap (λ (n : ℕ). descriptorAt n 2 e) (known (before-place .before) .0)))
-
-passed : (c : tie.After-fits2) → pathRefusal (afterTimes (now (c .before .before .before .before .before .before .before .before .before .before .before .before .before .before .args .e))) ≡ 0
-passed c = omega (arith, path (c .before .before .before))
+    let place = c .before .before .before .before .before .before in
+    let d = given place .args .d in
+    let k = known (place .before .before) in
+    let passed : pathRefusal (afterTimes (e place)) ≡ 0 = omega (arith, path (c .before .before .before)) in
+    let fits : ltb (sizeOf (e place)) (256 ^ d) ≡ c .fits2 .result =
+    sym (c .fits2 .ensures ∙ ap (λ (n : ℕ). ltb n (256 ^ d)) (c .before .descriptor .ensures ∙ ap (λ (n : ℕ). descriptorAt n 2 (e place)) (k .0))) in
+    rw (left place, le-ltb (length (e place)) (pathAt (propertiesOf (e place))) (omega arith), passed, fits)
 
 returns-6 : tie.Need-returns-6
-unfolding entryRefusal
-returns-6 c =
-    let before-place = c .before .before .before .before .before .before in
-    let before-place-8 = before-place .before .before in
-    let start = before-place-8 .before .before .before .before .before .before .before in
-    let e = now (start .args .e) in
-    let k = known (before-place-8 .before) in
-    rw (
-      le-ltb (length e) 2 (omega arith),
-      k .2,
-      there (before-place .before),
-      le-ltb (length e) (pathAt (propertiesOf e)) (omega arith),
-      passed (c .before),
-      size (c .before),
-      not-true (c .before .fits2 .result) (c .if6 .taken),
-    )
+returns-6 c = rw (size (c .before), not-true (c .before .fits2 .result) (c .if6 .taken))
 
 returns-7 : tie.Need-returns-7
-unfolding entryRefusal
-returns-7 c =
-    let before-place = c .before .before .before .before .before .before in
-    let before-place-8 = before-place .before .before in
-    let start = before-place-8 .before .before .before .before .before .before .before in
-    let e = now (start .args .e) in
-    let k = known (before-place-8 .before) in
-    rw (
-      le-ltb (length e) 2 (omega arith),
-      k .2,
-      there (before-place .before),
-      le-ltb (length e) (pathAt (propertiesOf e)) (omega arith),
-      passed (c .before),
-      size (c .before),
-      not-false (c .before .fits2 .result) (c .if6 .left),
-    )
+returns-7 c = rw (size (c .before), not-false (c .before .fits2 .result) (c .if6 .left))
 
 pub entry-refusal-spec : {M : Type 1} → statement M
 entry-refusal-spec =
@@ -159,8 +121,8 @@ entry-refusal-spec =
     (λ c κs. search needs)
     returns-2
     (λ c κs. search needs)
-    add-at
-    descriptor-refusal-requires
+    (λ c. omega (arith, known c))
+    (λ c κs. (rw (known c .0) (size-width _), omega (arith, known c)))
     returns-3
     returns-4
     (λ c. search needs)

@@ -17,9 +17,6 @@ Inv-loop r i₀ i = (i ≤ length r) × (zeroAt r ≡ i + zeroAt (drop i r))
 abbrev μ-loop : tie.MeasureT-loop
 μ-loop r i₀ i = length r - i
 
-loop-holds : tie.Need-loop-holds Inv-loop μ-loop
-loop-holds c = (omega arith, sym (zero-add (zeroAt (now (c .args .r)))))
-
 returns : tie.Need-returns Inv-loop μ-loop
 returns c =
     let l = c .before .before .before .loop in
@@ -41,7 +38,7 @@ zero-at-spec =
     (tie.spec
     Inv-loop
     μ-loop
-    loop-holds
+    (λ c. (omega arith, sym (zero-add (zeroAt (now (c .args .r))))))
     (λ c. omega arith)
     returns
     (λ c. omega arith)

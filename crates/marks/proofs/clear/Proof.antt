@@ -28,12 +28,6 @@ loop-again c =
       zeros-step markOctets (l .i) (l .marks) _ (omega arith) (omega arith) (l .inv .2),
     )
 
-same-length : tie.Need-same-length Inv-loop μ-loop
-same-length c = c .before .loop .inv .0
-
-returns : tie.Need-returns Inv-loop μ-loop
-returns c = let l = c .before .loop in zeros-end markOctets (l .i) (l .marks) _ (omega arith) (l .inv .2)
-
 pub clear-spec : {M : Type 1} → statement M
 clear-spec =
     tie.close
@@ -45,5 +39,5 @@ clear-spec =
     (λ c. omega arith)
     (λ c. omega arith)
     loop-again
-    same-length
-    returns)
+    (λ c. c .before .loop .inv .0)
+    (λ c. let l = c .before .loop in zeros-end markOctets (l .i) (l .marks) _ (omega arith) (l .inv .2)))

@@ -28,20 +28,11 @@ loop-holds c =
     let f = c .first .ensures in
     (refl, omega arith, f .within, f .found, walk-starts _ _ _ f)
 
-same-length : tie.Need-same-length Inv-loop μ-loop
-same-length c = c .before .before .loop .inv .0
-
 returns : tie.Need-returns Inv-loop μ-loop
 returns c =
     let l = c .before .before .loop in
     let i = l .inv in
     walk-breaks _ (l .rows) (l .n) (l .start) (omega arith) (omega arith) (i .3 (omega arith)) (i .4)
-
-first-requires-2 : tie.Need-first-requires-2 Inv-loop μ-loop
-first-requires-2 c κs = (omega arith, omega arith)
-
-first-requires-3 : tie.Need-first-requires-3 Inv-loop μ-loop
-first-requires-3 c κs = (search needs, c .before .before .before .before .before .before .before .before .first2 .ensures .within)
 
 loop-again : tie.Need-loop-again Inv-loop μ-loop
 loop-again c =
@@ -60,12 +51,6 @@ loop-again c =
           (first .put-word .ensures) (second .put-word2 .ensures) g (i .4),
     )
 
-same-length-2 : tie.Need-same-length-2 Inv-loop μ-loop
-same-length-2 c = c .before .loop .inv .0
-
-returns-2 : tie.Need-returns-2 Inv-loop μ-loop
-returns-2 c = let l = c .before .loop in walk-ends _ (l .rows) (l .n) (l .start) (omega arith) (omega arith) (l .inv .4)
-
 pub find-runs-spec : {M : Type 1} → statement M
 find-runs-spec =
     tie.close
@@ -75,15 +60,15 @@ find-runs-spec =
     (λ c κs. search needs)
     loop-holds
     (λ c. search needs)
-    same-length
+    (λ c. c .before .before .loop .inv .0)
     returns
-    first-requires-2
+    (λ c κs. (omega arith, omega arith))
     (λ c κs. search needs)
     (λ c. search needs)
     (λ c κs. search needs)
     (λ c. search needs)
-    first-requires-3
+    (λ c κs. (search needs, c .before .before .before .before .before .before .before .before .first2 .ensures .within))
     (λ c. search needs)
     loop-again
-    same-length-2
-    returns-2)
+    (λ c. c .before .loop .inv .0)
+    (λ c. let l = c .before .loop in walk-ends _ (l .rows) (l .n) (l .start) (omega arith) (omega arith) (l .inv .4)))

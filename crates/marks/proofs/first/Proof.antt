@@ -17,9 +17,6 @@ Inv-loop marks from wanted n₀ n = AllAre (marked marks) (not wanted) from n ×
 abbrev μ-loop : tie.MeasureT-loop
 μ-loop marks from wanted n₀ n = markCount - n
 
-loop-holds : tie.Need-loop-holds Inv-loop μ-loop
-loop-holds c = (all-none _ _ _, omega arith)
-
 returns : tie.Need-returns Inv-loop μ-loop
 returns c =
     let l = c .before .before .before .loop in
@@ -30,15 +27,6 @@ returns c =
 not-wanted : (c : tie.Else1 Inv-loop μ-loop)
     → let l = c .before .before .before in let a = l .before .before .args in marked (now (a .marks)) (l .loop .n) ≡ not (a .wanted)
 not-wanted c = let m = c .before .is-marked in sym (m .ensures) ∙ not-equal (m .result) _ (c .if1 .left)
-
-skip-octets-requires : tie.Need-skip-octets-requires Inv-loop μ-loop
-skip-octets-requires c κs = (omega arith, omega arith)
-
-mul-n : tie.Need-mul-n Inv-loop μ-loop
-mul-n c = omega (arith, c .skip-octets .ensures .1)
-
-loop-less : tie.Need-loop-less Inv-loop μ-loop
-loop-less c = omega (arith, c .skip-octets .ensures .0 .rise, c .skip-octets .ensures .1)
 
 loop-again : tie.Need-loop-again Inv-loop μ-loop
 loop-again c =
@@ -56,23 +44,20 @@ loop-again-2 c =
     let a = l .before .before .args in
     (mark-passed (now (a .marks)) (a .wanted) (a .from) (l .loop .n) (not-wanted e) (l .loop .inv .0), omega arith)
 
-returns-2 : tie.Need-returns-2 Inv-loop μ-loop
-returns-2 c = let l = c .before .loop in record { passed = l .inv .0; within = l .inv .1; found = λ h. absurd (omega arith) }
-
 pub first-spec : {M : Type 1} → statement M
 first-spec =
     tie.close
     (tie.spec
     Inv-loop
     μ-loop
-    loop-holds
+    (λ c. (all-none _ _ _, omega arith))
     (λ c κs. omega arith)
     returns
     (λ c. omega arith)
-    skip-octets-requires
-    mul-n
-    loop-less
+    (λ c κs. (omega arith, omega arith))
+    (λ c. omega (arith, c .skip-octets .ensures .1))
+    (λ c. omega (arith, c .skip-octets .ensures .0 .rise, c .skip-octets .ensures .1))
     loop-again
     (λ c. omega arith)
     loop-again-2
-    returns-2)
+    (λ c. let l = c .before .loop in record { passed = l .inv .0; within = l .inv .1; found = λ h. absurd (omega arith) }))

@@ -7,8 +7,5 @@ use Rattle.marks.proofs.is_marked.Tie as tie
 use Rattle.marks.proofs.is_marked.Reads as reads
 use Rattle.marks.proofs.is_marked.Lts as lts
 
-returns : tie.Need-returns
-returns c = mark-read _ _ _ (c .bit-of .ensures)
-
 pub is-marked-spec : {M : Type 1} → statement M
-is-marked-spec = tie.close (tie.spec (λ c. search needs) (λ c κs. search needs) returns)
+is-marked-spec = tie.close (tie.spec (λ c. search needs) (λ c κs. search needs) (λ c. mark-read _ _ _ (c .bit-of .ensures)))

@@ -15,20 +15,11 @@ Inv-loop marks₀ from to n₀ marks n = (length marks ≡ length marks₀) × (
 abbrev μ-loop : tie.MeasureT-loop
 μ-loop marks₀ from to n₀ marks n = to - n
 
-loop-holds : tie.Need-loop-holds Inv-loop μ-loop
-loop-holds c = (refl, omega arith, refl)
-
 loop-again : tie.Need-loop-again Inv-loop μ-loop
 loop-again c =
     let s = c .before .before in
     let l = s .before .before .before .loop in
     (s .set-mark .kept .0 ∙ l .inv .0, omega arith, marks-step (l .n) _ (l .marks) _ _ (omega arith) (s .set-mark .ensures) (l .inv .2))
-
-same-length : tie.Need-same-length Inv-loop μ-loop
-same-length c = c .before .loop .inv .0
-
-returns : tie.Need-returns Inv-loop μ-loop
-returns c = let l = c .before .loop in marks-end (l .n) _ (l .marks) _ (omega arith) (l .inv .2)
 
 pub set-each-spec : {M : Type 1} → statement M
 set-each-spec =
@@ -36,10 +27,10 @@ set-each-spec =
     (tie.spec
     Inv-loop
     μ-loop
-    loop-holds
+    (λ c. (refl, omega arith, refl))
     (λ c κs. omega arith)
     (λ c. omega arith)
     (λ c. omega arith)
     loop-again
-    same-length
-    returns)
+    (λ c. c .before .loop .inv .0)
+    (λ c. let l = c .before .loop in marks-end (l .n) _ (l .marks) _ (omega arith) (l .inv .2)))

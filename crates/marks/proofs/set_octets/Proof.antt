@@ -16,9 +16,6 @@ Inv-loop marks₀ from to k₀ marks k =
 abbrev μ-loop : tie.MeasureT-loop
 μ-loop marks₀ from to k₀ marks k = to - k
 
-loop-holds : tie.Need-loop-holds Inv-loop μ-loop
-loop-holds c = (refl, omega arith, refl)
-
 loop-again : tie.Need-loop-again Inv-loop μ-loop
 loop-again c =
     let l = c .before .before .loop in (
@@ -27,23 +24,17 @@ loop-again c =
       octets-step (l .k) _ (l .marks) _ (omega arith) (omega arith) (λ i. c .slice-known .given i .fits) (l .inv .2),
     )
 
-same-length : tie.Need-same-length Inv-loop μ-loop
-same-length c = c .before .loop .inv .0
-
-returns : tie.Need-returns Inv-loop μ-loop
-returns c = let l = c .before .loop in marks-end (l .k * 8) _ (l .marks) _ (omega arith) (l .inv .2)
-
 pub set-octets-spec : {M : Type 1} → statement M
 set-octets-spec =
     tie.close
     (tie.spec
     Inv-loop
     μ-loop
-    loop-holds
+    (λ c. (refl, omega arith, refl))
     (λ c. omega arith)
     (λ c. omega arith)
     (λ c. omega arith)
     (λ c. omega arith)
     loop-again
-    same-length
-    returns)
+    (λ c. c .before .loop .inv .0)
+    (λ c. let l = c .before .loop in marks-end (l .k * 8) _ (l .marks) _ (omega arith) (l .inv .2)))

@@ -19,25 +19,10 @@ Inv-loop marks from wanted blank k₀ k = AllAre (marked marks) (not wanted) (fr
 abbrev μ-loop : tie.MeasureT-loop
 μ-loop marks from wanted blank k₀ k = markOctets - k
 
-loop-holds : tie.Need-loop-holds Inv-loop μ-loop
-loop-holds c = (all-none _ _ _, omega arith)
-
-returns : tie.Need-returns Inv-loop μ-loop
-returns c = c .before .before .before .loop .inv
-
 -- the octet is blank
 is-blank : (c : tie.Else1 Inv-loop μ-loop)
     → let l = c .before .before .before in let a = l .before .before .before .args in getD (now (a .marks)) (l .loop .k) 0 ≡ blankOctet (a .wanted)
 is-blank c = omega (arith, c .before .before .before .before .blank-octet .ensures)
-
-skip-words-requires : tie.Need-skip-words-requires Inv-loop μ-loop
-skip-words-requires c κs = (omega arith, omega arith)
-
-mul-k : tie.Need-mul-k Inv-loop μ-loop
-mul-k c = omega (arith, c .skip-words .ensures .1)
-
-loop-less : tie.Need-loop-less Inv-loop μ-loop
-loop-less c = omega (arith, c .skip-words .ensures .0 .rise, c .skip-words .ensures .1)
 
 loop-again : tie.Need-loop-again Inv-loop μ-loop
 loop-again c =
@@ -55,9 +40,6 @@ loop-again-2 c =
     let a = l .before .before .before .args in
     (octets-passed (now (a .marks)) (a .wanted) (a .from) (l .loop .k) (is-blank e) (l .loop .inv .0), omega arith)
 
-returns-2 : tie.Need-returns-2 Inv-loop μ-loop
-returns-2 c = c .before .loop .inv
-
 pub skip-octets-spec : {M : Type 1} → statement M
 skip-octets-spec =
     tie.close
@@ -65,14 +47,14 @@ skip-octets-spec =
     Inv-loop
     μ-loop
     (λ c κs. search needs)
-    loop-holds
+    (λ c. (all-none _ _ _, omega arith))
     (λ c. omega arith)
-    returns
+    (λ c. c .before .before .before .loop .inv)
     (λ c. omega arith)
-    skip-words-requires
-    mul-k
-    loop-less
+    (λ c κs. (omega arith, omega arith))
+    (λ c. omega (arith, c .skip-words .ensures .1))
+    (λ c. omega (arith, c .skip-words .ensures .0 .rise, c .skip-words .ensures .1))
     loop-again
     (λ c. omega arith)
     loop-again-2
-    returns-2)
+    (λ c. c .before .loop .inv))

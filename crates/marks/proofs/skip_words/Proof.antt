@@ -17,12 +17,6 @@ Inv-loop marks from wanted blank k₀ k = AllAre (marked marks) (not wanted) (fr
 abbrev μ-loop : tie.MeasureT-loop
 μ-loop marks from wanted blank k₀ k = markCount - k
 
-loop-holds : tie.Need-loop-holds Inv-loop μ-loop
-loop-holds c = (all-none _ _ _, omega arith)
-
-returns : tie.Need-returns Inv-loop μ-loop
-returns c = c .before .before .before .loop .inv
-
 loop-again : tie.Need-loop-again Inv-loop μ-loop
 loop-again c =
     let l = c .before .before .before in
@@ -33,9 +27,6 @@ loop-again c =
       omega arith,
     )
 
-returns-2 : tie.Need-returns-2 Inv-loop μ-loop
-returns-2 c = c .before .loop .inv
-
 pub skip-words-spec : {M : Type 1} → statement M
 skip-words-spec =
     tie.close
@@ -43,10 +34,10 @@ skip-words-spec =
     Inv-loop
     μ-loop
     (λ c κs. search needs)
-    loop-holds
+    (λ c. (all-none _ _ _, omega arith))
     (λ c κs. omega arith)
-    returns
+    (λ c. c .before .before .before .loop .inv)
     (λ c. omega arith)
     (λ c. omega arith)
     loop-again
-    returns-2)
+    (λ c. c .before .loop .inv))

@@ -17,9 +17,6 @@ Inv-loop buf₀ from to n i₀ buf i = (i ≤ n) × (length buf ≡ length buf�
 abbrev μ-loop : tie.MeasureT-loop
 μ-loop buf₀ from to n i₀ buf i = n - i
 
-loop-holds : tie.Need-loop-holds Inv-loop μ-loop
-loop-holds c = let a = c .args in (omega arith, refl, paste-zero (now (a .buf)) (a .to) (drop (a .from) (now (a .buf))))
-
 loop-again : tie.Need-loop-again Inv-loop μ-loop
 loop-again c =
     let a = c .before .before .before .args in
@@ -28,9 +25,6 @@ loop-again c =
       length-set (l .buf) _ _ ∙ l .inv .1,
       rw (l .inv .2, add-one) (down-step (now (a .buf)) (a .from) (a .to) (a .n) (l .i) (omega arith) (omega arith) (omega arith)),
     )
-
-same-length : tie.Need-same-length Inv-loop μ-loop
-same-length c = c .before .loop .inv .1
 
 returns : tie.Need-returns Inv-loop μ-loop
 returns c =
@@ -44,7 +38,7 @@ move-down-spec =
     (tie.spec
     Inv-loop
     μ-loop
-    loop-holds
+    (λ c. let a = c .args in (omega arith, refl, paste-zero (now (a .buf)) (a .to) (drop (a .from) (now (a .buf)))))
     (λ c. omega arith)
     (λ c. omega arith)
     (λ c. omega arith)
@@ -52,5 +46,5 @@ move-down-spec =
     (λ c. omega arith)
     (λ c. omega arith)
     loop-again
-    same-length
+    (λ c. c .before .loop .inv .1)
     returns)

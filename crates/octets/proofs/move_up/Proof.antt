@@ -15,9 +15,6 @@ Inv-loop buf₀ from to n i₀ buf i = (i ≤ n) × (length buf ≡ length buf�
 abbrev μ-loop : tie.MeasureT-loop
 μ-loop buf₀ from to n i₀ buf i = i
 
-loop-holds : tie.Need-loop-holds Inv-loop μ-loop
-loop-holds c = let a = c .args in (omega arith, refl, up-start (now (a .buf)) (a .from) (a .to) (a .n) (omega arith))
-
 loop-again : tie.Need-loop-again Inv-loop μ-loop
 loop-again c =
     let a = c .before .before .before .args in
@@ -27,9 +24,6 @@ loop-again c =
       length-set (l .buf) _ _ ∙ l .inv .1,
       rw ((rw e at (l .inv .2))) (up-step (now (a .buf)) (a .from) (a .to) (a .n) (l .i - 1) (omega arith) (omega arith) (omega arith)),
     )
-
-same-length : tie.Need-same-length Inv-loop μ-loop
-same-length c = c .before .loop .inv .1
 
 returns : tie.Need-returns Inv-loop μ-loop
 returns c =
@@ -43,7 +37,7 @@ move-up-spec =
     (tie.spec
     Inv-loop
     μ-loop
-    loop-holds
+    (λ c. let a = c .args in (omega arith, refl, up-start (now (a .buf)) (a .from) (a .to) (a .n) (omega arith)))
     (λ c. omega arith)
     (λ c. omega arith)
     (λ c. omega arith)
@@ -51,5 +45,5 @@ move-up-spec =
     (λ c. omega arith)
     (λ c. omega arith)
     loop-again
-    same-length
+    (λ c. c .before .loop .inv .1)
     returns)

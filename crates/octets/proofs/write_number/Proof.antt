@@ -35,9 +35,6 @@ loop-again c =
       sym (write-step (l .out) (a .at) (l .k) (l .w) (omega arith) (omega arith)) ∙ l .inv .3,
     )
 
-same-length : tie.Need-same-length Inv-loop μ-loop
-same-length c = c .before .loop .inv .1
-
 returns : tie.Need-returns Inv-loop μ-loop
 unfolding put
 returns c =
@@ -59,5 +56,5 @@ write-number-spec =
     (λ c. omega arith)
     (λ c. omega arith)
     loop-again
-    same-length
+    (λ c. c .before .loop .inv .1)
     returns)

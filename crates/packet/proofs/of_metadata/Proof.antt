@@ -8,8 +8,5 @@ use Rattle.packet.proofs.of_metadata.Tie as tie
 returns : tie.Need-returns
 returns c = ap ofMetadata (sym (c .before .a .given .1))
 
-returns-2 : tie.Need-returns-2
-returns-2 c = ap ofMetadata (sym (c .before .a2 .given .1))
-
 pub of-metadata-spec : {M : Type 1} → statement M
-of-metadata-spec = tie.close (tie.spec (λ c. search needs) (λ c. search needs) returns returns-2)
+of-metadata-spec = tie.close (tie.spec (λ c. search needs) (λ c. search needs) returns (λ c. ap ofMetadata (sym (c .before .a2 .given .1))))

@@ -12,9 +12,6 @@ use native.Mathlib.Omega.{arith}
 use Rattle.packet_beacon.proofs.beacon_fields.Statement.{statement}
 use Rattle.packet_beacon.proofs.beacon_fields.Tie as tie
 
-word-requires : tie.Need-word-requires
-word-requires c κs = beacon-fine (now (c .before .args .p)) (c .before .pre) .head .long
-
 sub-t12 : tie.Need-sub-t12
 sub-t12 c =
     let endpoint-place = c .before .before .before .before .before in
@@ -54,7 +51,7 @@ pub beacon-fields-spec : {M : Type 1} → statement M
 beacon-fields-spec =
     tie.close
     (tie.spec
-    word-requires
+    (λ c κs. beacon-fine (now (c .before .args .p)) (c .before .pre) .head .long)
     (λ c κs. search needs)
     (λ c κs. search needs)
     (λ c κs. search needs)

@@ -17,12 +17,6 @@ returns : tie.Need-returns
 unfolding beaconRefusal
 returns c = let s = now (c .before .before .before .args .p) in c .before .type-refusal .ensures ∙ sym (stays (typeRefusal 0 s) _ (omega arith))
 
-word-requires : tie.Need-word-requires
-word-requires c κs = type-fine 0 (now (c .before .before .before .args .p)) (omega arith) .long
-
-free-refusal-requires : tie.Need-free-refusal-requires
-free-refusal-requires c κs = type-fine 0 (now (c .before .before .before .before .before .args .p)) (omega arith) .long
-
 returns-2 : tie.Need-returns-2
 unfolding beaconRefusal
 returns-2 c =
@@ -41,8 +35,8 @@ beacon-refusal-spec =
     (tie.spec
     (λ c κs. search needs)
     returns
-    word-requires
+    (λ c κs. type-fine 0 (now (c .before .before .before .args .p)) (omega arith) .long)
     (λ c κs. search needs)
-    free-refusal-requires
+    (λ c κs. type-fine 0 (now (c .before .before .before .before .before .args .p)) (omega arith) .long)
     (λ c κs. search needs)
     returns-2)

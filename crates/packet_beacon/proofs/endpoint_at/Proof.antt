@@ -5,8 +5,5 @@ use native.Mathlib.Omega.{arith}
 use Rattle.packet_beacon.proofs.endpoint_at.Statement.{statement}
 use Rattle.packet_beacon.proofs.endpoint_at.Tie as tie
 
-add-result : tie.Need-add-result
-add-result c = omega (arith, free-le (c .before .args .w))
-
 pub endpoint-at-spec : {M : Type 1} → statement M
-endpoint-at-spec = tie.close (tie.spec (λ c κs. search needs) add-result (λ c. search needs))
+endpoint-at-spec = tie.close (tie.spec (λ c κs. search needs) (λ c. omega (arith, free-le (c .before .args .w))) (λ c. search needs))

@@ -1,9 +1,10 @@
 -- `packet_data::data_excess` meets its contract: a return for each field. Assumes nothing.
 use mathlib.Core.Path.{_≡_, sym, ap, _∙_}
-use mathlib.Core.Bool.{true, false}
 use Prim.Native.Nat.{ℕ, _^_}
+use mathlib.Core.Bool.{not}
 use lib.Dec.{ltb}
 use borrow.Author.Tests.{lt-ltb, le-ltb, not-true, not-false}
+use Rattle.refusals.specs.Refusals.{when}
 use Rattle.header.specs.FirstWord.{descriptorOctets, timestampOctets}
 use Rattle.packet_data.specs.WriteData.{dataExcess}
 use borrow.Author.Needs.{needs}
@@ -29,41 +30,26 @@ returns-3 c =
       lt-ltb (timestampOctets (a .flags)) (a .timestamp) (omega arith),
     )
 
--- whether the offset fits, as the definition has it
-offset-fits : (c : tie.After-fits2) → c .fits2 .result ≡ ltb (c .before .before .before .before .before .before .args .offset) (256 ^ descriptorOctets (c .before .before .before .before .before .before .args .flags))
-offset-fits c =
-    let start = c .before .before .before .before .before .before in
-    c .fits2 .ensures ∙ ap (λ (d : ℕ). ltb (start .args .offset) (256 ^ d)) (c .before .descriptor-octets .ensures)
+-- the offset alone is left
+left : (c : tie.After-fits2) → let a = c .before .before .before .before .before .before .args in dataExcess (a .flags) (a .id) (a .timestamp) (a .offset) ≡ when (not (c .fits2 .result)) 21
+unfolding dataExcess
+left c =
+    let if2-place = c .before .before .before .before in
+    let a = if2-place .before .before .args in
+    let fits : ltb (a .offset) (256 ^ descriptorOctets (a .flags)) ≡ c .fits2 .result =
+    sym (c .fits2 .ensures ∙ ap (λ (d : ℕ). ltb (a .offset) (256 ^ d)) (c .before .descriptor-octets .ensures)) in
+    rw (
+      lt-ltb (a .flags) (2 ^ 24) (if2-place .before .if1 .left),
+      lt-ltb (a .id) (2 ^ 32) (if2-place .if2 .left),
+      le-ltb (timestampOctets (a .flags)) (a .timestamp) (omega arith),
+      fits,
+    )
 
 returns-4 : tie.Need-returns-4
-unfolding dataExcess
-returns-4 c =
-    let if2-place = c .before .before .before .before .before in
-    let if1-place = if2-place .before in
-    let start = if1-place .before in
-    let a = start .args in
-    let v : ltb (a .offset) (256 ^ descriptorOctets (a .flags)) ≡ false = sym (offset-fits (c .before)) ∙ not-true _ (c .if4 .taken) in
-    rw (
-      lt-ltb (a .flags) (2 ^ 24) (if1-place .if1 .left),
-      lt-ltb (a .id) (2 ^ 32) (if2-place .if2 .left),
-      le-ltb (timestampOctets (a .flags)) (a .timestamp) (omega arith),
-      v,
-    )
+returns-4 c = rw (left (c .before), not-true (c .before .fits2 .result) (c .if4 .taken))
 
 returns-5 : tie.Need-returns-5
-unfolding dataExcess
-returns-5 c =
-    let if2-place = c .before .before .before .before .before in
-    let if1-place = if2-place .before in
-    let start = if1-place .before in
-    let a = start .args in
-    let v : ltb (a .offset) (256 ^ descriptorOctets (a .flags)) ≡ true = sym (offset-fits (c .before)) ∙ not-false _ (c .if4 .left) in
-    rw (
-      lt-ltb (a .flags) (2 ^ 24) (if1-place .if1 .left),
-      lt-ltb (a .id) (2 ^ 32) (if2-place .if2 .left),
-      le-ltb (timestampOctets (a .flags)) (a .timestamp) (omega arith),
-      v,
-    )
+returns-5 c = rw (left (c .before), not-false (c .before .fits2 .result) (c .if4 .left))
 
 pub data-excess-spec : {M : Type 1} → statement M
 data-excess-spec =

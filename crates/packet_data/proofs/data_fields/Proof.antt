@@ -12,9 +12,6 @@ use native.Mathlib.Omega.{arith}
 use Rattle.packet_data.proofs.data_fields.Statement.{statement}
 use Rattle.packet_data.proofs.data_fields.Tie as tie
 
-word-requires : tie.Need-word-requires
-word-requires c κs = omega (arith, data-fine (now (c .before .args .p)) (c .before .pre) .head .long)
-
 id-requires : tie.Need-id-requires
 id-requires c κs = data-fine (now (c .before .before .before .before .before .args .p)) (c .before .before .before .before .before .pre) .head .long
 
@@ -64,7 +61,7 @@ pub data-fields-spec : {M : Type 1} → statement M
 data-fields-spec =
     tie.close
     (tie.spec
-    word-requires
+    (λ c κs. omega (arith, data-fine (now (c .before .args .p)) (c .before .pre) .head .long))
     (λ c κs. search needs)
     (λ c κs. search needs)
     (λ c κs. search needs)

@@ -3,10 +3,12 @@
 use mathlib.Core.Path.{_≡_, sym, ap, _∙_}
 use denote.Ref.{now}
 use lib.ListN.{length}
+use lib.Dec.{eqb}
 use borrow.Author.Tests.{eq-eqb, ne-eqb}
 use Rattle.header.specs.FirstWord.{descriptorOctets}
 use Rattle.header.specs.Start.{wordOf, typeRefusal, fileRefusal}
 use Rattle.header.specs.Descriptor.{descriptorRefusal}
+use Rattle.refusals.specs.Refusals.{when}
 use Rattle.refusals.proofs.RefusalLaws.{stays}
 use Rattle.header.proofs.StartLaws.{type-fine}
 use Rattle.header.proofs.FirstWordLaws.{octets-width, octets-le}
@@ -19,9 +21,6 @@ use Rattle.packet_data.proofs.data_refusal.Tie as tie
 returns : tie.Need-returns
 unfolding dataRefusal
 returns c = let s = now (c .before .before .before .args .p) in c .before .type-refusal .ensures ∙ sym (stays (typeRefusal 3 s) _ (omega arith))
-
-word-requires : tie.Need-word-requires
-word-requires c κs = omega (arith, type-fine 3 (now (c .before .before .before .args .p)) (omega arith) .long)
 
 returns-2 : tie.Need-returns-2
 unfolding dataRefusal
@@ -69,23 +68,24 @@ returns-3 c =
     let w = wordOf s in
     rw (k .0, k .1) (k .2 ∙ sym (stays (descriptorRefusal (descriptorOctets w) (offsetAt w) s) _ (omega arith)))
 
-returns-4 : tie.Need-returns-4
+-- the payload alone is left
+left : (c : tie.Else3) → let s = now (c .before .before .before .before .before .before .before .before .before .before .before .args .p) in dataRefusal s ≡ when (eqb (length s) (payloadAt (wordOf s))) 10
 unfolding dataRefusal
-returns-4 c =
-    let start = c .before .before .before .before .before .before .before .before .before .before .before .before in
-    let k = known (c .before .before) in
-    let s = now (start .args .p) in
+left c =
+    let s = now (c .before .before .before .before .before .before .before .before .before .before .before .args .p) in
+    let k = known (c .before) in
     let z : descriptorRefusal (descriptorOctets (wordOf s)) (offsetAt (wordOf s)) s ≡ 0 = omega arith in
-    rw (k .0, k .1, z, eq-eqb (length s) (payloadAt (wordOf s)) (omega arith))
+    rw (k .0, k .1, z)
+
+returns-4 : tie.Need-returns-4
+returns-4 c =
+    let s = now (c .before .before .before .before .before .before .before .before .before .before .before .before .args .p) in
+    rw (left (c .before), eq-eqb (length s) (payloadAt (wordOf s)) (omega (arith, known (c .before .before) .3)))
 
 returns-5 : tie.Need-returns-5
-unfolding dataRefusal
 returns-5 c =
-    let start = c .before .before .before .before .before .before .before .before .before .before .before .before in
-    let k = known (c .before .before) in
-    let s = now (start .args .p) in
-    let z : descriptorRefusal (descriptorOctets (wordOf s)) (offsetAt (wordOf s)) s ≡ 0 = omega arith in
-    rw (k .0, k .1, z, ne-eqb (length s) (payloadAt (wordOf s)) (omega arith))
+    let s = now (c .before .before .before .before .before .before .before .before .before .before .before .before .args .p) in
+    rw (left (c .before), ne-eqb (length s) (payloadAt (wordOf s)) (omega (arith, known (c .before .before) .3)))
 
 pub data-refusal-spec : {M : Type 1} → statement M
 data-refusal-spec =
@@ -93,7 +93,7 @@ data-refusal-spec =
     (tie.spec
     (λ c κs. search needs)
     returns
-    word-requires
+    (λ c κs. omega (arith, type-fine 3 (now (c .before .before .before .args .p)) (omega arith) .long))
     (λ c κs. search needs)
     returns-2
     (λ c κs. search needs)

@@ -17,9 +17,6 @@ returns : tie.Need-returns
 unfolding payloadOf
 returns c = let s = now (c .before .before .before .before .args .p) in part-refused (dataRefusal s) s (omega arith)
 
-word-requires : tie.Need-word-requires
-word-requires c κs = omega (arith, data-fine (now (c .before .before .before .args .p)) (omega arith) .head .long)
-
 starts : (c : tie.After-payload-at)
     → let s = now (c .before .before .before .before .before .args .p) in
     (dataRefusal s ≡ 0) × (c .payload-at .result ≡ payloadAt (wordOf s)) × (payloadAt (wordOf s) ≤ length s)
@@ -28,12 +25,6 @@ starts c =
     let s = now (start .args .p) in
     let z : dataRefusal s ≡ 0 = omega arith in
     (z, c .payload-at .ensures ∙ ap payloadAt (c .before .word .ensures), omega (arith, data-fine s z .more))
-
-sub-result : tie.Need-sub-result
-sub-result c = omega (arith, starts c)
-
-part-result-start : tie.Need-part-result-start
-part-result-start c = omega (arith, starts c)
 
 returns-2 : tie.Need-returns-2
 unfolding payloadOf
@@ -51,9 +42,9 @@ payload-spec =
     (λ c κs. search needs)
     (λ c. search needs)
     returns
-    word-requires
+    (λ c κs. omega (arith, data-fine (now (c .before .before .before .args .p)) (omega arith) .head .long))
     (λ c κs. search needs)
-    sub-result
-    part-result-start
+    (λ c. omega (arith, starts c))
+    (λ c. omega (arith, starts c))
     (λ c. search needs)
     returns-2)

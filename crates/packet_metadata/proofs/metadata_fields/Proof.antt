@@ -16,24 +16,16 @@ use native.Mathlib.Omega.{arith}
 use Rattle.packet_metadata.proofs.metadata_fields.Statement.{statement}
 use Rattle.packet_metadata.proofs.metadata_fields.Tie as tie
 
-word-requires : tie.Need-word-requires
-word-requires c κs = omega (arith, metadata-fine (now (c .before .args .p)) (c .before .pre) .start .long)
-
 -- the octets of descriptors and checksum
 known : (c : tie.After-checksum-octets)
-    → (c .before .descriptor-octets .result ≡ descriptorOctets (wordOf (now (c .before .before .before .before .before .args .p)))) × (c .checksum-octets .result ≡ checksumOctets (wordOf (now (c .before .before .before .before .before .args .p)))) × (8 + c .checksum-octets .result ≤ length (now (c .before .before .before .before .before .args .p)))
+    → let s = now (c .before .before .before .before .before .args .p) in
+    (c .before .descriptor-octets .result ≡ descriptorOctets (wordOf s)) × (c .checksum-octets .result ≡ checksumOctets (wordOf s)) × (8 + c .checksum-octets .result ≤ length s)
 known c =
     let word-place = c .before .before .before in
     let start = word-place .before .before in
     let w = word-place .word .ensures in
     let k : c .checksum-octets .result ≡ checksumOctets (wordOf (now (start .args .p))) = c .checksum-octets .ensures ∙ ap (λ (x : ℕ). checksumOctets x) w in
     (c .before .descriptor-octets .ensures ∙ ap (λ (x : ℕ). descriptorOctets x) w, k, omega (arith, metadata-fine (now (start .args .p)) (start .pre) .room))
-
-sub-entry-fields : tie.Need-sub-entry-fields
-sub-entry-fields c = omega (arith, known c)
-
-part-entry-fields-start : tie.Need-part-entry-fields-start
-part-entry-fields-start c = omega (arith, known c)
 
 entry-fields-requires : tie.Need-entry-fields-requires
 entry-fields-requires c κs =
@@ -42,10 +34,8 @@ entry-fields-requires c κs =
     let k = known (c .before) in
     (rw (rest-part s (8 + c .before .checksum-octets .result), k .0, k .1) (metadata-fine s (start .pre) .entry), omega arith)
 
-id-requires : tie.Need-id-requires
-id-requires c κs = metadata-fine (now (c .before .before .before .before .before .before .before .args .p)) (c .before .before .before .before .before .before .before .pre) .start .long
-
-entry : (c : tie.After-entry-fields) → c .entry-fields .result ≡ entryOf (entryAt (wordOf (now (c .before .before .before .before .before .before .before .args .p)))) (drop (entryAt (wordOf (now (c .before .before .before .before .before .before .before .args .p)))) (now (c .before .before .before .before .before .before .before .args .p)))
+entry : (c : tie.After-entry-fields)
+    → let s = now (c .before .before .before .before .before .before .before .args .p) in c .entry-fields .result ≡ entryOf (entryAt (wordOf s)) (drop (entryAt (wordOf s)) s)
 entry c =
     let checksum-octets-place = c .before .before in
     let start = checksum-octets-place .before .before .before .before .before in
@@ -57,11 +47,10 @@ entry c =
 returns : tie.Need-returns
 unfolding metadataOf
 returns c =
-    let before-place = c .before .before in
-    let split-place = before-place .before .before .before in
+    let split-place = c .before .before .before .before .before in
     let word-place = split-place .before in
     let start = word-place .before .before in
-    let k = known (before-place .before) in
+    let k = known (c .before .before .before) in
     let f : split-place .split .result .flags ≡ flagsOf (wordOf (now (start .args .p))) = split-place .split .ensures .flags-is ∙ ap (λ (x : ℕ). flagsOf x) (word-place .word .ensures) in
     simp (f, c .id .ensures, entry (c .before), k .0, k .1)
 
@@ -69,14 +58,14 @@ pub metadata-fields-spec : {M : Type 1} → statement M
 metadata-fields-spec =
     tie.close
     (tie.spec
-    word-requires
+    (λ c κs. omega (arith, metadata-fine (now (c .before .args .p)) (c .before .pre) .start .long))
     (λ c κs. search needs)
     (λ c κs. search needs)
     (λ c κs. search needs)
     (λ c. search needs)
-    sub-entry-fields
-    part-entry-fields-start
+    (λ c. omega (arith, known c))
+    (λ c. omega (arith, known c))
     (λ c. search needs)
     entry-fields-requires
-    id-requires
+    (λ c κs. let start = c .before .before .before .before .before .before .before in metadata-fine (now (start .args .p)) (start .pre) .start .long)
     returns)

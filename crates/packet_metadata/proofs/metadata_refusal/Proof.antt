@@ -20,9 +20,6 @@ returns : tie.Need-returns
 unfolding metadataRefusal
 returns c = c .before .type-refusal .ensures ∙ sym (stays (typeRefusal 2 (now (c .before .before .before .args .p))) _ (omega arith))
 
-word-requires : tie.Need-word-requires
-word-requires c κs = omega (arith, type-fine 2 (now (c .before .before .before .args .p)) (omega arith) .long)
-
 -- the refusals of the word, both at hand before the first is given
 word : (c : tie.After-pair-refusal)
     → let s = now (c .before .before .before .before .before .before .args .p) in
@@ -50,12 +47,11 @@ returns-3 c =
     rw (k .0, f) (k .2 ∙ sym (stays (pairRefusal (wordOf s)) _ (omega arith)))
 
 known : (c : tie.After-checksum-octets)
-    → (typeRefusal 2 (now (c .before .before .before .before .before .before .before .before .before .args .p)) ≡ 0) × (fileRefusal (wordOf (now (c .before .before .before .before .before .before .before .before .before .args .p))) ≡ 0) × (pairRefusal (wordOf (now (c .before .before .before .before .before .before .before .before .before .args .p))) ≡ 0)
-    × (c .checksum-octets .result ≡ checksumOctets (wordOf (now (c .before .before .before .before .before .before .before .before .before .args .p))))
+    → let s = now (c .before .before .before .before .before .before .before .before .before .args .p) in
+    (typeRefusal 2 s ≡ 0) × (fileRefusal (wordOf s) ≡ 0) × (pairRefusal (wordOf s) ≡ 0) × (c .checksum-octets .result ≡ checksumOctets (wordOf s))
 known c =
-    let before-place = c .before .before in
-    let word-place = before-place .before .before .before in
-    let k = word (before-place .before) in
+    let word-place = c .before .before .before .before .before in
+    let k = word (c .before .before .before) in
     (k .0, omega arith, omega arith, c .checksum-octets .ensures ∙ ap (λ (x : ℕ). checksumOctets x) (word-place .word .ensures))
 
 returns-4 : tie.Need-returns-4
@@ -69,12 +65,11 @@ returns-4 c =
 returns-5 : tie.Need-returns-5
 unfolding metadataRefusal
 returns-5 c =
-    let before-place = c .before .before .before in
-    let checksum-octets-place = before-place .before in
+    let checksum-octets-place = c .before .before .before .before in
     let word-place = checksum-octets-place .before .before .before .before .before in
     let start = word-place .before .before .before .before in
     let s = now (start .args .p) in
-    let k = known (before-place .before) in
+    let k = known checksum-octets-place in
     let n = checksum-octets-place .checksum-octets .result in
     rw (k .0, k .1, k .2, le-ltb (length s) (entryAt (wordOf s)) (omega arith))
     (c .entry-refusal .ensures
@@ -87,7 +82,7 @@ metadata-refusal-spec =
     (tie.spec
     (λ c κs. search needs)
     returns
-    word-requires
+    (λ c κs. omega (arith, type-fine 2 (now (c .before .before .before .args .p)) (omega arith) .long))
     (λ c κs. search needs)
     (λ c κs. search needs)
     returns-2

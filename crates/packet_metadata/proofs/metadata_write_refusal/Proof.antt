@@ -38,10 +38,11 @@ returns-3 c =
 
 -- what comes before the entry is none, and what the entry's refusal is
 known : (c : tie.After-entry-write-refusal)
-    → (metadataExcess (c .before .before .before .before .before .before .before .before .before .before .args .flags) (c .before .before .before .before .before .before .before .before .before .before .args .id) (length (now (c .before .before .before .before .before .before .before .before .before .before .args .checksum))) ≡ 0)
-    × (entryExcess (c .before .before .before .before .before .before .before .before .before .before .args .properties) (c .before .before .before .before .before .before .before .before .before .before .args .size) (c .before .before .before .before .before .before .before .before .before .before .args .mtime) (c .before .before .before .before .before .before .before .before .before .before .args .ctime) ≡ 0)
-    × (checksumRefusal (c .before .before .before .before .before .before .before .before .before .before .args .flags) (length (now (c .before .before .before .before .before .before .before .before .before .before .args .checksum))) ≡ 0)
-    × (c .entry-write-refusal .result ≡ entryWriteRefusal (descriptorOctets (c .before .before .before .before .before .before .before .before .before .before .args .flags)) (c .before .before .before .before .before .before .before .before .before .before .args .properties) (c .before .before .before .before .before .before .before .before .before .before .args .size) (now (c .before .before .before .before .before .before .before .before .before .before .args .path)))
+    → let a = c .before .before .before .before .before .before .before .before .before .before .args in
+    (metadataExcess (a .flags) (a .id) (length (now (a .checksum))) ≡ 0)
+    × (entryExcess (a .properties) (a .size) (a .mtime) (a .ctime) ≡ 0)
+    × (checksumRefusal (a .flags) (length (now (a .checksum))) ≡ 0)
+    × (c .entry-write-refusal .result ≡ entryWriteRefusal (descriptorOctets (a .flags)) (a .properties) (a .size) (now (a .path)))
 known c =
     let start = c .before .before .before .before .before .before .before .before .before .before in
     let a = start .args in (
@@ -62,10 +63,8 @@ returns-4 c =
 returns-5 : tie.Need-returns-5
 unfolding metadataWriteRefusal
 returns-5 c =
-    let before-place = c .before .before in
-    let start = before-place .before .before .before .before .before .before .before .before .before .before .before in
-    let a = start .args in
-    let k = known (before-place .before) in
+    let k = known (c .before .before .before) in
+    let a = c .before .before .before .before .before .before .before .before .before .before .before .before .before .args in
     let z : entryWriteRefusal (descriptorOctets (a .flags)) (a .properties) (a .size) (now (a .path)) ≡ 0 = omega arith in
     rw (k .0, k .1, k .2, z) (c .room-refusal .ensures ∙ ap (λ (n : ℕ). roomRefusal n (a .room)) (c .before .metadata-size .ensures))
 

@@ -6,9 +6,6 @@ use native.Mathlib.Omega.{arith}
 use Rattle.refusals.proofs.first.Statement.{statement}
 use Rattle.refusals.proofs.first.Tie as tie
 
-returns : tie.Need-returns
-returns c = let a = c .before .args in sym (stays (a .m) (a .n) (omega arith))
-
 returns-2 : tie.Need-returns-2
 returns-2 c =
     let a = c .before .args in
@@ -16,4 +13,4 @@ returns-2 c =
     rw z
 
 pub first-spec : {M : Type 1} → statement M
-first-spec = tie.close (tie.spec returns returns-2)
+first-spec = tie.close (tie.spec (λ c. let a = c .before .args in sym (stays (a .m) (a .n) (omega arith))) returns-2)

@@ -5,11 +5,8 @@ use Rattle.run_rows.proofs.CutLaws.{below-zero, below-some}
 use Rattle.run_rows.proofs.cut_below.Statement.{statement}
 use Rattle.run_rows.proofs.cut_below.Tie as tie
 
-returns : tie.Need-returns
-returns c = below-zero _ _ _ _ (omega arith)
-
 returns-2 : tie.Need-returns-2
 returns-2 c = below-some _ _ _ _ _ (omega arith) (c .cut-to .ensures)
 
 pub cut-below-spec : {M : Type 1} → statement M
-cut-below-spec = tie.close (tie.spec returns (λ c. search needs) (λ c κs. search needs) returns-2)
+cut-below-spec = tie.close (tie.spec (λ c. below-zero _ _ _ _ (omega arith)) (λ c. search needs) (λ c κs. search needs) returns-2)

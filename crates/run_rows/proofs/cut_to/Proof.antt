@@ -12,9 +12,6 @@ Inv-loop buf k n b low₀ top₀ low top = Halves buf k n b low top
 abbrev μ-loop : tie.MeasureT-loop
 μ-loop buf k n b low₀ top₀ low top = top - low
 
-loop-holds : tie.Need-loop-holds Inv-loop μ-loop
-loop-holds c = halves-start _ _ _ _
-
 loop-again : tie.Need-loop-again Inv-loop μ-loop
 loop-again c =
     let l = c .before .before .before .loop in
@@ -25,16 +22,13 @@ loop-again-2 c =
     let l = c .before .before .before .loop in
     halves-left _ _ _ _ _ _ _ _ (omega arith) (omega arith) (c .before .word .ensures) (l .inv) (omega arith)
 
-returns : tie.Need-returns Inv-loop μ-loop
-returns c = halves-end _ _ _ _ _ _ (omega arith) (c .before .loop .inv)
-
 pub cut-to-spec : {M : Type 1} → statement M
 cut-to-spec =
     tie.close
     (tie.spec
     Inv-loop
     μ-loop
-    loop-holds
+    (λ c. halves-start _ _ _ _)
     (λ c. search needs)
     (λ c. search needs)
     (λ c κs. search needs)
@@ -43,4 +37,4 @@ cut-to-spec =
     loop-again
     (λ c. search needs)
     loop-again-2
-    returns)
+    (λ c. halves-end _ _ _ _ _ _ (omega arith) (c .before .loop .inv)))

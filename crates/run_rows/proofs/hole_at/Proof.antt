@@ -22,24 +22,6 @@ high c =
     let s = c .before .before .before in
     hole-within (now (s .args .buf)) (s .args .rows) _ (s .args .j) (c .before .word .ensures) (s .pre .0 .canonical) (s .pre .1) (omega arith)
 
-word-requires : tie.Need-word-requires
-word-requires c κs = omega (arith, some (c .before))
-
-add-word : tie.Need-add-word
-add-word c = omega (arith, low (c .before))
-
-word-requires-2 : tie.Need-word-requires-2
-word-requires-2 c κs = omega (arith, low (c .before))
-
-add-word-2 : tie.Need-add-word-2
-add-word-2 c = omega (arith, low (c .before .before))
-
-add-word-3 : tie.Need-add-word-3
-add-word-3 c = omega (arith, low (c .before .before .before))
-
-word-requires-3 : tie.Need-word-requires-3
-word-requires-3 c κs = omega (arith, low (c .before .before .before))
-
 returns : tie.Need-returns
 returns c =
     let p = c .before .before .before .before in
@@ -54,18 +36,6 @@ returns-2 c =
     hole-first (now (s .args .buf)) (s .args .rows) _ (s .args .j) (p .before .word .ensures) (s .pre .0 .canonical) (s .pre .1) (omega arith)
     (omega arith)
 
-add-word-4 : tie.Need-add-word-4
-add-word-4 c = omega (arith, high (c .before .before))
-
-word-requires-4 : tie.Need-word-requires-4
-word-requires-4 c κs = omega (arith, high (c .before .before))
-
-add-word-5 : tie.Need-add-word-5
-add-word-5 c = omega (arith, high (c .before .before .before .before))
-
-word-requires-5 : tie.Need-word-requires-5
-word-requires-5 c κs = omega (arith, high (c .before .before .before .before))
-
 returns-3 : tie.Need-returns-3
 returns-3 c =
     let p = c .before .before .before .before .before in
@@ -77,17 +47,17 @@ pub hole-at-spec : {M : Type 1} → statement M
 hole-at-spec =
     tie.close
     (tie.spec
-    word-requires
-    add-word
-    word-requires-2
-    add-word-2
-    add-word-3
-    word-requires-3
+    (λ c κs. omega (arith, some (c .before)))
+    (λ c. omega (arith, low (c .before)))
+    (λ c κs. omega (arith, low (c .before)))
+    (λ c. omega (arith, low (c .before .before)))
+    (λ c. omega (arith, low (c .before .before .before)))
+    (λ c κs. omega (arith, low (c .before .before .before)))
     returns
     returns-2
     (λ c. search needs)
-    add-word-4
-    word-requires-4
-    add-word-5
-    word-requires-5
+    (λ c. omega (arith, high (c .before .before)))
+    (λ c κs. omega (arith, high (c .before .before)))
+    (λ c. omega (arith, high (c .before .before .before .before)))
+    (λ c κs. omega (arith, high (c .before .before .before .before)))
     returns-3)

@@ -62,9 +62,6 @@ loop-again c =
       later-more _ _ _ _ _ _ _ _ (l .inv .2) _ (omega arith) (word3-place .word3 .ensures) _ (c .before .word4 .ensures) (omega arith) (omega arith),
     )
 
-returns-5 : tie.Need-returns-5 Inv-loop μ-loop
-returns-5 c = let l = c .before .loop in later-end _ _ _ _ _ _ _ _ (l .inv .2) (omega arith)
-
 pub runs-ok-spec : {M : Type 1} → statement M
 runs-ok-spec =
     tie.close
@@ -85,4 +82,4 @@ runs-ok-spec =
     (λ c. search needs)
     (λ c. search needs)
     loop-again
-    returns-5)
+    (λ c. let l = c .before .loop in later-end _ _ _ _ _ _ _ _ (l .inv .2) (omega arith)))

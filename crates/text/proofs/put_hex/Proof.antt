@@ -22,15 +22,6 @@ loop-holds : tie.Need-loop-holds Inv-loop μ-loop
 unfolding hexOf
 loop-holds c = (omega arith, added-none (now (c .before .before .args .out)) (c .before .before .args .at) (omega arith))
 
-digit-requires : tie.Need-digit-requires Inv-loop μ-loop
-digit-requires c κs = omega (arith, c .before .shared-slice-known2 .given (c .before .before .before .loop .i))
-
-push-requires : tie.Need-push-requires Inv-loop μ-loop
-push-requires c κs = c .before .before .before .before .loop .inv .1 .within
-
-push-requires-2 : tie.Need-push-requires-2 Inv-loop μ-loop
-push-requires-2 c κs = c .before .before .before .before .push .ensures .within
-
 loop-again : tie.Need-loop-again Inv-loop μ-loop
 loop-again c =
     let push2-place = c .before .before in
@@ -42,9 +33,6 @@ loop-again c =
     let s = now (start .args .s) in
     let l = loop-place .loop in
     (omega arith, hex-next s (l .i) _ _ (omega arith) (digit-place .digit .ensures) (digit2-place .digit2 .ensures) (l .inv .1) (push-place .push .ensures) (push2-place .push2 .ensures))
-
-same-length : tie.Need-same-length Inv-loop μ-loop
-same-length c = c .before .loop .inv .1 .size
 
 returns : tie.Need-returns Inv-loop μ-loop
 returns c =
@@ -59,12 +47,12 @@ put-hex-spec =
     μ-loop
     loop-holds
     (λ c. omega arith)
-    digit-requires
-    push-requires
+    (λ c κs. omega (arith, c .before .shared-slice-known2 .given (c .before .before .before .loop .i)))
+    (λ c κs. c .before .before .before .before .loop .inv .1 .within)
     (λ c κs. omega arith)
-    push-requires-2
+    (λ c κs. c .before .before .before .before .push .ensures .within)
     (λ c. omega arith)
     (λ c. omega arith)
     loop-again
-    same-length
+    (λ c. c .before .loop .inv .1 .size)
     returns)

@@ -23,9 +23,6 @@ loop-holds c =
     let d : drop 20 (now (c .args .text)) ≡ [] = drop-of-length-le (now (c .args .text)) {i = 20} (omega arith) in
     (omega arith, c .pre, rw d)
 
-same-length : tie.Need-same-length Inv-loop μ-loop
-same-length c = length-set (c .before .before .loop .text) _ _ ∙ c .before .before .loop .inv .1 ∙ sym (c .before .before .before .pre)
-
 returns : tie.Need-returns Inv-loop μ-loop
 returns c =
     let l = c .before .before .loop in
@@ -38,9 +35,6 @@ loop-again c =
       length-set (l .text) _ _ ∙ l .inv .1,
       digit-next (l .text) (l .i) (l .rest) (omega arith) (omega arith) (omega arith) ∙ l .inv .2,
     )
-
-same-length-2 : tie.Need-same-length-2 Inv-loop μ-loop
-same-length-2 c = length-set (c .before .loop .text) _ _ ∙ c .before .loop .inv .1 ∙ sym (c .before .before .pre)
 
 returns-2 : tie.Need-returns-2 Inv-loop μ-loop
 returns-2 c =
@@ -57,7 +51,7 @@ spell-spec =
     (λ c. omega arith)
     (λ c. omega arith)
     (λ c. omega arith)
-    same-length
+    (λ c. length-set (c .before .before .loop .text) _ _ ∙ c .before .before .loop .inv .1 ∙ sym (c .before .before .before .pre))
     returns
     (λ c. omega arith)
     (λ c. omega arith)
@@ -68,5 +62,5 @@ spell-spec =
     (λ c. omega arith)
     (λ c. omega arith)
     (λ c. omega arith)
-    same-length-2
+    (λ c. length-set (c .before .loop .text) _ _ ∙ c .before .loop .inv .1 ∙ sym (c .before .before .pre))
     returns-2)

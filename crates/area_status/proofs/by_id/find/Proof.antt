@@ -23,9 +23,6 @@ returns c =
 passed : (c : tie.Else1) → judged (now (c .before .before .before .args .area)) ≡ true
 passed c = sym (c .before .judge .ensures) ∙ not-false (c .before .judge .result) (c .if1 .left)
 
-find-place-requires : tie.Need-find-place-requires
-find-place-requires c κs = passed c
-
 returns-2 : tie.Need-returns-2
 returns-2 c =
     let f = c .before .before .before in
@@ -46,9 +43,6 @@ used c =
     used-place (now (a .area)) (p .result .at) (passed (f .before))
     (open-used (now (a .area)) (a .id) (passed (f .before)) (p .result) (p .ensures) (is-open c))
 
-listing-at-requires : tie.Need-listing-at-requires
-listing-at-requires c κs = used c
-
 returns-3 : tie.Need-returns-3
 returns-3 c =
     let e = c .before in
@@ -64,8 +58,8 @@ find-spec =
     (λ c κs. search needs)
     (λ c κs. search needs)
     returns
-    find-place-requires
+    (λ c κs. passed c)
     (λ c κs. search needs)
     returns-2
-    listing-at-requires
+    (λ c κs. used c)
     returns-3)

@@ -28,9 +28,6 @@ returns c =
 passed : (c : tie.Else1) → judged (now (c .before .before .before .args .area)) ≡ true
 passed c = sym (c .before .judge .ensures) ∙ not-false (c .before .judge .result) (c .if1 .left)
 
-find-place-requires : tie.Need-find-place-requires
-find-place-requires c κs = passed c
-
 returns-2 : tie.Need-returns-2
 returns-2 c =
     let f = c .before .before .before in
@@ -50,12 +47,6 @@ used c =
     let p = f .find-place in
     used-place (now (a .area)) (p .result .at) (passed (f .before))
     (open-used (now (a .area)) (a .id) (passed (f .before)) (p .result) (p .ensures) (is-open c))
-
-rows-at-requires : tie.Need-rows-at-requires
-rows-at-requires c κs = let u = used c in (u .long, u .low)
-
-hole-count-requires : tie.Need-hole-count-requires
-hole-count-requires c κs = rw (c .rows-at .ensures) (used (c .before) .rows)
 
 returns-3 : tie.Need-returns-3
 returns-3 c =
@@ -98,11 +89,11 @@ transfer-hole-spec =
     (λ c κs. search needs)
     (λ c κs. search needs)
     returns
-    find-place-requires
+    (λ c κs. passed c)
     (λ c κs. search needs)
     returns-2
-    rows-at-requires
-    hole-count-requires
+    (λ c κs. let u = used c in (u .long, u .low))
+    (λ c κs. rw (c .rows-at .ensures) (used (c .before) .rows))
     (λ c κs. search needs)
     returns-3
     hole-at-requires

@@ -4,8 +4,10 @@ use Prim.Native.Nat.{ℕ, _<_, _≤_}
 use mathlib.Core.Path.{_≡_, refl}
 use mathlib.Core.Bool.{Bool, true, false, not, _&&_, _||_, true≢false, false≢true}
 use mathlib.Core.Logic.{_⊎_, inl, inr, ⊎-elim, _↔_}
+use native.Mathlib.Omega.{arith}
 use lib.Dec.{ltb, eqb}
 use borrow.Author.Tests.{ltb-true, ltb-false, eqb-true, eqb-false, lt-ltb, le-ltb, eq-eqb, ne-eqb}
+use Rattle.refusals.specs.Tests.{bit}
 
 pub eqb-iff : (a b : ℕ) → (eqb a b ≡ true) ↔ (a ≡ b)
 eqb-iff a b = (eqb-true a b, eq-eqb a b)
@@ -42,3 +44,18 @@ test-not false A i = ((λ e a. false≢true (i .1 a)), (λ n. refl))
 
 pub both : {A B C D : Type 0} → A ↔ C → B ↔ D → (A × B) ↔ (C × D)
 both f g = ((λ p. (f .0 (p .0), g .0 (p .1))), (λ p. (f .1 (p .0), g .1 (p .1))))
+
+-- ---- a test as a number
+
+pub bit-le : (t : Bool) → bit t ≤ 1
+bit-le true = omega arith
+bit-le false = omega arith
+
+-- it is 1 exactly where the test holds
+pub bit-iff : (t : Bool) → (bit t ≡ 1) ↔ (t ≡ true)
+bit-iff true = ((λ e. refl), (λ e. refl))
+bit-iff false = ((λ e. absurd (omega arith)), (λ e. absurd (false≢true e)))
+
+pub bit-test : (t : Bool) → eqb (bit t) 1 ≡ t
+bit-test true = refl
+bit-test false = refl

@@ -3,7 +3,7 @@
 use Prim.Native.Nat.{ℕ}
 use mathlib.Core.Bool.{Bool, not}
 use lib.Dec.{eqb}
-use Rattle.transfer.specs.WriteStatus.{bit}
+use Rattle.refusals.specs.Tests.{bit}
 use Rattle.table.specs.declared.Opened.{Opened}
 use Rattle.table.specs.declared.Opened.the-variants as opened
 use Rattle.table.specs.declared.Recorded.{Recorded}

@@ -3,7 +3,7 @@ ghost use mathlib.Core.Path.{_≡_};
 ghost use Rattle.area.specs.Operations.{freshArea, openArea, recordArea, closeArea, areaStatusWritten, areaStatusBuffer};
 ghost use Rattle.area_status.specs.Listing.{listedArea};
 ghost use Rattle.area_status.specs.ById.{foundArea, holeArea};
-ghost use Rattle.transfer.specs.WriteStatus.{bit};
+ghost use Rattle.refusals.specs.Tests.{bit};
 ghost use Rattle.saratoga.specs.Answers.{writtenAnswer, holeAnswer};
 ghost use Rattle.saratoga.specs.TableAnswers.{isUnasked, doneAnswer, openedAnswer, recordedAnswer, listedAnswer};
 use crate::packets::HoleAnswer;

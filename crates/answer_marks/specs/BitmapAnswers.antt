@@ -1,7 +1,7 @@
 -- What C hands to the bitmap receiver and gets from it: "Id, w and L travel as a record by value".
 -- Assumes nothing.
 use Rattle.transfer.specs.declared.Key.{Key}
-use Rattle.transfer.specs.WriteStatus.{bit}
+use Rattle.refusals.specs.Tests.{bit}
 use Rattle.table.specs.declared.Recorded.{Recorded}
 use Rattle.table.specs.declared.Recorded.the-variants as recorded
 use Rattle.bitmap.specs.declared.Opened.{Opened}

@@ -8,8 +8,8 @@ use mathlib.Core.Logic.{Iff·trans}
 use native.Mathlib.Omega.{arith}
 use Rattle.refusals.specs.Refusals.{codeOf}
 use Rattle.packet_status.specs.Status.{holeList}
-use Rattle.transfer.specs.WriteStatus.{bit}
-use Rattle.transfer.proofs.StatusFlags.{bit-iff}
+use Rattle.refusals.specs.Tests.{bit}
+use Rattle.refusals.proofs.TestLaws.{bit-iff}
 use Rattle.plan.specs.Planning.{resendRefusal}
 use Rattle.plan_check.specs.Checking.{checkStart, checkAll, passed}
 use Rattle.plan.specs.declared.Piece.{Piece}

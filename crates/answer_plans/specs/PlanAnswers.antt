@@ -6,7 +6,7 @@ use mathlib.Core.List.{List}
 use mathlib.Core.Logic.{_↔_}
 use Rattle.refusals.specs.Refusals.{codeOf}
 use Rattle.packet_status.specs.Status.{holeList}
-use Rattle.transfer.specs.WriteStatus.{bit}
+use Rattle.refusals.specs.Tests.{bit}
 use Rattle.plan_check.specs.GoodPlan.{GoodPlan}
 use Rattle.plan.specs.Planning.{resendRefusal}
 use Rattle.plan_check.specs.Checking.{passed}

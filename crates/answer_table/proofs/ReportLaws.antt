@@ -14,8 +14,8 @@ use Rattle.packet_data.specs.Data.{readData}
 use Rattle.packet_data.specs.declared.Data.{Data}
 use Rattle.packet_data.specs.declared.DataRead.the-variants as data-read
 use Rattle.transfer.specs.declared.Reached.{Reached}
-use Rattle.transfer.specs.WriteStatus.{bit}
-use Rattle.transfer.proofs.StatusFlags.{bit-iff}
+use Rattle.refusals.specs.Tests.{bit}
+use Rattle.refusals.proofs.TestLaws.{bit-iff}
 use Rattle.table.specs.Open.{openAccepted}
 use Rattle.table.specs.Record.{recordAccepted}
 use Rattle.table.specs.declared.Opened.{Opened}

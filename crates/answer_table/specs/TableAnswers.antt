@@ -1,6 +1,6 @@
 -- What C gets of the operations on a transfer table: "a definition gives this paper's number and values for each case".
 -- Assumes nothing.
-use Rattle.transfer.specs.WriteStatus.{bit}
+use Rattle.refusals.specs.Tests.{bit}
 use Rattle.table.specs.declared.Opened.{Opened}
 use Rattle.table.specs.declared.Opened.the-variants as opened
 use Rattle.table.specs.declared.Finished.{Finished}

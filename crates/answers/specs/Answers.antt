@@ -8,7 +8,7 @@ use Rattle.refusals.specs.declared.Written.{Written}
 use Rattle.refusals.specs.declared.Written.the-variants as written
 use Rattle.packet_status.specs.declared.HoleRead.{HoleRead}
 use Rattle.packet_status.specs.declared.HoleRead.the-variants as hole-read
-use Rattle.transfer.specs.WriteStatus.{bit}
+use Rattle.refusals.specs.Tests.{bit}
 use Rattle.table.specs.declared.Recorded.{Recorded}
 use Rattle.table.specs.declared.Recorded.the-variants as recorded
 use Rattle.answers.specs.declared.HoleAnswer.{HoleAnswer}

@@ -1,7 +1,7 @@
 // What C gets of a written packet, of a hole and of a recording: answers that more than one of its functions gives.
 // Every struct has fields of 64 bits alone. `number` is 0 where the call is accepted.
 ghost use mathlib.Core.Path.{_≡_};
-ghost use Rattle.transfer.specs.WriteStatus.{bit};
+ghost use Rattle.refusals.specs.Tests.{bit};
 ghost use Rattle.answers.specs.Answers.{holeAnswer, writtenAnswer, recordedAnswer};
 use packet_status::HoleRead;
 use refusals::Written;

@@ -12,7 +12,7 @@ use Rattle.run_rows.specs.Rows.{runsIn}
 use Rattle.run_rows.specs.declared.Rows.{Rows}
 use Rattle.transfer.specs.declared.Key.{Key}
 use Rattle.transfer.specs.Transfers.{Transfer}
-use Rattle.transfer.specs.WriteStatus.{transferWritten, transferBuffer}
+use Rattle.transfer_status.specs.WriteStatus.{transferWritten, transferBuffer}
 use Rattle.table.specs.WriteStatus.{writtenFor, bufferFor, statusWritten, statusBuffer}
 use Rattle.table.proofs.StatusWritten.{status-twelve}
 use Rattle.area.specs.Places.{keyAt, rowsAt, readTable, placeIn}

@@ -96,7 +96,6 @@ module _ (k : Key) (s : List ℕ) where
   pub twenty-two-iff : (stateRefusal k s ≡ 22) ↔ ((markOctets ≤ length s) × Unfit k s)
   twenty-two-iff = given reasons 22
 
-
 -- ---- 9 of opening, after the marks and the reader's
 pub nine-iff : (s packet : List ℕ) → markOctets ≤ length s → metadataRefusal packet ≡ 0
     → (openRefusal s packet ≡ 9) ↔ (longest < keyOf (metadataOf packet) .length)

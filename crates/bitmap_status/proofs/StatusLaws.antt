@@ -16,7 +16,7 @@ use Rattle.refusals.proofs.RefusalLaws.{stays}
 use Rattle.runs.specs.Runs.{Run}
 use Rattle.run_rows.specs.Rows.{RowsFine}
 use Rattle.transfer.specs.declared.Key.{Key}
-use Rattle.transfer.specs.WriteStatus.{transferRefused, transferWritten, transferBuffer}
+use Rattle.transfer_status.specs.WriteStatus.{transferRefused, transferWritten, transferBuffer}
 use Rattle.transfer.proofs.LengthLaws.{length-passed}
 use Rattle.marks.specs.MarkedRuns.{markedRuns}
 use Rattle.marks.specs.Walk.{runRows}

@@ -9,7 +9,7 @@ use Rattle.refusals.specs.Refusals.{_▹_, when}
 use Rattle.refusals.specs.Writing.{writtenOf, bufferAfter}
 use Rattle.refusals.specs.declared.Written.{Written}
 use Rattle.transfer.specs.declared.Key.{Key}
-use Rattle.transfer.specs.WriteStatus.{transferRefused, statusPacket}
+use Rattle.transfer_status.specs.WriteStatus.{transferRefused, statusPacket}
 use Rattle.marks.specs.MarkedRuns.{markedRuns}
 use Rattle.bitmap.specs.State.{stateRefusal}
 

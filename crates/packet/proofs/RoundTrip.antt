@@ -2,18 +2,17 @@
 -- BEACON "Round trip .. as for DATA":
 -- in the terms of the public operations, for every octet list and every list of fields.
 -- Assumes nothing.
-use Prim.Native.Nat.{ℕ, zero, suc, _+_, _^_, _<_, _≤_}
-use mathlib.Core.Path.{_≡_, refl, ap, _∙_}
+use Prim.Native.Nat.{ℕ, _+_, _^_, _<_, _≤_}
+use mathlib.Core.Path.{_≡_, ap, _∙_}
 use mathlib.Core.List.{List}
-use native.Mathlib.Omega.{arith}
 use lib.ListN.{length, take, drop}
 use Rattle.octets.specs.Numbers.{Octets}
 use Rattle.octets.specs.Put.{put}
 use Rattle.octets.proofs.PutLaws.{take-put}
 use Rattle.header.specs.FirstWord.{descriptorOctets, timestampOctets, wantedOf, eodOf}
-use Rattle.refusals.specs.Writing.{writtenOf}
 use Rattle.refusals.specs.declared.Written.the-variants.{Size}
 use Rattle.refusals.proofs.RefusalLaws.{first-none}
+use Rattle.refusals.proofs.WritingLaws.{written-size}
 use Rattle.directory_entry.specs.Properties.{pathAt}
 use Rattle.packet_beacon.specs.Flags.{bundlesOf, streamsOf, sendingPair, receivingPair, freeOctets, willingnessOf}
 use Rattle.packet_beacon.specs.Beacon.{endpointAt, beaconRefusal, beaconOf}
@@ -36,11 +35,6 @@ use Rattle.packet_status.proofs.RoundTrip as status
 use Rattle.packet.specs.Read.{ofBeacon, ofMetadata, ofStatus, readType, readPacket}
 use Rattle.packet.specs.declared.Read.the-variants as read
 use Rattle.packet.proofs.CaseLaws.{read-typed, data-taken, packet-beacon, packet-metadata, packet-data}
-
--- a writer that answers a size refused nothing, and left the packet at the start of the buffer
-written-size : (n size m : ℕ) → writtenOf n size ≡ Size m → (n ≡ 0) × (size ≡ m)
-written-size zero size m e = (refl, cc)
-written-size (suc n) size m e = absurd (let z : _≡_ {A = ℕ} 0 1 = cc in omega arith)
 
 -- BEACON, written and read; a free space is handed over as a number of 64 bits
 module _ (flags free : ℕ) (endpoint old : List ℕ) (n : ℕ) (held : free < 2 ^ 64) (ok : beaconWritten flags free endpoint old ≡ Size n) where

@@ -1,6 +1,3 @@
-pub mod DescriptorListLaws
-pub mod HoleListLaws
-pub mod AcceptedLaws
 pub mod StatusLaws
 pub mod FailureLaws
 pub mod RoundTrip

@@ -21,12 +21,13 @@ use Rattle.header.specs.Start.{wordOf, startOctets, typeRefusal}
 use Rattle.header.specs.Descriptor.{descriptorRefusal}
 use Rattle.header.proofs.StartLaws.{TypeFine}
 use Rattle.header.proofs.LimitLaws as header
-use Rattle.packet_status.specs.HoleList.{listWell}
-use Rattle.packet_status.specs.Status.{progressAt, responseAt, holesAt, progressOf, responseOf, listOctets, listDescriptors, holeList, partialTold, unaskedTold, descriptorsRefusal, listRefusal, successRefusal, statusRefusal, acceptedStatus, readStatus}
+use Rattle.hole_list.specs.HoleList.{listWell}
+use Rattle.hole_list.specs.DescriptorList.{descriptorsRefusal}
+use Rattle.packet_status.specs.Status.{progressAt, responseAt, holesAt, progressOf, responseOf, listOctets, listDescriptors, holeList, partialTold, unaskedTold, listRefusal, successRefusal, statusRefusal, acceptedStatus, readStatus}
 use Rattle.packet_status.specs.declared.StatusRead.the-variants.{Refused}
 use Rattle.packet_status.specs.WriteFailure.{failureWriteRefusal, failureWritten}
-use Rattle.packet_status.proofs.DescriptorListLaws.{AllSmall, descriptors-some, descriptors-all, descriptors-none-iff, descriptors-five-iff}
-use Rattle.packet_status.proofs.AcceptedLaws.{ListAccepted, list-well-iff}
+use Rattle.hole_list.proofs.DescriptorListLaws.{AllSmall, descriptors-some, descriptors-all, descriptors-none-iff, descriptors-five-iff}
+use Rattle.hole_list.proofs.AcceptedLaws.{ListAccepted, list-well-iff}
 
 -- ---- read
 

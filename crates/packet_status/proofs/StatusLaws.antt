@@ -18,13 +18,14 @@ use Rattle.header.specs.Descriptor.{descriptorRefusal}
 use Rattle.header.proofs.DescriptorLaws.{descriptor-there}
 use Rattle.header.proofs.FirstWordLaws.{octets-width}
 use Rattle.header.proofs.StartLaws.{TypeFine, type-fine}
-use Rattle.packet_status.specs.Status.{progressAt, responseAt, holesAt, progressOf, responseOf, listOctets, listDescriptors, holeCount, holeList, partialTold, unaskedTold, descriptorsRefusal, DescriptorsFine, listRefusal, successRefusal, statusRefusal, holeRefusal, indexedHole, readHole, failureOf, acceptedStatus}
+use Rattle.hole_list.specs.DescriptorList.{descriptorsRefusal}
+use Rattle.packet_status.specs.Status.{progressAt, responseAt, holesAt, progressOf, responseOf, listOctets, listDescriptors, holeCount, holeList, partialTold, unaskedTold, DescriptorsFine, listRefusal, successRefusal, statusRefusal, holeRefusal, indexedHole, readHole, failureOf, acceptedStatus}
 use Rattle.runs.specs.declared.Hole.{Hole}
 use Rattle.packet_status.specs.declared.HoleRead.the-variants as hole-read
 use Rattle.packet_status.specs.declared.StatusRead.the-variants.{Failure, Refused}
-use Rattle.packet_status.proofs.DescriptorListLaws.{each-none, fewer-none}
-use Rattle.packet_status.proofs.HoleListLaws.{length-holes, hole-of-list}
-use Rattle.packet_status.proofs.AcceptedLaws.{ListAccepted, list-well-iff}
+use Rattle.hole_list.proofs.DescriptorListLaws.{each-none, fewer-none}
+use Rattle.hole_list.proofs.HoleListLaws.{length-holes, hole-of-list}
+use Rattle.hole_list.proofs.AcceptedLaws.{ListAccepted, list-well-iff}
 
 -- a success STATUS with refusal 0
 pub record SuccessFine (s : List ℕ) : Type 0 where

@@ -9,8 +9,9 @@ use Rattle.octets.specs.Put.{put}
 use Rattle.refusals.specs.Refusals.{refusalOf}
 use Rattle.header.specs.Start.{startRefusal, typeRefusal}
 use Rattle.header.specs.Descriptor.{descriptorRefusal}
-use Rattle.packet_status.specs.HoleList.{startsWell, holesWell, pointsToLast, listWell}
-use Rattle.packet_status.specs.Status.{holeList, descriptorsRefusal, listRefusal, successRefusal, statusRefusal, successOf, failureOf, readStatus, holeRefusal, indexedHole, readHole}
+use Rattle.hole_list.specs.HoleList.{startsWell, holesWell, pointsToLast, listWell}
+use Rattle.hole_list.specs.DescriptorList.{descriptorsRefusal}
+use Rattle.packet_status.specs.Status.{holeList, listRefusal, successRefusal, statusRefusal, successOf, failureOf, readStatus, holeRefusal, indexedHole, readHole}
 use Rattle.packet_status.specs.WriteFailure.{failureWriteRefusal, failureOctets, failureBuffer}
 use Rattle.packet_status.specs.declared.HoleRead.the-variants as hole-read
 use Rattle.packet_status.specs.declared.StatusRead.the-variants.{Success, Failure, Refused}

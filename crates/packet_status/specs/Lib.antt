@@ -1,3 +1,2 @@
-pub mod HoleList
 pub mod Status
 pub mod WriteFailure

@@ -10,7 +10,8 @@ use Rattle.refusals.specs.Refusals.{_▹_, when, answered}
 use Rattle.header.specs.FirstWord.{bits, flagsOf, descriptorOctets, timestampOctets, partialOf, statusOf}
 use Rattle.header.specs.Start.{wordOf, idOf, typeRefusal}
 use Rattle.header.specs.Descriptor.{descriptorAt, descriptorRefusal}
-use Rattle.packet_status.specs.HoleList.{holeAt, holesOf, listWell}
+use Rattle.hole_list.specs.HoleList.{holeAt, holesOf, listWell}
+use Rattle.hole_list.specs.DescriptorList.{descriptorsRefusal}
 use Rattle.runs.specs.declared.Hole.{Hole}
 use Rattle.packet_status.specs.declared.HoleRead.{HoleRead}
 use Rattle.packet_status.specs.declared.HoleRead.the-variants as hole-read
@@ -62,11 +63,6 @@ unfoldable pub listRefusal : List ℕ → ℕ
 listRefusal s =
     when (not (eqb (listOctets s % (2 * descriptorOctets (wordOf s))) 0)) 11
     ▹ when (not (listWell (partialTold s) (unaskedTold s) (progressOf s) (responseOf s) (holeList s))) 11
-
--- the refusal of n descriptors of d octets, one after the other from the place `at` on: the first that is refused
-unfoldable pub descriptorsRefusal : ℕ → ℕ → ℕ → List ℕ → ℕ
-descriptorsRefusal d zero at s = 0
-descriptorsRefusal d (suc n) at s = descriptorRefusal d at s ▹ descriptorsRefusal d n (at + d) s
 
 -- a success STATUS after the Id: 1 and 5 for Progress (a packet that ends inside the timestamp has not all of it), 1 and 5
 -- for In-Response-To, 5 for each whole descriptor of the hole list, "before .. 11"

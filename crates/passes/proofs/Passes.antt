@@ -23,10 +23,12 @@ use Rattle.table.specs.Record.{dataJudged, recordRefusal, grown, absorbedIn, re
 use Rattle.table.specs.Close.{closeFound, closeId}
 use Rattle.table.specs.WriteStatus.{writtenFor, bufferFor, statusWritten, statusBuffer}
 use Rattle.transfer.specs.Record.{keyRefusal, extended, absorbedBy, runsRefusal}
-use Rattle.transfer.specs.WriteStatus.{skipsTooMany, leastRoom, sizeRefusal, holeRoom, holesSent, partialSent, widthBits, statusFlags, statusFields, pairs, statusOctets, lastOffset, responseSent, statusPacket, transferWritten, transferBuffer}
+use Rattle.hole_list.specs.Pairs.{pairs}
+use Rattle.success_status.specs.SuccessStatus.{widthBits, statusFlags, frontOctets, statusOctets}
+use Rattle.transfer_status.specs.WriteStatus.{skipsTooMany, leastRoom, sizeRefusal, holeRoom, holesSent, partialSent, lastOffset, responseSent, statusPacket, transferWritten, transferBuffer}
 
 pub passes : Passes
-unfolding twoParts emptyFile oneAfterOther late scattered longest numbered put startRefusal typeRefusal fileRefusal descriptorRefusal upperZero propertyRefusal pathRefusal entryRefusal entryOf pairAllowed pairRefusal metadataRefusal metadataOf readMetadata dataRefusal dataOf readData insert absorbed edgeFrom holesFrom progress complete keys find runsOf add setRuns remove reached judgeFound judgeOpen openAs openKey openRead openPacket dataJudged recordRefusal grown absorbedIn absorbedBy recordAs recordData recordRead recordPacket closeFound closeId keyRefusal extended runsRefusal skipsTooMany leastRoom sizeRefusal holeRoom holesSent partialSent widthBits statusFlags statusFields pairs statusOctets lastOffset responseSent statusPacket transferWritten transferBuffer writtenFor bufferFor statusWritten statusBuffer
+unfolding twoParts emptyFile oneAfterOther late scattered longest numbered put startRefusal typeRefusal fileRefusal descriptorRefusal upperZero propertyRefusal pathRefusal entryRefusal entryOf pairAllowed pairRefusal metadataRefusal metadataOf readMetadata dataRefusal dataOf readData insert absorbed edgeFrom holesFrom progress complete keys find runsOf add setRuns remove reached judgeFound judgeOpen openAs openKey openRead openPacket dataJudged recordRefusal grown absorbedIn absorbedBy recordAs recordData recordRead recordPacket closeFound closeId keyRefusal extended runsRefusal skipsTooMany leastRoom sizeRefusal holeRoom holesSent partialSent widthBits statusFlags frontOctets pairs statusOctets lastOffset responseSent statusPacket transferWritten transferBuffer writtenFor bufferFor statusWritten statusBuffer
 passes =
     record {
       hole-reported = (refl, refl, refl);

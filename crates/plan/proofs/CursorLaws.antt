@@ -11,7 +11,7 @@ use lib.Seq.{drop-cons}
 use lib.Dec.{ltb}
 use borrow.Author.Tests.{ltb-true, ltb-false, lt-ltb, le-ltb}
 use Rattle.runs.specs.declared.Hole.{Hole}
-use Rattle.packet_status.proofs.AcceptedLaws.{nth}
+use Rattle.hole_list.proofs.AcceptedLaws.{nth}
 use Rattle.plan.specs.Pieces.{piece, holePieces, planOf}
 use Rattle.plan.specs.Planning.{cursorAt, advanced, pieceAt, nextCursor, cursorAfter}
 use Rattle.plan.specs.declared.Piece.{Piece}

@@ -15,7 +15,7 @@ use Rattle.refusals.proofs.TestLaws.{and-iff}
 use Rattle.header.specs.FirstWord.{statusOf}
 use Rattle.header.specs.Start.{wordOf}
 use Rattle.packet_status.specs.Status.{progressOf, responseOf, partialTold, unaskedTold, holeCount, holeList, statusRefusal, holeRefusal}
-use Rattle.packet_status.proofs.AcceptedLaws.{ListAccepted, nth}
+use Rattle.hole_list.proofs.AcceptedLaws.{ListAccepted, nth}
 use Rattle.packet_status.proofs.StatusLaws.{status-fine, success-fine, length-list}
 use Rattle.plan.specs.Planning.{allowed, resendRefusal, judgedOf, Readable}
 

@@ -4,8 +4,10 @@ use Prim.Native.Nat.{ℕ, _<_, _≤_}
 use mathlib.Core.Path.{_≡_, refl}
 use mathlib.Core.Bool.{Bool, true, false, not, _&&_, _||_, true≢false, false≢true}
 use mathlib.Core.Logic.{_⊎_, inl, inr, ⊎-elim, _↔_}
+use native.Mathlib.Omega.{arith}
 use lib.Dec.{ltb, eqb}
 use borrow.Author.Tests.{ltb-true, ltb-false, eqb-true, eqb-false, lt-ltb, le-ltb, eq-eqb, ne-eqb}
+use Rattle.refusals.specs.Tests.{bit}
 
 pub eqb-iff : (a b : ℕ) → (eqb a b ≡ true) ↔ (a ≡ b)
 eqb-iff a b = (eqb-true a b, eq-eqb a b)
@@ -48,3 +50,18 @@ either f g = (
   ⊎-elim (λ a. inl (f .0 a)) (λ b. inr (g .0 b)),
   ⊎-elim (λ c. inl (f .1 c)) (λ d. inr (g .1 d)),
 )
+
+-- ---- a test as a number
+
+pub bit-le : (t : Bool) → bit t ≤ 1
+bit-le true = omega arith
+bit-le false = omega arith
+
+-- it is 1 exactly where the test holds
+pub bit-iff : (t : Bool) → (bit t ≡ 1) ↔ (t ≡ true)
+bit-iff true = ((λ e. refl), (λ e. refl))
+bit-iff false = ((λ e. absurd (omega arith)), (λ e. absurd (false≢true e)))
+
+pub bit-test : (t : Bool) → eqb (bit t) 1 ≡ t
+bit-test true = refl
+bit-test false = refl

@@ -3,6 +3,7 @@
 use Prim.Native.Nat.{ℕ, zero, suc, _≤_}
 use mathlib.Core.Path.{_≡_, refl}
 use mathlib.Core.List.{List}
+use native.Mathlib.Omega.{arith}
 use lib.Dec.{ltb}
 use borrow.Author.Tests.{ltb-false}
 use Rattle.refusals.specs.Refusals.{when, refusalOf}
@@ -12,6 +13,11 @@ use Rattle.refusals.proofs.RefusalLaws.{first-none, rest-none, failed, 
 
 pub written-refused : (n size : ℕ) → (n ≡ 0 → ⊥) → Refused (refusalOf n) ≡ writtenOf n size
 written-refused n size h = answered-refused Refused n (Size size) h
+
+-- a writer that answers a size refused nothing, and the size is the packet's
+pub written-size : (n size m : ℕ) → writtenOf n size ≡ Size m → (n ≡ 0) × (size ≡ m)
+written-size zero size m e = (refl, cc)
+written-size (suc n) size m e = absurd (let z : _≡_ {A = ℕ} 0 1 = cc in omega arith)
 
 pub buffer-refused : (n : ℕ) (packet old : List ℕ) → (n ≡ 0 → ⊥) → old ≡ bufferAfter n packet old
 buffer-refused zero packet old h = absurd (h refl)

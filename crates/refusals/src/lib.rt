@@ -1,6 +1,7 @@
 // The refusals: their numbers, the status code of each, and what a writer answers. Not only packets are refused, so this knows of none.
 ghost use mathlib.Core.Path.{_≡_};
 ghost use Rattle.refusals.specs.Refusals.{_▹_, codeOf, refusalOf};
+ghost use Rattle.refusals.specs.Tests.{bit};
 ghost use Rattle.refusals.specs.Writing.{roomRefusal};
 
 // A refusal: its number, and the status code to send (0: nothing to send).
@@ -13,6 +14,13 @@ pub struct Refusal {
 pub enum Written {
     Size(usize),
     Refused(Refusal),
+}
+
+// A test as a number: 1 where it holds, and else 0.
+pub fn bit_of(test: bool) -> u64
+    ensures { λ r. ⌜ r ≡ bit test ⌝ }
+{
+    if test { 1 } else { 0 }
 }
 
 // The first refusal, and where that is none, the second.

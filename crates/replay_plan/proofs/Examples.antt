@@ -7,8 +7,9 @@ use Rattle.octets.specs.Numbers.{upperZero}
 use Rattle.refusals.specs.Refusals.{codeOf}
 use Rattle.header.specs.Start.{startRefusal, typeRefusal}
 use Rattle.header.specs.Descriptor.{descriptorRefusal}
-use Rattle.packet_status.specs.HoleList.{startsWell, holesWell, pointsToLast, listWell}
-use Rattle.packet_status.specs.Status.{holeList, descriptorsRefusal, listRefusal, successRefusal, statusRefusal}
+use Rattle.hole_list.specs.HoleList.{startsWell, holesWell, pointsToLast, listWell}
+use Rattle.hole_list.specs.DescriptorList.{descriptorsRefusal}
+use Rattle.packet_status.specs.Status.{holeList, listRefusal, successRefusal, statusRefusal}
 use Rattle.plan.specs.Pieces.{pieceCount, holePieces, planOf}
 use Rattle.plan.specs.Planning.{resendRefusal, planRefusal, cursorAt, advanced}
 use Rattle.plan_check.specs.Checking.{fits, checkStep, passed}

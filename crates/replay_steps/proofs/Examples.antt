@@ -25,7 +25,9 @@ use Rattle.table.specs.Open.{judgeFound, judgeOpen, openAs, openKey, openRead, 
 use Rattle.table.specs.Tables.{keys, find, runsOf, add}
 use Rattle.transfer.specs.Transfers.{reached, Transfer}
 use Rattle.table.specs.WriteStatus.{writtenFor, bufferFor, statusWritten, statusBuffer}
-use Rattle.transfer.specs.WriteStatus.{skipsTooMany, leastRoom, sizeRefusal, transferWritten, transferBuffer, statusFields, holeRoom, holesSent, partialSent, widthBits, statusFlags, pairs, statusOctets, lastOffset, responseSent, statusPacket}
+use Rattle.hole_list.specs.Pairs.{pairs}
+use Rattle.success_status.specs.SuccessStatus.{frontOctets, widthBits, statusFlags, statusOctets}
+use Rattle.transfer_status.specs.WriteStatus.{skipsTooMany, leastRoom, sizeRefusal, transferWritten, transferBuffer, holeRoom, holesSent, partialSent, lastOffset, responseSent, statusPacket}
 use Rattle.area.specs.Judge.{tableOf}
 use Rattle.area.specs.Operations.{onFound, onTable, openArea, recordArea, fromFound, fromTable, areaStatusWritten, areaStatusBuffer}
 use Rattle.text.specs.Decimal.{decimalOnto, decimalOf}
@@ -97,7 +99,7 @@ statusBody = 0 ∷ 0 ∷ 0 ∷ 7 ∷ 0 ∷ 0 ∷ 0 ∷ 0 ∷ 0 ∷ 0 ∷ 0 ∷ 0
 -- "5 status 440000000000000703e80bb803e807d0"
 pub status-written : (area : List ℕ) → tableOf area ≡ some (seven ∷ []) → recordLines 5 0x53 statusBody area (replicate 20 0)
     ≡ 53 ∷ 32 ∷ 115 ∷ 116 ∷ 97 ∷ 116 ∷ 117 ∷ 115 ∷ 32 ∷ 52 ∷ 52 ∷ 48 ∷ 48 ∷ 48 ∷ 48 ∷ 48 ∷ 48 ∷ 48 ∷ 48 ∷ 48 ∷ 48 ∷ 48 ∷ 48 ∷ 48 ∷ 55 ∷ 48 ∷ 51 ∷ 101 ∷ 56 ∷ 48 ∷ 98 ∷ 98 ∷ 56 ∷ 48 ∷ 51 ∷ 101 ∷ 56 ∷ 48 ∷ 55 ∷ 100 ∷ 48 ∷ 10 ∷ []
-unfolding recordLines statusLines writtenLine statusText octetsLine decimalOf decimalOnto hexOf areaStatusWritten areaStatusBuffer fromTable fromFound holesFrom edgeFrom progress complete keys find runsOf skipsTooMany leastRoom sizeRefusal transferWritten transferBuffer statusFields holeRoom holesSent partialSent widthBits statusFlags pairs statusOctets lastOffset responseSent statusPacket writtenFor bufferFor statusWritten statusBuffer put
+unfolding recordLines statusLines writtenLine statusText octetsLine decimalOf decimalOnto hexOf areaStatusWritten areaStatusBuffer fromTable fromFound holesFrom edgeFrom progress complete keys find runsOf skipsTooMany leastRoom sizeRefusal transferWritten transferBuffer frontOctets holeRoom holesSent partialSent widthBits statusFlags pairs statusOctets lastOffset responseSent statusPacket writtenFor bufferFor statusWritten statusBuffer put
 status-written area e = rw e
 
 -- a body of 258 octets

@@ -23,8 +23,8 @@ use Rattle.packet_status.proofs.FailureLaws.{failure-fine}
 use Rattle.packet_status.proofs.RoundTrip.{failure-length}
 use Rattle.transfer.specs.declared.Key.{Key}
 use Rattle.transfer.specs.Transfers.{Transfer}
-use Rattle.transfer.specs.WriteStatus.{statusPacket, transferRefused, transferBuffer}
-use Rattle.transfer.proofs.StatusSize.{status-size-fits}
+use Rattle.transfer_status.specs.WriteStatus.{statusPacket, transferRefused, transferBuffer}
+use Rattle.transfer_status.proofs.StatusSize.{status-size-fits}
 use Rattle.table.specs.Tables.{Valid, keys, find, runsOf}
 use Rattle.table.specs.WriteStatus.{bufferFor, statusBuffer}
 use Rattle.table.specs.declared.Opened.{Opened}

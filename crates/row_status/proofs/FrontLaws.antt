@@ -1,19 +1,26 @@
 -- The fields before the holes of a STATUS, by what the rows say.
 -- Assumes nothing.
 use Prim.Native.Nat.{ℕ}
-use mathlib.Core.Path.{_≡_, _∙_}
+use mathlib.Core.Path.{_≡_, ap, _∙_}
 use mathlib.Core.Bool.{Bool, cond, _||_}
 use mathlib.Core.List.{List}
 use Rattle.octets.specs.Put.{put}
 use Rattle.runs.specs.Runs.{Run}
 use Rattle.runs.specs.Holes.{edge, progress, complete}
+use Rattle.success_status.specs.SuccessStatus.{frontOctets}
+use Rattle.success_status.specs.declared.Fields.{Fields}
 use Rattle.transfer.specs.declared.Key.{Key}
-use Rattle.transfer.specs.WriteStatus.{statusFlags, statusFields, lastOffset, responseSent}
+use Rattle.transfer_status.specs.WriteStatus.{lastOffset, responseSent, fieldsSent}
 
-pub front-put : (key : Key) (rs : List Run) (partial unasked done told : Bool) (from end to : ℕ) (old x : List ℕ)
-    → done ≡ complete (key .length) rs → told ≡ (unasked || done) → from ≡ progress rs → end ≡ edge rs
-    → to ≡ cond done (lastOffset (key .length)) end
-    → x ≡ put 0 (statusFields (statusFlags (key .width) partial told) (key .id) (key .width) from to) old
-    → x ≡ put 0 (statusFields (statusFlags (key .width) partial (unasked || complete (key .length) rs)) (key .id) (key .width) (progress rs) (responseSent (key .length) rs)) old
-unfolding responseSent
-front-put key rs partial unasked done told from end to old x d t f e r g = g ∙ rw (r, t, d, f, e)
+module _ (key : Key) (rs : List Run) (partial unasked done told : Bool) (from end to : ℕ) (d : done ≡ complete (key .length) rs)
+    (t : told ≡ (unasked || done)) (p : from ≡ progress rs) (e : end ≡ edge rs) (r : to ≡ cond done (lastOffset (key .length)) end) where
+  -- the fields as they are filled in
+  abbrev filled : Fields
+  filled = record { id = key .id; width = key .width; partial = partial; unasked = told; progress = from; response = to }
+
+  front-same : filled ≡ fieldsSent key rs partial unasked
+  unfolding responseSent
+  front-same = rw (r, t, d, p, e)
+
+  pub front-put : (old x : List ℕ) → x ≡ put 0 (frontOctets filled) old → x ≡ put 0 (frontOctets (fieldsSent key rs partial unasked)) old
+  front-put old x g = g ∙ ap (λ (f : Fields). put 0 (frontOctets f) old) front-same

@@ -1,15 +1,17 @@
 // STATUS of one transfer whose runs are kept in two rows of words.
 ghost use mathlib.Core.Path.{_≡_};
-ghost use mathlib.Core.Bool.{_||_};
 ghost use Prim.Native.Nat.{_+_, _*_, _≤_};
 ghost use lib.ListN.{length, take, drop};
 ghost use Rattle.octets.specs.Numbers.{Width};
 ghost use Rattle.octets.specs.Put.{put};
-ghost use Rattle.runs.specs.Holes.{holes, progress, complete};
+ghost use Rattle.runs.specs.Holes.{holes};
 ghost use Rattle.run_rows.specs.Rows.{runsIn, RowsFit, RowsFine};
-ghost use Rattle.transfer.specs.WriteStatus.{statusFlags, statusFields, responseSent, pairs, transferWritten, transferBuffer};
+ghost use Rattle.hole_list.specs.Pairs.{pairs};
+ghost use Rattle.success_status.specs.SuccessStatus.{frontSize, frontOctets};
+ghost use Rattle.transfer_status.specs.WriteStatus.{fieldsSent, transferWritten, transferBuffer};
 use refusals::Written;
 use run_rows::Rows;
+use success_status::Fields;
 use transfer::Key;
 
 // The `count` holes from hole `first` on, one after the other, from octet `from` on.
@@ -32,7 +34,7 @@ fn put_pairs(
     let mut left = count;
     while 0 < left {
         let h = run_rows::hole_at(buf, rows, j);
-        transfer::status::put_hole(out, at, width, h);
+        hole_list::put_hole(out, at, width, h);
         at = at + 2 * width;
         j += 1;
         left -= 1;
@@ -71,18 +73,24 @@ fn put_holes(
 
 // What stands before the holes.
 fn put_front(buf: &[u8], key: Key, rows: Rows, partial: bool, unasked: bool, out: &mut [u8])
-    requires { ⌜ RowsFit (now buf) rows × (8 + 2 * key .width ≤ length (now out)) ⌝ }
+    requires { ⌜ RowsFit (now buf) rows × (frontSize (key .width) ≤ length (now out)) ⌝ }
     ensures { λ _. ⌜ now (out .exit)
-        ≡ put 0 (statusFields (statusFlags (key .width) partial (unasked || complete (key .length) (runsIn (now (buf .entry)) rows)))
-        (key .id) (key .width) (progress (runsIn (now (buf .entry)) rows))
-        (responseSent (key .length) (runsIn (now (buf .entry)) rows))) (now (out .entry)) ⌝ }
+        ≡ put 0 (frontOctets (fieldsSent key (runsIn (now (buf .entry)) rows) partial unasked)) (now (out .entry)) ⌝ }
 {
     let done = run_rows::is_complete(buf, rows, key.length);
-    let told = transfer::status::unasked_or_complete(unasked, done);
+    let told = transfer_status::unasked_or_complete(unasked, done);
     let progress = run_rows::progress_of(buf, rows);
     let edge = run_rows::edge_of(buf, rows);
-    let response = transfer::status::response_sent(key.length, done, edge);
-    transfer::status::put_fields(out, key, progress, response, partial, told);
+    let response = transfer_status::response_sent(key.length, done, edge);
+    let fields = Fields {
+        id: key.id,
+        width: key.width,
+        partial,
+        unasked: told,
+        progress,
+        response,
+    };
+    success_status::put_fields(out, fields);
 }
 
 // STATUS of the transfer with this key and the runs in these rows: after the first `skip` holes as many as fit.
@@ -101,15 +109,15 @@ pub fn write_rows(
     let width = key.width;
     let holes = run_rows::hole_count(buf, rows);
     let room = out.len();
-    let n = transfer::status::size_refusal(width, holes, skip, room);
+    let n = transfer_status::size_refusal(width, holes, skip, room);
     if n != 0 {
         return Written::Refused(refusals::refuse(n));
     }
-    let count = transfer::status::holes_to_send(width, holes, skip, room);
-    let partial = transfer::status::partial_sent(width, holes, skip, room);
-    let fields = 8 + 2 * width;
-    let size = fields + 2 * width * count;
+    let count = transfer_status::holes_to_send(width, holes, skip, room);
+    let partial = transfer_status::partial_sent(width, holes, skip, room);
+    let front = success_status::front_size(width);
+    let size = success_status::status_size(width, count);
     put_front(buf, key, rows, partial, unasked, out);
-    put_holes(buf, rows, width, skip as usize, count, out, fields);
+    put_holes(buf, rows, width, skip as usize, count, out, front);
     Written::Size(size)
 }

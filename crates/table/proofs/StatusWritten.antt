@@ -1,8 +1,8 @@
 -- STATUS written for an Id of a table: the answer, every octet of the buffer, and what the buffer then reads as.
 -- Assumes nothing.
-use Prim.Native.Nat.{ℕ, _+_, _*_, _<_, _≤_}
+use Prim.Native.Nat.{ℕ, _<_, _≤_}
 use mathlib.Core.Path.{_≡_, sym, ap, _∙_}
-use mathlib.Core.Bool.{Bool, _||_}
+use mathlib.Core.Bool.{Bool}
 use mathlib.Core.List.{List, _++_}
 use mathlib.Core.Logic.{_⊎_}
 use mathlib.Core.Option.{none, some}
@@ -20,15 +20,16 @@ use Rattle.packet_status.specs.Status.{holeList, readStatus}
 use Rattle.packet_status.specs.declared.StatusRead.{StatusRead}
 use Rattle.packet_status.specs.declared.StatusRead.the-variants.{Success}
 use Rattle.runs.specs.Runs.{Run}
-use Rattle.runs.specs.Holes.{holes, progress, complete}
+use Rattle.runs.specs.Holes.{holes}
 use Rattle.transfer.specs.declared.Key.{Key}
 use Rattle.transfer.specs.Transfers.{Transfer}
 use Rattle.table.specs.Tables.{Valid, keys, find, runsOf}
 use Rattle.table.specs.WriteStatus.{writtenFor, bufferFor, statusWritten, statusBuffer}
-use Rattle.transfer.specs.WriteStatus.{holesSent, partialSent, statusFlags, responseSent, statusPacket, transferRefused, transferWritten, transferBuffer}
+use Rattle.success_status.specs.SuccessStatus.{statusSize, fieldsRead}
+use Rattle.transfer_status.specs.WriteStatus.{holesSent, partialSent, fieldsSent, statusPacket, transferRefused, transferWritten, transferBuffer}
 use Rattle.table.proofs.FindLaws.{Found, found-fine}
-use Rattle.transfer.proofs.StatusSize.{status-fits, status-size, status-size-fits}
-use Rattle.transfer.proofs.StatusReads.{status-read, status-holes-read}
+use Rattle.transfer_status.proofs.StatusSize.{status-fits, status-size, status-size-fits}
+use Rattle.transfer_status.proofs.StatusReads.{status-read, status-holes-read}
 
 module _ (t : List Transfer) (v : Valid t) (id k : ℕ) (unasked : Bool) (old : List ℕ) (key : Key) (found : find id (keys t) ≡ some key)
     (ok : transferRefused key (runsOf t id) k unasked old ≡ 0) where
@@ -43,7 +44,7 @@ module _ (t : List Transfer) (v : Valid t) (id k : ℕ) (unasked : Bool) (old : 
   sent = holesSent d k (length old) (holes rs)
 
   abbrev size : ℕ
-  size = 8 + 2 * d + 2 * d * length sent
+  size = statusSize d (length sent)
 
   known : Found id key rs
   known = found-fine t v id key found
@@ -75,16 +76,7 @@ module _ (t : List Transfer) (v : Valid t) (id k : ℕ) (unasked : Bool) (old : 
 
   -- the fields that are written, with the Id i
   abbrev fieldsWith : ℕ → StatusRead
-  fieldsWith i = Success (record {
-    flags = statusFlags d (partialSent d k (length old) (length (holes rs))) (unasked || complete (key .length) rs);
-    id = i;
-    width = d;
-    timestamp = 0;
-    progress = progress rs;
-    response = responseSent (key .length) rs;
-    holes = 8 + 2 * d;
-    count = length sent;
-  })
+  fieldsWith i = Success (fieldsRead (fieldsSent (record { id = i; width = d; length = key .length }) rs (partialSent d k (length old) (length (holes rs))) unasked) (length sent))
 
   allowed : (k ≡ 0) ⊎ (k < length (holes rs))
   allowed = status-fits d (length (holes rs)) k (length old) ok .allowed

@@ -10,7 +10,7 @@ use Rattle.refusals.specs.declared.Written.the-variants.{Refused}
 use Rattle.runs.specs.Runs.{Run}
 use Rattle.transfer.specs.declared.Key.{Key}
 use Rattle.transfer.specs.Transfers.{Transfer}
-use Rattle.transfer.specs.WriteStatus.{transferWritten, transferBuffer}
+use Rattle.transfer_status.specs.WriteStatus.{transferWritten, transferBuffer}
 use Rattle.table.specs.Tables.{keys, find, runsOf}
 
 -- by what is open under the Id: 12 where nothing is

@@ -2,12 +2,4 @@ pub mod FieldLaws
 pub mod ReachedLaws
 pub mod ExtendLaws
 pub mod LimitLaws
-pub mod StatusSize
-pub mod StatusPartial
-pub mod StatusFlags
-pub mod StatusResponse
-pub mod StatusReads
-pub mod StatusSays
-pub mod StatusPuts
-pub mod StatusWriter
 pub mod LengthLaws

@@ -1,3 +1,2 @@
 pub mod Transfers
 pub mod Record
-pub mod WriteStatus

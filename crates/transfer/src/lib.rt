@@ -1,13 +1,11 @@
-// One transfer: its key, what a packet's fields are refused with, and the fields of its STATUS. The received offsets stay
-// where they are kept; specs/ says what becomes of them.
+// One transfer: its key, and what a packet's fields are refused with. The received offsets stay where they are kept; specs/ says
+// what becomes of them.
 ghost use mathlib.Core.Path.{_≡_};
 ghost use mathlib.Core.List.{[]};
 ghost use Rattle.transfer.specs.Transfers.{keyOf, lengthTest, reached};
 ghost use Rattle.transfer.specs.Record.{keyRefusal};
 use packet_data::Data;
 use packet_metadata::Metadata;
-
-pub mod status;
 
 // What METADATA opens: an Id, a width (the octets of a descriptor), and the length L.
 pub struct Key {

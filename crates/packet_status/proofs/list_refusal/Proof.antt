@@ -13,9 +13,9 @@ use Rattle.refusals.specs.Refusals.{when}
 use Rattle.header.specs.FirstWord.{descriptorOctets, timestampOctets}
 use Rattle.header.specs.Start.{wordOf}
 use Rattle.header.proofs.FirstWordLaws.{octets-le, octets-width}
-use Rattle.packet_status.specs.HoleList.{holesOf, holesWell, pointsToLast, listWell}
+use Rattle.hole_list.specs.HoleList.{holesOf, holesWell, pointsToLast, listWell}
 use Rattle.packet_status.specs.Status.{holesAt, listOctets, holeCount, holeList, listRefusal}
-use Rattle.packet_status.proofs.HoleListLaws.{length-holes}
+use Rattle.hole_list.proofs.HoleListLaws.{length-holes}
 use Rattle.packet_status.proofs.StatusLaws.{list-fits, fields-there, pairs-none}
 use borrow.Author.Needs.{needs}
 use native.Mathlib.Omega.{arith}

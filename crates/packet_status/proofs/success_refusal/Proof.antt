@@ -1,6 +1,6 @@
 -- `packet_status::success_refusal` meets its contract: each refusal stands where those before it are none.
 -- Assumes nothing.
-use Prim.Native.Nat.{_+_, _*_, _-_, _/_, _≤_}
+use Prim.Native.Nat.{_+_, _*_, _-_, _≤_}
 use mathlib.Core.Path.{_≡_, sym, ap, _∙_}
 use native.Mathlib.Nat.{div-mul-le-self}
 use denote.Ref.{now}
@@ -13,7 +13,8 @@ use Rattle.header.specs.Start.{wordOf}
 use Rattle.header.specs.Descriptor.{descriptorRefusal}
 use Rattle.header.proofs.FirstWordLaws.{octets-width}
 use Rattle.header.proofs.DescriptorLaws.{descriptor-there}
-use Rattle.packet_status.specs.Status.{progressAt, responseAt, holesAt, listOctets, listDescriptors, descriptorsRefusal, DescriptorsFine, successRefusal}
+use Rattle.hole_list.specs.DescriptorList.{descriptorsRefusal}
+use Rattle.packet_status.specs.Status.{progressAt, responseAt, holesAt, listOctets, listDescriptors, DescriptorsFine, successRefusal}
 use borrow.Author.Needs.{needs}
 use native.Mathlib.Omega.{arith}
 use Rattle.packet_status.proofs.success_refusal.Statement.{statement}

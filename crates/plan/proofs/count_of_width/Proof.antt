@@ -8,7 +8,7 @@ use native.Mathlib.Omega.{arith}
 use mathlib.Core.List.{[]}
 use lib.ListN.{length, drop, drop-of-length-le}
 use Rattle.packet_status.specs.Status.{holeList}
-use Rattle.packet_status.proofs.AcceptedLaws.{nth}
+use Rattle.hole_list.proofs.AcceptedLaws.{nth}
 use Rattle.packet_status.proofs.StatusLaws.{hole-fine, listed-hole}
 use Rattle.runs.specs.declared.Hole.{Hole}
 use Rattle.plan.specs.Pieces.{pieceCount, planOf}

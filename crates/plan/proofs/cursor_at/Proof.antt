@@ -5,7 +5,7 @@ use denote.Ref.{now}
 use native.Mathlib.Omega.{arith}
 use borrow.Author.Tests.{lt-ltb, le-ltb}
 use Rattle.packet_status.specs.Status.{indexedHole, holeList}
-use Rattle.packet_status.proofs.AcceptedLaws.{nth}
+use Rattle.hole_list.proofs.AcceptedLaws.{nth}
 use Rattle.packet_status.proofs.StatusLaws.{hole-fine, listed-hole}
 use Rattle.plan.specs.Planning.{cursorAt}
 use Rattle.plan.proofs.PieceLaws.{hole}

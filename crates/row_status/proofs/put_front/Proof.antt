@@ -14,9 +14,9 @@ returns c =
     let p = e .before in
     let u = p .before in
     let a = u .before .before .before .before .args in
-    front-put (a .key) (runsIn (now (a .buf)) (a .rows)) (a .partial) (a .unasked) _ _ _ _ _ (now (a .out)) _
+    front-put (a .key) (runsIn (now (a .buf)) (a .rows)) (a .partial) (a .unasked) _ _ _ _ _
     (u .before .is-complete .ensures) (u .unasked-or-complete .ensures) (p .progress-of .ensures) (e .edge-of .ensures) (r .response-sent .ensures)
-    (c .before .before .put-fields .ensures)
+    (now (a .out)) _ (c .before .before .put-fields .ensures)
 
 pub put-front-spec : {M : Type 1} → statement M
 put-front-spec =

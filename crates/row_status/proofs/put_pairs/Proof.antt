@@ -11,8 +11,8 @@ use Rattle.runs.specs.Holes.{holes}
 use Rattle.runs.proofs.HolePlaces.{holes-few}
 use Rattle.run_rows.specs.Rows.{runsIn}
 use Rattle.run_rows.proofs.RowsLaws.{length-runs}
-use Rattle.transfer.specs.WriteStatus.{pairs}
-use Rattle.transfer.proofs.StatusPuts.{one-less, pairs-step, pairs-end}
+use Rattle.hole_list.specs.Pairs.{pairs}
+use Rattle.hole_list.proofs.PairLaws.{one-less, pairs-step, pairs-end}
 use Rattle.row_status.proofs.put_pairs.Statement.{statement}
 use Rattle.row_status.proofs.put_pairs.Tie as tie
 

@@ -1,7 +1,7 @@
 -- `row_status::write_rows` meets its contract: a refusal leaves the buffer, and else the packet stands in it.
 -- Assumes nothing.
-use Prim.Native.Nat.{ℕ, _+_, _*_, _-_, _≤_, min}
-use mathlib.Core.Path.{_≡_, refl, ap, _∙_}
+use Prim.Native.Nat.{ℕ, _+_, _-_, _≤_, min}
+use mathlib.Core.Path.{_≡_, ap, _∙_}
 use native.Mathlib.Omega.{arith}
 use borrow.Author.Needs.{needs}
 use denote.Ref.{now}
@@ -9,9 +9,10 @@ use lib.ListN.{length}
 use Rattle.octets.proofs.NumberLaws.{width-le}
 use Rattle.runs.specs.Holes.{holes}
 use Rattle.run_rows.specs.Rows.{runsIn}
-use Rattle.transfer.specs.WriteStatus.{sizeRefusal, holeRoom, transferRefused}
-use Rattle.transfer.proofs.StatusSize.{skip-there}
-use Rattle.transfer.proofs.StatusWriter.{sent-room, transfer-refused, transfer-written}
+use Rattle.success_status.specs.SuccessStatus.{statusSize}
+use Rattle.transfer_status.specs.WriteStatus.{sizeRefusal, holeRoom, transferRefused}
+use Rattle.transfer_status.proofs.StatusSize.{skip-there}
+use Rattle.transfer_status.proofs.StatusWriter.{sent-room, transfer-refused, transfer-written}
 use Rattle.row_status.proofs.write_rows.Statement.{statement}
 use Rattle.row_status.proofs.write_rows.Tie as tie
 
@@ -46,7 +47,7 @@ count-is c = c .holes-to-send .ensures ∙ rw (c .before .before .before .hole-c
 known : (c : tie.After-holes-to-send)
     → let a = c .before .before .before .before .before .before .args in
     (a .skip + c .holes-to-send .result ≤ length (holes (runsIn (now (a .buf)) (a .rows))))
-    × (8 + 2 * a .key .width + 2 * a .key .width * c .holes-to-send .result ≤ length (now (a .out)))
+    × (statusSize (a .key .width) (c .holes-to-send .result) ≤ length (now (a .out)))
 known c =
     let before-place = c .before .before .before .before .before in
     let s = before-place .before in
@@ -59,47 +60,46 @@ known c =
       sent-room (a .key .width) n (a .skip) (length (now (a .out))) (s .pre .1) z (c .holes-to-send .result) (omega arith),
     )
 
-mul-fields : tie.Need-mul-fields
-mul-fields c = omega (arith, known (c .before) .1)
+-- the width is one of the four, and the packet has room, from the place where bit 14 is known
+sized : (c : tie.After-partial-sent)
+    → let a = c .before .before .before .before .before .before .before .args in
+    (a .key .width ≤ 16) × (statusSize (a .key .width) (c .before .holes-to-send .result) ≤ length (now (a .out)))
+sized c = (width-le (c .before .before .before .before .before .before .before .pre .1), known (c .before) .1)
 
-add-fields : tie.Need-add-fields
-add-fields c = omega (arith, known (c .before) .1)
+front-size-requires : tie.Need-front-size-requires
+front-size-requires c κs = sized c .0
 
-mul-size : tie.Need-mul-size
-mul-size c = omega (arith, known (c .before) .1)
-
-mul-size-2 : tie.Need-mul-size-2
-mul-size-2 c = omega (arith, known (c .before) .1)
-
-add-size : tie.Need-add-size
-add-size c = omega (arith, known (c .before) .1)
+status-size-requires : tie.Need-status-size-requires
+status-size-requires c κs = (sized (c .before) .0, omega (arith, sized (c .before) .1))
 
 put-front-requires : tie.Need-put-front-requires
 put-front-requires c κs =
-    let start = c .before .before .before .before .before .before .before .before in
-    (start .pre .0 .fit, omega (arith, known (c .before .before) .1))
+    let partial-place = c .before .before .before in
+    let start = partial-place .before .before .before .before .before .before .before in
+    (start .pre .0 .fit, omega (arith, sized partial-place .1))
 
 put-holes-requires : tie.Need-put-holes-requires
 put-holes-requires c κs =
-    let before-place = c .before .before .before .before .before in
-    let before-place-11 = before-place .before .before .before .before .before .before in
-    let s = before-place-11 .before in
-    let k = known (before-place .before) in
-    (s .pre .1, s .pre .0, omega (arith, k .0), search needs)
+    let front-size-place = c .before .before .before .before .before .before in
+    let partial-place = front-size-place .before in
+    let s = partial-place .before .before .before .before .before .before .before in
+    (s .pre .1, s .pre .0, known (partial-place .before) .0, omega (arith, front-size-place .front-size .ensures, sized partial-place .1))
 
 returns-2 : tie.Need-returns-2
 returns-2 c =
     let put-holes-place = c .before .before in
     let put-front-place = put-holes-place .before .before .before .before in
-    let before-place = put-front-place .before .before in
-    let h = before-place .before in
+    let size-place = put-front-place .before .before in
+    let front-size-place = size-place .before in
+    let partial-place = front-size-place .before in
+    let h = partial-place .before in
     let s = h .before .before .before .before .before .before in
     let a = s .args in
-    let p = before-place .partial-sent in
+    let p = partial-place .partial-sent in
     transfer-written (a .key) (runsIn (now (a .buf)) (a .rows)) (a .skip) (a .unasked) (now (a .out)) (s .pre .1) (none (h .before))
-    (p .result) _ (h .holes-to-send .result) _ _ _
-    (p .ensures ∙ rw (h .before .before .before .hole-count .ensures)) refl (count-is h) refl
-    (put-front-place .put-front .ensures) (put-holes-place .put-holes .ensures)
+    (p .result) (h .holes-to-send .result) _ _ _
+    (p .ensures ∙ rw (h .before .before .before .hole-count .ensures)) (count-is h) (size-place .status-size .ensures)
+    (put-front-place .put-front .ensures) (put-holes-place .put-holes .ensures ∙ rw (front-size-place .front-size .ensures))
 
 pub write-rows-spec : {M : Type 1} → statement M
 write-rows-spec =
@@ -111,11 +111,8 @@ write-rows-spec =
     returns
     (λ c κs. search needs)
     (λ c κs. search needs)
-    mul-fields
-    add-fields
-    mul-size
-    mul-size-2
-    add-size
+    front-size-requires
+    status-size-requires
     put-front-requires
     put-holes-requires
     (λ c. search needs)

@@ -1,0 +1,3 @@
+pub mod HoleList
+pub mod DescriptorList
+pub mod Pairs

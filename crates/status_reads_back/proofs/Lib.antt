@@ -1,0 +1,3 @@
+pub mod TransferReads
+pub mod AreasReadBack
+pub mod MarksReadBack

@@ -1,0 +1,4 @@
+pub mod FlagLaws
+pub mod SizeLaws
+pub mod PutLaws
+pub mod RoundTrip

@@ -1,0 +1,39 @@
+-- `success_status::put_fields` meets its contract: the parts stand one after the other.
+-- Assumes nothing.
+use denote.Ref.{now}
+use borrow.Author.Needs.{needs}
+use native.Mathlib.Omega.{arith}
+use Rattle.success_status.proofs.FlagLaws.{flags-fit}
+use Rattle.success_status.proofs.PutLaws.{fields-put}
+use Rattle.success_status.proofs.put_fields.Statement.{statement}
+use Rattle.success_status.proofs.put_fields.Tie as tie
+
+join-requires : tie.Need-join-requires
+join-requires c κs = (omega arith, rw (c .before .status-flags .ensures) (flags-fit (c .before .before .before .args .f)))
+
+returns : tie.Need-returns
+returns c =
+    let fourth = c .before .before in
+    let third = fourth .before .before .before .before in
+    let second = third .before .before .before .before in
+    let first = second .before .before .before .before in
+    let word = first .before in
+    let flags = word .before .before in
+    let a = flags .before .before .args in
+    fields-put (a .f) (flags .status-flags .result) (word .join .result) (now (a .out)) _ _ _ _ (omega arith)
+    (flags .status-flags .ensures) (word .join .ensures) (first .write-number .ensures) (second .write-number2 .ensures)
+    (third .write-number3 .ensures) (fourth .write-number4 .ensures)
+
+pub put-fields-spec : {M : Type 1} → statement M
+put-fields-spec =
+    tie.close
+    (tie.spec
+    (λ c κs. search needs)
+    join-requires
+    (λ c κs. search needs)
+    (λ c κs. search needs)
+    (λ c κs. search needs)
+    (λ c. search needs)
+    (λ c κs. search needs)
+    (λ c. search needs)
+    returns)

@@ -1,0 +1,86 @@
+-- "Writing STATUS for an open Id takes a number k of holes to skip and whether it was unasked": which fields and holes the STATUS of
+-- one transfer has.
+-- Assumes nothing.
+use Prim.Native.Nat.{ℕ, zero, suc, _*_, _-_, _/_}
+use mathlib.Core.Bool.{Bool, cond, not, _&&_, _||_}
+use mathlib.Core.List.{List}
+use lib.ListN.{length, take, drop}
+use lib.Dec.{ltb, eqb}
+use Rattle.refusals.specs.Refusals.{_▹_, when}
+use Rattle.refusals.specs.Writing.{writtenOf, bufferAfter}
+use Rattle.refusals.specs.declared.Written.{Written}
+use Rattle.runs.specs.Runs.{Run}
+use Rattle.runs.specs.Holes.{edge, holes, progress, complete}
+use Rattle.runs.specs.declared.Hole.{Hole}
+use Rattle.success_status.specs.SuccessStatus.{frontSize, statusSize, statusOctets}
+use Rattle.success_status.specs.declared.Fields.{Fields}
+use Rattle.transfer.specs.declared.Key.{Key}
+
+-- ---- 19 and 20, with descriptors of d octets and n holes
+
+-- "k must be 0 or less than the number of holes": whether it is neither
+unfoldable pub skipsTooMany : ℕ → ℕ → Bool
+skipsTooMany k n = not (eqb k 0) && not (ltb k n)
+
+-- the octets that a STATUS has at least: "If there are holes, room for at least one is needed"
+unfoldable pub leastRoom : ℕ → ℕ → ℕ
+leastRoom d n = cond (eqb n 0) (frontSize d) (statusSize d 1)
+
+unfoldable pub sizeRefusal : ℕ → ℕ → ℕ → ℕ → ℕ
+sizeRefusal d n k room = when (skipsTooMany k n) 19 ▹ when (ltb room (leastRoom d n)) 20
+
+-- ---- the holes that are written
+
+-- how many holes a buffer of so many octets has room for
+unfoldable pub holeRoom : ℕ → ℕ → ℕ
+holeRoom d room = (room - frontSize d) / (2 * d)
+
+-- "It writes as many holes as fit, lowest first, after the first k"
+unfoldable pub holesSent : ℕ → ℕ → ℕ → List Hole → List Hole
+holesSent d k room hs = take (holeRoom d room) (drop k hs)
+
+-- "Bit 14 is set exactly when some hole was skipped or did not fit", of n holes
+unfoldable pub partialSent : ℕ → ℕ → ℕ → ℕ → Bool
+partialSent d k room n = ltb 0 k || ltb (holeRoom d room) (n - k)
+
+-- ---- the fields
+
+-- "for a complete transfer In-Response-To is L - 1, or 0 where L is 0"
+unfoldable pub lastOffset : ℕ → ℕ
+lastOffset zero = 0
+lastOffset (suc n) = n
+
+-- "All other STATUS packets keep the edge"
+unfoldable pub responseSent : ℕ → List Run → ℕ
+responseSent L rs = cond (complete L rs) (lastOffset L) (edge rs)
+
+-- with bit 14 by `partial`: "Bit 15 is set if unasked or complete"
+abbrev pub fieldsSent : Key → List Run → Bool → Bool → Fields
+fieldsSent key rs partial unasked =
+    record {
+      id = key .id;
+      width = key .width;
+      partial = partial;
+      unasked = unasked || complete (key .length) rs;
+      progress = progress rs;
+      response = responseSent (key .length) rs;
+    }
+
+-- the STATUS of a transfer
+unfoldable pub statusPacket : Key → List Run → ℕ → Bool → ℕ → List ℕ
+statusPacket key rs k unasked room =
+    let d = key .width in
+    let hs = holes rs in
+    statusOctets (fieldsSent key rs (partialSent d k room (length hs)) unasked) (holesSent d k room hs)
+
+-- ---- the writer's answer, and the buffer at exit
+
+module _ (key : Key) (rs : List Run) (k : ℕ) (unasked : Bool) (old : List ℕ) where
+  abbrev pub transferRefused : ℕ
+  transferRefused = sizeRefusal (key .width) (length (holes rs)) k (length old)
+
+  unfoldable pub transferWritten : Written
+  transferWritten = writtenOf transferRefused (length (statusPacket key rs k unasked (length old)))
+
+  unfoldable pub transferBuffer : List ℕ
+  transferBuffer = bufferAfter transferRefused (statusPacket key rs k unasked (length old)) old

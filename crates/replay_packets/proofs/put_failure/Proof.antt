@@ -1,10 +1,10 @@
--- `replay_lines::put_failure` meets its contract: one part after the other.
+-- `replay_packets::put_failure` meets its contract: one part after the other.
 -- Assumes nothing.
 use borrow.Author.Needs.{needs}
 use Rattle.text.proofs.AddedLaws.{_then_}
-use Rattle.replay_lines.specs.Lines.{failureLine}
-use Rattle.replay_lines.proofs.put_failure.Statement.{statement}
-use Rattle.replay_lines.proofs.put_failure.Tie as tie
+use Rattle.replay_packets.specs.PacketLines.{failureLine}
+use Rattle.replay_packets.proofs.put_failure.Statement.{statement}
+use Rattle.replay_packets.proofs.put_failure.Tie as tie
 
 put-field-requires : tie.Need-put-field-requires
 put-field-requires c κs = c .before .before .before .before .put-decimal .ensures .within

@@ -1,12 +1,12 @@
--- `replay_lines::put_entry` meets its contract: one part after the other.
+-- `replay_packets::put_entry` meets its contract: one part after the other.
 -- Assumes nothing.
 use mathlib.Core.Path.{ap}
 use borrow.Author.Needs.{needs}
 use Rattle.text.proofs.AddedLaws.{_then_, added-as}
 use Rattle.replay_fields.specs.Fields.{octetsField}
 use Rattle.replay_fields.specs.LineWords.{w-path}
-use Rattle.replay_lines.proofs.put_entry.Statement.{statement}
-use Rattle.replay_lines.proofs.put_entry.Tie as tie
+use Rattle.replay_packets.proofs.put_entry.Statement.{statement}
+use Rattle.replay_packets.proofs.put_entry.Tie as tie
 
 returns : tie.Need-returns
 returns c =

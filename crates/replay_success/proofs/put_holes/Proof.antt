@@ -1,4 +1,4 @@
--- `replay_lines::put_holes` meets its contract: before each turn the first i holes have been put.
+-- `replay_success::put_holes` meets its contract: before each turn the first i holes have been put.
 -- Assumes nothing.
 use Prim.Native.Nat.{_-_, _≤_}
 use mathlib.Core.Path.{_≡_}
@@ -8,9 +8,9 @@ use denote.Ref.{now}
 use borrow.Author.Needs.{needs}
 use Rattle.text.specs.Added.{Added}
 use Rattle.text.proofs.AddedLaws.{_then_, added-none}
-use Rattle.replay_lines.specs.Lines.{holesText}
-use Rattle.replay_lines.proofs.put_holes.Statement.{statement}
-use Rattle.replay_lines.proofs.put_holes.Tie as tie
+use Rattle.replay_success.specs.SuccessLine.{holesText}
+use Rattle.replay_success.proofs.put_holes.Statement.{statement}
+use Rattle.replay_success.proofs.put_holes.Tie as tie
 
 abbrev Inv-loop : tie.InvT-loop
 Inv-loop out₀ at p count listed next₀ i₀ out next i = (i ≤ count) × Added out₀ at (holesText p i) out next

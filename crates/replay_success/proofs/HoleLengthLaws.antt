@@ -16,8 +16,8 @@ use Rattle.packet_status.specs.declared.HoleRead.the-variants as hole-read
 use Rattle.text.proofs.LengthLaws.{AtMost, words, _and_, at-most, taken, decimal-octets}
 use Rattle.replay_fields.specs.LineWords.{comma, dash, newline, w-holes, w-progress, w-response, w-success, w-timestamp}
 use Rattle.replay_fields.proofs.LengthLaws.{fieldMost, field-most, octets-field-most, in-list-most}
-use Rattle.replay_lines.specs.Lines.{holeText, holeAfter, holesText, successLine}
-use Rattle.replay_lines.proofs.LengthLaws.{headMost, head-most}
+use Rattle.replay_success.specs.SuccessLine.{holeText, holeAfter, holesText, successLine}
+use Rattle.replay_packets.proofs.LengthLaws.{headMost, head-most}
 
 -- what d octets from any place on stand for
 part-below : (s : List ℕ) (at d : ℕ) → Octets s → beValue (take d (drop at s)) < 256 ^ d

@@ -1,4 +1,4 @@
--- `replay_lines::put_hole` meets its contract.
+-- `replay_success::put_hole` meets its contract.
 -- Assumes nothing.
 use mathlib.Core.Path.{_≡_, ap, _∙_}
 use native.Mathlib.Omega.{arith}
@@ -8,10 +8,10 @@ use Rattle.packet_status.specs.Status.{holeRefusal}
 use Rattle.packet_status.specs.declared.HoleRead.the-variants as hole-read
 use Rattle.runs.specs.declared.Hole.{Hole}
 use Rattle.text.proofs.AddedLaws.{added-as, added-none}
-use Rattle.replay_lines.specs.Lines.{holeAfter}
-use Rattle.replay_lines.proofs.HoleLaws.{listed-hole, unlisted-hole, listed-text}
-use Rattle.replay_lines.proofs.put_hole.Statement.{statement}
-use Rattle.replay_lines.proofs.put_hole.Tie as tie
+use Rattle.replay_success.specs.SuccessLine.{holeAfter}
+use Rattle.replay_success.proofs.HoleLaws.{listed-hole, unlisted-hole, listed-text}
+use Rattle.replay_success.proofs.put_hole.Statement.{statement}
+use Rattle.replay_success.proofs.put_hole.Tie as tie
 
 returns : tie.Need-returns
 returns c =

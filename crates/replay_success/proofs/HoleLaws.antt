@@ -13,7 +13,7 @@ use Rattle.header.specs.Start.{wordOf}
 use Rattle.packet_status.specs.Status.{holeCount, statusRefusal, successOf, acceptedStatus, readStatus, holeRefusal, indexedHole, readHole}
 use Rattle.packet_status.specs.declared.HoleRead.the-variants as hole-read
 use Rattle.packet_status.specs.declared.StatusRead.the-variants as status-read
-use Rattle.replay_lines.specs.Lines.{holesListed, holeAfter}
+use Rattle.replay_success.specs.SuccessLine.{holesListed, holeAfter}
 
 module _ (s : List ℕ) (i : ℕ) where
   pub listed-hole : i < holesListed (readStatus s) → holeRefusal i s ≡ 0

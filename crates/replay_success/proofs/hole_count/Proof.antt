@@ -1,10 +1,10 @@
--- `replay_lines::hole_count` meets its contract: a return for each case of what was read.
+-- `replay_success::hole_count` meets its contract: a return for each case of what was read.
 -- Assumes nothing.
 use mathlib.Core.Path.{sym, ap, _∙_}
 use borrow.Author.Needs.{needs}
-use Rattle.replay_lines.specs.Lines.{holesListed}
-use Rattle.replay_lines.proofs.hole_count.Statement.{statement}
-use Rattle.replay_lines.proofs.hole_count.Tie as tie
+use Rattle.replay_success.specs.SuccessLine.{holesListed}
+use Rattle.replay_success.proofs.hole_count.Statement.{statement}
+use Rattle.replay_success.proofs.hole_count.Tie as tie
 
 returns : tie.Need-returns
 returns c = ap holesListed (sym (c .before .s .given .1) ∙ c .before .before .before .read-status .ensures)

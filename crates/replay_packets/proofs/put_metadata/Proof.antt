@@ -1,13 +1,13 @@
--- `replay_lines::put_metadata` meets its contract: one part after the other.
+-- `replay_packets::put_metadata` meets its contract: one part after the other.
 -- Assumes nothing.
 use mathlib.Core.Path.{ap}
 use borrow.Author.Needs.{needs}
 use Rattle.text.proofs.AddedLaws.{_then_, added-as}
 use Rattle.replay_fields.specs.Fields.{octetsField}
 use Rattle.replay_fields.specs.LineWords.{w-checksum}
-use Rattle.replay_lines.specs.Lines.{metadataLine}
-use Rattle.replay_lines.proofs.put_metadata.Statement.{statement}
-use Rattle.replay_lines.proofs.put_metadata.Tie as tie
+use Rattle.replay_packets.specs.PacketLines.{metadataLine}
+use Rattle.replay_packets.proofs.put_metadata.Statement.{statement}
+use Rattle.replay_packets.proofs.put_metadata.Tie as tie
 
 returns : tie.Need-returns
 unfolding metadataLine

@@ -1,2 +1,3 @@
+pub mod AnsweredLaws
 pub mod CaseLaws
 pub mod LengthLaws

@@ -15,8 +15,9 @@ use Rattle.replay_answers.specs.AnswerLines.{statusText, sentText}
 
 -- Which refused packet is answered with a failure STATUS, to the Id in octets 4 to 7: one of at least 8 octets, of another type than
 -- BEACON, whose refusal has a code. "Every packet begins with a 32-bit word and a 32-bit Id", but for BEACON, which has no Id. The type is
--- bits 2 to 7: a packet that doesn't begin 0 1 has no code. `saratoga_failure_id` of include/saratoga.h and the link program, which
--- calls it, say the same. The writer would refuse code 0 too (21); that there is nothing to send for it is said here, where the rule is
+-- bits 2 to 7: a packet that doesn't begin 0 1 has no code (replay_deliver: AnsweredLaws). `saratoga_failure_id` of include/saratoga.h and
+-- the link program, which calls it, say the same. The writer would refuse code 0 too (21); that there is nothing to send for it is said
+-- here, where the rule is
 unfoldable pub failureSent : ℕ → List ℕ → ℕ → List ℕ → List ℕ
 failureSent n p code room =
     cond (eqb code 0) []

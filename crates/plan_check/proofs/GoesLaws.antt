@@ -9,7 +9,7 @@ use lib.ListN.{length}
 use lib.Dec.{ltb, eqb}
 use borrow.Author.Tests.{ltb-true, ltb-false, lt-ltb, eq-eqb, ne-eqb}
 use Rattle.runs.specs.declared.Hole.{Hole}
-use Rattle.packet_status.proofs.AcceptedLaws.{nth}
+use Rattle.hole_list.proofs.AcceptedLaws.{nth}
 use Rattle.plan.specs.Planning.{advanced}
 use Rattle.plan.specs.declared.Piece.{Piece}
 use Rattle.plan.specs.declared.Cursor.{Cursor}

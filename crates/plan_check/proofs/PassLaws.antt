@@ -9,7 +9,7 @@ use mathlib.Core.Logic.{_↔_}
 use native.Mathlib.Omega.{arith}
 use lib.ListN.{length}
 use Rattle.packet_status.specs.Status.{holeList}
-use Rattle.packet_status.proofs.AcceptedLaws.{nth}
+use Rattle.hole_list.proofs.AcceptedLaws.{nth}
 use Rattle.runs.specs.declared.Hole.{Hole}
 use Rattle.plan.specs.Pieces.{planOf}
 use Rattle.plan.specs.Planning.{resendRefusal}

@@ -2,38 +2,28 @@
 ghost use Rattle.replay_steps.specs.Room.{Room};
 use libc::STDIN_FILENO;
 use libc::STDOUT_FILENO;
-
-// Passes over n octets of the input, and says whether they were there.
-fn skip(fd: i32, n: u64) -> bool {
-    let mut left = n;
-    while 0 < left {
-        let got = skip_some(fd, left);
-        if got == 0 {
-            return false;
-        }
-        if left < got {
-            return true;
-        }
-        left -= got;
-    }
-    true
-}
-
-// Passes over some octets, at most n, and says how many; 0 at the end of the input.
-fn skip_some(fd: i32, n: u64) -> u64 {
-    let mut space = io::buffer();
-    if n < 4096 {
-        let room = n as usize;
-        return io::read_full(fd, &mut space[..room]) as u64;
-    }
-    io::read_full(fd, &mut space) as u64
-}
+use replay_input::Input;
 
 // The last line, of a record inside which the input ends.
 fn cut_short(number: u64, out: &mut [u8]) -> bool {
     let size = replay_steps::cut_short(number, out);
     io::write_all(STDOUT_FILENO, &out[..size]);
     false
+}
+
+// Writes the lines of one record, and says whether they were written.
+fn tell(
+    number: u64,
+    area: &mut [u8],
+    kind: u8,
+    body: &[u8],
+    lent: &mut [u8],
+    out: &mut [u8],
+) -> bool
+    requires { ⌜ Room (now body) (now lent) (now out) ⌝ }
+{
+    let size = replay_steps::answer(area, number, kind, body, lent, out);
+    io::write_all(STDOUT_FILENO, &out[..size])
 }
 
 // Answers one record, and says whether to go on.
@@ -47,25 +37,11 @@ fn step(
 ) -> bool
     requires { ⌜ Room (now body) (now lent) (now out) ⌝ }
 {
-    let mut head = [0u8; 5];
-    let got = io::read_full(fd, &mut head);
-    if got == 0 {
-        return false;
+    match replay_input::next(fd, body) {
+        Input::End => false,
+        Input::CutShort => cut_short(number, out),
+        Input::Record(kind, n) => tell(number, area, kind, &body[..n], lent, out),
     }
-    if got < 5 {
-        return cut_short(number, out);
-    }
-    let n = replay_steps::body_length(&head);
-    let keep = replay_steps::within(n, body.len());
-    let had = io::read_full(fd, &mut body[..keep]);
-    if had < keep {
-        return cut_short(number, out);
-    }
-    if !skip(fd, n - keep as u64) {
-        return cut_short(number, out);
-    }
-    let size = replay_steps::answer(area, number, head[0], &body[..keep], lent, out);
-    io::write_all(STDOUT_FILENO, &out[..size])
 }
 
 // A proved loop has to end, and nothing says that the input does. So the records are counted, up to a number that no input reaches.

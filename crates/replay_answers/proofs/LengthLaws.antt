@@ -29,10 +29,12 @@ use Rattle.table.specs.declared.Recorded.{Recorded}
 use Rattle.table.specs.declared.Recorded.the-variants as recorded
 use Rattle.text.proofs.LengthLaws.{AtMost, words, at-most, part-most}
 use Rattle.replay_fields.specs.LineWords.{w-already, w-fresh, w-new, w-send, w-written}
-use Rattle.replay_lines.specs.Lines.{refusedLine, successLine}
-use Rattle.replay_lines.proofs.LengthLaws.{plain-most, refused-most, close-most, opened-most, recordMost, record-most, failure-most, octets-most, metadataMost, metadata-most, data-most}
+use Rattle.replay_lines.specs.Lines.{refusedLine}
+use Rattle.replay_success.specs.SuccessLine.{successLine}
+use Rattle.replay_lines.proofs.LengthLaws.{plain-most, refused-most, close-most, opened-most, recordMost, record-most, octets-most}
+use Rattle.replay_packets.proofs.LengthLaws.{failure-most, metadataMost, metadata-most, data-most}
 use Rattle.replay_beacon.proofs.LengthLaws.{beacon-most}
-use Rattle.replay_lines.proofs.HoleLengthLaws.{successMost, success-most}
+use Rattle.replay_success.proofs.HoleLengthLaws.{successMost, success-most}
 use Rattle.replay_answers.specs.AnswerLines.{freshText, closeText, openingText, openText, recordingText, recordText, readText, statusText, sentText}
 use Rattle.replay_answers.proofs.CaseLaws.{read-cases}
 

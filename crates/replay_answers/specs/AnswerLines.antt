@@ -21,7 +21,9 @@ use Rattle.table.specs.declared.Opened.the-variants as opened
 use Rattle.table.specs.declared.Recorded.{Recorded}
 use Rattle.table.specs.declared.Recorded.the-variants as recorded
 use Rattle.replay_beacon.specs.BeaconLine.{beaconLine}
-use Rattle.replay_lines.specs.Lines.{plainLine, refusedLine, closeLine, octetsLine, openedLine, recordLine, metadataLine, dataLine, successLine, failureLine}
+use Rattle.replay_lines.specs.Lines.{plainLine, refusedLine, closeLine, octetsLine, openedLine, recordLine}
+use Rattle.replay_packets.specs.PacketLines.{metadataLine, dataLine, failureLine}
+use Rattle.replay_success.specs.SuccessLine.{successLine}
 use Rattle.replay_fields.specs.LineWords.{w-already, w-fresh, w-new, w-send, w-written}
 
 -- "`fresh`"; refused where the area is too short, as replay's own never is

@@ -90,10 +90,10 @@ pub fn put_read(out: &mut [u8], at: usize, number: u64, p: &[u8], a: Read) -> us
 {
     match a {
         Read::Beacon(b) => replay_beacon::put_beacon(out, at, number, p, b),
-        Read::Metadata(m) => replay_lines::put_metadata(out, at, number, p, m),
-        Read::Data(d) => replay_lines::put_data(out, at, number, p, d),
-        Read::Success(s) => replay_lines::put_success(out, at, number, p, s),
-        Read::Failure(f) => replay_lines::put_failure(out, at, number, f),
+        Read::Metadata(m) => replay_packets::put_metadata(out, at, number, p, m),
+        Read::Data(d) => replay_packets::put_data(out, at, number, p, d),
+        Read::Success(s) => replay_success::put_success(out, at, number, p, s),
+        Read::Failure(f) => replay_packets::put_failure(out, at, number, f),
         Read::Refused(x) => replay_lines::put_refused(out, at, number, x),
     }
 }

@@ -1,7 +1,7 @@
 // The parts of a line: a name with a number in decimal, with octets in hex, or with the last octets of a number in hex; and a pair of
 // numbers in a list.
 ghost use mathlib.Core.Path.{_≡_};
-ghost use Prim.Native.Nat.{_≤_};
+ghost use Prim.Native.Nat.{_≤_, min};
 ghost use lib.ListN.{length, take, drop};
 ghost use Rattle.text.specs.Added.{Added};
 ghost use Rattle.replay_fields.specs.Fields.{field, octetsField, numberField, pairText, inList, bitsOf, flagOf, reachedText};
@@ -102,4 +102,14 @@ pub fn part(p: &[u8], at: usize, n: usize) -> &[u8]
     }
     let end = at + n;
     &p[at..end]
+}
+
+// As many octets as are asked for, and at most as many as there is room for.
+pub fn within(asked: u64, room: usize) -> usize
+    ensures { λ r. ⌜ r ≡ min asked room ⌝ }
+{
+    if asked < room as u64 {
+        return asked as usize;
+    }
+    room
 }

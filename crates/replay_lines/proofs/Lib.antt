@@ -1,3 +1,1 @@
-pub mod HoleLaws
 pub mod LengthLaws
-pub mod HoleLengthLaws

@@ -1,22 +1,14 @@
 // The line of each answer. Each starts with the number of its record.
-ghost use mathlib.Core.Path.{_≡_};
 ghost use Prim.Native.Nat.{_≤_};
 ghost use lib.ListN.{length};
-ghost use Rattle.packet_status.specs.Status.{readStatus, readHole};
 ghost use Rattle.text.specs.Added.{Added};
-ghost use Rattle.replay_lines.specs.Lines.{plainLine, refusedLine, closeLine, octetsLine, unknownLine, openedLine, recordLine, headText, entryText, metadataLine, dataLine, holesListed, holeAfter, holesText, successLine, failureLine};
+ghost use Rattle.replay_lines.specs.Lines.{plainLine, refusedLine, closeLine, octetsLine, unknownLine, openedLine, recordLine};
 ghost use Rattle.replay_lines.specs.Body.{badLine};
-use directory_entry::Entry;
 use packet_data::Data;
 use packet_metadata::Metadata;
-use packet_status::FailureStatus;
-use packet_status::StatusRead;
-use packet_status::SuccessStatus;
 use refusals::Refusal;
 use replay_fields::bits_of;
-use replay_fields::part;
 use replay_fields::put_field;
-use replay_fields::put_in_list;
 use replay_fields::put_number;
 use replay_fields::put_octets;
 use replay_fields::put_reached;
@@ -113,123 +105,4 @@ pub fn put_recorded(out: &mut [u8], at: usize, number: u64, d: Data, x: Receipt)
     let f = put_reached(out, e, x.reached);
     let g = put_field(out, f, b" absorbed=", x.absorbed);
     text::push(out, g, 10)
-}
-
-// How the line of a packet that was read begins: a name with its Id, the flags and the width.
-fn put_head(
-    out: &mut [u8],
-    at: usize,
-    number: u64,
-    name: &[u8],
-    id: u64,
-    flags: u64,
-    width: usize,
-) -> usize
-    requires { ⌜ at ≤ length (now out) ⌝ }
-    ensures { λ r. ⌜ Added (now (out .entry)) at (headText number (now (name .entry)) id flags width) (now (out .exit)) r ⌝ }
-{
-    let a = text::put_decimal(out, at, number);
-    let b = put_field(out, a, name, id);
-    let c = put_number(out, b, b" flags=", 3, flags);
-    put_field(out, c, b" width=", bits_of(width))
-}
-
-// The directory entry e of the packet p.
-fn put_entry(out: &mut [u8], at: usize, p: &[u8], e: Entry) -> usize
-    requires { ⌜ at ≤ length (now out) ⌝ }
-    ensures { λ r. ⌜ Added (now (out .entry)) at (entryText (now (p .entry)) e) (now (out .exit)) r ⌝ }
-{
-    let a = put_number(out, at, b" properties=", 2, e.properties);
-    let b = put_field(out, a, b" size=", e.size);
-    let c = put_field(out, b, b" mtime=", e.mtime);
-    let d = put_field(out, c, b" ctime=", e.ctime);
-    put_octets(out, d, b" path=", part(p, e.path, e.length))
-}
-
-// METADATA m read from the packet p.
-pub fn put_metadata(out: &mut [u8], at: usize, number: u64, p: &[u8], m: Metadata) -> usize
-    requires { ⌜ at ≤ length (now out) ⌝ }
-    ensures { λ r. ⌜ Added (now (out .entry)) at (metadataLine number (now (p .entry)) m) (now (out .exit)) r ⌝ }
-{
-    let a = put_head(out, at, number, b" metadata id=", m.id, m.flags, m.width);
-    let b = put_octets(out, a, b" checksum=", part(p, 8, m.checksum));
-    let c = put_entry(out, b, p, m.entry);
-    text::push(out, c, 10)
-}
-
-// DATA d read from the packet p.
-pub fn put_data(out: &mut [u8], at: usize, number: u64, p: &[u8], d: Data) -> usize
-    requires { ⌜ at ≤ length (now out) ⌝ }
-    ensures { λ r. ⌜ Added (now (out .entry)) at (dataLine number (now (p .entry)) d) (now (out .exit)) r ⌝ }
-{
-    let size = packet_data::payload(p).len();
-    let a = put_head(out, at, number, b" data id=", d.id, d.flags, d.width);
-    let b = put_octets(out, a, b" timestamp=", part(p, 8, d.timestamp));
-    let c = put_field(out, b, b" offset=", d.offset);
-    let e = put_field(out, c, b" length=", size as u64);
-    text::push(out, e, 10)
-}
-
-// How many holes the packet p lists: none, where it is no success STATUS or is refused.
-fn hole_count(p: &[u8]) -> usize
-    ensures { λ r. ⌜ r ≡ holesListed (readStatus (now (p .entry))) ⌝ }
-{
-    match packet_status::read_status(p) {
-        StatusRead::Success(s) => s.count,
-        StatusRead::Failure(_) => 0,
-        StatusRead::Refused(_) => 0,
-    }
-}
-
-// One hole of the packet p, which lists so many; no text where it lists none with this index.
-fn put_hole(out: &mut [u8], at: usize, p: &[u8], listed: usize, index: usize) -> usize
-    requires { ⌜ (at ≤ length (now out)) × (listed ≡ holesListed (readStatus (now p))) ⌝ }
-    ensures { λ r. ⌜ Added (now (out .entry)) at (holeAfter index (readHole index (now (p .entry)))) (now (out .exit)) r ⌝ }
-{
-    if listed <= index {
-        return at;
-    }
-    let h = packet_status::listed_hole(p, index);
-    put_in_list(out, at, index as u64, b"-", h.start, h.end)
-}
-
-// The first `count` holes of the packet p. It is judged once, and not at every hole.
-fn put_holes(out: &mut [u8], at: usize, p: &[u8], count: usize) -> usize
-    requires { ⌜ at ≤ length (now out) ⌝ }
-    ensures { λ r. ⌜ Added (now (out .entry)) at (holesText (now (p .entry)) count) (now (out .exit)) r ⌝ }
-{
-    let listed = hole_count(p);
-    let mut next = at;
-    let mut i = 0;
-    while i < count {
-        next = put_hole(out, next, p, listed, i);
-        i += 1;
-    }
-    next
-}
-
-// A success STATUS s read from the packet p.
-pub fn put_success(out: &mut [u8], at: usize, number: u64, p: &[u8], s: SuccessStatus) -> usize
-    requires { ⌜ at ≤ length (now out) ⌝ }
-    ensures { λ r. ⌜ Added (now (out .entry)) at (successLine number (now (p .entry)) s) (now (out .exit)) r ⌝ }
-{
-    let a = put_head(out, at, number, b" success id=", s.id, s.flags, s.width);
-    let b = put_octets(out, a, b" timestamp=", part(p, 8, s.timestamp));
-    let c = put_field(out, b, b" progress=", s.progress);
-    let d = put_field(out, c, b" in-response-to=", s.response);
-    let e = text::put_text(out, d, b" holes=");
-    let f = put_holes(out, e, p, s.count);
-    text::push(out, f, 10)
-}
-
-// A failure STATUS.
-pub fn put_failure(out: &mut [u8], at: usize, number: u64, f: FailureStatus) -> usize
-    requires { ⌜ at ≤ length (now out) ⌝ }
-    ensures { λ r. ⌜ Added (now (out .entry)) at (failureLine number f) (now (out .exit)) r ⌝ }
-{
-    let a = text::put_decimal(out, at, number);
-    let b = put_field(out, a, b" failure id=", f.id);
-    let c = put_field(out, b, b" status=", f.status);
-    let d = put_number(out, c, b" flags=", 3, f.flags);
-    text::push(out, d, 10)
 }

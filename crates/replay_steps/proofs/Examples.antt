@@ -34,8 +34,10 @@ use Rattle.text.specs.Decimal.{decimalOnto, decimalOf}
 use Rattle.text.specs.Hex.{hexOf}
 use Rattle.replay_lines.specs.Lines.{plainLine, refusedLine, octetsLine, unknownLine, openedLine}
 use Rattle.replay_answers.specs.AnswerLines.{openingText, openText, recordingText, statusText, sentText}
-use Rattle.replay_steps.specs.Deliver.{failureSent, refusalLines, recordedSent, recordedLines, deliverLines}
-use Rattle.replay_steps.specs.Records.{bodyLength, closeLines, writtenLine, statusLines, timeLines, recordLines, areaAfter}
+use Rattle.replay_status.specs.StatusLines.{failureSent, writtenLine, statusLines}
+use Rattle.replay_deliver.specs.Deliver.{refusalLines, recordedSent, recordedLines, deliverLines}
+use Rattle.replay_records.specs.Kinds.{closeLines, timeLines}
+use Rattle.replay_steps.specs.Records.{recordLines, areaAfter}
 
 -- a packet of 8 octets, of type 1, with the Id 7
 abbrev request : List ℕ
@@ -101,8 +103,3 @@ pub status-written : (area : List ℕ) → tableOf area ≡ some (seven ∷ []) 
     ≡ 53 ∷ 32 ∷ 115 ∷ 116 ∷ 97 ∷ 116 ∷ 117 ∷ 115 ∷ 32 ∷ 52 ∷ 52 ∷ 48 ∷ 48 ∷ 48 ∷ 48 ∷ 48 ∷ 48 ∷ 48 ∷ 48 ∷ 48 ∷ 48 ∷ 48 ∷ 48 ∷ 48 ∷ 55 ∷ 48 ∷ 51 ∷ 101 ∷ 56 ∷ 48 ∷ 98 ∷ 98 ∷ 56 ∷ 48 ∷ 51 ∷ 101 ∷ 56 ∷ 48 ∷ 55 ∷ 100 ∷ 48 ∷ 10 ∷ []
 unfolding recordLines statusLines writtenLine statusText octetsLine decimalOf decimalOnto hexOf areaStatusWritten areaStatusBuffer fromTable fromFound holesFrom edgeFrom progress complete keys find runsOf skipsTooMany leastRoom sizeRefusal transferWritten transferBuffer frontOctets holeRoom holesSent partialSent widthBits statusFlags pairs statusOctets lastOffset responseSent statusPacket writtenFor bufferFor statusWritten statusBuffer put
 status-written area e = rw e
-
--- a body of 258 octets
-pub body-of-258 : bodyLength (0x44 ∷ 0 ∷ 0 ∷ 1 ∷ 2 ∷ []) ≡ 258
-unfolding bodyLength
-body-of-258 = refl

@@ -1,4 +1,3 @@
 pub mod CaseLaws
-pub mod LengthLaws
 pub mod RoomLaws
 pub mod Examples

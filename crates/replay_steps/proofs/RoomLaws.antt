@@ -20,16 +20,21 @@ use Rattle.text.proofs.LengthLaws.{AtMost, at-most}
 use Rattle.replay_fields.specs.LineWords.{w-cut}
 use Rattle.replay_beacon.proofs.LengthLaws.{beacon-most}
 use Rattle.replay_lines.specs.Lines.{unknownLine}
-use Rattle.replay_lines.proofs.LengthLaws.{plain-most, unknown-most, failure-most}
+use Rattle.replay_lines.proofs.LengthLaws.{plain-most, unknown-most}
+use Rattle.replay_packets.proofs.LengthLaws.{failure-most}
 use Rattle.replay_answers.specs.AnswerLines.{openText, recordText, readText}
 use Rattle.replay_answers.proofs.CaseLaws.{read-cases}
 use Rattle.replay_answers.proofs.LengthLaws.{open-most, record-text-most, read-most, success-line-most}
 use Rattle.replay_plan.specs.PlanRecords.{planLines, checkLines}
 use Rattle.replay_plan.proofs.LengthLaws.{plan-lines-most, check-lines-most}
-use Rattle.replay_steps.specs.Deliver.{deliverLines}
+use Rattle.replay_status.specs.StatusLines.{statusLines}
+use Rattle.replay_status.proofs.LengthLaws.{status-lines-most}
+use Rattle.replay_deliver.specs.Deliver.{deliverLines}
+use Rattle.replay_deliver.proofs.LengthLaws.{refusal-lines-most, opened-lines-most, recorded-lines-most}
+use Rattle.replay_records.specs.Kinds.{freshLines, closeLines, timeLines}
+use Rattle.replay_records.proofs.LengthLaws.{fresh-lines-most, close-lines-most, time-lines-most}
 use Rattle.replay_steps.specs.Room.{bodyMost, lentMost, outLeast, Room}
-use Rattle.replay_steps.specs.Records.{cutLine, freshLines, closeLines, statusLines, timeLines, recordLines}
-use Rattle.replay_steps.proofs.LengthLaws.{refusal-lines-most, opened-lines-most, recorded-lines-most, status-lines-most, fresh-lines-most, close-lines-most, time-lines-most}
+use Rattle.replay_steps.specs.Records.{cutLine, recordLines}
 
 module _ (n : ℕ) (body area room : List ℕ) (o : Octets body) (b : AtMost body bodyMost) (r : AtMost room lentMost) where
   deliver-most : AtMost (deliverLines n body (readPacket body) area room) outLeast

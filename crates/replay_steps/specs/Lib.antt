@@ -1,3 +1,2 @@
-pub mod Deliver
 pub mod Records
 pub mod Room

@@ -168,7 +168,9 @@ fn wanted(table: &Table, packet: &[u8]) -> Option<Vec<u8>> {
     }
 }
 
-/// The failure STATUS to send for a packet that was refused with a code, if it has an Id: a BEACON has none.
+/// The failure STATUS to send for a packet that was refused: where the refusal has a code, and the packet at least 8
+/// octets and another type than BEACON, to the Id in octets 4 to 7. "Every packet begins with a 32-bit word and a 32-bit
+/// Id", but for BEACON.
 fn failure(packet: &[u8], refusal: Refusal) -> Option<Vec<u8>> {
     if kind(packet) == Some(BEACON) {
         return None;

@@ -1,13 +1,17 @@
--- `replay::run` is safe: its buffers are as large as an answer asks for.
+-- `replay::run` is safe: its buffers are as large as an answer asks for. No length is counted out: that would take a gigabyte.
 -- Assumes nothing.
 use Prim.Native.Nat.{ℕ, _≤_}
+use mathlib.Core.Path.{_≡_, sym}
 use native.Mathlib.Omega.{arith}
 use lib.ListN.{length, replicate, length-replicate}
 use borrow.Author.Needs.{needs}
 use Rattle.replay.proofs.run.Statement.{statement}
 use Rattle.replay.proofs.run.Tie as tie
 
--- a buffer of n octets, where n is not counted out
+-- a buffer of n octets
+sized : (n v : ℕ) → n ≡ length (replicate n v)
+sized n v = sym (length-replicate n v)
+
 within : (n v : ℕ) {m : ℕ} → n ≤ m → length (replicate n v) ≤ m
 within n v h = rw length-replicate h
 
@@ -26,9 +30,9 @@ pub run-spec : {M : Type 1} → statement M
 run-spec =
     tie.close
     (tie.spec
-    (λ c. search needs)
-    (λ c. search needs)
-    (λ c. search needs)
-    (λ c. search needs)
+    (λ c. sized 16904 0)
+    (λ c. sized 131088 0)
+    (λ c. sized 65535 0)
+    (λ c. sized 524288 0)
     replay-requires
     (λ c. search needs))

@@ -1,0 +1,3 @@
+pub mod AnsweredLaws
+pub mod CaseLaws
+pub mod LengthLaws

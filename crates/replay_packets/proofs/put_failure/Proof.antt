@@ -1,0 +1,51 @@
+-- `replay_packets::put_failure` meets its contract: one part after the other.
+-- Assumes nothing.
+use borrow.Author.Needs.{needs}
+use Rattle.text.proofs.AddedLaws.{_then_}
+use Rattle.replay_packets.specs.PacketLines.{failureLine}
+use Rattle.replay_packets.proofs.put_failure.Statement.{statement}
+use Rattle.replay_packets.proofs.put_failure.Tie as tie
+
+put-field-requires : tie.Need-put-field-requires
+put-field-requires c κs = c .before .before .before .before .put-decimal .ensures .within
+
+put-field-requires-2 : tie.Need-put-field-requires-2
+put-field-requires-2 c κs = c .before .before .before .before .put-field .ensures .within
+
+put-number-requires : tie.Need-put-number-requires
+put-number-requires c κs = (c .before .before .before .before .put-field2 .ensures .within, search needs)
+
+push-requires : tie.Need-push-requires
+push-requires c κs = c .before .before .before .put-number .ensures .within
+
+returns : tie.Need-returns
+unfolding failureLine
+returns c =
+    let push-place = c .before .before in
+    let put-number-place = push-place .before .before .before .before in
+    let put-field2-place = put-number-place .before .before .before .before .before in
+    let put-field-place = put-field2-place .before .before .before .before .before in
+    let put-decimal-place = put-field-place .before .before .before .before .before in
+    put-decimal-place .put-decimal .ensures
+    then put-field-place .put-field .ensures
+    then put-field2-place .put-field2 .ensures
+    then put-number-place .put-number .ensures
+    then push-place .push .ensures
+
+same-length : tie.Need-same-length
+same-length c = returns c .size
+
+pub put-failure-spec : {M : Type 1} → statement M
+put-failure-spec =
+    tie.close
+    (tie.spec
+    (λ c κs. search needs)
+    (λ c. search needs)
+    put-field-requires
+    (λ c. search needs)
+    put-field-requires-2
+    (λ c. search needs)
+    put-number-requires
+    push-requires
+    same-length
+    returns)

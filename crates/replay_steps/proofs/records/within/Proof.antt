@@ -1,8 +1,0 @@
--- `replay_steps::records::within` meets its contract.
--- Assumes nothing.
-use native.Mathlib.Omega.{arith}
-use Rattle.replay_steps.proofs.records.within.Statement.{statement}
-use Rattle.replay_steps.proofs.records.within.Tie as tie
-
-pub within-spec : {M : Type 1} → statement M
-within-spec = tie.close (tie.spec (λ c. omega arith) (λ c. omega arith))

@@ -1,0 +1,2 @@
+pub mod HoleLaws
+pub mod HoleLengthLaws

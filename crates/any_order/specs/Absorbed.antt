@@ -1,5 +1,4 @@
--- Document 02, Six, "How much work does a bad pass make?": the numbers of absorbed runs that the recordings of one Id tell, added up
--- over a list of calls on an area.
+-- R10.6: the numbers of absorbed runs that the recordings of one Id tell, added up over a list of calls on an area.
 -- Assumes nothing.
 use Prim.Native.Nat.{ℕ, _+_, _-_, _≤_}
 use mathlib.Core.Path.{_≡_}
@@ -18,7 +17,7 @@ use Rattle.area.specs.Operations.{openArea, recordArea, closeArea, runsHeld}
 use Rattle.any_order.specs.Order.{Packet, Call, opening, recording, idIn}
 use Rattle.any_order.specs.Demand3.{callArea}
 
--- a call on an area: an opening or a recording, as demand 3 has them, of any Id and with any octets; or a closing
+-- a call on an area: an opening or a recording, as R10.1 has them, of any Id and with any octets; or a closing
 pub data AnyCall : Type 0 where
   call : Call → AnyCall
   closing : ℕ → AnyCall
@@ -48,11 +47,11 @@ module _ (i : ℕ) (f : Receipt → ℕ) where
   countedOver a [] = 0
   countedOver a (c ∷ cs) = countedBy a c + countedOver (leftBy a c) cs
 
--- "the recordings accepted"
+-- how many recordings were accepted
 abbrev pub recordingsTaken : ℕ → List ℕ → List AnyCall → ℕ
 recordingsTaken i a cs = countedOver i (λ x. 1) a cs
 
--- "the numbers" of runs absorbed that they tell, added up
+-- the numbers of runs absorbed that they tell, added up
 abbrev pub absorbedSum : ℕ → List ℕ → List AnyCall → ℕ
 absorbedSum i a cs = countedOver i (λ x. x .absorbed) a cs
 
@@ -64,20 +63,20 @@ KeptOpen i [] = Unit
 KeptOpen i (call c ∷ cs) = KeptOpen i cs
 KeptOpen i (closing j ∷ cs) = (j ≡ i → ⊥) × KeptOpen i cs
 
--- over a stretch of calls that starts anywhere: it "counts the runs held when it began". Where the Id is not open yet it holds none,
+-- R10.6: over a stretch of calls that starts anywhere, the runs held when it began are added. Where the Id is not open yet it holds none,
 -- and an Id that is open and not closed is never opened anew
 abbrev pub SumOverStretch : Type 0
 SumOverStretch = (i : ℕ) (a : List ℕ) (cs : List AnyCall) → KeptOpen i cs
     → absorbedSum i a cs + runsHeld (afterAll a cs) i ≡ recordingsTaken i a cs + runsHeld a i
 
 pub record AddsUp (i : ℕ) (a : List ℕ) (cs : List AnyCall) : Type 0 where
-  -- "the numbers add up to the recordings accepted minus the runs now held"; there are no more runs than recordings
+  -- the numbers add up to the recordings accepted less the runs held at the end; there are no more runs than recordings
   pub adds-up : absorbedSum i a cs ≡ recordingsTaken i a cs - runsHeld (afterAll a cs) i
   pub runs-most : runsHeld (afterAll a cs) i ≤ recordingsTaken i a cs
-  -- "so never more than the recordings"
+  -- so they are never more than the recordings
   pub never-more : absorbedSum i a cs ≤ recordingsTaken i a cs
 
--- "For one transfer, from its opening": a call opens it as new, with the METADATA m, and any calls follow
+-- R10.6: a call opens the transfer as new, with the METADATA m, and any calls follow
 abbrev pub SumFromOpening : Type 0
 SumFromOpening = (a : List ℕ) (p : Packet) (m : Metadata) (x : Reached) → readMetadata (p .octets) ≡ metadata-read.Accepted m
     → openArea a (p .octets) .answer ≡ opened.New x

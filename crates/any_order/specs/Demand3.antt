@@ -1,4 +1,4 @@
--- Demand 3, stated on areas: a list of openings and recordings, and the accepted ones of it in the sorted order.
+-- R10.1 to R10.5, stated on areas: a list of openings and recordings, and the accepted ones of it in the sorted order.
 -- Assumes nothing.
 use Prim.Native.Nat.{ℕ, _≤_}
 use mathlib.Core.Path.{_≡_}
@@ -26,19 +26,17 @@ callArea a (recording p) = let o = recordArea a (p .octets) in (recordAccepted (
 
 -- the list cs made on the area a, and the list s on the area b
 pub record SameEnd (a b : List ℕ) (cs s : List Call) : Type 0 where
-  -- "nothing in the sorted order is refused, not even for room"
+  -- R10.3: nothing in the sorted order is refused, not even for room
   pub none-refused : taken callArea b s ≡ s
-  -- "Both desks end with the same transfers open and the same received octets for each"
+  -- R10.4: both end with the same transfers open, and the same offsets received for each
   pub same-table : tableOf (after callArea b s) ≡ tableOf (after callArea a cs)
-  -- "For every Id, asked for or unasked, any number of holes skipped and any room, both write the same STATUS bytes or refuse
-  -- alike": "into buffers of equal content: both are refused with the same number and code, or both answer the same and leave
-  -- the same octets"
+  -- R10.5: for every Id, k, unasked or not, and buffer, both give the same STATUS answer, a refusal or a size, and leave the same octets
   pub same-answer : (id k : ℕ) (unasked : Bool) (buffer : List ℕ)
       → areaStatusWritten (after callArea b s) id k unasked buffer ≡ areaStatusWritten (after callArea a cs) id k unasked buffer
   pub same-buffer : (id k : ℕ) (unasked : Bool) (buffer : List ℕ)
       → areaStatusBuffer (after callArea b s) id k unasked buffer ≡ areaStatusBuffer (after callArea a cs) id k unasked buffer
 
--- "exactly those that some accepted packet brought": the table holds what the accepted calls brought, and nothing else
+-- R10.4: the table holds what the accepted calls brought, and nothing else
 pub record Holds (t : List Transfer) (accepted : List Call) : Type 0 where
   -- an Id is open with a width and a length exactly when an accepted opening brought them
   pub opened : (k : Key) → (find (k .id) (keys t) ≡ some k) ↔ Brought k (openings accepted)
@@ -58,13 +56,12 @@ pub record OrderFree (a b : List ℕ) (cs : List Call) : Type 0 where
 abbrev pub made : List ℕ → List ℕ
 made a = freshArea a .area
 
--- "Take any list of openings and recordings on a fresh desk, mixed and repeated, whatever octets they bring, refused ones
--- included. Leave the refused ones out. On a second fresh desk make the accepted openings in the order they came, then the
--- accepted recordings" in any sorted order. Both areas may hold anything before
+-- R10.1, R10.2: any list of openings and recordings on one area that was made fresh, and its accepted calls, in any sorted order, on
+-- another. Both areas may hold anything before they are made fresh
 abbrev pub Demand3 : Type 0
 Demand3 = (a b : List ℕ) → areaOctets ≤ length a → areaOctets ≤ length b → (cs : List Call) → OrderFree (made a) (made b) cs
 
--- both fresh tables are made, and in the demand's own words: "transfer by transfer and, inside each, by rising offset"
+-- R10.2: both fresh tables are made, and the sorted order goes transfer by transfer and, inside each, by rising offset
 pub record ByTransfer (a b : List ℕ) (cs : List Call) : Type 0 where
   pub first-made : freshArea a .answer ≡ Done
   pub second-made : freshArea b .answer ≡ Done

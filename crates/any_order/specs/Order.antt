@@ -1,5 +1,4 @@
--- "The two orders": a list of openings and recordings, which of them are accepted and what they leave, and the accepted ones
--- put in order.
+-- R10.1, R10.2: a list of openings and recordings, which of them are accepted and what they leave, and the accepted ones put in order.
 -- Assumes nothing.
 use Prim.Native.Nat.{ℕ, _≤_, _<_}
 use mathlib.Core.Path.{_≡_}
@@ -18,12 +17,12 @@ use Rattle.transfer.specs.declared.Key.{Key}
 use Rattle.transfer.specs.Transfers.{keyOf}
 use Rattle.transfer.specs.Record.{stopOf}
 
--- "each with any octets"
+-- a packet has any octets
 pub record Packet : Type 0 where
   pub octets : List ℕ
   pub are-octets : Octets octets
 
--- "The list holds openings and recordings, each with any octets; closing isn't in it."
+-- R10.1: an opening or a recording; closing isn't in the list
 pub data Call : Type 0 where
   opening : Packet → Call
   recording : Packet → Call
@@ -38,9 +37,9 @@ recordings [] = []
 recordings (opening p ∷ cs) = recordings cs
 recordings (recording p ∷ cs) = p ∷ recordings cs
 
--- "each call gets the desk as the call before it left it": a call answers whether it is accepted, and gives the state at exit
+-- R10.1: each call gets the state that the call before it left, answers whether it is accepted, and gives the state at exit
 module _ {A : Type 0} (call : A → Call → Bool × A) where
-  -- "every accepted call as often as it was accepted", in the order they came
+  -- R10.2: every accepted call, as often as it was accepted, in the order in which they came
   unfoldable pub taken : A → List Call → List Call
   taken a [] = []
   taken a (c ∷ cs) = let rest = taken (call a c .1) cs in cond (call a c .0) (c ∷ rest) rest
@@ -52,8 +51,8 @@ module _ {A : Type 0} (call : A → Call → Bool × A) where
 
 -- ---- what a packet brings
 
--- the Id of a recording, its offset, and "offset + payload length", the first offset after those that it brings. A packet that
--- the reader refuses brings no offset
+-- the Id of a recording, its offset, and the first offset after those that it brings. A packet that the reader refuses brings no
+-- offset
 unfoldable pub idRead : DataRead → ℕ
 idRead (data-read.Accepted d) = d .id
 idRead (data-read.Refused r) = 0
@@ -80,8 +79,7 @@ abbrev pub In : {A : Type 0} → A → List A → Type 0
 In x [] = ⊥
 In x (y ∷ l) = (x ≡ y) ⊎ In x l
 
--- "exactly the offsets from offset to offset + payload length - 1 of the accepted recordings with its Id": some recording
--- with the Id i covers the offset n
+-- R10.4: some recording with the Id i covers the offset n
 abbrev pub Covered : ℕ → ℕ → List Packet → Type 0
 Covered i n ps = (p : Packet) × In p ps × (idIn p ≡ i) × (offsetIn p ≤ n) × (n < stopIn p)
 
@@ -89,34 +87,32 @@ Covered i n ps = (p : Packet) × In p ps × (idIn p ≡ i) × (offsetIn p ≤ n)
 abbrev pub Brings : Packet → Key → Type 0
 Brings p k = (m : Metadata) × (readMetadata (p .octets) ≡ metadata-read.Accepted m) × (keyOf m ≡ k)
 
--- "the open Ids, with w and L, are those of the accepted openings": some opening brings them
+-- R10.4: some opening brings the Id with this width and length
 abbrev pub Brought : Key → List Packet → Type 0
 Brought k ps = (p : Packet) × In p ps × Brings p k
 
 -- ---- the sorted order
 
--- inside each transfer, "by rising offset": of two recordings with one Id the later one has no lower offset. "which of two
--- packets with equal offsets" comes first "is left free"
+-- R10.2: of two recordings with one Id the later one has no lower offset. Which of two with equal offsets comes first is left free
 abbrev pub Rising : List Packet → Type 0
 Rising [] = Unit
 Rising (p ∷ ps) = ((q : Packet) → In q ps → idIn q ≡ idIn p → offsetIn p ≤ offsetIn q) × Rising ps
 
--- "transfer by transfer": the recordings with one Id stand together. "Which transfer comes first" is left free
+-- R10.2: the recordings with one Id stand together. Which transfer comes first is left free
 abbrev pub Grouped : List Packet → Type 0
 Grouped [] = Unit
 Grouped (p ∷ []) = Unit
 Grouped (p ∷ q ∷ ps) = ((idIn q ≡ idIn p) ⊎ ((x : Packet) → In x (q ∷ ps) → idIn x ≡ idIn p → ⊥)) × Grouped (q ∷ ps)
 
--- s is the openings of cs in the order they came, and then its recordings, each as often as it is there, those with one Id by
--- rising offset
+-- R10.2: s is the openings of cs in the order in which they came, and then its recordings, each as often as it is there, those with one
+-- Id by rising offset
 pub record Sorted (cs s : List Call) : Type 0 where
   pub last : List Packet
   pub is : s ≡ map opening (openings cs) ++ map recording last
   pub all : List·Permᴰ last (recordings cs)
   pub rising : Rising last
 
--- "the accepted openings in the order they came, then the accepted recordings transfer by transfer and, inside each, by rising
--- offset"
+-- R10.2: the openings in the order in which they came, then the recordings, transfer by transfer and inside each by rising offset
 pub record TransferByTransfer (cs s : List Call) : Type 0 where
   pub sorted : Sorted cs s
   pub grouped : Grouped (sorted .last)

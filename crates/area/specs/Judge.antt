@@ -1,5 +1,5 @@
--- 22: "a lent desk area is no image of a desk as described". An area holds a table where its used places are fine; unused places
--- are never looked at. The table that is read is judged, and not its places.
+-- R8.2, R8.5: an area holds a table where its used places are fine, and is else refused with 22; unused places are never looked at.
+-- The table that is read is judged, and not its places.
 -- Assumes nothing.
 use Prim.Native.Nat.{ℕ, suc, _^_}
 use mathlib.Core.List.{List, [], _∷_}
@@ -25,10 +25,10 @@ unfoldable pub fineTest : ℕ → List Transfer → Bool
 fineTest k [] = true
 fineTest k (x ∷ t) = let rest = fineTest (suc (x .key .id)) t in cond (leb k (x .key .id)) (cond (transferTest x) rest false) false
 
--- "shorter than the layout is 22, and octets past it stay unread"
+-- R8.2: it is long enough, and what it holds is a table
 unfoldable pub judged : List ℕ → Bool
 judged a = cond (leb areaOctets (length a)) (cond (leb (wordAt a 0) transferPlaces) (fineTest 0 (readTable a)) false) false
 
--- the table that an area holds; none is 22
+-- R9.22: the table that an area holds; none is 22
 unfoldable pub tableOf : List ℕ → Option (List Transfer)
 tableOf a = cond (judged a) (some (readTable a)) none

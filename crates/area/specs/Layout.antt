@@ -1,10 +1,9 @@
--- "a lent area, whose layout, of at most 32,768 octets, the team writes down": words of 8 octets, the lowest octet first. First the
--- number of open transfers, then a head for each place of a transfer, then two rows for each: the starts of its runs, and their
--- stops. "A fresh desk has room for 16 transfers of 64 runs".
+-- R8.1: the layout of the area, in words of 8 octets, the lowest octet first. First the number of open transfers, then a head for each
+-- place of a transfer, then two rows for each: the starts of its runs, and their stops.
 -- Assumes nothing.
 use Prim.Native.Nat.{ℕ, _+_, _*_}
 
--- places for transfers, and for the runs of each
+-- R1.8: places for transfers, and for the runs of each
 abbrev pub transferPlaces : ℕ
 transferPlaces = 16
 

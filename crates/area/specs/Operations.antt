@@ -1,4 +1,4 @@
--- Fresh, opening, recording, closing and STATUS on areas: 22 before all, then what the table's own rule gives.
+-- R6.13, R8.3, R8.4: fresh, opening, recording, closing and STATUS on areas: 22 first, then what the table's own rule gives.
 -- Assumes nothing.
 use Prim.Native.Nat.{ℕ}
 use mathlib.Core.List.{List}
@@ -33,7 +33,7 @@ pub record OnArea (A : Type 0) : Type 0 where
 
 -- ---- operations that change the table
 
--- what an operation on the table t leaves of the area a, which holds t. A refusal leaves the table that was there, and so the area
+-- R8.3, R1.6: what an operation on the table t leaves of the area a, which holds t. A refusal leaves the table that was there, and so the area
 abbrev pub leaves : {A : Type 0} → List ℕ → Outcome A → OnArea A
 leaves a o = record { answer = o .answer; area = storedIn a (o .table) }
 
@@ -41,7 +41,7 @@ unfoldable pub onFound : {A : Type 0} → A → (List Transfer → Outcome A) �
 onFound refused operation a none = record { answer = refused; area = a }
 onFound refused operation a (some t) = leaves a (operation t)
 
--- "Where a desk area is lent, 22 comes before all"
+-- R6.13: 22 comes first
 unfoldable pub onTable : {A : Type 0} → A → (List Transfer → Outcome A) → List ℕ → OnArea A
 onTable refused operation a = onFound refused operation a (tableOf a)
 
@@ -54,7 +54,7 @@ recordArea a packet = onTable (recorded.Refused (refusalOf 22)) (λ t. recordPac
 unfoldable pub closeArea : List ℕ → ℕ → OnArea Finished
 closeArea a id = onTable (finished.Refused (refusalOf 22)) (λ t. closeId t id) a
 
--- "Making a fresh desk is refused only with 20, where the area is shorter"; "all empty"
+-- R8.4, R6.3: refused only with 20, where the area is shorter
 unfoldable pub freshArea : List ℕ → OnArea Finished
 freshArea a =
     cond (ltb (length a) areaOctets)

@@ -1,4 +1,4 @@
--- An area into which a table is stored: the table's numbers in the used places, and every other octet as it was.
+-- R8.3: an area into which a table is stored: the table's numbers in the used places, and every other octet as it was.
 -- Assumes nothing.
 use Prim.Native.Nat.{ℕ, _-_, _*_, _/_, _%_}
 use mathlib.Core.List.{List, _++_}
@@ -30,6 +30,6 @@ wordOr t k old =
 unfoldable pub storedIn : List ℕ → List Transfer → List ℕ
 storedIn a t = octetsBy (λ k. wordOr t k (wordAt a k)) 0 areaWords ++ drop areaOctets a
 
--- a fresh table is stored whole, every number of the layout 0: "room for 16 transfers of 64 runs, all empty"
+-- R8.4: a fresh table is stored whole, every number of the layout 0
 unfoldable pub freshIn : List ℕ → List ℕ
 freshIn a = octetsBy (λ k. 0) 0 areaWords ++ drop areaOctets a

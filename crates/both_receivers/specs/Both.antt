@@ -1,6 +1,5 @@
--- Document 02, Seven: "over any sequence of recordings from an opening that both accept as new, none of them for another transfer of
--- the desk, both give equal answers, swallowed counts included, and equal STATUS bytes for that Id, every k and every room". The one
--- receiver keeps a table in an area (area: Operations), the other one mark for each octet (bitmap: Open, Record, WriteStatus).
+-- R12.8: from an opening that both receivers accept as new, over any recordings, both give equal answers and equal STATUS. The one
+-- receiver keeps a table in an area (area: Operations), the other one mark for each octet.
 -- Assumes nothing.
 use Prim.Native.Nat.{ℕ}
 use mathlib.Core.Path.{_≡_}
@@ -47,7 +46,7 @@ module _ (recorded : List ℕ → List ℕ → Recorded × List ℕ) where
   after l [] = l
   after l (p ∷ ps) = after (recorded l p .1) ps
 
--- ---- "none of them for another transfer of the desk"
+-- ---- none of them for another transfer of the table
 
 -- the Id i is open in the table that the area holds
 abbrev pub OpenIn : List ℕ → ℕ → Type 0
@@ -64,14 +63,14 @@ NoneForAnother a i (p ∷ ps) = ForNoOther a i p × NoneForAnother a i ps
 
 -- ---- both receivers
 
--- "equal STATUS bytes for that Id, every k and every room": the same answer, and the same octets in the buffer, whatever it held
+-- R12.8: the same STATUS answer, and the same octets in the buffer, whatever it held, for every k
 pub record SameStatus (a : List ℕ) (k : Key) (s : List ℕ) : Type 0 where
   pub same-answer : (skip : ℕ) (unasked : Bool) (buffer : List ℕ)
       → areaStatusWritten a (k .id) skip unasked buffer ≡ marksWritten k s skip unasked buffer
   pub same-buffer : (skip : ℕ) (unasked : Bool) (buffer : List ℕ)
       → areaStatusBuffer a (k .id) skip unasked buffer ≡ marksBuffer k s skip unasked buffer
 
--- the packets ps recorded on an area, and on marks with the record k: "equal answers" of all, and equal STATUS after any of them
+-- R12.8: the packets ps recorded on an area, and on marks with the record k: equal answers of all, and equal STATUS after any of them
 pub record Alike (a : List ℕ) (k : Key) (s : List ℕ) (ps : List (List ℕ)) : Type 0 where
   pub same-answers : answers onArea a ps ≡ answers (onMarks k) s ps
   pub same-status : (n : ℕ) → SameStatus (after onArea a (take n ps)) k (after (onMarks k) s (take n ps))

@@ -1,4 +1,4 @@
--- A directory entry, read: which entries are refused, and the fields of the others.
+-- R2.8, R3.3: a directory entry, read: which entries are refused, and the fields of the others.
 -- Assumes nothing.
 use Prim.Native.Nat.{ℕ, _+_, _-_, _^_}
 use mathlib.Core.Bool.{not}
@@ -22,9 +22,8 @@ sizeOf e = descriptorAt (sizeOctets (propertiesOf e)) 2 e
 abbrev pub afterTimes : List ℕ → List ℕ
 afterTimes e = drop (pathAt (propertiesOf e)) e
 
--- 1 for the properties, 6, 1 and 5 for the size, 1 for the times, the path (1 or 8), 9.
--- e is the entry, to the packet's end, and d the octets of the packet's own descriptors:
--- the size "must not exceed 2^w - 1, where w is the packet's own descriptor width"
+-- R3.3: 1 for the properties, 6, 1 and 5 for the size, 1 for the times, the path (1 or 8), 9.
+-- e is the entry, to the packet's end, and d the octets of the packet's own descriptors, which the size must fit too
 unfoldable pub entryRefusal : ℕ → List ℕ → ℕ
 entryRefusal d e =
     when (ltb (length e) 2) 1

@@ -1,4 +1,4 @@
--- The path that ends a directory entry.
+-- R2.9: the path that ends a directory entry.
 -- Assumes nothing.
 use Prim.Native.Nat.{ℕ, zero, suc, _+_}
 use mathlib.Core.Bool.{not, _&&_}
@@ -13,9 +13,7 @@ zeroAt [] = 0
 zeroAt (zero ∷ xs) = 0
 zeroAt (suc x ∷ xs) = suc (zeroAt xs)
 
--- "The path is 1 to 1,023 octets, then one zero octet, which ends the packet."
--- 1: "a path has no zero octet in fewer than 1,024 octets"; 8: "path empty, over 1,023 octets, or followed by octets".
--- r is what follows Ctime, to the packet's end.
+-- R2.9: the path is 1 to 1,023 octets, and the zero octet after it ends the packet. r is what follows Ctime, to the packet's end
 unfoldable pub pathRefusal : List ℕ → ℕ
 pathRefusal r =
     when (eqb (zeroAt r) (length r) && ltb (length r) 1024) 1
@@ -23,7 +21,7 @@ pathRefusal r =
     ▹ when (ltb 1023 (zeroAt r)) 8
     ▹ when (not (eqb (zeroAt r + 1) (length r))) 8
 
--- of a path to be written, without its closing zero octet: "A path that holds a zero octet is 8"
+-- R4.4: of a path to be written, without its closing zero octet; it may hold none
 unfoldable pub pathWriteRefusal : List ℕ → ℕ
 pathWriteRefusal path =
     when (eqb (length path) 0) 8

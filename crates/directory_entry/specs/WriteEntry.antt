@@ -1,4 +1,4 @@
--- A directory entry, written: which fields are refused, and the octets of the others.
+-- R4.4: a directory entry, written: which fields are refused, and the octets of the others.
 -- Assumes nothing.
 use Prim.Native.Nat.{ℕ, _+_, _^_}
 use mathlib.Core.Bool.{not}
@@ -9,7 +9,7 @@ use Rattle.refusals.specs.Refusals.{_▹_, when}
 use Rattle.directory_entry.specs.Properties.{sizeOctets, pathAt, propertyRefusal}
 use Rattle.directory_entry.specs.Path.{pathWriteRefusal}
 
--- 21: "a field to be written exceeds its bits (128 where width bits are 11)"
+-- R4.3: 21 for a field over its bits
 unfoldable pub entryExcess : ℕ → ℕ → ℕ → ℕ → ℕ
 entryExcess properties size mtime ctime =
     when (not (ltb properties (2 ^ 16))) 21
@@ -17,14 +17,14 @@ entryExcess properties size mtime ctime =
     ▹ when (not (ltb mtime (2 ^ 32))) 21
     ▹ when (not (ltb ctime (2 ^ 32))) 21
 
--- what the reader would refuse, in its order: 6, 8, 9. No number of 64 bits has upper octets that would be 5
+-- R4.4: what the reader would refuse, in its order: 6, 8, 9. No number of 64 bits has upper octets that would be 5
 unfoldable pub entryWriteRefusal : ℕ → ℕ → ℕ → List ℕ → ℕ
 entryWriteRefusal d properties size path =
     propertyRefusal properties
     ▹ pathWriteRefusal path
     ▹ when (not (ltb size (256 ^ d))) 9
 
--- the octets of an entry; one zero octet closes the path
+-- R2.8: the octets of an entry; one zero octet closes the path
 unfoldable pub entryOctets : ℕ → ℕ → ℕ → ℕ → List ℕ → List ℕ
 entryOctets properties size mtime ctime path =
     beDigits 2 properties

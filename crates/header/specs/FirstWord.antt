@@ -1,60 +1,60 @@
--- The first 32 bits of a packet, field by field, in plain arithmetic.
+-- R2.1: the first 32 bits of a packet, field by field, in plain arithmetic.
 -- Assumes nothing.
 use Prim.Native.Nat.{ℕ, suc, _+_, _*_, _-_, _/_, _%_, _^_}
 use mathlib.Core.Path.{_≡_}
 use Rattle.header.specs.declared.Head.{Head}
 
--- bits first to last of a number of n bits: "Bit 0 is the highest bit of the first octet"
+-- R1.1: bits first to last of a number of n bits; bit 0 is the highest
 abbrev pub bits : ℕ → ℕ → ℕ → ℕ → ℕ
 bits n w first last = w / 2 ^ (n - suc last) % 2 ^ (suc last - first)
 
--- "Bits 0 and 1 are 0 1"
+-- R2.1: bits 0 and 1, the version
 abbrev pub markOf : ℕ → ℕ
 markOf w = bits 32 w 0 1
 
--- "Bits 2 to 7 are the type: METADATA 2, DATA 3, STATUS 4"
+-- R2.1: bits 2 to 7, the type
 abbrev pub typeOf : ℕ → ℕ
 typeOf w = bits 32 w 2 7
 
--- "Bits 8 to 31 are kept as read"
+-- R2.2: bits 8 to 31, all of the flags
 abbrev pub flagsOf : ℕ → ℕ
 flagsOf w = bits 32 w 8 31
 
--- "Bits 8 and 9 give the descriptor width"
+-- R2.4: the width bits
 abbrev pub widthOf : ℕ → ℕ
 widthOf w = bits 32 w 8 9
 
--- the octets of a descriptor: "00 is 16, 01 is 32, 10 is 64 bits", and 11 is 128: "Take width 11"
+-- R2.4: the octets of a descriptor, by the width bits
 abbrev pub descriptorOctets : ℕ → ℕ
 descriptorOctets w = 2 * 2 ^ widthOf w
 
--- "Bits 10 and 11 of METADATA and DATA: 00 is a file"
+-- R2.5: the kind bits
 abbrev pub kindOf : ℕ → ℕ
 kindOf w = bits 32 w 10 11
 
--- "16 octets of timestamp if bit 12 is set"
+-- R2.10, R2.11: the octets of a timestamp, none where bit 12 is clear
 abbrev pub timestampOctets : ℕ → ℕ
 timestampOctets w = 16 * bits 32 w 12 12
 
--- STATUS: "Bit 14 says that the hole list isn't complete"
+-- R2.11: of STATUS, whether its hole list is not complete
 abbrev pub partialOf : ℕ → ℕ
 partialOf w = bits 32 w 14 14
 
--- DATA: bit 15 is status-wanted and bit 16 end-of-data (section 4.4)
+-- R2.10: of DATA, whether a STATUS is wanted, and whether it is the end of data
 abbrev pub wantedOf : ℕ → ℕ
 wantedOf w = bits 32 w 15 15
 
 abbrev pub eodOf : ℕ → ℕ
 eodOf w = bits 32 w 16 16
 
--- METADATA: "bits 28 to 31 give the checksum type, and bits 24 to 27 give its length in 32-bit words"
+-- R2.6: of METADATA, the checksum's length in words of 32 bits, and its type
 abbrev pub sumWords : ℕ → ℕ
 sumWords w = bits 32 w 24 27
 
 abbrev pub sumType : ℕ → ℕ
 sumType w = bits 32 w 28 31
 
--- STATUS: "bits 24 to 31 are the status code"
+-- R2.11: of STATUS, the status code
 abbrev pub statusOf : ℕ → ℕ
 statusOf w = bits 32 w 24 31
 
@@ -73,6 +73,6 @@ pub record Splits (w : ℕ) (h : Head) : Type 0 where
   pub sum-is : h .sum ≡ sumType w
   pub status-is : h .status ≡ statusOf w
 
--- the word of a packet of type t with these flags
+-- R2.1: the word of a packet of type t with these flags
 abbrev pub wordFor : ℕ → ℕ → ℕ
 wordFor t flags = 2 ^ 30 + t * 2 ^ 24 + flags

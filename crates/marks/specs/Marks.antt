@@ -1,4 +1,4 @@
--- "one mark for each octet in a lent area of 8,192 octets (mark n is its bit n, set once received)".
+-- R12.1: one mark for each offset, in 8,192 octets.
 -- Assumes nothing.
 use Prim.Native.Nat.{ℕ, zero, suc, _+_, _-_, _/_, _%_, _^_}
 use mathlib.Core.Bool.{Bool, cond}
@@ -14,11 +14,11 @@ markOctets = 8192
 abbrev pub markCount : ℕ
 markCount = 65536
 
--- "Bit 0 is the highest bit of the first octet": bit i of an octet, by these numbers
+-- R1.1: bit i of an octet; bit 0 is the highest
 unfoldable pub bitOf : ℕ → ℕ → Bool
 bitOf x i = eqb (x / 2 ^ (7 - i) % 2) 1
 
--- mark n
+-- R12.1: mark n
 unfoldable pub marked : List ℕ → ℕ → Bool
 marked s n = bitOf (getD s (n / 8) 0) (n % 8)
 
@@ -37,6 +37,6 @@ unfoldable pub withMarks : ℕ → ℕ → List ℕ → List ℕ
 withMarks n zero s = s
 withMarks n (suc k) s = withMarks (suc n) k (withMark n s)
 
--- "Opening always starts anew": no mark is left, and octets past the marks stay
+-- R12.3: no mark is left, and octets past the marks stay
 unfoldable pub cleared : List ℕ → List ℕ
 cleared s = put 0 (replicate markOctets 0) s

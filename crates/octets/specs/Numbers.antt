@@ -1,4 +1,4 @@
--- "All numbers are big-endian": the octets of a number, highest first, and the number that octets stand for. The same lowest first.
+-- R1.1 to R1.3: the octets of a number, highest first, and the number that octets stand for. The same lowest first.
 -- Assumes nothing.
 use Prim.Native.Nat.{ℕ, zero, suc, _+_, _*_, _-_, _/_, _%_, _<_}
 use mathlib.Core.Bool.{Bool, true, cond, _&&_}
@@ -7,7 +7,7 @@ use lib.ListN.{length, getD, take}
 use lib.Dec.{eqb}
 use Rattle.octets.specs.declared.Number.{Number}
 
--- the number so far, with the octets that are left to read
+-- R1.1: the number so far, with the octets that are left to read
 abbrev pub beFrom : ℕ → List ℕ → ℕ
 beFrom v [] = v
 beFrom v (x ∷ xs) = beFrom (v * 256 + x) xs
@@ -36,7 +36,7 @@ leDigits d v = reverse (beDigits d v)
 abbrev pub Octets : List ℕ → Type 0
 Octets xs = (i : ℕ) → getD xs i 0 < 256
 
--- the octets of a descriptor: 16, 32, 64 or 128 bits
+-- R1.2: the octets of a descriptor of 16, 32, 64 or 128 bits
 pub data Width : ℕ → Type 0 where
   two : Width 2
   four : Width 4
@@ -52,10 +52,10 @@ allZero (x ∷ xs) = eqb x 0 && allZero xs
 abbrev pub upperOctets : List ℕ → List ℕ
 upperOctets xs = take (length xs - 8) xs
 
--- "the upper eight octets of a descriptor .. are zero"
+-- R1.3: whether the upper octets of a descriptor are zero
 unfoldable pub upperZero : List ℕ → Bool
 upperZero xs = allZero (upperOctets xs)
 
--- what the octets of a descriptor tell: whether the upper ones are zero, and the number where they are
+-- R1.3: what the octets of a descriptor tell: whether the upper ones are zero, and the number where they are
 unfoldable pub numberIn : List ℕ → Number
 numberIn xs = record { small = upperZero xs; value = cond (upperZero xs) (beValue xs) 0 }

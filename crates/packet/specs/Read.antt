@@ -1,4 +1,4 @@
--- A packet of any type, read: "It reads METADATA, DATA and STATUS", and BEACON from request One on.
+-- R3.1: a packet of any type, read.
 -- Assumes nothing.
 use Prim.Native.Nat.{ℕ}
 use mathlib.Core.Bool.{cond}
@@ -40,7 +40,7 @@ ofStatus (status-read.Success s) = Success s
 ofStatus (status-read.Failure f) = Failure f
 ofStatus (status-read.Refused r) = Refused r
 
--- "BEACON (type 0)", "METADATA 2, DATA 3, STATUS 4"; 4: "type not 2, 3 or 4", and "in plain reading refusal 4 no longer covers type 0"
+-- R2.1, R9.4: by the type, BEACON 0, METADATA 2, DATA 3 and STATUS 4; 4 for every other
 unfoldable pub readType : ℕ → List ℕ → Read
 readType t s =
     cond (eqb t 0) (ofBeacon (readBeacon s))
@@ -48,6 +48,6 @@ readType t s =
     (cond (eqb t 3) (ofData (readData s))
     (cond (eqb t 4) (ofStatus (readStatus s)) (Refused (refusalOf 4)))))
 
--- "Order in reading: 2, 1 (first 8 octets), 3, 4"; of BEACON the first 4
+-- R3.1: 2, 1, 3, 4, and then what the reader of the type says
 unfoldable pub readPacket : List ℕ → Read
 readPacket s = answered Refused (startRefusal s) (readType (typeOf (wordOf s)) s)

@@ -1,4 +1,4 @@
--- BEACON, read: which packets are refused, and the fields of the others.
+-- R2.13, R3.8: BEACON, read: which packets are refused, and the fields of the others.
 -- Assumes nothing.
 use Prim.Native.Nat.{ℕ, _+_, _-_}
 use mathlib.Core.List.{List}
@@ -12,19 +12,18 @@ use Rattle.packet_beacon.specs.declared.Beacon.{Beacon}
 use Rattle.packet_beacon.specs.declared.BeaconRead.{BeaconRead}
 use Rattle.packet_beacon.specs.declared.BeaconRead.the-variants.{Accepted, Refused}
 
--- after the word "the optional free space", and "the endpoint identifier is the rest of the packet"
+-- R2.13: where the endpoint begins: after the word and the free space
 abbrev pub endpointAt : ℕ → ℕ
 endpointAt w = 4 + freeOctets w
 
--- "the current free space available", in multiples of 1,024 octets; 0 where it is not given
+-- R2.13: the free space, in multiples of 1,024 octets; 0 where it is not given
 abbrev pub freeSpace : List ℕ → ℕ
 freeSpace s = descriptorAt (freeOctets (wordOf s)) 4 s
 
 abbrev pub endpointOf : List ℕ → List ℕ
 endpointOf s = drop (endpointAt (wordOf s)) s
 
--- the order in reading: 2, 1, 3, 4; 26 "next after 4"; "then, where free space is present", 1 and 5 for it, as for every
--- descriptor. Of one of no octets nothing is refused
+-- R3.1, R3.8: 2, 1, 3, 4, 26, then 1 and 5 for the free space. Of one of no octets nothing is refused
 unfoldable pub beaconRefusal : List ℕ → ℕ
 beaconRefusal s =
     typeRefusal 0 s
@@ -47,6 +46,6 @@ beaconOf s =
       length = length s - endpointAt w;
     }
 
--- the fields, or the refusal
+-- R1.4: the fields, or the refusal
 unfoldable pub readBeacon : List ℕ → BeaconRead
 readBeacon s = answered Refused (beaconRefusal s) (Accepted (beaconOf s))

@@ -1,4 +1,4 @@
--- The flags of BEACON, by the first word or by bits 8 to 31 alone: what a peer can and will do, and whether it tells its free space.
+-- R2.13: the flags of BEACON, by the first word or by bits 8 to 31 alone: what a peer can and will do, and whether it tells its free space.
 -- Assumes nothing.
 use Prim.Native.Nat.{ℕ, _*_, _^_}
 use mathlib.Core.Path.{_≡_}
@@ -10,49 +10,48 @@ use Rattle.packet_beacon.specs.declared.BeaconFlags.{BeaconFlags}
 use Rattle.packet_beacon.specs.declared.Willingness.{Willingness}
 use Rattle.packet_beacon.specs.declared.Willingness.the-variants.{Cannot, NotNow, Willing}
 
--- "All four largest widths are taken": bits 8 and 9, in octets 2, 4, 8 or 16
+-- R2.13: the widest descriptors, in octets
 abbrev pub largestWidth : ℕ → ℕ
 largestWidth w = descriptorOctets w
 
--- "can also pass marked bundles to a local bundle agent" (section 4.1)
+-- R2.13: bundles
 abbrev pub bundlesOf : ℕ → ℕ
 bundlesOf w = bits 32 w 10 10
 
--- "capable of supporting streaming"
+-- R2.13: streams
 abbrev pub streamsOf : ℕ → ℕ
 streamsOf w = bits 32 w 11 11
 
--- "Bits 12 and 13 deal with sending, while bits 14 and 15 deal with receiving": the pairings
+-- R2.13: the pairings of bits for sending and for receiving
 abbrev pub sendingPair : ℕ → ℕ
 sendingPair w = bits 32 w 12 13
 
 abbrev pub receivingPair : ℕ → ℕ
 receivingPair w = bits 32 w 14 15
 
--- "available free space is advertised in this BEACON"
+-- R2.13: whether free space is given
 abbrev pub freePresent : ℕ → ℕ
 freePresent w = bits 32 w 17 17
 
--- "bits 18 and 19 are used to indicate the size in bits of the optional free-space-size field"; in octets, 0 where there is none
+-- R2.13: its width in octets, 0 where none is given
 abbrev pub freeOctets : ℕ → ℕ
 freeOctets w = cond (eqb (freePresent w) 1) (2 * 2 ^ bits 32 w 18 19) 0
 
--- "a last flags octet that isn't 0"
+-- R2.13: bits 24 to 31, which must be 0
 abbrev pub lastOctet : ℕ → ℕ
 lastOctet w = bits 32 w 24 31
 
--- "each of the two is one of three named states (cannot, can but not now, can and will)": 0 0, 1 0 and 1 1.
--- "The fourth pairing, 0 1, is refused"
+-- R2.13: the state that a pairing says: 0 0, 1 0 or 1 1. The fourth pairing, 0 1, is refused before
 abbrev pub willingnessOf : ℕ → Willingness
 willingnessOf pair = cond (eqb pair 0) Cannot (cond (eqb pair 2) NotNow Willing)
 
--- the pairing of each state
+-- R2.13: the pairing of each state
 abbrev pub pairOf : Willingness → ℕ
 pairOf Cannot = 0
 pairOf NotNow = 2
 pairOf Willing = 3
 
--- 26: "The fourth pairing, 0 1, is refused .. and so is a last flags octet that isn't 0"
+-- R9.26: 26 for a pairing 0 1 of either, and for bits 24 to 31 that are not 0
 unfoldable pub flagsRefusal : ℕ → ℕ
 flagsRefusal w =
     when (eqb (sendingPair w) 1) 26

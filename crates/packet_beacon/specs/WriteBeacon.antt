@@ -1,4 +1,4 @@
--- BEACON, written: which fields are refused, and the octets of the others.
+-- R4.6: BEACON, written: which fields are refused, and the octets of the others.
 -- Assumes nothing.
 use Prim.Native.Nat.{ℕ, _+_, _^_, _<_, _≤_}
 use mathlib.Core.Bool.{not}
@@ -13,20 +13,19 @@ use Rattle.header.specs.FirstWord.{wordFor}
 use Rattle.packet_beacon.specs.Flags.{freeOctets, flagsRefusal}
 use Rattle.packet_beacon.specs.Beacon.{endpointAt}
 
--- 21: "a field to be written exceeds its bits"; where no free space is present its field has no bits, and holds 0 alone
+-- R4.3: 21 for a field over its bits; where no free space is given its field has no bits, and holds 0 alone
 unfoldable pub beaconExcess : ℕ → ℕ → ℕ
 beaconExcess flags free = when (not (ltb flags (2 ^ 24))) 21 ▹ when (not (ltb free (256 ^ freeOctets flags))) 21
 
--- "the writer's refusals are as for DATA": 21 before all, what the reader would refuse (no number of 64 bits has upper octets
--- that would be 5), 2 then 20 last.
--- The endpoint is its length, room is the buffer's.
+-- R4.2, R4.6: 21 first, what the reader would refuse (no number of 64 bits has upper octets that would be 5), 2, then 20.
+-- The endpoint is its length, room is the buffer's
 unfoldable pub beaconWriteRefusal : ℕ → ℕ → ℕ → ℕ → ℕ
 beaconWriteRefusal flags free endpoint room =
     beaconExcess flags free
     ▹ flagsRefusal flags
     ▹ roomRefusal (endpointAt flags + endpoint) room
 
--- the octets of a packet; the writer sets the type, 0, itself
+-- R2.13: the octets of a packet; the writer sets the type, 0, itself
 unfoldable pub beaconOctets : ℕ → ℕ → List ℕ → List ℕ
 beaconOctets flags free endpoint = beDigits 4 (wordFor 0 flags) ++ (beDigits (freeOctets flags) free ++ endpoint)
 
@@ -35,7 +34,7 @@ pub record BeaconFits (flags endpoint room : ℕ) : Type 0 where
   pub flags-fit : flags < 2 ^ 24
   pub fits : endpointAt flags + endpoint ≤ room
 
--- the writer's answer, and the buffer at exit
+-- R4.1: the writer's answer, and the buffer at exit
 module _ (flags free : ℕ) (endpoint old : List ℕ) where
   abbrev pub beaconRefused : ℕ
   beaconRefused = beaconWriteRefusal flags free (length endpoint) (length old)

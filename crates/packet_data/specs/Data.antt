@@ -1,4 +1,4 @@
--- DATA, read: which packets are refused, the fields of the others, and the payload.
+-- R2.10, R3.4: DATA, read: which packets are refused, the fields of the others, and the payload.
 -- Assumes nothing.
 use Prim.Native.Nat.{ℕ, zero, suc, _+_, _-_}
 use mathlib.Core.List.{List, []}
@@ -12,7 +12,7 @@ use Rattle.packet_data.specs.declared.Data.{Data}
 use Rattle.packet_data.specs.declared.DataRead.{DataRead}
 use Rattle.packet_data.specs.declared.DataRead.the-variants.{Accepted, Refused}
 
--- "after the Id, 16 octets of timestamp if bit 12 is set, an offset of width w, then the payload to the end"
+-- R2.10: where the offset begins, after the timestamp, and where the payload begins
 abbrev pub offsetAt : ℕ → ℕ
 offsetAt w = 8 + timestampOctets w
 
@@ -22,8 +22,8 @@ payloadAt w = offsetAt w + descriptorOctets w
 abbrev pub offsetOf : List ℕ → ℕ
 offsetOf s = descriptorAt (descriptorOctets (wordOf s)) (offsetAt (wordOf s)) s
 
--- the order in reading: 2, 1, 3, 4, 6, 1 for timestamp and offset, 5 for the offset, 10.
--- A packet that ends inside the timestamp ends before the offset's last octet too, so one test serves for both.
+-- R3.1, R3.4: 2, 1, 3, 4, 6, 1 for timestamp and offset, 5 for the offset, 10.
+-- A packet that ends inside the timestamp ends before the offset's last octet too, so one test serves for both
 unfoldable pub dataRefusal : List ℕ → ℕ
 dataRefusal s =
     typeRefusal 3 s
@@ -46,11 +46,11 @@ dataOf s =
       length = length s - payloadAt w;
     }
 
--- the fields, or the refusal
+-- R1.4: the fields, or the refusal
 unfoldable pub readData : List ℕ → DataRead
 readData s = answered Refused (dataRefusal s) (Accepted (dataOf s))
 
--- "Read DATA hands back its payload as the very part of the packet that holds it; a refused read hands back an empty part"
+-- R3.11: the payload as the part of the packet that holds it, an empty part where the packet is refused
 abbrev pub payloadPart : ℕ → List ℕ → List ℕ
 payloadPart zero s = drop (payloadAt (wordOf s)) s
 payloadPart (suc n) s = []

@@ -1,4 +1,4 @@
--- DATA, written: which fields are refused, and the octets of the others.
+-- R4.5: DATA, written: which fields are refused, and the octets of the others.
 -- Assumes nothing.
 use Prim.Native.Nat.{ℕ, _+_, _^_, _<_, _≤_}
 use mathlib.Core.Path.{_≡_}
@@ -14,7 +14,7 @@ use Rattle.refusals.specs.Writing.{roomRefusal, writtenOf, bufferAfter}
 use Rattle.refusals.specs.declared.Written.{Written}
 use Rattle.packet_data.specs.Data.{payloadAt}
 
--- 21: "a field to be written exceeds its bits"; of the timestamp, "more than the flags say is 21"
+-- R4.3: 21 for a field over its bits, a timestamp longer than the flags say among them
 unfoldable pub dataExcess : ℕ → ℕ → ℕ → ℕ → ℕ
 dataExcess flags id timestamp offset =
     when (not (ltb flags (2 ^ 24))) 21
@@ -22,8 +22,8 @@ dataExcess flags id timestamp offset =
     ▹ when (ltb (timestampOctets flags) timestamp) 21
     ▹ when (not (ltb offset (256 ^ descriptorOctets flags))) 21
 
--- 21 before all, what the reader would refuse (of the timestamp "fewer is 1"), 2 then 20 last.
--- Timestamp and payload are their lengths, room is the buffer's.
+-- R4.2, R4.5: 21 first, what the reader would refuse, with 1 where the timestamp is shorter than the flags say, 2, then 20.
+-- Timestamp and payload are their lengths, room is the buffer's
 unfoldable pub dataWriteRefusal : ℕ → ℕ → ℕ → ℕ → ℕ → ℕ → ℕ
 dataWriteRefusal flags id timestamp offset payload room =
     dataExcess flags id timestamp offset
@@ -32,7 +32,7 @@ dataWriteRefusal flags id timestamp offset payload room =
     ▹ when (eqb payload 0) 10
     ▹ roomRefusal (payloadAt flags + payload) room
 
--- the octets of a packet; the writer sets the type, 3, itself
+-- R2.10: the octets of a packet; the writer sets the type, 3, itself
 unfoldable pub dataOctets : ℕ → ℕ → List ℕ → ℕ → List ℕ → List ℕ
 dataOctets flags id timestamp offset payload =
     beDigits 4 (wordFor 3 flags) ++ (beDigits 4 id ++ (timestamp ++ (beDigits (descriptorOctets flags) offset ++ payload)))
@@ -43,7 +43,7 @@ pub record DataFits (flags timestamp payload room : ℕ) : Type 0 where
   pub timestamp-is : timestamp ≡ timestampOctets flags
   pub fits : payloadAt flags + payload ≤ room
 
--- the writer's answer, and the buffer at exit
+-- R4.1: the writer's answer, and the buffer at exit
 module _ (flags id : ℕ) (timestamp : List ℕ) (offset : ℕ) (payload old : List ℕ) where
   abbrev pub dataRefused : ℕ
   dataRefused = dataWriteRefusal flags id (length timestamp) offset (length payload) (length old)

@@ -1,4 +1,4 @@
--- METADATA, read: which packets are refused, and the fields of the others.
+-- R2.6, R3.3: METADATA, read: which packets are refused, and the fields of the others.
 -- Assumes nothing.
 use Prim.Native.Nat.{ℕ, _+_}
 use mathlib.Core.List.{List}
@@ -13,11 +13,11 @@ use Rattle.packet_metadata.specs.declared.Metadata.{Metadata}
 use Rattle.packet_metadata.specs.declared.MetadataRead.{MetadataRead}
 use Rattle.packet_metadata.specs.declared.MetadataRead.the-variants.{Accepted, Refused}
 
--- "After the Id: the checksum, then a directory entry to the packet's end"
+-- R2.6: where the directory entry begins: after the Id and the checksum
 abbrev pub entryAt : ℕ → ℕ
 entryAt w = 8 + checksumOctets w
 
--- the order in reading: 2, 1, 3, 4, 6 for the kind, 7, 1 for the checksum, and then the entry's
+-- R3.1, R3.3: 2, 1, 3, 4, 6 for the kind, 7, 1 for the checksum, and then the entry's
 unfoldable pub metadataRefusal : List ℕ → ℕ
 metadataRefusal s =
     typeRefusal 2 s
@@ -37,6 +37,6 @@ metadataOf s =
       entry = entryOf (entryAt w) (drop (entryAt w) s);
     }
 
--- the fields, or the refusal
+-- R1.4: the fields, or the refusal
 unfoldable pub readMetadata : List ℕ → MetadataRead
 readMetadata s = answered Refused (metadataRefusal s) (Accepted (metadataOf s))

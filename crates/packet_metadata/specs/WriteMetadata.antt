@@ -1,4 +1,4 @@
--- METADATA, written: which fields are refused, and the octets of the others.
+-- R4.4: METADATA, written: which fields are refused, and the octets of the others.
 -- Assumes nothing.
 use Prim.Native.Nat.{ℕ, _+_, _^_, _<_, _≤_}
 use mathlib.Core.Path.{_≡_}
@@ -16,14 +16,14 @@ use Rattle.directory_entry.specs.WriteEntry.{entryExcess, entryWriteRefusal, en
 use Rattle.packet_metadata.specs.Checksum.{pairRefusal, checksumOctets}
 use Rattle.packet_metadata.specs.Metadata.{entryAt}
 
--- 21 of the fields before the entry; of the checksum, "more than the flags say is 21". The checksum is its length.
+-- R4.3: 21 of the fields before the entry, a checksum longer than the flags say among them. The checksum is its length
 unfoldable pub metadataExcess : ℕ → ℕ → ℕ → ℕ
 metadataExcess flags id checksum =
     when (not (ltb flags (2 ^ 24))) 21
     ▹ when (not (ltb id (2 ^ 32))) 21
     ▹ when (ltb (checksumOctets flags) checksum) 21
 
--- what the reader would refuse before the entry: 6, 7, and of the checksum "fewer is 1"
+-- R4.4: what the reader would refuse before the entry: 6, 7, and 1 where the checksum is shorter than the flags say
 unfoldable pub checksumRefusal : ℕ → ℕ → ℕ
 checksumRefusal flags checksum =
     fileRefusal flags
@@ -35,7 +35,7 @@ abbrev pub metadataSize : ℕ → ℕ → ℕ → ℕ
 metadataSize flags properties path = entryAt flags + entrySize properties path
 
 module _ (flags id : ℕ) (checksum : List ℕ) (properties size mtime ctime : ℕ) (path : List ℕ) where
-  -- 21 before all, what the reader would refuse, 2 then 20 last; room is the buffer's length
+  -- R4.2: 21 first, what the reader would refuse, 2, then 20; room is the buffer's length
   unfoldable pub metadataWriteRefusal : ℕ → ℕ
   metadataWriteRefusal room =
       metadataExcess flags id (length checksum)
@@ -44,12 +44,12 @@ module _ (flags id : ℕ) (checksum : List ℕ) (properties size mtime ctime : �
       ▹ entryWriteRefusal (descriptorOctets flags) properties size path
       ▹ roomRefusal (metadataSize flags properties (length path)) room
 
-  -- the octets of a packet; the writer sets the type, 2, itself
+  -- R2.6: the octets of a packet; the writer sets the type, 2, itself
   unfoldable pub metadataOctets : List ℕ
   metadataOctets =
       beDigits 4 (wordFor 2 flags) ++ (beDigits 4 id ++ (checksum ++ entryOctets properties size mtime ctime path))
 
-  -- the writer's answer, and the buffer at exit
+  -- R4.1: the writer's answer, and the buffer at exit
   unfoldable pub metadataWritten : List ℕ → Written
   metadataWritten old =
       writtenOf (metadataWriteRefusal (length old)) (metadataSize flags properties (length path))

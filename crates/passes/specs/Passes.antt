@@ -1,4 +1,4 @@
--- The passes of document 01 that are "proved together, one statement over the whole set, about the definitions".
+-- R10.7: the recorded passes, one statement over all ten, about the definitions.
 -- Every table is made from the empty one by packets that are written out as octets, payloads of 1,000 octets too.
 -- Assumes nothing.
 use Prim.Native.Nat.{ℕ, zero, suc, _+_, _*_, _-_, _^_}
@@ -49,23 +49,23 @@ opens t packet = openPacket t packet .table
 abbrev pub takes : List Transfer → List ℕ → List Transfer
 takes t packet = recordPacket t packet .table
 
--- "Id 7, width 16, L = 3,000, octets 0 to 999 and 2,000 to 2,999 received"
+-- Id 7 at width 16, of 3,000 octets: the first and the last thousand came
 unfoldable pub twoParts : List Transfer
 twoParts = takes (takes (opens [] (metadata 7 0 3000)) (zeros 7 0 0 1000)) (zeros 7 0 2000 1000)
 
--- "Then 1,000 to 1,999 arrives"
+-- the thousand between them
 abbrev pub middle : List ℕ
 middle = zeros 7 0 1000 1000
 
--- "L = 0"
+-- a file of no octets
 unfoldable pub emptyFile : List Transfer
 emptyFile = opens [] (metadata 7 0 0)
 
--- "0 to 9 then 10 to 19"
+-- two stretches that touch
 unfoldable pub oneAfterOther : List Transfer
 oneAfterOther = takes (takes (opens [] (metadata 7 0 3000)) (zeros 7 0 0 10)) (zeros 7 0 10 10)
 
--- "Only 5 to 9 received"
+-- the start is missing
 unfoldable pub late : List Transfer
 late = takes (opens [] (metadata 7 0 3000)) (zeros 7 0 5 5)
 
@@ -74,7 +74,7 @@ unfoldable pub scattered : ℕ → List Transfer
 scattered zero = opens [] (metadata 7 0 3000)
 scattered (suc n) = takes (scattered n) (zeros 7 0 (3 * n) 1)
 
--- "L = 2^64 - 1"
+-- the longest file
 unfoldable pub longest : List Transfer
 longest = opens [] (metadata 7 2 (2 ^ 64 - 1))
 
@@ -89,59 +89,58 @@ numbered (suc n) = opens (numbered n) (metadata (suc n) 0 3000)
 abbrev pub buffer : ℕ → List ℕ
 buffer n = replicate n 255
 
--- "both answer the edge and whether the transfer is complete"
+-- what opening tells
 abbrev pub upTo : ℕ → Bool → Reached
 upTo edge complete = record { edge = edge; complete = complete }
 
--- and recording "how many stored runs the packet swallowed" too
+-- and what recording tells besides
 abbrev pub joining : ℕ → Bool → ℕ → Receipt
 joining edge complete n = record { reached = upTo edge complete; absorbed = n }
 
 pub record Passes : Type 0 where
-  -- "Id 7, width 16, L = 3,000, octets 0 to 999 and 2,000 to 2,999 received, asked for:
-  -- 44 00 00 00 00 00 00 07 03 E8 0B B8 03 E8 07 D0"
+  -- the STATUS with one hole is 44 00 00 00 00 00 00 07 03 E8 0B B8 03 E8 07 D0
   pub hole-reported :
       (runsOf twoParts 7 ≡ run 0 1000 ∷ run 2000 3000 ∷ [])
       × (statusWritten twoParts 7 0 false (buffer 16) ≡ written.Size 16)
       × (statusBuffer twoParts 7 0 false (buffer 16)
       ≡ 68 ∷ 0 ∷ 0 ∷ 0 ∷ 0 ∷ 0 ∷ 0 ∷ 7 ∷ 3 ∷ 232 ∷ 11 ∷ 184 ∷ 3 ∷ 232 ∷ 7 ∷ 208 ∷ [])
-  -- "The same in a buffer of 15 octets: refusal 20"
+  -- one octet of room too few: 20
   pub buffer-too-small :
       (statusWritten twoParts 7 0 false (buffer 15) ≡ written.Refused (refusalOf 20))
       × (statusBuffer twoParts 7 0 false (buffer 15) ≡ buffer 15)
-  -- "Then 1,000 to 1,999 arrives: complete, 44 01 00 00 00 00 00 07 0B B8", and now "ends in 0B B8 0B B7"
+  -- the hole is filled: complete, and the STATUS is 44 01 00 00 00 00 00 07 0B B8 0B B7
   pub completed :
       (recordPacket twoParts middle .answer ≡ recorded.Accepted (joining 3000 true 2))
       × (statusWritten (takes twoParts middle) 7 0 false (buffer 12) ≡ written.Size 12)
       × (statusBuffer (takes twoParts middle) 7 0 false (buffer 12)
       ≡ 68 ∷ 1 ∷ 0 ∷ 0 ∷ 0 ∷ 0 ∷ 0 ∷ 7 ∷ 11 ∷ 184 ∷ 11 ∷ 183 ∷ [])
-  -- "L = 0: complete at opening; any DATA is refused": with 14 where Id and width are the transfer's
+  -- a file of no octets is complete when it is opened; DATA of its Id and width is refused with 14
   pub empty-complete :
       (openPacket [] (metadata 7 0 0) .answer ≡ opened.New (upTo 0 true))
       × ((packet : List ℕ) → recordAccepted (recordPacket emptyFile packet .answer) ≡ false)
       × ((packet : List ℕ) (d : Data) → readData packet ≡ data-read.Accepted d → d .id ≡ 7 → d .width ≡ 2
       → recordPacket emptyFile packet .answer ≡ recorded.Refused (refusalOf 14))
-  -- "L = 65,535 at width 16 opens; 65,536 is refused with 9"
+  -- at width 16, 65,535 octets open, and 65,536 are refused with 9
   pub longest-of-width :
       (openPacket [] (metadata 7 0 65535) .answer ≡ opened.New (upTo 0 false))
       × (openPacket [] (metadata 7 0 65536) .answer ≡ opened.Refused (refusalOf 9))
-  -- "0 to 9 then 10 to 19: one run, edge 20, no hole"
+  -- stretches that touch are one run, with edge 20 and no hole
   pub touching-joined :
       (runsOf oneAfterOther 7 ≡ run 0 20 ∷ []) × (edge (runsOf oneAfterOther 7) ≡ 20) × (holes (runsOf oneAfterOther 7) ≡ [])
-  -- "Only 5 to 9 received: Progress 0, edge 10, one hole from 0 to 5"
+  -- where the start is missing, Progress is 0, the edge 10, and the hole goes from 0 to 5
   pub start-missing :
       (runsOf late 7 ≡ run 5 10 ∷ []) × (progress (runsOf late 7) ≡ 0) × (edge (runsOf late 7) ≡ 10) × (holes (runsOf late 7) ≡ hole 0 5 ∷ [])
-  -- "64 runs, then a packet apart from all: 16. A packet that touches one: accepted."
+  -- with 64 runs, a packet apart from all is refused with 16, and one that touches a run is accepted
   pub runs-full :
       (length (runsOf (scattered 64) 7) ≡ 64)
       × (recordPacket (scattered 64) (zeros 7 0 192 1) .answer ≡ recorded.Refused (refusalOf 16))
       × (recordPacket (scattered 64) (zeros 7 0 190 1) .answer ≡ recorded.Accepted (joining 191 false 1))
-  -- "Offset 2^64 - 1 with one octet, L = 2^64 - 1: 14, and no wrapped sum"; the octet before it is taken
+  -- in a file of 2^64 - 1 octets, an octet at 2^64 - 1 is refused with 14, and no sum wraps; the octet before it is taken
   pub last-offset :
       (openPacket [] (metadata 7 2 (2 ^ 64 - 1)) .answer ≡ opened.New (upTo 0 false))
       × (recordPacket longest (zeros 7 2 (2 ^ 64 - 1) 1) .answer ≡ recorded.Refused (refusalOf 14))
       × (recordPacket longest (zeros 7 2 (2 ^ 64 - 2) 1) .answer ≡ recorded.Accepted (joining (2 ^ 64 - 1) false 0))
-  -- "A 17th Id: 17; after one is closed it opens"
+  -- a seventeenth Id is refused with 17, and opens once another is closed
   pub table-full :
       (length (numbered 16) ≡ 16)
       × (openPacket (numbered 16) (metadata 17 0 3000) .answer ≡ opened.Refused (refusalOf 17))

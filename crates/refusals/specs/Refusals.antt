@@ -1,4 +1,4 @@
--- "The numbers of a refusal": a refusal is its number, 0 stands for none, and of several the first counts.
+-- R1.5, R1.7, R9.27: a refusal is its number, 0 stands for none, and of several the first counts.
 -- Assumes nothing.
 use Prim.Native.Nat.{ℕ, zero, suc}
 use mathlib.Core.Bool.{Bool, true, false, cond}
@@ -7,7 +7,7 @@ use lib.Dec.{eqb}
 use Rattle.refusals.specs.declared.Refusal.{Refusal}
 
 infixr 20 _▹_
--- the first refusal, and where that is none, the second
+-- R1.7: the first refusal, and where that is none, the second
 abbrev pub _▹_ : ℕ → ℕ → ℕ
 zero ▹ n = n
 suc m ▹ n = suc m
@@ -17,7 +17,7 @@ abbrev pub when : Bool → ℕ → ℕ
 when true n = n
 when false n = 0
 
--- the numbers of a refusal, each with the status code to send (0: nothing to send)
+-- R9.27: the numbers of a refusal, each with the status code to send (0: nothing to send)
 abbrev pub codes : List (ℕ × ℕ)
 codes =
     (1, 0) ∷ (2, 0) ∷ (3, 0) ∷ (4, 10) ∷ (5, 9) ∷ (6, 1) ∷ (7, 1) ∷ (8, 1) ∷ (9, 9) ∷ (10, 1) ∷ (11, 0)
@@ -31,11 +31,11 @@ codeIn (c ∷ cs) n = let rest = codeIn cs n in cond (eqb (c .0) n) (c .1) rest
 unfoldable pub codeOf : ℕ → ℕ
 codeOf n = codeIn codes n
 
--- "Every refusal returns its number and the status code to send"
+-- R1.5: a refusal is its number and its code
 abbrev pub refusalOf : ℕ → Refusal
 refusalOf n = record { number = n; code = codeOf n }
 
--- an operation's answer: the refusal where there is one, else the result
+-- R1.4: an operation's answer: the refusal where there is one, else the result
 abbrev pub answered : {A : Type 0} → (Refusal → A) → ℕ → A → A
 answered refused zero result = result
 answered refused (suc n) result = refused (refusalOf (suc n))

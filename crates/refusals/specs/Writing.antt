@@ -1,4 +1,4 @@
--- What every writer answers, and what it leaves in the lent buffer.
+-- R4.1: what every writer answers, and what it leaves in the lent buffer.
 -- Assumes nothing.
 use Prim.Native.Nat.{ℕ, zero, suc}
 use mathlib.Core.List.{List}
@@ -8,7 +8,7 @@ use Rattle.refusals.specs.Refusals.{_▹_, when, answered}
 use Rattle.refusals.specs.declared.Written.{Written}
 use Rattle.refusals.specs.declared.Written.the-variants.{Size, Refused}
 
--- "2 then 20 last": a packet of so many octets, in a buffer of so many
+-- R4.2: 2, then 20, come last: for a packet of so many octets, in a buffer of so many
 unfoldable pub roomRefusal : ℕ → ℕ → ℕ
 roomRefusal size room = when (ltb 65535 size) 2 ▹ when (ltb room size) 20
 
@@ -16,7 +16,7 @@ roomRefusal size room = when (ltb 65535 size) 2 ▹ when (ltb room size) 20
 abbrev pub writtenOf : ℕ → ℕ → Written
 writtenOf n size = answered Refused n (Size size)
 
--- the buffer at exit: the packet, and "octets after those stay unchanged"; on refusal all stay
+-- R4.1, R1.6: the buffer at exit: the packet, and the octets after it as they were; on refusal all as they were
 abbrev pub bufferAfter : ℕ → List ℕ → List ℕ → List ℕ
 bufferAfter zero packet old = put 0 packet old
 bufferAfter (suc n) packet old = old

@@ -1,4 +1,4 @@
--- What a canonical list of runs says of its transfer: the edge, the holes, the progress, and whether the transfer is complete.
+-- R5.4 to R5.7: what a canonical list of runs says of its transfer: the edge, the holes, the progress, and whether it is complete.
 -- Assumes nothing.
 use Prim.Native.Nat.{ℕ, suc, _≤_, _<_}
 use mathlib.Core.Bool.{Bool, cond}
@@ -8,7 +8,7 @@ use lib.Dec.{ltb, leb, eqb}
 use Rattle.runs.specs.Runs.{Run}
 use Rattle.runs.specs.declared.Hole.{Hole}
 
--- "The edge is one more than the highest received offset, 0 if there is none": where the last run stops
+-- R5.4: where the last run stops
 unfoldable pub edgeFrom : ℕ → List Run → ℕ
 edgeFrom k [] = k
 edgeFrom k (r ∷ rs) = edgeFrom (r .stop) rs
@@ -16,11 +16,11 @@ edgeFrom k (r ∷ rs) = edgeFrom (r .stop) rs
 abbrev pub edge : List Run → ℕ
 edge rs = edgeFrom 0 rs
 
--- "A hole's end ... is the first offset after what it closes."
+-- R2.11: its end is the first offset after it
 abbrev pub hole : ℕ → ℕ → Hole
 hole start end = record { start = start; end = end }
 
--- "Holes are the longest unbroken stretches of unreceived offsets below the edge": those from k on, lowest first
+-- R5.5: the stretches between the runs, from k on, lowest first
 unfoldable pub holesFrom : ℕ → List Run → List Hole
 holesFrom k [] = []
 holesFrom k (r ∷ rs) =
@@ -30,13 +30,12 @@ holesFrom k (r ∷ rs) =
 abbrev pub holes : List Run → List Hole
 holes rs = holesFrom 0 rs
 
--- "Progress is the lowest offset not received (the edge if there are no holes)": where the run that holds offset 0 stops,
--- and 0 where no run does
+-- R5.6: where the run that holds offset 0 stops, and 0 where no run does
 unfoldable pub progress : List Run → ℕ
 progress [] = 0
 progress (r ∷ rs) = cond (eqb (r .start) 0) (r .stop) 0
 
--- "Complete holds exactly when all offsets below L were received. L = 0 is complete at once."
+-- R5.7: nothing below L is missing
 unfoldable pub complete : ℕ → List Run → Bool
 complete L rs = leb L (progress rs)
 

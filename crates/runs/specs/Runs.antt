@@ -1,4 +1,4 @@
--- The set of received offsets of one transfer, kept as its one canonical list of runs, lowest first.
+-- R5.1 to R5.3, R5.8: the set of received offsets of one transfer, kept as its one canonical list of runs, lowest first.
 -- Assumes nothing.
 use Prim.Native.Nat.{ℕ, suc, _≤_, _<_, min, max}
 use mathlib.Core.Path.{_≡_}
@@ -8,7 +8,7 @@ use mathlib.Core.Logic.{_⊎_}
 use lib.Dec.{ltb, leb}
 use lib.ListN.{getD}
 
--- "A run is a longest unbroken stretch of received offsets": those from start on, and stop is the first offset after them
+-- R5.2: the offsets from start on, and stop is the first offset after them
 pub record Run : Type 0 where
   pub start : ℕ
   pub stop : ℕ
@@ -24,13 +24,13 @@ nthRun rs i = getD rs i (run 0 0)
 abbrev pub Within : Run → ℕ → Type 0
 Within r x = (r .start ≤ x) × (x < r .stop)
 
--- "a set of received offsets": x is one of them
+-- R5.1: x is one of the received offsets
 abbrev pub Member : List Run → ℕ → Type 0
 Member [] x = ⊥
 Member (r ∷ rs) x = Within r x ⊎ Member rs x
 
--- "a longest unbroken stretch of received offsets": it isn't empty, all its offsets are received, the one before it, if there
--- is one, is not, and nor is the one after it
+-- R5.2: a longest unbroken stretch: it isn't empty, all its offsets are received, the one before it, if there is one, is not, and
+-- nor is the one after it
 pub record LongestStretch (rs : List Run) (r : Run) : Type 0 where
   pub some : r .start < r .stop
   pub received : (x : ℕ) → Within r x → Member rs x
@@ -42,8 +42,7 @@ unfoldable pub contains : List Run → ℕ → Bool
 contains [] x = false
 contains (r ∷ rs) x = (leb (r .start) x && ltb x (r .stop)) || contains rs x
 
--- "touching stretches are one run": no run is empty, the first starts at k or later, and at least one offset
--- lies between a run and the next
+-- R5.2: no run is empty, the first starts at k or later, and at least one offset lies between a run and the next
 abbrev pub CanonicalFrom : ℕ → List Run → Type 0
 CanonicalFrom k [] = Unit
 CanonicalFrom k (r ∷ rs) = (k ≤ r .start) × (r .start < r .stop) × CanonicalFrom (suc (r .stop)) rs
@@ -51,14 +50,13 @@ CanonicalFrom k (r ∷ rs) = (k ≤ r .start) × (r .start < r .stop) × Canonic
 abbrev pub Canonical : List Run → Type 0
 Canonical rs = CanonicalFrom 0 rs
 
--- "a set of received offsets below L": no run stops above L
+-- R6.1: no run stops above L
 abbrev pub StopsTo : ℕ → List Run → Type 0
 StopsTo L [] = Unit
 StopsTo L (r ∷ rs) = (r .stop ≤ L) × StopsTo L rs
 
--- "Recording DATA adds the offsets from offset to offset + payload length - 1": those from a on, and b, above a, is the
--- first after them. A run that lies below with an offset between stays as it is, the new one goes before a run that lies above
--- with an offset between, and a run that overlaps or touches is joined with it
+-- R5.3: the offsets from a on are added; b, above a, is the first after them. A run that lies below with an offset between stays as it
+-- is, the new one goes before a run that lies above with an offset between, and a run that overlaps or touches is joined with it
 unfoldable pub insert : ℕ → ℕ → List Run → List Run
 insert a b [] = run a b ∷ []
 insert a b (r ∷ rs) =
@@ -66,7 +64,7 @@ insert a b (r ∷ rs) =
     let joined = insert (min a (r .start)) (max b (r .stop)) rs in
     cond (ltb (r .stop) a) after (cond (ltb b (r .start)) (run a b ∷ r ∷ rs) joined)
 
--- how many stored runs an insertion takes up (document 02 calls them swallowed): "those that overlap or touch it"
+-- R5.8: how many runs an insertion absorbs: those that overlap or touch it
 unfoldable pub absorbed : ℕ → ℕ → List Run → ℕ
 absorbed a b [] = 0
 absorbed a b (r ∷ rs) =

@@ -1,4 +1,4 @@
--- Closing: "removes an Id; its place is used again". "Closing: 12".
+-- R6.10: closing removes an Id; 12 where it is not open.
 -- Assumes nothing.
 use Prim.Native.Nat.{ℕ}
 use mathlib.Core.List.{List}

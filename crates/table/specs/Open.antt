@@ -1,4 +1,4 @@
--- Opening by METADATA.
+-- R6.4, R6.5: opening by METADATA.
 -- Assumes nothing.
 use Prim.Native.Nat.{ℕ}
 use mathlib.Core.Bool.{Bool, true, false, cond, _&&_}
@@ -22,8 +22,8 @@ pub data Verdict : Type 0 where
   already : Verdict
   refuse : ℕ → Verdict
 
--- an open Id: "equal width and L answers already open", else 18. A new one: 17 where 16 are open.
--- It is judged by what is open alone, and not by what was received
+-- R6.4: an open Id with the same width and length is already open, with another it is 18. A new one is 17 where 16 are open.
+-- Only what is open is looked at, and not what was received
 unfoldable pub judgeFound : Option Key → ℕ → Key → Verdict
 judgeFound none count k = cond (ltb count 16) new (refuse 17)
 judgeFound (some j) count k = cond (eqb (j .width) (k .width) && eqb (j .length) (k .length)) already (refuse 18)
@@ -39,7 +39,7 @@ openAs (refuse n) t k = record { answer = Refused (refusalOf n); table = t }
 unfoldable pub openKey : List Transfer → Key → Outcome Opened
 openKey t k = openAs (judgeOpen (keys t) k) t k
 
--- "Opening: the reader's, then 18, 17"
+-- R6.4: the reader's refusals, then 18, 17
 unfoldable pub openRead : List Transfer → MetadataRead → Outcome Opened
 openRead t (metadata-read.Accepted m) = openKey t (keyOf m)
 openRead t (metadata-read.Refused r) = record { answer = Refused r; table = t }

@@ -1,4 +1,4 @@
--- Recording DATA.
+-- R6.6 to R6.8: recording DATA.
 -- Assumes nothing.
 use Prim.Native.Nat.{ℕ, zero, suc}
 use mathlib.Core.Bool.{Bool, true, false}
@@ -18,12 +18,12 @@ use Rattle.table.specs.declared.Recorded.{Recorded}
 use Rattle.table.specs.declared.Recorded.the-variants.{Accepted, Refused}
 use Rattle.table.specs.Outcome.{Outcome}
 
--- 12: "Id not open"; then 13, 14, 15, by the key of the packet's Id. They are judged by what is open alone
+-- R6.6: 12 where the Id is not open, then 13, 14, 15, by the key of the packet's Id. Only what is open is looked at
 unfoldable pub dataJudged : Option Key → Data → ℕ
 dataJudged none d = 12
 dataJudged (some k) d = keyRefusal k d
 
--- then 16
+-- R6.6: then 16
 unfoldable pub recordRefusal : Option Key → List Run → Data → ℕ
 recordRefusal k runs d = dataJudged k d ▹ runsRefusal runs
 
@@ -45,7 +45,7 @@ recordData t d =
     let k = find (d .id) (keys t) in
     recordAs (recordRefusal k (grown t d) d) k (grown t d) t d
 
--- "Recording: the reader's, then 12, 13, 14, 15, 16"
+-- R6.6: the reader's refusals, then 12, 13, 14, 15, 16
 unfoldable pub recordRead : List Transfer → DataRead → Outcome Recorded
 recordRead t (data-read.Accepted d) = recordData t d
 recordRead t (data-read.Refused r) = record { answer = Refused r; table = t }

@@ -1,4 +1,4 @@
--- The transfer table, looking an Id up in it, and a table with one transfer more, changed or less.
+-- R6.1: the transfer table, looking an Id up in it, and a table with one transfer more, changed or less.
 -- Assumes nothing.
 use Prim.Native.Nat.{ℕ, suc, _≤_}
 use mathlib.Core.Bool.{cond}
@@ -15,7 +15,7 @@ abbrev pub FineFrom : ℕ → List Transfer → Type 0
 FineFrom k [] = Unit
 FineFrom k (x ∷ t) = (k ≤ x .key .id) × TransferFine x × FineFrom (suc (x .key .id)) t
 
--- document 01's desk: "a map, of at most 16 Ids". Rising by Id makes the list the map itself: one list for each map
+-- R6.1, R6.2: at most 16 transfers. Rising by Id makes the list the map itself: one list for each map
 pub record Valid (t : List Transfer) : Type 0 where
   pub few : length t ≤ 16
   pub fine : FineFrom 0 t

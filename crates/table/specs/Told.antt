@@ -1,4 +1,4 @@
--- What opening and recording must tell of a transfer of the table, by demand 2; and how the runs that a packet absorbed are tied to it.
+-- R6.5, R6.8: what opening and recording must tell of a transfer of the table; and how the runs that a packet absorbed are tied to it.
 -- Assumes nothing.
 use Prim.Native.Nat.{ℕ, _+_}
 use mathlib.Core.Path.{_≡_}
@@ -16,7 +16,7 @@ pub record Told (t : List Transfer) (id : ℕ) (x : Reached) : Type 0 where
   pub found : find id (keys t) ≡ some key
   pub tells : Tells (key .length) (runsOf t id) x
 
--- document 02, of a recording that absorbed n runs of an Id, with the tables before and after it: "runs after equal runs before plus
--- one minus that number". Written as a sum, so that no subtraction can stop at 0
+-- R5.8, of a recording that absorbed n runs of an Id, with the tables before and after it: the runs after are those before, plus one,
+-- minus n. Written as a sum, so that no subtraction can stop at 0
 abbrev pub Counted : List Transfer → List Transfer → ℕ → ℕ → Type 0
 Counted before after id n = length (runsOf after id) + n ≡ length (runsOf before id) + 1

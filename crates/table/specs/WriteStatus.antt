@@ -1,4 +1,4 @@
--- "Writing STATUS for an open Id": 12, and else what the transfer's own STATUS is.
+-- R7.1: 12 where the Id is not open, and else the transfer's own STATUS.
 -- Assumes nothing.
 use Prim.Native.Nat.{ℕ}
 use mathlib.Core.Bool.{Bool}
@@ -22,7 +22,7 @@ unfoldable pub bufferFor : Option Key → List Run → ℕ → Bool → List ℕ
 bufferFor none rs k unasked old = old
 bufferFor (some key) rs k unasked old = transferBuffer key rs k unasked old
 
--- the writer's answer, and the buffer at exit
+-- R4.1: the writer's answer, and the buffer at exit
 unfoldable pub statusWritten : List Transfer → ℕ → ℕ → Bool → List ℕ → Written
 statusWritten t id k unasked old = writtenFor (find id (keys t)) (runsOf t id) k unasked old
 

@@ -1,4 +1,4 @@
--- What C gets of a packet that was read: "a definition gives this paper's number and values for each case".
+-- R3.10: what C gets of a packet that was read: the number and the values of each case.
 -- A field that the packet's type lacks is 0. Places count octets from the packet's start.
 -- Assumes nothing.
 use Prim.Native.Nat.{ℕ}
@@ -45,7 +45,7 @@ noBeacon =
       endpoint = noPart;
     }
 
--- the number of each of the "three named states (cannot, can but not now, can and will)"
+-- R2.13: the number of each of the three states
 abbrev pub stateNumber : Willingness → ℕ
 stateNumber Cannot = 0
 stateNumber NotNow = 1
@@ -158,7 +158,7 @@ failurePacket f =
       beacon = noBeacon;
     }
 
--- what C gets for a refusal: "its other results are 0 or empty"
+-- R1.5: what C gets for a refusal
 abbrev pub refusedPacket : Refusal → PacketAnswer
 refusedPacket r =
     record {

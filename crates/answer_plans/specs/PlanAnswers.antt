@@ -1,4 +1,4 @@
--- What C gets of a plan, and of the check of a list of pieces.
+-- R11.3, R11.5: what C gets of a plan, and of the check of a list of pieces.
 -- Assumes nothing.
 use Prim.Native.Nat.{ℕ, _≤_}
 use mathlib.Core.Path.{_≡_}
@@ -22,8 +22,7 @@ plannedAnswer p = record { number = p .number; code = codeOf (p .number); count 
 abbrev pub checkedAnswer : Check → CheckedAnswer
 checkedAnswer k = record { number = k .number; code = codeOf (k .number); passes = bit (passed k) }
 
--- the answer of the check: "the reader's (4 for any other type), 11 for a failure STATUS, 21", and it "passes it exactly when" nothing
--- is refused and the list is a good plan for the listed holes
+-- R11.4, R11.5: the answer of the check: it passes exactly when nothing is refused and the list is a good plan for the listed holes
 pub record CheckAnswer (m : ℕ) (s : List ℕ) (ps : List Piece) (r : CheckedAnswer) : Type 0 where
   pub number-is : r .number ≡ resendRefusal m s
   pub code-is : r .code ≡ codeOf (resendRefusal m s)

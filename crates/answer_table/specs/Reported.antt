@@ -1,4 +1,4 @@
--- What C is told of a transfer, by the octets that were received: demand 2 of the numbers that the exported functions answer.
+-- R5.4, R5.7: what C is told of a transfer, by the octets that were received: of the numbers that the exported functions answer.
 -- Assumes nothing.
 use Prim.Native.Nat.{ℕ, suc, _<_, _≤_}
 use mathlib.Core.Path.{_≡_}
@@ -17,8 +17,8 @@ pub record Reported (area : List ℕ) (id edge complete : ℕ) : Type 0 where
   pub held : tableOf area ≡ some table
   pub key : Key
   pub found : find id (keys table) ≡ some key
-  -- "a page is reported complete exactly when every octet of its stated length was received"
+  -- R5.7: complete exactly when every octet of the length was received
   pub complete-iff : (complete ≡ 1) ↔ ((o : ℕ) → o < key .length → Member (runsOf table id) o)
-  -- "The edge is one more than the highest received offset, 0 if there is none"
+  -- R5.4: one more than the highest received offset, 0 where there is none
   pub edge-iff : (o : ℕ) → (edge ≡ suc o) ↔ (Member (runsOf table id) o × ((p : ℕ) → Member (runsOf table id) p → p ≤ o))
   pub edge-none : (edge ≡ 0) ↔ ((o : ℕ) → Member (runsOf table id) o → ⊥)

@@ -1,4 +1,4 @@
--- What C gets of the operations on a transfer table: "a definition gives this paper's number and values for each case".
+-- R1.5: what C gets of the operations on a transfer table: the number and the values of each case.
 -- Assumes nothing.
 use Rattle.refusals.specs.Tests.{bit}
 use Rattle.table.specs.declared.Opened.{Opened}

@@ -1,5 +1,4 @@
--- What C gets of a hole that was read, of a packet that was written, and of a recording: "a definition gives this paper's number
--- and values for each case".
+-- R1.5: what C gets of a hole that was read, of a packet that was written, and of a recording: the number and the values of each case.
 -- Assumes nothing.
 use Prim.Native.Nat.{ℕ}
 use mathlib.Core.Bool.{Bool, not}
@@ -15,7 +14,7 @@ use Rattle.answers.specs.declared.HoleAnswer.{HoleAnswer}
 use Rattle.answers.specs.declared.WrittenAnswer.{WrittenAnswer}
 use Rattle.answers.specs.declared.RecordedAnswer.{RecordedAnswer}
 
--- `unasked` is no for 0 and yes for any other number
+-- R1.9: `unasked` is no for 0 and yes for any other number
 abbrev pub isUnasked : ℕ → Bool
 isUnasked n = not (eqb n 0)
 

@@ -1,4 +1,4 @@
--- "A fresh desk has room for 16 transfers of 64 runs, all empty": its numbers, and words put one after the other.
+-- R8.4: a fresh table, with room for 16 transfers of 64 runs: its numbers, and words put one after the other.
 -- Assumes nothing.
 use Prim.Native.Nat.{ℕ, _+_, _*_, _<_}
 use mathlib.Core.Path.{_≡_}

@@ -1,4 +1,4 @@
--- Opening by METADATA: "Opening always starts anew; Id, w and L travel as a record by value".
+-- R12.2, R12.3: opening by METADATA.
 -- Assumes nothing.
 use Prim.Native.Nat.{ℕ, zero, suc}
 use mathlib.Core.List.{List, []}
@@ -12,11 +12,11 @@ use Rattle.bitmap.specs.State.{Left, longest, marksRefusal}
 use Rattle.bitmap.specs.declared.Opened.{Opened}
 use Rattle.bitmap.specs.declared.Opened.the-variants.{New, Refused}
 
--- 20, the reader's, and 9: "L up to 65,535 (above that, refusal 9 at opening)"
+-- R12.3: 20, the reader's refusals, and 9 for a length above 65,535
 unfoldable pub openRefusal : List ℕ → List ℕ → ℕ
 openRefusal s packet = marksRefusal s ▹ metadataRefusal packet ▹ when (ltb longest (keyOf (metadataOf packet) .length)) 9
 
--- nothing is received then, whatever was marked before
+-- R12.3: nothing is received then, whatever was marked before
 unfoldable pub openAs : ℕ → List ℕ → Key → Left Opened
 openAs zero s k = record { answer = New (record { key = k; reached = reached k [] }); marks = cleared s }
 openAs (suc n) s k = record { answer = Refused (refusalOf (suc n)); marks = s }

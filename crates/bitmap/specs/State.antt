@@ -1,4 +1,4 @@
--- One transfer of the bitmap receiver (document 02 calls it the plain one): its key, which travels by value, and its marks, which are lent.
+-- R12.4: one transfer of the bitmap receiver: its key, which travels by value, and its marks, which are lent.
 -- Assumes nothing.
 use Prim.Native.Nat.{ℕ}
 use mathlib.Core.Bool.{Bool, not, _&&_}
@@ -17,22 +17,22 @@ pub record Left (A : Type 0) : Type 0 where
   pub answer : A
   pub marks : List ℕ
 
--- "for one transfer with L up to 65,535"
+-- R12.3: the longest transfer
 abbrev pub longest : ℕ
 longest = 65535
 
--- a w and L that an opening takes
+-- R12.4: a width and a length that an opening takes
 unfoldable pub openable : Key → Bool
 openable k = lengthTest (k .width) (k .length) && leb (k .length) longest
 
--- none of "a mark at or above L, more than 64 runs, or a w and L that no opening takes". The edge is one more than the highest mark
+-- R12.4: the width and the length are taken, there are at most 64 runs, and no mark at or above L. The edge is one more than the highest mark
 unfoldable pub stateTest : Key → List ℕ → Bool
 stateTest k s = openable k && (leb (length (markedRuns s)) 64 && leb (edge (markedRuns s)) (k .length))
 
--- "a lent area of 8,192 octets (..; less: 20, before all)"
+-- R9.20: 20 where there are fewer octets than marks need
 unfoldable pub marksRefusal : List ℕ → ℕ
 marksRefusal s = when (ltb (length s) markOctets) 20
 
--- "22, next after 20"
+-- R12.4: then 22
 unfoldable pub stateRefusal : Key → List ℕ → ℕ
 stateRefusal k s = marksRefusal s ▹ when (not (stateTest k s)) 22

@@ -1,4 +1,4 @@
--- Recording DATA.
+-- R12.5: recording DATA.
 -- Assumes nothing.
 use Prim.Native.Nat.{ℕ, zero, suc}
 use mathlib.Core.Bool.{not}
@@ -15,11 +15,11 @@ use Rattle.marks.specs.Marks.{withMarks}
 use Rattle.marks.specs.MarkedRuns.{markedRuns}
 use Rattle.bitmap.specs.State.{Left, stateRefusal}
 
--- 12: the packet is of another Id; then 13, 14, 15
+-- R12.5: 12 for a packet of another Id; then 13, 14, 15
 unfoldable pub dataRefused : Key → Data → ℕ
 dataRefused k d = when (not (eqb (d .id) (k .id))) 12 ▹ keyRefusal k d
 
--- 20, 22, the reader's, 12, 13, 14, 15, and 16: "refuses for room by the same 64 runs"
+-- R12.5: 20, 22, the reader's refusals, 12, 13, 14, 15, and 16 by the same 64 runs
 unfoldable pub recordRefusal : Key → List ℕ → List ℕ → ℕ
 recordRefusal k s packet = stateRefusal k s ▹ dataRefusal packet ▹ dataRefused k (dataOf packet) ▹ runsRefusal (extended (markedRuns s) (dataOf packet))
 

@@ -1,4 +1,4 @@
--- Writing STATUS, which only reads the marks.
+-- R12.6: writing STATUS, which only reads the marks.
 -- Assumes nothing.
 use Prim.Native.Nat.{ℕ, _^_}
 use mathlib.Core.Bool.{Bool}
@@ -13,7 +13,7 @@ use Rattle.transfer_status.specs.WriteStatus.{transferRefused, statusPacket}
 use Rattle.marks.specs.MarkedRuns.{markedRuns}
 use Rattle.bitmap.specs.State.{stateRefusal}
 
--- 20, 22, and 12: an Id over 32 bits is open nowhere
+-- R12.6, R1.9: 20, 22, and 12, since an Id over 32 bits is open nowhere
 unfoldable pub idRefusal : Key → List ℕ → ℕ
 idRefusal k s = stateRefusal k s ▹ when (leb (2 ^ 32) (k .id)) 12
 

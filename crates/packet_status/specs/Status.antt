@@ -1,4 +1,4 @@
--- STATUS, read: which packets are refused, the fields of the others, and one hole of the list.
+-- R2.11, R2.12, R3.5, R3.12: STATUS, read: which packets are refused, the fields of the others, and one hole of the list.
 -- Assumes nothing.
 use Prim.Native.Nat.{ℕ, zero, suc, _+_, _*_, _-_, _/_, _%_}
 use mathlib.Core.Path.{_≡_}
@@ -20,7 +20,7 @@ use Rattle.packet_status.specs.declared.FailureStatus.{FailureStatus}
 use Rattle.packet_status.specs.declared.StatusRead.{StatusRead}
 use Rattle.packet_status.specs.declared.StatusRead.the-variants.{Success, Failure, Refused}
 
--- "16 octets of timestamp if bit 12 is set, Progress, In-Response-To, then holes"
+-- R2.11: where Progress, In-Response-To and the holes begin
 abbrev pub progressAt : ℕ → ℕ
 progressAt w = 8 + timestampOctets w
 
@@ -51,21 +51,21 @@ holeCount s = listOctets s / (2 * descriptorOctets (wordOf s))
 unfoldable pub holeList : List ℕ → List Hole
 holeList s = holesOf (descriptorOctets (wordOf s)) (holeCount s) (holesAt (wordOf s)) s
 
--- "Bit 14 says that the hole list isn't complete, bit 15 that the STATUS was sent unasked"
+-- R2.11: bit 14, that the hole list is not complete; bit 15, that the STATUS was sent unasked
 abbrev pub partialTold : List ℕ → Bool
 partialTold s = eqb (partialOf (wordOf s)) 1
 
 abbrev pub unaskedTold : List ℕ → Bool
 unaskedTold s = eqb (bits 32 (wordOf s) 15 15) 1
 
--- 11: "hole list not as above"; "it is whole pairs"
+-- R3.6: 11 where the list is not whole pairs, or none that is taken
 unfoldable pub listRefusal : List ℕ → ℕ
 listRefusal s =
     when (not (eqb (listOctets s % (2 * descriptorOctets (wordOf s))) 0)) 11
     ▹ when (not (listWell (partialTold s) (unaskedTold s) (progressOf s) (responseOf s) (holeList s))) 11
 
--- a success STATUS after the Id: 1 and 5 for Progress (a packet that ends inside the timestamp has not all of it), 1 and 5
--- for In-Response-To, 5 for each whole descriptor of the hole list, "before .. 11"
+-- R3.5: a success STATUS after the Id: 1 and 5 for Progress (a packet that ends inside the timestamp has not all of it), 1 and 5
+-- for In-Response-To, 5 for each whole descriptor of the hole list, then 11
 unfoldable pub successRefusal : List ℕ → ℕ
 successRefusal s =
     descriptorRefusal (descriptorOctets (wordOf s)) (progressAt (wordOf s)) s
@@ -79,8 +79,7 @@ pub record DescriptorsFine (s : List ℕ) : Type 0 where
   pub response-none : descriptorRefusal (descriptorOctets (wordOf s)) (responseAt (wordOf s)) s ≡ 0
   pub list-none : descriptorsRefusal (descriptorOctets (wordOf s)) (listDescriptors s) (holesAt (wordOf s)) s ≡ 0
 
--- the order in reading: 2, 1, 3, 4; "a failure STATUS is then accepted": "If the code isn't 0, reading stops after the Id
--- and the rest is ignored"
+-- R3.5, R2.12: 2, 1, 3, 4; a failure STATUS is then accepted, whatever follows its Id
 unfoldable pub statusRefusal : List ℕ → ℕ
 statusRefusal s = typeRefusal 4 s ▹ when (eqb (statusOf (wordOf s)) 0) (successRefusal s)
 
@@ -101,7 +100,7 @@ successOf s =
 unfoldable pub failureOf : List ℕ → FailureStatus
 failureOf s = record { flags = flagsOf (wordOf s); id = idOf s; status = statusOf (wordOf s) }
 
--- the fields, by the status code, or the refusal
+-- R1.4: the fields, by the status code, or the refusal
 abbrev pub acceptedStatus : ℕ → List ℕ → StatusRead
 acceptedStatus zero s = Success (successOf s)
 acceptedStatus (suc code) s = Failure (failureOf s)
@@ -109,7 +108,7 @@ acceptedStatus (suc code) s = Failure (failureOf s)
 unfoldable pub readStatus : List ℕ → StatusRead
 readStatus s = answered Refused (statusRefusal s) (acceptedStatus (statusOf (wordOf s)) s)
 
--- one pair of the hole list: the reader's refusals, 11 for a failure STATUS, 19 for an index that the list doesn't have
+-- R3.12: one pair of the hole list: the reader's refusals, 11 for a failure STATUS, 19 for an index that the list doesn't have
 unfoldable pub holeRefusal : ℕ → List ℕ → ℕ
 holeRefusal index s =
     statusRefusal s

@@ -1,4 +1,4 @@
--- A failure STATUS, written: "8 octets, flags 0 apart from the code".
+-- R4.7: a failure STATUS, written.
 -- Assumes nothing.
 use Prim.Native.Nat.{ℕ, _^_}
 use mathlib.Core.Bool.{not}
@@ -11,7 +11,7 @@ use Rattle.header.specs.FirstWord.{wordFor}
 use Rattle.refusals.specs.Writing.{writtenOf, bufferAfter}
 use Rattle.refusals.specs.declared.Written.{Written}
 
--- "The failure writer: 21, then 20", where 21 is a field over its bits "or failure code 0"
+-- R4.7: 21 for a field over its bits or code 0, then 20
 unfoldable pub failureWriteRefusal : ℕ → ℕ → ℕ → ℕ
 failureWriteRefusal id status room =
     when (not (ltb id (2 ^ 32))) 21

@@ -1,15 +1,15 @@
--- What to send again: a hole cut into pieces, and the plan of a hole list.
+-- R11.1, R11.2: what to send again: a hole cut into pieces, and the plan of a hole list.
 -- Assumes nothing.
 use Prim.Native.Nat.{ℕ, zero, suc, _+_, _-_, _/_, min}
 use mathlib.Core.List.{List, [], _∷_, _++_}
 use Rattle.runs.specs.declared.Hole.{Hole}
 use Rattle.plan.specs.declared.Piece.{Piece}
 
--- "a list of pieces, each an offset and a length"
+-- R11.1: an offset and a length
 abbrev pub piece : ℕ → ℕ → Piece
 piece offset length = record { offset = offset; length = length }
 
--- "The planner cuts each hole from its low end, all pieces m long but perhaps the hole's last": n pieces of a hole, from `at` on
+-- R11.2: n pieces of a hole, from `at` on, each m long except perhaps the last
 abbrev pub cut : ℕ → ℕ → ℕ → ℕ → List Piece
 cut m zero at end = []
 cut m (suc n) at end = piece at (min m (end - at)) ∷ cut m n (at + m) end

@@ -1,4 +1,4 @@
--- Planning: what is refused, what is answered and stored, and how a plan is made piece by piece.
+-- R11.2, R11.3: planning: what is refused, what is answered and stored, and how a plan is made piece by piece.
 -- Assumes nothing.
 use Prim.Native.Nat.{ℕ, zero, suc, _+_, _-_, _<_, min}
 use mathlib.Core.Path.{_≡_}
@@ -19,18 +19,18 @@ use Rattle.plan.specs.declared.Cursor.{Cursor}
 
 -- ---- refusals
 
--- "a largest payload m (1 to 65,000, else refusal 21)"
+-- R9.21: a largest payload that is taken
 abbrev pub allowed : ℕ → Bool
 allowed m = ltb 0 m && leb m 65000
 
--- "Both refuse in this order: the reader's (4 for any other type), 11 for a failure STATUS, 21, 20"
+-- R11.3, R11.5: the reader's refusals, 11 for a failure STATUS, 21
 unfoldable pub resendRefusal : ℕ → List ℕ → ℕ
 resendRefusal m s =
     statusRefusal s
     ▹ when (not (eqb (statusOf (wordOf s)) 0)) 11
     ▹ when (not (allowed m)) 21
 
--- the planner "refuses with 20 exactly when it needs more records than were lent"
+-- R11.3: then 20, where the plan has more pieces than records were lent
 unfoldable pub planRefusal : ℕ → ℕ → List ℕ → ℕ
 planRefusal m room s = resendRefusal m s ▹ when (ltb room (length (planOf m (holeList s)))) 20
 
@@ -46,7 +46,7 @@ abbrev pub plannedOf : ℕ → ℕ → List Hole → Plan
 plannedOf zero m hs = record { number = 0; count = length (planOf m hs); holes = length hs }
 plannedOf (suc n) m hs = record { number = suc n; count = 0; holes = 0 }
 
--- the lent records at exit: "records past the plan stay"; on refusal all stay
+-- R11.2: the lent records at exit: those past the plan stay, and all of them on refusal
 abbrev pub recordsAfter : ℕ → List Piece → List Piece → List Piece
 recordsAfter zero plan old = plan ++ drop (length plan) old
 recordsAfter (suc n) plan old = old

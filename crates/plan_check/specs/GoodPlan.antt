@@ -1,4 +1,4 @@
--- The plans that pass, in the five conditions of document 02: nothing is said of how a list came about, or of how it is checked.
+-- R11.4: the plans that pass, in five conditions: nothing is said of how a list came about, or of how it is checked.
 -- Assumes nothing.
 use Prim.Native.Nat.{ℕ, _+_, _≤_, _<_}
 use mathlib.Core.List.{List, [], _∷_}
@@ -26,26 +26,26 @@ InPiece x p = (p .offset ≤ x) × (x < p .offset + p .length)
 abbrev pub InHole : ℕ → Hole → Type 0
 InHole x h = (h .start ≤ x) × (x < h .end)
 
--- "the pieces rise"
+-- R11.4: the pieces rise
 abbrev pub Rise : List Piece → Type 0
 Rise ps = EachPair (λ p q. p .offset < q .offset) ps
 
--- "none is empty or longer than m"
+-- R11.4: none is empty or longer than m
 abbrev pub Sized : ℕ → List Piece → Type 0
 Sized m ps = Each (λ p. (0 < p .length) × (p .length ≤ m)) ps
 
--- "each lies in one listed hole": a piece that would end past 2^64 lies in none
+-- R11.4: each lies in one listed hole; a piece whose true end reaches 2^64 lies in none
 abbrev pub LiesIn : Piece → Hole → Type 0
 LiesIn p h = (h .start ≤ p .offset) × (p .offset + p .length ≤ h .end)
 
 abbrev pub InHoles : List Hole → List Piece → Type 0
 InHoles hs ps = Each (λ p. Some (LiesIn p) hs) ps
 
--- "no two overlap": no octet is in both
+-- R11.4: no octet is in two of them
 abbrev pub NoOverlap : List Piece → Type 0
 NoOverlap ps = EachPair (λ p q. (x : ℕ) → InPiece x p → InPiece x q → ⊥) ps
 
--- "together they cover every listed hole"
+-- R11.4: each octet of each listed hole is in one of them
 abbrev pub CoverHoles : List Hole → List Piece → Type 0
 CoverHoles hs ps = Each (λ h. (x : ℕ) → InHole x h → Some (InPiece x) ps) hs
 

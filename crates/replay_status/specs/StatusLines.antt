@@ -13,8 +13,8 @@ use Rattle.area.specs.Operations.{areaStatusWritten, areaStatusBuffer}
 use Rattle.replay_lines.specs.Body.{numberAt, badLine}
 use Rattle.replay_answers.specs.AnswerLines.{statusText, sentText}
 
--- Which refused packet is answered with a failure STATUS, to the Id in octets 4 to 7: one of at least 8 octets, of another type than
--- BEACON, whose refusal has a code. "Every packet begins with a 32-bit word and a 32-bit Id", but for BEACON, which has no Id. The type is
+-- R13.1: which refused packet is answered with a failure STATUS, to the Id in octets 4 to 7: one of at least 8 octets, of another type than
+-- BEACON, which has no Id, and whose refusal has a code. The type is
 -- bits 2 to 7: a packet that doesn't begin 0 1 has no code (replay_deliver: AnsweredLaws). `saratoga_failure_id` of include/saratoga.h and
 -- the link program, which calls it, say the same. The writer would refuse code 0 too (21); that there is nothing to send for it is said
 -- here, where the rule is
@@ -25,7 +25,7 @@ failureSent n p code room =
     (cond (eqb (typeOf (wordOf p)) 0) []
     (sentText n (failureWritten (idOf p) code room) (failureBuffer (idOf p) code room))))
 
--- "the packet wants a status (bit 15)": "a STATUS, asked for, k = 0, with room for all holes, is what to send"
+-- R13.2: where the packet wants a status (bit 15), a STATUS is sent, asked for, k = 0, with room for all holes
 unfoldable pub wantedSent : ℕ → List ℕ → Data → List ℕ → List ℕ
 wantedSent n area d room =
     cond (eqb (d .wanted) 0) []

@@ -1,4 +1,4 @@
--- "A STATUS that the desk wrote reads back with its fields and holes", for every area and every marks, every Id, k and buffer, unasked or
+-- R7.9: a STATUS that was written reads back with its fields and holes, for every area and every marks, every Id, k and buffer, unasked or
 -- not: where writing answers a size, so many octets of the buffer are read as a packet (packet: Read).
 -- Assumes nothing.
 use Prim.Native.Nat.{ℕ, _+_, _<_, _≤_}

@@ -1,4 +1,4 @@
--- A success STATUS as a packet: its size, its flags, and its fields and holes as octets.
+-- R2.11, R7.6, R7.7: a success STATUS as a packet: its size, its flags, and its fields and holes as octets.
 -- Assumes nothing.
 use Prim.Native.Nat.{ℕ, _+_, _*_, _^_}
 use mathlib.Core.Bool.{cond}
@@ -18,17 +18,17 @@ use Rattle.success_status.specs.declared.Fields.{Fields}
 abbrev pub frontSize : ℕ → ℕ
 frontSize d = 8 + 2 * d
 
--- "With descriptors of d octets and h holes written the size is 8 + 2d + 2dh octets"
+-- R7.7: the size with h holes
 abbrev pub statusSize : ℕ → ℕ → ℕ
 statusSize d h = frontSize d + 2 * d * h
 
 -- ---- the octets
 
--- the width bits: "00 is 16, 01 is 32, 10 is 64 bits", and 11 is 128
+-- R2.4: the width bits
 unfoldable pub widthBits : ℕ → ℕ
 widthBits d = cond (eqb d 2) 0 (cond (eqb d 4) 1 (cond (eqb d 8) 2 3))
 
--- bits 8 and 9, 14 and 15; "All other flags are 0, apart from the width"
+-- R7.6: the width, bit 14 and bit 15; all other flags are 0
 unfoldable pub statusFlags : Fields → ℕ
 statusFlags f = widthBits (f .width) * 2 ^ 22 + bit (f .partial) * 2 ^ 17 + bit (f .unasked) * 2 ^ 16
 

@@ -1,4 +1,4 @@
--- One transfer: its key, its received offsets, and how far it has come.
+-- R6.1, R6.5: one transfer: its key, its received offsets, and how far it has come.
 -- Assumes nothing.
 use Prim.Native.Nat.{ℕ, suc, _^_, _≤_, _<_}
 use mathlib.Core.Path.{_≡_}
@@ -14,11 +14,11 @@ use Rattle.runs.specs.Holes.{edge, complete}
 use Rattle.transfer.specs.declared.Key.{Key}
 use Rattle.transfer.specs.declared.Reached.{Reached}
 
--- "The size is the transfer's length L", "at width w": what METADATA opens
+-- R6.4: what METADATA opens: the packet's width, and the size as the length
 abbrev pub keyOf : Metadata → Key
 keyOf m = record { id = m .id; width = m .width; length = m .entry .size }
 
--- a width and a length that an opening takes: the width is one of the four, and the length fits it and 64 bits
+-- R6.1: a width and a length that an opening takes: the width is one of the four, and the length fits it and 64 bits
 unfoldable pub lengthTest : ℕ → ℕ → Bool
 lengthTest width length =
     cond (eqb width 2) (ltb length (256 ^ 2))
@@ -29,12 +29,11 @@ pub record Transfer : Type 0 where
   pub key : Key
   pub runs : List Run
 
--- "starts with nothing received"
+-- R6.4: nothing is received
 abbrev pub empty : Key → Transfer
 empty k = record { key = k; runs = [] }
 
--- "from Id to width w, length L (at most 2^w - 1) and a set of received offsets below L"; "A transfer holds at most 64" runs.
--- The upper eight octets of a length of 128 bits are zero, so L is below 2^64 whatever w is
+-- R6.1: L fits the width and is below 2^64, whatever the width is; all received offsets are below L, in at most 64 runs
 pub record TransferFine (x : Transfer) : Type 0 where
   pub id-fits : x .key .id < 2 ^ 32
   pub width-is : Width (x .key .width)
@@ -44,12 +43,11 @@ pub record TransferFine (x : Transfer) : Type 0 where
   pub canonical : Canonical (x .runs)
   pub within : StopsTo (x .key .length) (x .runs)
 
--- "both answer the edge and whether the transfer is complete"
+-- R6.5, R6.8: what opening and recording tell
 unfoldable pub reached : Key → List Run → Reached
 reached k rs = record { edge = edge rs; complete = complete (k .length) rs }
 
--- what such an answer must tell of the received offsets rs of a transfer of length L: "a page is reported complete exactly when every
--- octet of its stated length was received"; "The edge is one more than the highest received offset, 0 if there is none"
+-- R5.7, R5.4: what such an answer must tell of the received offsets rs of a transfer of length L
 pub record Tells (L : ℕ) (rs : List Run) (x : Reached) : Type 0 where
   pub complete-iff : (x .complete ≡ true) ↔ ((o : ℕ) → o < L → Member rs o)
   pub edge-iff : (o : ℕ) → (x .edge ≡ suc o) ↔ (Member rs o × ((p : ℕ) → Member rs p → p ≤ o))

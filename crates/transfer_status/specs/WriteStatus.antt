@@ -1,5 +1,4 @@
--- "Writing STATUS for an open Id takes a number k of holes to skip and whether it was unasked": which fields and holes the STATUS of
--- one transfer has.
+-- R7.1 to R7.8: which fields and holes the STATUS of one transfer has, after k holes are skipped, unasked or not.
 -- Assumes nothing.
 use Prim.Native.Nat.{ℕ, zero, suc, _*_, _-_, _/_}
 use mathlib.Core.Bool.{Bool, cond, not, _&&_, _||_}
@@ -18,11 +17,11 @@ use Rattle.transfer.specs.declared.Key.{Key}
 
 -- ---- 19 and 20, with descriptors of d octets and n holes
 
--- "k must be 0 or less than the number of holes": whether it is neither
+-- R7.1: k is neither 0 nor less than the number of holes
 unfoldable pub skipsTooMany : ℕ → ℕ → Bool
 skipsTooMany k n = not (eqb k 0) && not (ltb k n)
 
--- the octets that a STATUS has at least: "If there are holes, room for at least one is needed"
+-- R7.8: the octets that a STATUS has at least: with one hole, where there are holes
 unfoldable pub leastRoom : ℕ → ℕ → ℕ
 leastRoom d n = cond (eqb n 0) (frontSize d) (statusSize d 1)
 
@@ -35,26 +34,26 @@ sizeRefusal d n k room = when (skipsTooMany k n) 19 ▹ when (ltb room (leastRoo
 unfoldable pub holeRoom : ℕ → ℕ → ℕ
 holeRoom d room = (room - frontSize d) / (2 * d)
 
--- "It writes as many holes as fit, lowest first, after the first k"
+-- R7.2: after the first k, as many as fit, the lowest first
 unfoldable pub holesSent : ℕ → ℕ → ℕ → List Hole → List Hole
 holesSent d k room hs = take (holeRoom d room) (drop k hs)
 
--- "Bit 14 is set exactly when some hole was skipped or did not fit", of n holes
+-- R7.3: some of n holes was skipped or did not fit
 unfoldable pub partialSent : ℕ → ℕ → ℕ → ℕ → Bool
 partialSent d k room n = ltb 0 k || ltb (holeRoom d room) (n - k)
 
 -- ---- the fields
 
--- "for a complete transfer In-Response-To is L - 1, or 0 where L is 0"
+-- R7.5: the last offset of a complete transfer, or 0 where it has none
 unfoldable pub lastOffset : ℕ → ℕ
 lastOffset zero = 0
 lastOffset (suc n) = n
 
--- "All other STATUS packets keep the edge"
+-- R7.5: In-Response-To, which is the edge until the transfer is complete
 unfoldable pub responseSent : ℕ → List Run → ℕ
 responseSent L rs = cond (complete L rs) (lastOffset L) (edge rs)
 
--- with bit 14 by `partial`: "Bit 15 is set if unasked or complete"
+-- R7.4: with bit 14 by `partial`, and bit 15 where unasked or complete
 abbrev pub fieldsSent : Key → List Run → Bool → Bool → Fields
 fieldsSent key rs partial unasked =
     record {

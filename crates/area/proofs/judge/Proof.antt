@@ -7,9 +7,6 @@ use Rattle.area.proofs.LoopLaws.{judged-short, judged-many, judged-rest
 use Rattle.area.proofs.judge.Statement.{statement}
 use Rattle.area.proofs.judge.Tie as tie
 
-returns : tie.Need-returns
-returns c = judged-short (now (c .before .before .args .area)) (omega arith)
-
 returns-2 : tie.Need-returns-2
 returns-2 c =
     judged-many (now (c .before .before .before .before .args .area)) _ (omega arith) (c .before .open-count .ensures) (omega arith)
@@ -22,4 +19,4 @@ returns-3 c =
     judged-rest (now (start .args .area)) (w .result) (omega arith) (w .ensures) _ (omega arith) (c .transfers-ok .ensures)
 
 pub judge-spec : {M : Type 1} → statement M
-judge-spec = tie.close (tie.spec returns (λ c κs. search needs) returns-2 (λ c κs. search needs) returns-3)
+judge-spec = tie.close (tie.spec (λ c. judged-short (now (c .before .before .args .area)) (omega arith)) (λ c κs. search needs) returns-2 (λ c κs. search needs) returns-3)

@@ -6,9 +6,6 @@ use Rattle.area_status.proofs.ListingLaws.{listing-is}
 use Rattle.area_status.proofs.listing_at.Statement.{statement}
 use Rattle.area_status.proofs.listing_at.Tie as tie
 
-edge-of-requires : tie.Need-edge-of-requires
-edge-of-requires c κs = rw (c .rows-at .ensures) (c .before .before .before .pre .rows .fit)
-
 is-complete-requires : tie.Need-is-complete-requires
 is-complete-requires c κs = rw (c .before .rows-at .ensures) (c .before .before .before .before .pre .rows .fit)
 
@@ -22,4 +19,4 @@ returns c =
 pub listing-at-spec : {M : Type 1} → statement M
 listing-at-spec =
     tie.close
-    (tie.spec (λ c κs. search needs) (λ c κs. search needs) edge-of-requires is-complete-requires returns)
+    (tie.spec (λ c κs. search needs) (λ c κs. search needs) (λ c κs. rw (c .rows-at .ensures) (c .before .before .before .pre .rows .fit)) is-complete-requires returns)

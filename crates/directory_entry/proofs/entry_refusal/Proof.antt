@@ -73,9 +73,6 @@ left : (c : tie.Else3) → entryRefusal (given c .args .d) (e c)
 unfolding entryRefusal
 left c = rw (le-ltb (length (e c)) 2 (omega arith), known (c .before .before) .2, there c)
 
-returns-4 : tie.Need-returns-4
-returns-4 c = rw (left (c .before), lt-ltb (length (e (c .before))) (pathAt (propertiesOf (e (c .before)))) (omega (arith, known (c .before .before .before))))
-
 path : (c : tie.After-path-refusal) → c .path-refusal .result ≡ pathRefusal (afterTimes (e (c .before .before .before)))
 path c =
     let p = c .before .before .before .before .before in
@@ -106,12 +103,6 @@ size c =
     sym (c .fits2 .ensures ∙ ap (λ (n : ℕ). ltb n (256 ^ d)) (c .before .descriptor .ensures ∙ ap (λ (n : ℕ). descriptorAt n 2 (e place)) (k .0))) in
     rw (left place, le-ltb (length (e place)) (pathAt (propertiesOf (e place))) (omega arith), passed, fits)
 
-returns-6 : tie.Need-returns-6
-returns-6 c = rw (size (c .before), not-true (c .before .fits2 .result) (c .if6 .taken))
-
-returns-7 : tie.Need-returns-7
-returns-7 c = rw (size (c .before), not-false (c .before .fits2 .result) (c .if6 .left))
-
 pub entry-refusal-spec : {M : Type 1} → statement M
 entry-refusal-spec =
     tie.close
@@ -124,7 +115,7 @@ entry-refusal-spec =
     (λ c. omega (arith, known c))
     (λ c κs. (rw (known c .0) (size-width _), omega (arith, known c)))
     returns-3
-    returns-4
+    (λ c. rw (left (c .before), lt-ltb (length (e (c .before))) (pathAt (propertiesOf (e (c .before)))) (omega (arith, known (c .before .before .before)))))
     (λ c. search needs)
     (λ c. search needs)
     (λ c. search needs)
@@ -132,5 +123,5 @@ entry-refusal-spec =
     returns-5
     descriptor-requires
     (λ c κs. search needs)
-    returns-6
-    returns-7)
+    (λ c. rw (size (c .before), not-true (c .before .fits2 .result) (c .if6 .taken)))
+    (λ c. rw (size (c .before), not-false (c .before .fits2 .result) (c .if6 .left))))

@@ -18,9 +18,6 @@ returns : tie.Need-returns
 unfolding descriptorRefusal
 returns c = let a = c .before .before .args in rw (lt-ltb (length (now (a .s))) (a .at + a .d) (omega arith))
 
-read-number-requires : tie.Need-read-number-requires
-read-number-requires c κs = (c .before .before .pre .0, omega arith)
-
 -- what the reader tells of the upper octets
 small : (c : tie.After-read-number) → let a = c .before .before .before .args in upperZero (take (a .d) (drop (a .at) (now (a .s)))) ≡ c .read-number .result .small
 unfolding numberIn
@@ -41,4 +38,4 @@ returns-3 c =
     rw (le-ltb (length (now (a .s))) (a .at + a .d) (omega arith), u)
 
 pub descriptor-refusal-spec : {M : Type 1} → statement M
-descriptor-refusal-spec = tie.close (tie.spec (λ c. search needs) returns read-number-requires returns-2 returns-3)
+descriptor-refusal-spec = tie.close (tie.spec (λ c. search needs) returns (λ c κs. (c .before .before .pre .0, omega arith)) returns-2 returns-3)

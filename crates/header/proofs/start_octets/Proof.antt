@@ -6,9 +6,6 @@ use native.Mathlib.Omega.{arith}
 use Rattle.header.proofs.start_octets.Statement.{statement}
 use Rattle.header.proofs.start_octets.Tie as tie
 
-returns : tie.Need-returns
-returns c = let w = c .before .before .before .args .w in rw (ne-eqb (markOf w) 1 (omega arith))
-
 returns-2 : tie.Need-returns-2
 returns-2 c =
     let start = c .before .before .before .before .before in
@@ -20,4 +17,4 @@ returns-3 c =
     let w = start .args .w in rw (eq-eqb (markOf w) 1 (omega arith), ne-eqb (typeOf w) 0 (omega arith))
 
 pub start-octets-spec : {M : Type 1} → statement M
-start-octets-spec = tie.close (tie.spec (λ c κs. search needs) returns returns-2 returns-3)
+start-octets-spec = tie.close (tie.spec (λ c κs. search needs) (λ c. let w = c .before .before .before .args .w in rw (ne-eqb (markOf w) 1 (omega arith))) returns-2 returns-3)

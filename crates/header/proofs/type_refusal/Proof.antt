@@ -16,9 +16,6 @@ returns : tie.Need-returns
 unfolding typeRefusal
 returns c = let s = now (c .before .before .before .args .p) in c .before .start-refusal .ensures ∙ sym (stays (startRefusal s) _ (omega arith))
 
-word-requires : tie.Need-word-requires
-word-requires c κs = start-word (now (c .before .before .before .args .p)) (omega arith)
-
 returns-2 : tie.Need-returns-2
 unfolding typeRefusal
 returns-2 c =
@@ -38,4 +35,4 @@ returns-3 c =
 pub type-refusal-spec : {M : Type 1} → statement M
 type-refusal-spec =
     tie.close
-    (tie.spec (λ c κs. search needs) returns word-requires (λ c κs. search needs) returns-2 returns-3)
+    (tie.spec (λ c κs. search needs) returns (λ c κs. start-word (now (c .before .before .before .args .p)) (omega arith)) (λ c κs. search needs) returns-2 returns-3)

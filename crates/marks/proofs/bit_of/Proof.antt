@@ -7,8 +7,5 @@ use Rattle.marks.proofs.BitLaws.{mask-is}
 use Rattle.marks.proofs.bit_of.Statement.{statement}
 use Rattle.marks.proofs.bit_of.Tie as tie
 
-returns : tie.Need-returns
-returns c = mask-is (c .args .n % 8) (mod-lt (c .args .n) (omega arith))
-
 pub bit-of-spec : {M : Type 1} → statement M
-bit-of-spec = tie.close (tie.spec (λ c. search needs) (λ c. search needs) returns)
+bit-of-spec = tie.close (tie.spec (λ c. search needs) (λ c. search needs) (λ c. mask-is (c .args .n % 8) (mod-lt (c .args .n) (omega arith))))

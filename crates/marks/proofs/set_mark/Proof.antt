@@ -7,9 +7,6 @@ use Rattle.marks.proofs.set_mark.Tie as tie
 use Rattle.marks.proofs.set_mark.Reads as reads
 use Rattle.marks.proofs.set_mark.Lts as lts
 
-returns : tie.Need-returns
-returns c = mark-written _ _ _ (c .bit-of .ensures)
-
 pub set-mark-spec : {M : Type 1} → statement M
 set-mark-spec =
-    tie.close (tie.spec (λ c. search needs) (λ c κs. search needs) (λ c. search needs) (λ c. search needs) returns)
+    tie.close (tie.spec (λ c. search needs) (λ c κs. search needs) (λ c. search needs) (λ c. search needs) (λ c. mark-written _ _ _ (c .bit-of .ensures)))

@@ -16,8 +16,5 @@ returns c =
     let above = pow-le-pow-right {n = 256} (omega arith) {i = 8} {j = a .d} (omega arith) in
     sym (lt-ltb (a .v) (256 ^ a .d) (lt-of-lt-of-le (c .before .fits .v .fits) above))
 
-returns-2 : tie.Need-returns-2
-returns-2 c = shifted-out (c .before .args .v) (c .before .args .d)
-
 pub fits-spec : {M : Type 1} → statement M
-fits-spec = tie.close (tie.spec returns (λ c. search needs) (λ c. search needs) returns-2)
+fits-spec = tie.close (tie.spec returns (λ c. search needs) (λ c. search needs) (λ c. shifted-out (c .before .args .v) (c .before .args .d)))

@@ -20,9 +20,6 @@ halves c =
     let l : beValue (take 4 (drop (a .at + 4) s)) < 2 ^ 32 = part-lt s (a .at + 4) 4 o (omega arith) in
     (omega arith, omega arith)
 
-add-result : tie.Need-add-result
-add-result c = let h = halves c in omega arith
-
 returns : tie.Need-returns
 returns c =
     let a = c .before .before .before .args in
@@ -31,4 +28,4 @@ returns c =
 pub read-eight-spec : {M : Type 1} → statement M
 read-eight-spec =
     tie.close
-    (tie.spec (λ c. search needs) (λ c κs. search needs) (λ c κs. search needs) (λ c. let h = halves c in omega arith) add-result returns)
+    (tie.spec (λ c. search needs) (λ c κs. search needs) (λ c κs. search needs) (λ c. let h = halves c in omega arith) (λ c. let h = halves c in omega arith) returns)

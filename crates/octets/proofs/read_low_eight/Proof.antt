@@ -19,9 +19,6 @@ halves c =
     let h : leValue (take 4 (drop (a .at + 4) s)) < 2 ^ 32 = low-part-lt s (a .at + 4) 4 o (omega arith) in
     (omega arith, omega arith)
 
-add-result : tie.Need-add-result
-add-result c = let h = halves c in omega arith
-
 returns : tie.Need-returns
 returns c =
     let a = c .before .before .before .args in
@@ -30,4 +27,4 @@ returns c =
 pub read-low-eight-spec : {M : Type 1} → statement M
 read-low-eight-spec =
     tie.close
-    (tie.spec (λ c κs. search needs) (λ c. search needs) (λ c κs. search needs) (λ c. let h = halves c in omega arith) add-result returns)
+    (tie.spec (λ c κs. search needs) (λ c. search needs) (λ c κs. search needs) (λ c. let h = halves c in omega arith) (λ c. let h = halves c in omega arith) returns)

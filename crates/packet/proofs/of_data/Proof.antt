@@ -5,8 +5,5 @@ use borrow.Author.Needs.{needs}
 use Rattle.packet.proofs.of_data.Statement.{statement}
 use Rattle.packet.proofs.of_data.Tie as tie
 
-returns-2 : tie.Need-returns-2
-returns-2 c = ap ofData (sym (c .before .a2 .given .1))
-
 pub of-data-spec : {M : Type 1} → statement M
-of-data-spec = tie.close (tie.spec (λ c. search needs) (λ c. search needs) (λ c. ap ofData (sym (c .before .a .given .1))) returns-2)
+of-data-spec = tie.close (tie.spec (λ c. search needs) (λ c. search needs) (λ c. ap ofData (sym (c .before .a .given .1))) (λ c. ap ofData (sym (c .before .a2 .given .1))))

@@ -12,9 +12,6 @@ use native.Mathlib.Omega.{arith}
 use Rattle.packet_beacon.proofs.free_space.Statement.{statement}
 use Rattle.packet_beacon.proofs.free_space.Tie as tie
 
-word-requires : tie.Need-word-requires
-word-requires c κs = beacon-fine (now (c .before .args .p)) (c .before .pre) .head .long
-
 -- the octets of the free space
 width : (c : tie.After-free-octets) → c .free-octets .result ≡ freeOctets (wordOf (now (c .before .before .before .args .p)))
 width c = c .free-octets .ensures ∙ ap freeOctets (c .before .word .ensures)
@@ -42,4 +39,4 @@ returns-2 c =
 pub free-space-spec : {M : Type 1} → statement M
 free-space-spec =
     tie.close
-    (tie.spec word-requires (λ c κs. search needs) returns descriptor-requires returns-2)
+    (tie.spec (λ c κs. beacon-fine (now (c .before .args .p)) (c .before .pre) .head .long) (λ c κs. search needs) returns descriptor-requires returns-2)

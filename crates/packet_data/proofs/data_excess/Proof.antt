@@ -45,12 +45,6 @@ left c =
       fits,
     )
 
-returns-4 : tie.Need-returns-4
-returns-4 c = rw (left (c .before), not-true (c .before .fits2 .result) (c .if4 .taken))
-
-returns-5 : tie.Need-returns-5
-returns-5 c = rw (left (c .before), not-false (c .before .fits2 .result) (c .if4 .left))
-
 pub data-excess-spec : {M : Type 1} → statement M
 data-excess-spec =
     tie.close
@@ -61,5 +55,5 @@ data-excess-spec =
     returns-3
     (λ c κs. search needs)
     (λ c κs. search needs)
-    returns-4
-    returns-5)
+    (λ c. rw (left (c .before), not-true (c .before .fits2 .result) (c .if4 .taken)))
+    (λ c. rw (left (c .before), not-false (c .before .fits2 .result) (c .if4 .left))))

@@ -12,9 +12,6 @@ use native.Mathlib.Omega.{arith}
 use Rattle.packet_data.proofs.data_fields.Statement.{statement}
 use Rattle.packet_data.proofs.data_fields.Tie as tie
 
-id-requires : tie.Need-id-requires
-id-requires c κs = data-fine (now (c .before .before .before .before .before .args .p)) (c .before .before .before .before .before .pre) .head .long
-
 descriptor-requires : tie.Need-descriptor-requires
 descriptor-requires c κs =
     let descriptor-octets-place = c .before .before .before .before in
@@ -65,7 +62,7 @@ data-fields-spec =
     (λ c κs. search needs)
     (λ c κs. search needs)
     (λ c κs. search needs)
-    id-requires
+    (λ c κs. data-fine (now (c .before .before .before .before .before .args .p)) (c .before .before .before .before .before .pre) .head .long)
     (λ c κs. search needs)
     (λ c κs. search needs)
     descriptor-requires

@@ -5,9 +5,6 @@ use native.Mathlib.Omega.{arith}
 use Rattle.packet_data.proofs.payload_at.Statement.{statement}
 use Rattle.packet_data.proofs.payload_at.Tie as tie
 
-add-result : tie.Need-add-result
-add-result c = omega (arith, octets-le (c .before .before .args .w))
-
 pub payload-at-spec : {M : Type 1} → statement M
 payload-at-spec =
-    tie.close (tie.spec (λ c κs. search needs) (λ c κs. search needs) add-result (λ c. search needs))
+    tie.close (tie.spec (λ c κs. search needs) (λ c κs. search needs) (λ c. omega (arith, octets-le (c .before .before .args .w))) (λ c. search needs))

@@ -6,8 +6,5 @@ use Rattle.text.proofs.AddedLaws.{added-one, added-full}
 use Rattle.text.proofs.push.Statement.{statement}
 use Rattle.text.proofs.push.Tie as tie
 
-returns-2 : tie.Need-returns-2
-returns-2 c = added-full _ _ _ (omega arith)
-
 pub push-spec : {M : Type 1} → statement M
-push-spec = tie.close (tie.spec (λ c. search needs) (λ c. search needs) (λ c. search needs) (λ c. added-one _ _ _ (omega arith)) returns-2)
+push-spec = tie.close (tie.spec (λ c. search needs) (λ c. search needs) (λ c. search needs) (λ c. added-one _ _ _ (omega arith)) (λ c. added-full _ _ _ (omega arith)))

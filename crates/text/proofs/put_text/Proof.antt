@@ -34,9 +34,6 @@ loop-again c =
     let f : l .i < length s = omega arith in
     (omega arith, added-as (sym (rw add-one (take-suc s (l .i) 0 f))) (l .inv .1 then push-place .push .ensures))
 
-same-length : tie.Need-same-length Inv-loop μ-loop
-same-length c = c .before .loop .inv .1 .size
-
 returns : tie.Need-returns Inv-loop μ-loop
 returns c =
     let s = now (c .before .before .before .before .args .s) in
@@ -45,4 +42,4 @@ returns c =
 pub put-text-spec : {M : Type 1} → statement M
 put-text-spec =
     tie.close
-    (tie.spec Inv-loop μ-loop loop-holds (λ c. omega arith) push-requires (λ c. omega arith) (λ c. omega arith) loop-again same-length returns)
+    (tie.spec Inv-loop μ-loop loop-holds (λ c. omega arith) push-requires (λ c. omega arith) (λ c. omega arith) loop-again (λ c. c .before .loop .inv .1 .size) returns)

@@ -58,7 +58,7 @@ module _ (k : Key) (s : List ℕ) where
       let m = marked-member s (edge (markedRuns s) - 1) .0 (edge-member (markedRuns s) (edge (markedRuns s) - 1) (marked-canonical s) (omega arith)) in
       (edge (markedRuns s) - 1, omega arith, m .0, m .1)
 
-  unfit-iff : (stateTest k s ≡ false) ↔ Unfit k s
+  pub unfit-iff : (stateTest k s ≡ false) ↔ Unfit k s
   unfolding stateTest
   unfit-iff = (
     (λ e. ⊎-elim (λ c. inl (mark-above c)) (⊎-elim (λ b. inr (inl (leb-false (length (markedRuns s)) 64 b))) (λ a. inr (inr a)))
@@ -80,10 +80,10 @@ module _ (k : Key) (s : List ℕ) where
       middle-false true false c e = refl
       middle-false false b c e = refl
 
-  abbrev tests : Reasons
+  abbrev pub tests : Reasons
   tests = one 20 (below (length s) markOctets) ▸ one 22 (says (not (stateTest k s)) (Iff·trans (not-iff (stateTest k s)) unfit-iff))
 
-  state-is : stateRefusal k s ≡ tests .refusal
+  pub state-is : stateRefusal k s ≡ tests .refusal
   unfolding stateRefusal marksRefusal
   state-is = refl
 

@@ -39,14 +39,6 @@ use Rattle.area.proofs.KeptLaws.{place-free, kept-placed, kept-found, kept-runs
 use Rattle.area.proofs.OperationLaws.{on-judged, on-unjudged}
 use Rattle.area_record.specs.Record.{runsGiven, offsetsGiven}
 
--- an answer with its area, part by part
-pub both : {x y : Recorded} {l : List ℕ} {o : OnArea Recorded} → x ≡ y → record { answer = y; area = l } ≡ o → (x ≡ o .answer) × (l ≡ o .area)
-both e f = (e ∙ ap (λ (r : OnArea Recorded). r .answer) f, ap (λ (r : OnArea Recorded). r .area) f)
-
--- and of one that equals another
-pub both-as : {x : Recorded} {l : List ℕ} {m o : OnArea Recorded} → (x ≡ m .answer) × (l ≡ m .area) → m ≡ o → (x ≡ o .answer) × (l ≡ o .area)
-both-as h f = (h .0 ∙ ap (λ (r : OnArea Recorded). r .answer) f, h .1 ∙ ap (λ (r : OnArea Recorded). r .area) f)
-
 -- a number that is not 0 is given, and the table stays
 as-refused : (n : ℕ) (k : Option Key) (rs : List Run) (t : List Transfer) (d : Data) → (n ≡ 0 → ⊥)
     → recordAs n k rs t d ≡ record { answer = Refused (refusalOf n); table = t }

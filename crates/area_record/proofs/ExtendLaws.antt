@@ -9,13 +9,13 @@ use lib.ListN.{length}
 use borrow.Author.Tests.{lt-ltb, le-ltb}
 use Rattle.octets.specs.Numbers.{Octets}
 use Rattle.refusals.specs.Refusals.{refusalOf}
-use Rattle.runs.specs.Runs.{Run, run, Canonical, insert, absorbed}
-use Rattle.runs.specs.Splice.{lowOf, highOf}
+use Rattle.runs.specs.Runs.{Run, run, Canonical, insert, absorbed, adds}
+use Rattle.runs.specs.Splice.{lowOf, highOf, addsAt}
 use Rattle.words.specs.Words.{wordAt}
 use Rattle.run_rows.specs.Rows.{runsIn, RowsFit, CutTo, CutBelow}
 use Rattle.run_rows.specs.declared.Rows.{Rows}
 use Rattle.run_rows.proofs.RowsLaws.{length-runs}
-use Rattle.run_rows.proofs.CutLaws.{insert-cut, absorbed-cut}
+use Rattle.run_rows.proofs.CutLaws.{insert-cut, absorbed-cut, adds-cut}
 use Rattle.transfer.specs.declared.Key.{Key}
 use Rattle.transfer.specs.declared.Reached.{Reached}
 use Rattle.transfer.specs.Transfers.{Transfer, TransferFine, reached}
@@ -95,6 +95,10 @@ module _ (a : List ℕ) (p : ℕ) (e : judged a ≡ true) (there : p < length (r
       between-absorbed : absorbed from to rs ≡ j - i
       between-absorbed = subst (λ (l : List Run). absorbed from to l ≡ j - i) runs-here (absorbed-cut a r from to i j u v canonical some)
 
+      -- and one of them has all of it, where nothing is added
+      between-adds : adds from to rs ≡ addsAt from to (runsIn a r) i j
+      between-adds = subst (λ (l : List Run). adds from to l ≡ addsAt from to (runsIn a r) i j) runs-here (adds-cut a r from to i j u v canonical some)
+
       -- refused, since there would be too many
       pub extend-over : (k : Key) → runPlaces < runsAfter (r .count) i j
           → record { answer = Refused (refusalOf 16); area = a } ≡ offsetsGiven a p k from to
@@ -113,16 +117,16 @@ module _ (a : List ℕ) (p : ℕ) (e : judged a ≡ true) (there : p < length (r
             ∙ spliced-stored a (readTable a) p i j (run lo hi) (known .long) (read-holds a) few (few .runs p) there (v .inside) inside fits lo-fits hi-fits o
             ∙ ap (λ (l : List Run). storedIn a (withRuns (readTable a) p l)) (sym (inserted lo hi f g))
 
-        -- the decision, where e and m are the edge and whether the transfer is complete after the splice
-        pub extend-taken : (k : Key) (e : ℕ) (m : Bool) → _≡_ {A = Reached} (record { edge = e; complete = m }) (reached k (spliced (runsIn a r) i j (run lo hi)))
+        -- the decision, where e and m are the edge and whether the transfer is complete after the splice, and x whether it adds something
+        pub extend-taken : (k : Key) (e : ℕ) (m : Bool) (x : ℕ) → x ≡ addsAt from to (runsIn a r) i j → _≡_ {A = Reached} (record { edge = e; complete = m }) (reached k (spliced (runsIn a r) i j (run lo hi)))
             → Decided a
-            (record { number = 0; place = p; count = r .count; i = i; j = j; lo = lo; hi = hi; edge = e; complete = m })
+            (record { number = 0; place = p; count = r .count; i = i; j = j; lo = lo; hi = hi; edge = e; complete = m; adds = x })
             (offsetsGiven a p k from to)
         unfolding runsGiven
-        extend-taken k e m y =
+        extend-taken k e m x z y =
             let told : _≡_ {A = Reached} (record { edge = e; complete = m }) (reached k new) =
             y ∙ ap (λ (l : List Run). reached k (spliced l i j (run lo hi))) runs-here ∙ ap (reached k) (sym (inserted lo hi f g)) in
             decided-taken _ refl
             (record { long = known .long; place-low = known .place; order = v .inside; inside = u .inside; few = known .few-runs; room = room })
-            (rw (le-ltb runPlaces (length new) (omega (arith, length-new)), between-absorbed)
-            (ap₂ (λ (x : Reached) (c : List ℕ). record { answer = Accepted (record { reached = x; absorbed = j - i }); area = c }) told stored))
+            (rw (le-ltb runPlaces (length new) (omega (arith, length-new)), between-absorbed, z ∙ sym between-adds)
+            (ap₂ (λ (q : Reached) (c : List ℕ). record { answer = Accepted (record { reached = q; absorbed = j - i; adds = adds from to rs }); area = c }) told stored))

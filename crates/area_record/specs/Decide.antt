@@ -15,7 +15,7 @@ use Rattle.area_record.specs.declared.ahead.Decision.{Decision}
 
 -- what is told where the packet is taken: the runs between the two places are absorbed
 abbrev pub toldBy : Decision → Receipt
-toldBy d = record { reached = record { edge = d .edge; complete = d .complete }; absorbed = d .j - d .i }
+toldBy d = record { reached = record { edge = d .edge; complete = d .complete }; absorbed = d .j - d .i; adds = d .adds }
 
 -- a refusal leaves the area; where the packet is taken, the runs at its place are spliced
 unfoldable pub appliedAs : ℕ → List ℕ → Decision → OnArea Recorded

@@ -6,7 +6,7 @@ use mathlib.Core.List.{List}
 use lib.ListN.{length}
 use lib.Dec.{ltb}
 use Rattle.refusals.specs.Refusals.{refusalOf}
-use Rattle.runs.specs.Runs.{Run, insert, absorbed}
+use Rattle.runs.specs.Runs.{Run, insert, absorbed, adds}
 use Rattle.transfer.specs.declared.Key.{Key}
 use Rattle.transfer.specs.Transfers.{Transfer}
 use Rattle.transfer.specs.Record.{receipt}
@@ -17,16 +17,16 @@ use Rattle.area.specs.Places.{nth, readTable, withRuns}
 use Rattle.area.specs.Stored.{storedIn}
 use Rattle.area.specs.Operations.{OnArea}
 
--- the area a holds the table t, and the transfer at place p, whose key is k, is to have the runs rs, n of its runs absorbed. 16: "the
--- received set would have more than 64 runs", and the area stays; else they are stored
-unfoldable pub runsGiven : List ℕ → List Transfer → ℕ → Key → List Run → ℕ → OnArea Recorded
-runsGiven a t p k rs n =
+-- the area a holds the table t, and the transfer at place p, whose key is k, is to have the runs rs, n of its runs absorbed, and m says
+-- whether something is added. 16: "the received set would have more than 64 runs", and the area stays; else they are stored
+unfoldable pub runsGiven : List ℕ → List Transfer → ℕ → Key → List Run → ℕ → ℕ → OnArea Recorded
+runsGiven a t p k rs n m =
     cond (ltb runPlaces (length rs))
     (record { answer = Refused (refusalOf 16); area = a })
-    (record { answer = Accepted (receipt k rs n); area = storedIn a (withRuns t p rs) })
+    (record { answer = Accepted (receipt k rs n m); area = storedIn a (withRuns t p rs) })
 
 -- the transfer at place p, whose key is k, is to have the offsets from `from` on too, with `to` the first after them
 abbrev pub offsetsGiven : List ℕ → ℕ → Key → ℕ → ℕ → OnArea Recorded
 offsetsGiven a p k from to =
     let rs = nth (readTable a) p .runs in
-    runsGiven a (readTable a) p k (insert from to rs) (absorbed from to rs)
+    runsGiven a (readTable a) p k (insert from to rs) (absorbed from to rs) (adds from to rs)

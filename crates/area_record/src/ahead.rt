@@ -31,6 +31,7 @@ pub struct Decision {
     pub hi: u64,
     pub edge: u64,
     pub complete: bool,
+    pub adds: u64,
 }
 
 fn refused(number: u64) -> Decision
@@ -46,6 +47,7 @@ fn refused(number: u64) -> Decision
         hi: 0,
         edge: 0,
         complete: false,
+        adds: 0,
     }
 }
 
@@ -91,6 +93,7 @@ fn decide_offsets(area: &[u8], place: usize, key: Key, from: u64, to: u64) -> De
     let edge = edge_with(area, rows, j, hi);
     let progress = progress_with(area, rows, i, lo, hi);
     let complete = key.length <= progress;
+    let adds = run_rows::adds_of(area, rows, i, j, from, to);
     Decision {
         number: 0,
         place,
@@ -101,6 +104,7 @@ fn decide_offsets(area: &[u8], place: usize, key: Key, from: u64, to: u64) -> De
         hi,
         edge,
         complete,
+        adds,
     }
 }
 
@@ -153,5 +157,10 @@ pub fn try_record(area: &[u8], packet: &[u8]) -> Recorded
         complete: d.complete,
     };
     let absorbed = (d.j - d.i) as u64;
-    Recorded::Accepted(Receipt { reached, absorbed })
+    let adds = d.adds;
+    Recorded::Accepted(Receipt {
+        reached,
+        absorbed,
+        adds,
+    })
 }

@@ -24,5 +24,10 @@ pub fn record(area: &mut [u8], packet: &[u8]) -> Recorded
         complete: d.complete,
     };
     let absorbed = (d.j - d.i) as u64;
-    Recorded::Accepted(Receipt { reached, absorbed })
+    let adds = d.adds;
+    Recorded::Accepted(Receipt {
+        reached,
+        absorbed,
+        adds,
+    })
 }

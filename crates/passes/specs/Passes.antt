@@ -93,9 +93,9 @@ buffer n = replicate n 255
 abbrev pub upTo : ℕ → Bool → Reached
 upTo edge complete = record { edge = edge; complete = complete }
 
--- and recording "how many stored runs the packet swallowed" too
+-- and recording "how many stored runs the packet swallowed" too, and that it brought something new
 abbrev pub joining : ℕ → Bool → ℕ → Receipt
-joining edge complete n = record { reached = upTo edge complete; absorbed = n }
+joining edge complete n = record { reached = upTo edge complete; absorbed = n; adds = 1 }
 
 pub record Passes : Type 0 where
   -- "Id 7, width 16, L = 3,000, octets 0 to 999 and 2,000 to 2,999 received, asked for:

@@ -38,6 +38,7 @@ pub struct RecordedAnswer {
     pub edge: u64,
     pub complete: u64,
     pub absorbed: u64,
+    pub adds: u64,
 }
 
 // struct saratoga_listed.
@@ -51,6 +52,7 @@ pub struct ListedAnswer {
     pub edge: u64,
     pub complete: u64,
     pub runs: usize,
+    pub received: u64,
 }
 
 // 1 for yes, 0 for no.
@@ -110,6 +112,7 @@ pub fn recorded_answer(a: Recorded) -> RecordedAnswer
             edge: x.reached.edge,
             complete: one_if(x.reached.complete),
             absorbed: x.absorbed,
+            adds: x.adds,
         },
         Recorded::Refused(refusal) => RecordedAnswer {
             number: refusal.number,
@@ -117,6 +120,7 @@ pub fn recorded_answer(a: Recorded) -> RecordedAnswer
             edge: 0,
             complete: 0,
             absorbed: 0,
+            adds: 0,
         },
     }
 }
@@ -134,6 +138,7 @@ fn listed_answer(a: Listed) -> ListedAnswer
             edge: x.edge,
             complete: one_if(x.complete),
             runs: x.runs,
+            received: x.received,
         },
         Listed::Refused(refusal) => ListedAnswer {
             number: refusal.number,
@@ -144,6 +149,7 @@ fn listed_answer(a: Listed) -> ListedAnswer
             edge: 0,
             complete: 0,
             runs: 0,
+            received: 0,
         },
     }
 }

@@ -73,6 +73,9 @@ edge-with-requires c κs = let q = c .before .before .before in rows (q .before 
 progress-with-requires : tie.Need-progress-with-requires
 progress-with-requires c κs = edge-with-requires (c .before) κs
 
+adds-of-requires : tie.Need-adds-of-requires
+adds-of-requires c κs = let q = c .before .before .before .before .before .before in (rows (q .before .before) .fit, cuts q .0, cuts q .1)
+
 -- the runs before the joined one are there
 inside : (c : tie.After-cut-below)
     → let r = c .before .before in
@@ -85,7 +88,7 @@ inside c =
 
 returns-2 : tie.Need-returns-2
 returns-2 c =
-    let v = c .before in
+    let v = c .before .before in
     let g = v .before in
     let h = g .before in
     let l = h .before in
@@ -95,7 +98,7 @@ returns-2 c =
     let s = r .before .before in
     extend-taken (now (s .args .area)) (s .args .place) (s .pre .0) (s .pre .1) _ (r .rows-at .ensures) (s .args .from) (s .args .to) _ _ (s .pre .2)
     (q .before .cut-to .ensures) (q .cut-below .ensures) (l .joined-start .result) (h .joined-stop .result) (l .joined-start .ensures)
-    (h .joined-stop .ensures) (omega arith) (omega arith) (room e) (λ k. r .before .shared-slice-known .given k .fits) (s .args .key) _ _
+    (h .joined-stop .ensures) (omega arith) (omega arith) (room e) (λ k. r .before .shared-slice-known .given k .fits) (s .args .key) _ _ _ (c .adds-of .ensures)
     (reached-with (s .args .key) (runsIn (now (s .args .area)) (r .rows-at .result)) (q .cut-below .result) (q .before .cut-to .result)
     (l .joined-start .result) (h .joined-stop .result) (g .edge-with .result) (v .progress-with .result) (inside q) (g .edge-with .ensures) (v .progress-with .ensures))
 
@@ -115,4 +118,5 @@ decide-offsets-spec =
     joined-stop-requires
     edge-with-requires
     progress-with-requires
+    adds-of-requires
     returns-2)

@@ -1,11 +1,11 @@
--- What `record` and `open` answer of a transfer is what the area that they leave has received; and the runs that a packet absorbed,
--- as `record` tells them.
+-- What `record` and `open` answer of a transfer is what the area that they leave has received; and the runs that a packet absorbed, and
+-- whether it added something, as `record` tells them.
 -- Assumes nothing.
 use Prim.Native.Nat.{ℕ, _+_}
 use mathlib.Core.Path.{_≡_, refl}
 use mathlib.Core.Bool.{true, false, true≢false, false≢true}
 use mathlib.Core.List.{List}
-use mathlib.Core.Logic.{_⊎_, inl, inr, Iff·trans}
+use mathlib.Core.Logic.{_⊎_, inl, inr, _↔_, Iff·trans}
 use Rattle.octets.specs.Numbers.{Octets}
 use Rattle.packet_metadata.specs.Metadata.{readMetadata}
 use Rattle.packet_metadata.specs.declared.Metadata.{Metadata}
@@ -23,7 +23,7 @@ use Rattle.table.specs.declared.Opened.the-variants as opened
 use Rattle.table.specs.declared.Recorded.{Recorded}
 use Rattle.table.specs.declared.Recorded.the-variants as recorded
 use Rattle.area.specs.Operations.{openArea, recordArea, runsHeld}
-use Rattle.area.proofs.ToldLaws.{AreaTold, area-open-told, AreaRecording, area-record-told}
+use Rattle.area.proofs.ToldLaws.{AreaTold, area-open-told, AreaRecording, area-record-told, area-record-adds}
 use Rattle.answers.specs.Answers.{recordedAnswer}
 use Rattle.answer_table.specs.TableAnswers.{openedAnswer}
 use Rattle.answer_table.specs.Reported.{Reported}
@@ -67,6 +67,15 @@ module _ (a packet : List ℕ) where
       go (recorded.Accepted x) e h = let q = area-record-told a packet x e in (q .brought, q .read, q .counted)
       go (recorded.Refused r) e h = absurd (false≢true h)
 
+  -- an accepted recording tells that it added nothing exactly when every octet of the area is as before
+  pub record-adds : Octets a → recordAccepted (recordArea a packet .answer) ≡ true
+      → (recordedAnswer (recordArea a packet .answer) .adds ≡ 0) ↔ (recordArea a packet .area ≡ a)
+  record-adds o = go (recordArea a packet .answer) refl
+    where
+      go : (r : Recorded) → recordArea a packet .answer ≡ r → recordAccepted r ≡ true → (recordedAnswer r .adds ≡ 0) ↔ (recordArea a packet .area ≡ a)
+      go (recorded.Accepted x) e h = area-record-adds a packet x o e
+      go (recorded.Refused r) e h = absurd (false≢true h)
+
   -- an accepted opening, of a transfer that is new or that was open already
   pub open-reports : Octets packet → openAccepted (openArea a packet .answer) ≡ true
       → (m : Metadata) × (readMetadata packet ≡ metadata-read.Accepted m)
@@ -84,14 +93,15 @@ module _ (a packet : List ℕ) where
       go (opened.AlreadyOpen x) e h = told x (inr e)
       go (opened.Refused r) e h = absurd (false≢true h)
 
-  -- a refused call reports no page complete, and no run absorbed
+  -- a refused call reports no page complete, no run absorbed, and nothing added
   pub record-refused-none : recordAccepted (recordArea a packet .answer) ≡ false
       → (recordedAnswer (recordArea a packet .answer) .complete ≡ 0) × (recordedAnswer (recordArea a packet .answer) .absorbed ≡ 0)
+      × (recordedAnswer (recordArea a packet .answer) .adds ≡ 0)
   record-refused-none = go (recordArea a packet .answer)
     where
-      go : (r : Recorded) → recordAccepted r ≡ false → (recordedAnswer r .complete ≡ 0) × (recordedAnswer r .absorbed ≡ 0)
+      go : (r : Recorded) → recordAccepted r ≡ false → (recordedAnswer r .complete ≡ 0) × (recordedAnswer r .absorbed ≡ 0) × (recordedAnswer r .adds ≡ 0)
       go (recorded.Accepted x) h = absurd (true≢false h)
-      go (recorded.Refused r) h = (refl, refl)
+      go (recorded.Refused r) h = (refl, refl, refl)
 
   pub open-refused-none : openAccepted (openArea a packet .answer) ≡ false → openedAnswer (openArea a packet .answer) .complete ≡ 0
   open-refused-none = go (openArea a packet .answer)

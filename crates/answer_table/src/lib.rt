@@ -40,6 +40,7 @@ pub struct ListedAnswer {
     pub edge: u64,
     pub complete: u64,
     pub runs: usize,
+    pub received: u64,
 }
 
 fn done_answer(a: Finished) -> DoneAnswer
@@ -95,6 +96,7 @@ fn listed_answer(a: Listed) -> ListedAnswer
             edge: x.edge,
             complete: answers::one_if(x.complete),
             runs: x.runs,
+            received: x.received,
         },
         Listed::Refused(r) => ListedAnswer {
             number: r.number,
@@ -105,6 +107,7 @@ fn listed_answer(a: Listed) -> ListedAnswer
             edge: 0,
             complete: 0,
             runs: 0,
+            received: 0,
         },
     }
 }

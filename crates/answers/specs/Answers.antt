@@ -28,5 +28,5 @@ writtenAnswer (written.Refused r) = record { number = r .number; code = r .code;
 
 abbrev pub recordedAnswer : Recorded → RecordedAnswer
 recordedAnswer (recorded.Accepted x) =
-    record { number = 0; code = 0; edge = x .reached .edge; complete = bit (x .reached .complete); absorbed = x .absorbed }
-recordedAnswer (recorded.Refused r) = record { number = r .number; code = r .code; edge = 0; complete = 0; absorbed = 0 }
+    record { number = 0; code = 0; edge = x .reached .edge; complete = bit (x .reached .complete); absorbed = x .absorbed; adds = x .adds }
+recordedAnswer (recorded.Refused r) = record { number = r .number; code = r .code; edge = 0; complete = 0; absorbed = 0; adds = 0 }

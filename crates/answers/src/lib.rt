@@ -32,6 +32,7 @@ pub struct RecordedAnswer {
     pub edge: u64,
     pub complete: u64,
     pub absorbed: u64,
+    pub adds: u64,
 }
 
 // 1 for yes, 0 for no.
@@ -90,6 +91,7 @@ pub fn recorded_answer(a: Recorded) -> RecordedAnswer
             edge: x.reached.edge,
             complete: one_if(x.reached.complete),
             absorbed: x.absorbed,
+            adds: x.adds,
         },
         Recorded::Refused(refused) => RecordedAnswer {
             number: refused.number,
@@ -97,6 +99,7 @@ pub fn recorded_answer(a: Recorded) -> RecordedAnswer
             edge: 0,
             complete: 0,
             absorbed: 0,
+            adds: 0,
         },
     }
 }

@@ -17,12 +17,12 @@ use Rattle.directory_entry.specs.Entry.{entryRefusal, entryOf}
 use Rattle.packet_metadata.specs.Checksum.{pairAllowed, pairRefusal}
 use Rattle.packet_metadata.specs.Metadata.{metadataRefusal, metadataOf, readMetadata}
 use Rattle.packet_data.specs.Data.{dataRefusal, dataOf, readData}
-use Rattle.runs.specs.Runs.{run, insert, absorbed}
+use Rattle.runs.specs.Runs.{run, insert, absorbed, adds}
 use Rattle.transfer.specs.Transfers.{Transfer}
-use Rattle.transfer.specs.Record.{keyRefusal, extended, absorbedBy, runsRefusal}
+use Rattle.transfer.specs.Record.{keyRefusal, extended, absorbedBy, addsBy, runsRefusal}
 use Rattle.table.specs.Tables.{keys, find, runsOf, add, setRuns}
 use Rattle.table.specs.Open.{judgeFound, judgeOpen, openAs, openKey, openRead, openPacket}
-use Rattle.table.specs.Record.{dataJudged, recordRefusal, grown, absorbedIn, recordAs, recordData, recordRead, recordPacket}
+use Rattle.table.specs.Record.{dataJudged, recordRefusal, grown, absorbedIn, addsIn, recordAs, recordData, recordRead, recordPacket}
 use Rattle.any_order.specs.Order.{Packet, Call, opening, recording, openings, recordings, taken, after, idRead, offsetRead, idIn, place, sort, sortCalls}
 use Rattle.any_order.specs.Absorbed.{counted}
 use Rattle.any_order.proofs.TableOrder.{callTable}
@@ -126,7 +126,7 @@ tells t (recording p ∷ cs) =
     cond (eqb (idIn p) 7) (counted 7 (λ x. x .absorbed) (recordPacket t (p .octets) .answer) ∷ rest) rest
 
 told : tells [] calls ≡ 0 ∷ 0 ∷ 0 ∷ 1 ∷ []
-unfolding octetsOf startRefusal typeRefusal fileRefusal descriptorRefusal upperZero propertyRefusal pathRefusal entryRefusal entryOf pairAllowed pairRefusal metadataRefusal metadataOf readMetadata dataRefusal dataOf readData insert absorbed keys find runsOf add setRuns judgeFound judgeOpen openAs openKey openRead openPacket keyRefusal runsRefusal extended absorbedBy dataJudged recordRefusal grown absorbedIn recordAs recordData recordRead recordPacket idRead counted tells callTable
+unfolding octetsOf startRefusal typeRefusal fileRefusal descriptorRefusal upperZero propertyRefusal pathRefusal entryRefusal entryOf pairAllowed pairRefusal metadataRefusal metadataOf readMetadata dataRefusal dataOf readData insert absorbed adds keys find runsOf add setRuns judgeFound judgeOpen openAs openKey openRead openPacket keyRefusal runsRefusal extended absorbedBy addsBy dataJudged recordRefusal grown absorbedIn addsIn recordAs recordData recordRead recordPacket idRead counted tells callTable
 told = refl
 
 -- ---- by falling offset: a long stretch first and 65 short ones in it are all accepted, but with the long one last the 65th

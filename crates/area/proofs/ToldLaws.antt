@@ -1,11 +1,12 @@
 -- What opening and recording tell on areas: "a page is reported complete exactly when every octet of its stated length was
--- received", by the table that the area holds after the call; and how many runs a packet absorbed. And a repeat changes no octet.
+-- received", by the table that the area holds after the call; how many runs a packet absorbed; and that it added nothing exactly when
+-- every octet of the area is as before. A repeat is one such packet.
 -- Assumes nothing.
 use Prim.Native.Nat.{ℕ, _+_}
 use mathlib.Core.Path.{_≡_, sym, ap, _∙_}
 use mathlib.Core.Bool.{true}
 use mathlib.Core.List.{List}
-use mathlib.Core.Logic.{_⊎_, ⊎-elim}
+use mathlib.Core.Logic.{_⊎_, ⊎-elim, _↔_}
 use mathlib.Core.Option.{some}
 use native.Mathlib.Omega.{arith}
 use Rattle.octets.specs.Numbers.{Octets}
@@ -21,19 +22,21 @@ use Rattle.transfer.specs.declared.Receipt.{Receipt}
 use Rattle.transfer.specs.Transfers.{Transfer}
 use Rattle.table.specs.Open.{openPacket}
 use Rattle.table.specs.Record.{absorbedIn, recordPacket, recordAccepted}
+use Rattle.table.specs.Tables.{Valid}
 use Rattle.table.specs.Told.{Told}
 use Rattle.table.specs.declared.Opened.{Opened}
 use Rattle.table.specs.declared.Opened.the-variants as opened
 use Rattle.table.specs.declared.Recorded.{Recorded}
 use Rattle.table.specs.declared.Recorded.the-variants as recorded
+use Rattle.table.proofs.ValidLaws.{record-valid}
 use Rattle.table.proofs.ToldLaws.{open-told, Recording, record-told}
-use Rattle.table.proofs.RepeatLaws.{withOne, record-repeat}
+use Rattle.table.proofs.RepeatLaws.{Known, withOne, record-repeat}
 use Rattle.area.specs.Judge.{tableOf}
 use Rattle.area.specs.Stored.{storedIn}
 use Rattle.area.specs.Operations.{OnArea, leaves, openArea, recordArea, runsHeld}
 use Rattle.area.proofs.JudgeLaws.{held-valid}
-use Rattle.area.proofs.StoredLaws.{held-stored}
-use Rattle.area.proofs.AreaLaws.{stored-octets}
+use Rattle.area.proofs.StoredLaws.{held-stored, stored-held}
+use Rattle.area.proofs.AreaLaws.{stored-octets, held-once}
 use Rattle.area.proofs.OperationLaws.{on-cases, record-held, open-leaves, record-leaves, runs-held}
 
 -- the area holds a table, and x tells of the Id's transfer in it
@@ -42,7 +45,8 @@ pub record AreaTold (a : List ℕ) (id : ℕ) (x : Reached) : Type 0 where
   pub held : tableOf a ≡ some table
   pub told : Told table id x
 
--- an accepted recording leaves the area b of the area a: x tells of the packet's Id in b, and how many of its runs in a were absorbed
+-- an accepted recording leaves the area b of the area a: x tells of the packet's Id in b, how many of its runs in a were absorbed, and
+-- whether it brought something new
 pub record AreaRecording (a b packet : List ℕ) (x : Receipt) : Type 0 where
   pub before : List Transfer
   pub held : tableOf a ≡ some before
@@ -51,6 +55,7 @@ pub record AreaRecording (a b packet : List ℕ) (x : Receipt) : Type 0 where
   pub told : AreaTold b (brought .id) (x .reached)
   pub number : x .absorbed ≡ absorbedIn before brought
   pub counted : runsHeld b (brought .id) + x .absorbed ≡ runsHeld a (brought .id) + 1
+  pub new : (x .adds ≡ 0) ↔ Known before brought
 
 module _ (a packet : List ℕ) (x : Receipt) where
   pub area-record-told : recordArea a packet .answer ≡ recorded.Accepted x → AreaRecording a (recordArea a packet .area) packet x
@@ -72,6 +77,7 @@ module _ (a packet : List ℕ) (x : Receipt) where
             told = record { table = recordPacket t packet .table; held = after; told = r .told };
             number = r .number;
             counted = rw (runs-held (recordArea a packet .area) (recordPacket t packet .table) (d .id) after, runs-held a t (d .id) h) (r .counted);
+            new = r .new;
           }
 
       by-table : Goal (recordArea a packet)
@@ -80,6 +86,27 @@ module _ (a packet : List ℕ) (x : Receipt) where
           on-cases (recorded.Refused (refusalOf 22)) (λ t. recordPacket t packet) a Goal
           (λ e. absurd (let z : _≡_ {A = ℕ} 0 1 = cc in omega arith))
           (λ t h e. recording t h (record-told t packet x (held-valid a t h) e))
+
+  -- it tells that nothing was added exactly when every octet of the area is as before
+  pub area-record-adds : Octets a → recordArea a packet .answer ≡ recorded.Accepted x → (x .adds ≡ 0) ↔ (recordArea a packet .area ≡ a)
+  area-record-adds o = by-table
+    where
+      Goal : OnArea Recorded → Type 0
+      Goal y = y .answer ≡ recorded.Accepted x → (x .adds ≡ 0) ↔ (y .area ≡ a)
+
+      stays : (t : List Transfer) → tableOf a ≡ some t → Goal (leaves a (recordPacket t packet))
+      stays t h e =
+          let u = recordPacket t packet .table in
+          let valid : Valid u = record-valid t packet (held-valid a t h) in
+          let same = record-told t packet x (held-valid a t h) e .same in (
+            (λ z. ap (storedIn a) (same .0 z) ∙ held-stored a t o h),
+            (λ z. same .1 (held-once a u t (ap tableOf (sym z) ∙ stored-held a u valid) h)),
+          )
+
+      by-table : Goal (recordArea a packet)
+      by-table =
+          unfold recordArea in
+          on-cases (recorded.Refused (refusalOf 22)) (λ t. recordPacket t packet) a Goal (λ e. absurd (let z : _≡_ {A = ℕ} 0 1 = cc in omega arith)) stays
 
 module _ (a packet : List ℕ) (x : Reached) where
   -- and so does an opening, of a transfer that is new or that was open already
@@ -100,8 +127,8 @@ module _ (a packet : List ℕ) (x : Reached) where
           let r = open-told t packet x (held-valid a t h) e in
           (r .0, r .1, record { table = openPacket t packet .table; held = open-leaves a t h packet octets; told = r .2 }))
 
--- ---- "A repeat adds nothing and is accepted": recording an accepted packet again changes no octet, the transfer has come as far, and
--- one run is absorbed
+-- ---- "A repeat adds nothing and is accepted": recording an accepted packet again changes no octet, the transfer has come as far, one
+-- run is absorbed, and nothing is added
 abbrev repeated : OnArea Recorded → OnArea Recorded
 repeated o = record { answer = withOne (o .answer); area = o .area }
 

@@ -18,7 +18,7 @@ use Rattle.transfer.specs.declared.Key.{Key}
 use Rattle.transfer.specs.declared.Reached.{Reached}
 use Rattle.transfer.specs.Transfers.{reached}
 use Rattle.area_record.specs.Ahead.{edgeWith, progressWith}
-use Rattle.area_record.proofs.SplicedRowLaws.{spliced}
+use Rattle.area_splice.proofs.SplicedRowLaws.{spliced}
 
 -- ---- the edge
 

@@ -2,56 +2,37 @@
 -- Assumes nothing.
 use Prim.Native.Nat.{ℕ, _-_, _^_, _≤_, _<_}
 use mathlib.Core.Path.{_≡_, refl, sym, ap, ap₂, subst, _∙_}
-use mathlib.Core.Bool.{true}
+use mathlib.Core.Bool.{Bool, true}
 use mathlib.Core.List.{List}
 use native.Mathlib.Omega.{arith}
-use lib.ListN.{length, length-set}
-use lib.Seq.{getD-set-same}
+use lib.ListN.{length}
 use borrow.Author.Tests.{lt-ltb, le-ltb}
 use Rattle.octets.specs.Numbers.{Octets}
 use Rattle.refusals.specs.Refusals.{refusalOf}
-use Rattle.runs.specs.Runs.{Run, run, Canonical, insert, absorbed}
-use Rattle.runs.specs.Splice.{lowOf, highOf}
-use Rattle.words.specs.Words.{wordAt, putWord, splicedRow}
+use Rattle.runs.specs.Runs.{Run, run, Canonical, insert, absorbed, adds}
+use Rattle.runs.specs.Splice.{lowOf, highOf, addsAt}
+use Rattle.words.specs.Words.{wordAt}
 use Rattle.run_rows.specs.Rows.{runsIn, RowsFit, CutTo, CutBelow}
 use Rattle.run_rows.specs.declared.Rows.{Rows}
 use Rattle.run_rows.proofs.RowsLaws.{length-runs}
-use Rattle.run_rows.proofs.CutLaws.{insert-cut, absorbed-cut}
+use Rattle.run_rows.proofs.CutLaws.{insert-cut, absorbed-cut, adds-cut}
 use Rattle.transfer.specs.declared.Key.{Key}
 use Rattle.transfer.specs.declared.Reached.{Reached}
 use Rattle.transfer.specs.Transfers.{Transfer, TransferFine, reached}
 use Rattle.table.specs.declared.Recorded.the-variants.{Accepted, Refused}
-use Rattle.area.specs.Layout.{transferPlaces, runPlaces, countField, areaOctets, headAt, runAt}
-use Rattle.area.specs.Places.{rowsAt, readTable, unused, nth, Holds, withRuns}
+use Rattle.area.specs.Layout.{transferPlaces, runPlaces, areaOctets, runAt}
+use Rattle.area.specs.Places.{rowsAt, readTable, nth, withRuns}
 use Rattle.area.specs.Judge.{judged}
 use Rattle.area.specs.Stored.{storedIn}
-use Rattle.area.proofs.PlaceLaws.{length-transfers, transfer-at, rows-fit, read-holds, holds-read, Few}
+use Rattle.area.proofs.PlaceLaws.{length-transfers, transfer-at, rows-fit, read-holds, Few}
 use Rattle.area.proofs.JudgeLaws.{judged-passed}
 use Rattle.area.proofs.StoredLaws.{fine-at, valid-few}
-use Rattle.area_record.specs.Record.{runsAfter, splicedArea, runsGiven, offsetsGiven}
-use Rattle.area_record.proofs.SplicedRowLaws.{spliced, spliced-length}
-use Rattle.area_record.proofs.SplicedAreaLaws.{spliced-holds, spliced-stored}
-
--- the three changes in a row
-pub put-chain : (a x y z : List ℕ) (p n i j lo hi s e h : ℕ) → s ≡ runAt 0 p 0 → e ≡ runAt 1 p 0 → h ≡ headAt p countField
-    → x ≡ splicedRow a s n i j lo → y ≡ splicedRow x e n i j hi → z ≡ putWord h (runsAfter n i j) y → z ≡ splicedArea a p n i j lo hi
-unfolding splicedArea
-put-chain a x y z p n i j lo hi s e h u v w f g k = k ∙ rw (g, f, u, v, w)
-
--- ---- what is left of an area: the rows r at place p hold rs, and it is the area a with these runs stored in it
-pub record Left (a : List ℕ) (p : ℕ) (rs : List Run) (b : List ℕ) (r : Rows) : Type 0 where
-  pub few : length rs ≤ runPlaces
-  pub runs : runsIn b r ≡ rs
-  pub stored : Octets b → b ≡ storedIn a (withRuns (readTable a) p rs)
-
--- then the answer is right
-pub left-done : (a : List ℕ) (p : ℕ) (rs : List Run) (b : List ℕ) (r : Rows) (k : Key) (q : Reached) (n m : ℕ) → Left a p rs b r → Octets b
-    → q ≡ reached k (runsIn b r) → m ≡ n
-    → record { answer = Accepted (record { reached = q; absorbed = n }); area = b } ≡ runsGiven a (readTable a) p k rs m
-unfolding runsGiven
-left-done a p rs b r k q n m l o y z =
-    rw (le-ltb runPlaces (length rs) (l .few), z)
-    (ap₂ (λ (x : Reached) (c : List ℕ). record { answer = Accepted (record { reached = x; absorbed = n }); area = c }) (y ∙ ap (reached k) (l .runs)) (l .stored o))
+use Rattle.area_splice.specs.Splice.{runsAfter, splicedArea}
+use Rattle.area_splice.proofs.SplicedRowLaws.{spliced, spliced-length}
+use Rattle.area_splice.proofs.SplicedAreaLaws.{spliced-stored}
+use Rattle.area_record.specs.Record.{runsGiven, offsetsGiven}
+use Rattle.area_record.specs.Decide.{Decided}
+use Rattle.area_record.proofs.DecideLaws.{decided-taken}
 
 -- ---- an area that holds a table, and a place of it
 module _ (a : List ℕ) (p : ℕ) (e : judged a ≡ true) (there : p < length (readTable a)) where
@@ -111,8 +92,12 @@ module _ (a : List ℕ) (p : ℕ) (e : judged a ≡ true) (there : p < length (r
           ap length (inserted _ _ refl refl) ∙ spliced-length rs i j _ (omega (arith, u .inside, v .inside)) ∙ ap (λ (n : ℕ). runsAfter n i j) (sym c)
 
       -- the runs between the cuts are absorbed
-      pub between-absorbed : absorbed from to rs ≡ j - i
+      between-absorbed : absorbed from to rs ≡ j - i
       between-absorbed = subst (λ (l : List Run). absorbed from to l ≡ j - i) runs-here (absorbed-cut a r from to i j u v canonical some)
+
+      -- and one of them has all of it, where nothing is added
+      between-adds : adds from to rs ≡ addsAt from to (runsIn a r) i j
+      between-adds = subst (λ (l : List Run). adds from to l ≡ addsAt from to (runsIn a r) i j) runs-here (adds-cut a r from to i j u v canonical some)
 
       -- refused, since there would be too many
       pub extend-over : (k : Key) → runPlaces < runsAfter (r .count) i j
@@ -120,65 +105,28 @@ module _ (a : List ℕ) (p : ℕ) (e : judged a ≡ true) (there : p < length (r
       unfolding runsGiven
       extend-over k h = rw (lt-ltb runPlaces (length new) (omega (arith, length-new)))
 
-      -- the answer where there is room, which the runs after the splice decide
-      pub extend-answer : (k : Key) (lo hi : ℕ) (q : Reached) → lo ≡ lowOf from (runsIn a r) i j → hi ≡ highOf to (runsIn a r) i j
-          → runsAfter (r .count) i j ≤ runPlaces → q ≡ reached k (spliced (runsIn a r) i j (run lo hi))
-          → Accepted (record { reached = q; absorbed = j - i }) ≡ offsetsGiven a p k from to .answer
-      unfolding runsGiven
-      extend-answer k lo hi q f g room y =
-          rw (le-ltb runPlaces (length new) (omega (arith, length-new)), between-absorbed)
-          (ap (λ (x : Reached). Accepted (record { reached = x; absorbed = j - i })) (y ∙ ap (λ (l : List Run). reached k (spliced l i j (run lo hi))) runs-here ∙ ap (reached k) (sym (inserted lo hi f g))))
-
-      -- what is left of the area where there is room
+      -- taken, where there is room: the splice leaves the insertion, and what is told is what the runs after it say
       module _ (lo hi : ℕ) (f : lo ≡ lowOf from (runsIn a r) i j) (g : hi ≡ highOf to (runsIn a r) i j) (lo-fits : lo < 2 ^ 64) (hi-fits : hi < 2 ^ 64)
-          (room : runsAfter (r .count) i j ≤ runPlaces) (b : List ℕ) (x : b ≡ splicedArea a p (r .count) i j lo hi) where
-        abbrev table : List Transfer
-        table = withRuns (readTable a) p new
+          (room : runsAfter (r .count) i j ≤ runPlaces) (o : Octets a) where
+        stored : splicedArea a p (r .count) i j lo hi ≡ storedIn a (withRuns (readTable a) p new)
+        stored =
+            let n : r .count ≡ length rs = known .count in
+            let fits : runsAfter (length rs) i j ≤ runPlaces = rw n at room in
+            let inside : j ≤ length rs = omega (arith, u .inside) in
+            ap (λ (m : ℕ). splicedArea a p m i j lo hi) n
+            ∙ spliced-stored a (readTable a) p i j (run lo hi) (known .long) (read-holds a) few (few .runs p) there (v .inside) inside fits lo-fits hi-fits o
+            ∙ ap (λ (l : List Run). storedIn a (withRuns (readTable a) p l)) (sym (inserted lo hi f g))
 
-        -- each law of the splice, put in the code's words
-        grown : withRuns (readTable a) p (spliced rs i j (run lo hi)) ≡ table
-        grown = ap (withRuns (readTable a) p) (sym (inserted lo hi f g))
-
-        area-is : splicedArea a p (length rs) i j lo hi ≡ b
-        area-is = ap (λ (n : ℕ). splicedArea a p n i j lo hi) (sym (known .count)) ∙ sym x
-
-        fits : runsAfter (length rs) i j ≤ runPlaces
-        fits = rw (known .count) at room
-
-        inside : j ≤ length rs
-        inside = omega (arith, known .count, u .inside)
-
-        holds : Holds b table
-        holds =
-            rw (area-is, grown) at (spliced-holds a (readTable a) p i j (run lo hi) (known .long) (read-holds a) few (few .runs p) there (v .inside) inside fits lo-fits hi-fits)
-
-        stored : Octets b → b ≡ storedIn a table
-        stored o =
-            sym area-is
-            ∙ spliced-stored a (readTable a) p i j (run lo hi) (known .long) (read-holds a) few (few .runs p) there (v .inside) inside fits lo-fits hi-fits
-            (rw (← area-is) at o)
-            ∙ ap (storedIn a) grown
-
-        here : nth table p ≡ record { key = nth (readTable a) p .key; runs = new }
-        here = getD-set-same (readTable a) p (record { key = nth (readTable a) p .key; runs = new }) unused there
-
-        still : p < length table
-        still = omega (arith, length-set (readTable a) p (record { key = nth (readTable a) p .key; runs = new }))
-
-        runs-new : runsIn b (rowsAt b p) ≡ new
-        runs-new =
-            ap (λ (y : Transfer). y .runs)
-            (sym (transfer-at b p (omega (arith, holds .count, still))) ∙ ap (λ (l : List Transfer). nth l p) (holds-read b table holds) ∙ here)
-
-        -- the rows as the code names them
-        abbrev rows-new : Rows
-        rows-new = record { starts = r .starts; stops = r .stops; count = runsAfter (r .count) i j }
-
-        rows-are : rows-new ≡ rowsAt b p
-        rows-are =
-            let c : runsAfter (r .count) i j ≡ wordAt b (headAt p countField) =
-            sym length-new ∙ ap (λ (y : Transfer). length (y .runs)) (sym here) ∙ sym (holds .heads p countField still (omega arith)) in
-            λ w. record { starts = known .starts w; stops = known .stops w; count = c w }
-
-        pub extend-left : Left a p new b rows-new
-        extend-left = record { few = omega (arith, length-new); runs = ap (runsIn b) rows-are ∙ runs-new; stored = stored }
+        -- the decision, where e and m are the edge and whether the transfer is complete after the splice, and x whether it adds something
+        pub extend-taken : (k : Key) (e : ℕ) (m : Bool) (x : ℕ) → x ≡ addsAt from to (runsIn a r) i j → _≡_ {A = Reached} (record { edge = e; complete = m }) (reached k (spliced (runsIn a r) i j (run lo hi)))
+            → Decided a
+            (record { number = 0; place = p; count = r .count; i = i; j = j; lo = lo; hi = hi; edge = e; complete = m; adds = x })
+            (offsetsGiven a p k from to)
+        unfolding runsGiven
+        extend-taken k e m x z y =
+            let told : _≡_ {A = Reached} (record { edge = e; complete = m }) (reached k new) =
+            y ∙ ap (λ (l : List Run). reached k (spliced l i j (run lo hi))) runs-here ∙ ap (reached k) (sym (inserted lo hi f g)) in
+            decided-taken _ refl
+            (record { long = known .long; place-low = known .place; order = v .inside; inside = u .inside; few = known .few-runs; room = room })
+            (rw (le-ltb runPlaces (length new) (omega (arith, length-new)), between-absorbed, z ∙ sym between-adds)
+            (ap₂ (λ (q : Reached) (c : List ℕ). record { answer = Accepted (record { reached = q; absorbed = j - i; adds = adds from to rs }); area = c }) told stored))

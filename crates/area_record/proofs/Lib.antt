@@ -1,6 +1,4 @@
-pub mod SplicedRowLaws
-pub mod OverlayLaws
-pub mod SplicedAreaLaws
 pub mod ExtendLaws
 pub mod RecordLaws
 pub mod AheadLaws
+pub mod DecideLaws

@@ -16,14 +16,14 @@ use Rattle.packet_data.specs.Data.{dataRefusal, dataOf, readData}
 use Rattle.packet_data.specs.declared.Data.{Data}
 use Rattle.packet_data.specs.declared.DataRead.the-variants as data-read
 use Rattle.packet_data.proofs.DataLaws.{data-accepted}
-use Rattle.runs.specs.Runs.{Run, insert, absorbed}
+use Rattle.runs.specs.Runs.{Run, insert, absorbed, adds}
 use Rattle.runs.proofs.CompareLaws.{le-or-lt}
 use Rattle.transfer.specs.declared.Key.{Key}
 use Rattle.transfer.specs.Transfers.{Transfer}
-use Rattle.transfer.specs.Record.{stopOf, keyRefusal, extended, absorbedBy, runsRefusal}
+use Rattle.transfer.specs.Record.{stopOf, keyRefusal, extended, absorbedBy, addsBy, runsRefusal}
 use Rattle.transfer.proofs.FieldLaws.{data-some}
 use Rattle.table.specs.Tables.{keys, find}
-use Rattle.table.specs.Record.{dataJudged, recordRefusal, grown, absorbedIn, recordAs, recordData, recordRead, recordPacket}
+use Rattle.table.specs.Record.{dataJudged, recordRefusal, grown, absorbedIn, addsIn, recordAs, recordData, recordRead, recordPacket}
 use Rattle.table.specs.declared.Recorded.{Recorded}
 use Rattle.table.specs.declared.Recorded.the-variants.{Refused}
 use Rattle.area.specs.Layout.{runPlaces}
@@ -38,14 +38,6 @@ use Rattle.area.proofs.AreaLaws.{judged-held}
 use Rattle.area.proofs.KeptLaws.{place-free, kept-placed, kept-found, kept-runs, free-missing, kept-transfer}
 use Rattle.area.proofs.OperationLaws.{on-judged, on-unjudged}
 use Rattle.area_record.specs.Record.{runsGiven, offsetsGiven}
-
--- an answer with its area, part by part
-pub both : {x y : Recorded} {l : List ℕ} {o : OnArea Recorded} → x ≡ y → record { answer = y; area = l } ≡ o → (x ≡ o .answer) × (l ≡ o .area)
-both e f = (e ∙ ap (λ (r : OnArea Recorded). r .answer) f, ap (λ (r : OnArea Recorded). r .area) f)
-
--- and of one that equals another
-pub both-as : {x : Recorded} {l : List ℕ} {m o : OnArea Recorded} → (x ≡ m .answer) × (l ≡ m .area) → m ≡ o → (x ≡ o .answer) × (l ≡ o .area)
-both-as h f = (h .0 ∙ ap (λ (r : OnArea Recorded). r .answer) f, h .1 ∙ ap (λ (r : OnArea Recorded). r .area) f)
 
 -- a number that is not 0 is given, and the table stays
 as-refused : (n : ℕ) (k : Option Key) (rs : List Run) (t : List Transfer) (d : Data) → (n ≡ 0 → ⊥)
@@ -108,6 +100,10 @@ module _ (a : List ℕ) (e : judged a ≡ true) where
       unfolding absorbedIn absorbedBy
       absorbed-is = ap (absorbed (d .offset) (stopOf d)) (kept-runs s)
 
+      adds-is : addsIn table d ≡ adds (d .offset) (stopOf d) (nth table p .runs)
+      unfolding addsIn addsBy
+      adds-is = ap (adds (d .offset) (stopOf d)) (kept-runs s)
+
       grown-is : grown table d ≡ rest
       unfolding grown extended
       grown-is = ap (insert (d .offset) (stopOf d)) (kept-runs s)
@@ -118,6 +114,6 @@ module _ (a : List ℕ) (e : judged a ≡ true) where
           let y : keyRefusal k d ≡ 0 = sym j ∙ z in
           rw (found, y, grown-is)
           (⊎-elim
-          (λ (l : length rest ≤ runPlaces). rw (le-ltb runPlaces (length rest) l, absorbed-is, set-at (d .id) rest (kept-placed s) (s .inside) (s .same)))
+          (λ (l : length rest ≤ runPlaces). rw (le-ltb runPlaces (length rest) l, absorbed-is, adds-is, set-at (d .id) rest (kept-placed s) (s .inside) (s .same)))
           (λ (l : runPlaces < length rest). rw (lt-ltb runPlaces (length rest) l) (refused 16 o))
           (le-or-lt (length rest) runPlaces))

@@ -1,42 +1,32 @@
--- Recording at a place of an area, step by step: the octets after a splice of the place's two rows, and the area once 12 to 15 are none.
+-- Recording at a place of an area, once 12 to 15 are none.
 -- Assumes nothing.
-use Prim.Native.Nat.{ℕ, _+_, _-_}
+use Prim.Native.Nat.{ℕ}
 use mathlib.Core.Bool.{cond}
 use mathlib.Core.List.{List}
 use lib.ListN.{length}
 use lib.Dec.{ltb}
 use Rattle.refusals.specs.Refusals.{refusalOf}
-use Rattle.runs.specs.Runs.{Run, insert, absorbed}
-use Rattle.words.specs.Words.{putWord, splicedRow}
+use Rattle.runs.specs.Runs.{Run, insert, absorbed, adds}
 use Rattle.transfer.specs.declared.Key.{Key}
 use Rattle.transfer.specs.Transfers.{Transfer}
 use Rattle.transfer.specs.Record.{receipt}
 use Rattle.table.specs.declared.Recorded.{Recorded}
 use Rattle.table.specs.declared.Recorded.the-variants.{Accepted, Refused}
-use Rattle.area.specs.Layout.{runPlaces, countField, headAt, runAt}
+use Rattle.area.specs.Layout.{runPlaces}
 use Rattle.area.specs.Places.{nth, readTable, withRuns}
 use Rattle.area.specs.Stored.{storedIn}
 use Rattle.area.specs.Operations.{OnArea}
 
--- how many runs are left where those from i up to j, of n, give way to one
-abbrev pub runsAfter : ℕ → ℕ → ℕ → ℕ
-runsAfter n i j = i + 1 + (n - j)
-
--- of the n runs at place p, those from i up to j gave way to one from lo to hi: both rows are spliced, and the number of runs is put
-unfoldable pub splicedArea : List ℕ → ℕ → ℕ → ℕ → ℕ → ℕ → ℕ → List ℕ
-splicedArea a p n i j lo hi =
-    putWord (headAt p countField) (runsAfter n i j) (splicedRow (splicedRow a (runAt 0 p 0) n i j lo) (runAt 1 p 0) n i j hi)
-
--- the area a holds the table t, and the transfer at place p, whose key is k, is to have the runs rs, n of its runs absorbed. 16: "the
--- received set would have more than 64 runs", and the area stays; else they are stored
-unfoldable pub runsGiven : List ℕ → List Transfer → ℕ → Key → List Run → ℕ → OnArea Recorded
-runsGiven a t p k rs n =
+-- the area a holds the table t, and the transfer at place p, whose key is k, is to have the runs rs, n of its runs absorbed, and m says
+-- whether something is added. 16: "the received set would have more than 64 runs", and the area stays; else they are stored
+unfoldable pub runsGiven : List ℕ → List Transfer → ℕ → Key → List Run → ℕ → ℕ → OnArea Recorded
+runsGiven a t p k rs n m =
     cond (ltb runPlaces (length rs))
     (record { answer = Refused (refusalOf 16); area = a })
-    (record { answer = Accepted (receipt k rs n); area = storedIn a (withRuns t p rs) })
+    (record { answer = Accepted (receipt k rs n m); area = storedIn a (withRuns t p rs) })
 
 -- the transfer at place p, whose key is k, is to have the offsets from `from` on too, with `to` the first after them
 abbrev pub offsetsGiven : List ℕ → ℕ → Key → ℕ → ℕ → OnArea Recorded
 offsetsGiven a p k from to =
     let rs = nth (readTable a) p .runs in
-    runsGiven a (readTable a) p k (insert from to rs) (absorbed from to rs)
+    runsGiven a (readTable a) p k (insert from to rs) (absorbed from to rs) (adds from to rs)

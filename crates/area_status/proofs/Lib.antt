@@ -2,3 +2,4 @@ pub mod UsedLaws
 pub mod WriteStatusLaws
 pub mod ListingLaws
 pub mod ByIdLaws
+pub mod CountLaws

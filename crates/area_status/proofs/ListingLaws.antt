@@ -10,6 +10,7 @@ use lib.ListN.{length}
 use borrow.Author.Tests.{lt-ltb, le-ltb}
 use Rattle.refusals.specs.Refusals.{refusalOf}
 use Rattle.runs.specs.Holes.{edge, complete}
+use Rattle.runs.specs.Received.{received}
 use Rattle.transfer.specs.Transfers.{Transfer}
 use Rattle.transfer.specs.declared.Key.{Key}
 use Rattle.table.specs.Tables.{FineFrom}
@@ -71,9 +72,9 @@ module _ (a : List ℕ) (i : ℕ) (yes : judged a ≡ true) where
       listed-open a (readTable a) (judged-held a yes) i (omega (arith, length-transfers a 0 (wordAt a 0)))
       ∙ ap (λ (x : Transfer). Open (listingOf x)) (transfer-at a i h)
 
-pub listing-is : (a : List ℕ) (i : ℕ) (key : Key) (rows : Rows) (e : ℕ) (c : Bool) → key ≡ keyAt a i → rows ≡ rowsAt a i
-    → e ≡ edge (runsIn a rows) → c ≡ complete (key .length) (runsIn a rows)
-    → _≡_ {A = Listing} (record { id = key .id; width = key .width; length = key .length; edge = e; complete = c; runs = rows .count })
+pub listing-is : (a : List ℕ) (i : ℕ) (key : Key) (rows : Rows) (e : ℕ) (c : Bool) (n : ℕ) → key ≡ keyAt a i → rows ≡ rowsAt a i
+    → e ≡ edge (runsIn a rows) → c ≡ complete (key .length) (runsIn a rows) → n ≡ received (runsIn a rows)
+    → _≡_ {A = Listing} (record { id = key .id; width = key .width; length = key .length; edge = e; complete = c; runs = rows .count; received = n })
     (listingOf (transferAt a i))
 unfolding listingOf
-listing-is a i key rows e c k r f g = rw (f, g, k, r, length-runs)
+listing-is a i key rows e c n k r f g h = rw (f, g, h, k, r, length-runs)

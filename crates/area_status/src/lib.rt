@@ -10,7 +10,7 @@ pub mod by_id;
 use refusals::Refusal;
 use refusals::Written;
 
-// A transfer that is open. `width` counts octets, `runs` its runs.
+// A transfer that is open. `width` counts octets, `runs` its runs, and `received` the offsets that they have.
 pub struct Listing {
     pub id: u64,
     pub width: u64,
@@ -18,6 +18,7 @@ pub struct Listing {
     pub edge: u64,
     pub complete: bool,
     pub runs: usize,
+    pub received: u64,
 }
 
 pub enum Listed {
@@ -56,6 +57,7 @@ pub fn listing_at(area: &[u8], i: usize) -> Listing
     let rows = area::rows_at(area, i);
     let edge = run_rows::edge_of(area, rows);
     let complete = run_rows::is_complete(area, rows, key.length);
+    let received = run_rows::received_of(area, rows);
     Listing {
         id: key.id,
         width: key.width as u64,
@@ -63,6 +65,7 @@ pub fn listing_at(area: &[u8], i: usize) -> Listing
         edge,
         complete,
         runs: rows.count,
+        received,
     }
 }
 

@@ -1,7 +1,7 @@
 -- Marking the offsets of a packet: by the places that the cuts found, 16 or the answer of the runs with the packet's stretch inserted.
 -- Assumes nothing.
 use Prim.Native.Nat.{ℕ, _+_, _-_, _≤_, _<_, max}
-use mathlib.Core.Path.{_≡_, sym, ap, _∙_}
+use mathlib.Core.Path.{_≡_, sym, ap, subst, _∙_}
 use mathlib.Core.Bool.{false}
 use mathlib.Core.List.{List}
 use native.Mathlib.Omega.{arith}
@@ -9,15 +9,17 @@ use lib.ListN.{length}
 use lib.Dec.{leb}
 use borrow.Author.Tests.{lt-ltb}
 use Rattle.refusals.specs.Refusals.{refusalOf}
+use Rattle.runs.specs.Runs.{Run, adds}
 use Rattle.runs.specs.Holes.{edge, complete, progress}
+use Rattle.runs.specs.Splice.{addsAt}
 use Rattle.runs.proofs.EdgeLaws.{edge-inserted}
 use Rattle.run_rows.specs.Rows.{runsIn, CutTo, CutBelow}
 use Rattle.run_rows.proofs.RowsLaws.{length-runs}
-use Rattle.run_rows.proofs.CutLaws.{absorbed-cut}
+use Rattle.run_rows.proofs.CutLaws.{absorbed-cut, adds-cut}
 use Rattle.packet_data.specs.declared.Data.{Data}
 use Rattle.transfer.specs.declared.Key.{Key}
 use Rattle.transfer.specs.Transfers.{reached}
-use Rattle.transfer.specs.Record.{stopOf, extended, absorbedBy, runsRefusal}
+use Rattle.transfer.specs.Record.{stopOf, extended, absorbedBy, addsBy, runsRefusal}
 use Rattle.transfer.proofs.ExtendLaws.{extended-count, few-runs}
 use Rattle.table.specs.declared.Recorded.the-variants.{Accepted, Refused}
 use Rattle.marks.specs.Marks.{markOctets, markCount, marked, withMarks}
@@ -41,6 +43,12 @@ module _ (k : Key) (s rows : List ℕ) (n : ℕ) (d : Data) (stand : RunsStand s
   absorbed-is : absorbedBy (markedRuns s) d ≡ j - i
   unfolding absorbedBy
   absorbed-is = rw (← stand .are) (absorbed-cut rows (runRows n) (d .offset) (stopOf d) i j u v (rw (stand .are) (marked-canonical s)) (omega arith))
+
+  -- and one of them has all of it, where nothing is added
+  adds-is : addsBy (markedRuns s) d ≡ addsAt (d .offset) (stopOf d) (runsIn rows (runRows n)) i j
+  unfolding addsBy
+  adds-is = subst (λ (l : List Run). adds (d .offset) (stopOf d) l ≡ addsAt (d .offset) (stopOf d) (runsIn rows (runRows n)) i j) (stand .are)
+      (adds-cut rows (runRows n) (d .offset) (stopOf d) i j u v (rw (stand .are) (marked-canonical s)) (omega arith))
 
   runs-left : length (extended (markedRuns s) d) ≡ i + 1 + (n - j)
   runs-left =
@@ -67,10 +75,11 @@ module _ (k : Key) (s rows : List ℕ) (n : ℕ) (d : Data) (stand : RunsStand s
     progress-after : p ≡ progress (extended (markedRuns s) d)
     progress-after = progress-found x p first ∙ ap progress (ap markedRuns after ∙ marks-extended s d some low long)
 
-    pub extend-done : (Accepted (record { reached = record { edge = q; complete = leb (k .length) p }; absorbed = j - i })
+    pub extend-done : (m : ℕ) → m ≡ addsAt (d .offset) (stopOf d) (runsIn rows (runRows n)) i j
+        → (Accepted (record { reached = record { edge = q; complete = leb (k .length) p }; absorbed = j - i; adds = m })
         ≡ recordAs (runsRefusal (extended (markedRuns s) d)) k s d .answer)
         × (x ≡ recordAs (runsRefusal (extended (markedRuns s) d)) k s d .marks)
     unfolding recordAs reached complete
-    extend-done =
+    extend-done m adds-told =
         let z = few-runs (extended (markedRuns s) d) (omega (arith, runs-left)) in
-        (rw (z, edge-after, progress-after, absorbed-is), rw z after)
+        (rw (z, edge-after, progress-after, absorbed-is, adds-told ∙ sym adds-is), rw z after)

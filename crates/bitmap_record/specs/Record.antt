@@ -8,7 +8,7 @@ use Rattle.refusals.specs.Refusals.{_▹_, when, refusalOf}
 use Rattle.packet_data.specs.Data.{dataRefusal, dataOf}
 use Rattle.packet_data.specs.declared.Data.{Data}
 use Rattle.transfer.specs.declared.Key.{Key}
-use Rattle.transfer.specs.Record.{keyRefusal, extended, absorbedBy, receipt, runsRefusal}
+use Rattle.transfer.specs.Record.{keyRefusal, extended, absorbedBy, addsBy, receipt, runsRefusal}
 use Rattle.table.specs.declared.Recorded.{Recorded}
 use Rattle.table.specs.declared.Recorded.the-variants.{Accepted, Refused}
 use Rattle.marks.specs.Marks.{withMarks}
@@ -26,7 +26,7 @@ recordRefusal k s packet = stateRefusal k s ▹ dataRefusal packet ▹ dataRefus
 -- the marks of the packet's offsets are set; what is told is of the runs, as in the transfer table
 unfoldable pub recordAs : ℕ → Key → List ℕ → Data → Left Recorded
 recordAs zero k s d = record {
-  answer = Accepted (receipt k (extended (markedRuns s) d) (absorbedBy (markedRuns s) d));
+  answer = Accepted (receipt k (extended (markedRuns s) d) (absorbedBy (markedRuns s) d) (addsBy (markedRuns s) d));
   marks = withMarks (d .offset) (d .length) s;
 }
 recordAs (suc n) k s d = record { answer = Refused (refusalOf (suc n)); marks = s }

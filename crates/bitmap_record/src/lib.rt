@@ -50,7 +50,12 @@ fn extend(key: Key, marks: &mut [u8], rows: &[u8], n: usize, d: Data) -> Recorde
     let complete = key.length <= marks::first(marks, 0, false) as u64;
     let reached = Reached { edge, complete };
     let absorbed = (j - i) as u64;
-    Recorded::Accepted(Receipt { reached, absorbed })
+    let adds = run_rows::adds_of(rows, at, i, j, from, to);
+    Recorded::Accepted(Receipt {
+        reached,
+        absorbed,
+        adds,
+    })
 }
 
 // Records a packet that has to be DATA. That the marks are no transfer's counts before what the packet is.

@@ -21,14 +21,14 @@ use Rattle.packet_metadata.specs.Metadata.{metadataRefusal, metadataOf, readMet
 use Rattle.packet_data.specs.Data.{dataRefusal, dataOf, readData}
 use Rattle.packet_data.specs.declared.DataRead.{DataRead}
 use Rattle.packet_data.specs.declared.DataRead.the-variants as data-read
-use Rattle.runs.specs.Runs.{run, insert, absorbed}
+use Rattle.runs.specs.Runs.{run, insert, absorbed, adds}
 use Rattle.runs.specs.Holes.{edgeFrom, progress, complete}
 use Rattle.transfer.specs.declared.Key.{Key}
 use Rattle.transfer.specs.declared.Reached.{Reached}
 use Rattle.transfer.specs.Transfers.{Transfer, reached}
-use Rattle.transfer.specs.Record.{keyRefusal, extended, absorbedBy, runsRefusal}
+use Rattle.transfer.specs.Record.{keyRefusal, extended, absorbedBy, addsBy, runsRefusal}
 use Rattle.table.specs.Tables.{keys, find, runsOf, add}
-use Rattle.table.specs.Record.{dataJudged, recordRefusal, grown, absorbedIn, recordAs, recordData, recordRead, recordPacket}
+use Rattle.table.specs.Record.{dataJudged, recordRefusal, grown, absorbedIn, addsIn, recordAs, recordData, recordRead, recordPacket}
 use Rattle.table.specs.declared.Recorded.{Recorded}
 use Rattle.table.specs.declared.Recorded.the-variants as recorded
 use Rattle.table.specs.Open.{judgeFound, judgeOpen, openAs, openKey, openRead, openPacket}
@@ -131,8 +131,8 @@ module _ (a : List ℕ) (held : tableOf a ≡ some (open3 ∷ [])) (s : List ℕ
 
   -- ---- a packet for Id 3 is recorded in the table, and refused with 12 by marks of Id 7
 
-  in-table-recorded : recordArea left (data16 3 0 5) .answer ≡ recorded.Accepted (record { reached = record { edge = 50; complete = false }; absorbed = 0 })
-  unfolding startRefusal typeRefusal fileRefusal descriptorRefusal upperZero dataRefusal dataOf readData insert absorbed edgeFrom progress complete reached keys find runsOf keyRefusal runsRefusal extended absorbedBy dataJudged recordRefusal grown absorbedIn recordAs recordData recordRead recordPacket
+  in-table-recorded : recordArea left (data16 3 0 5) .answer ≡ recorded.Accepted (record { reached = record { edge = 50; complete = false }; absorbed = 0; adds = 1 })
+  unfolding startRefusal typeRefusal fileRefusal descriptorRefusal upperZero dataRefusal dataOf readData insert absorbed adds edgeFrom progress complete reached keys find runsOf keyRefusal runsRefusal extended absorbedBy addsBy dataJudged recordRefusal grown absorbedIn addsIn recordAs recordData recordRead recordPacket
   in-table-recorded = ap (λ (o : OnArea Recorded). o .answer) (record-held left (data16 3 0 5) both-open left-holds)
 
   no-fault-here : stateRefusal key7 marks ≡ 0
@@ -148,5 +148,5 @@ module _ (a : List ℕ) (held : tableOf a ≡ some (open3 ∷ [])) (s : List ℕ
 
   pub not-alike : recordArea left (data16 3 0 5) .answer ≡ recordMarks key7 marks (data16 3 0 5) .answer → ⊥
   not-alike e =
-      let z : recorded.Refused (refusalOf 12) ≡ recorded.Accepted (record { reached = record { edge = 50; complete = false }; absorbed = 0 }) = by-marks-refused ∙ sym e ∙ in-table-recorded in
+      let z : recorded.Refused (refusalOf 12) ≡ recorded.Accepted (record { reached = record { edge = 50; complete = false }; absorbed = 0; adds = 1 }) = by-marks-refused ∙ sym e ∙ in-table-recorded in
       let y : _≡_ {A = ℕ} 0 1 = cc in omega arith

@@ -21,7 +21,7 @@ use Rattle.transfer.proofs.ExtendLaws.{key-stop}
 use Rattle.transfer.proofs.LengthLaws.{length-passes}
 use Rattle.table.specs.Tables.{Valid, keys, find, runsOf, setRuns}
 use Rattle.table.specs.Outcome.{Outcome}
-use Rattle.table.specs.Record.{dataJudged, recordRefusal, grown, absorbedIn, recordAs, recordData, recordRead, recordPacket}
+use Rattle.table.specs.Record.{dataJudged, recordRefusal, grown, absorbedIn, addsIn, recordAs, recordData, recordRead, recordPacket}
 use Rattle.table.specs.declared.Recorded.{Recorded}
 use Rattle.table.specs.declared.Recorded.the-variants.{Accepted}
 use Rattle.table.proofs.TableLaws.{keys-set, runs-set-same}
@@ -102,7 +102,7 @@ module _ (ks : List Key) (k : Key) (found : find (k .id) ks ≡ some k) (short :
             }
 
         judged : (n : ℕ) → keyRefusal k d ▹ runsRefusal runs ≡ n → Follows (recordAs n (some k) runs t d) (by-marks.recordAs n k s d)
-        unfolding recordAs absorbedIn by-marks.recordAs
+        unfolding recordAs absorbedIn addsIn by-marks.recordAs
         judged zero z = record { same = rw here; agree = set (first-none (keyRefusal k d) (runsRefusal runs) z) }
         judged (suc n) z = record { same = refl; agree = h }
 

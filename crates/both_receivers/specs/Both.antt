@@ -36,7 +36,8 @@ onMarks k s packet = let o = recordMarks k s packet in (o .answer, o .marks)
 
 -- packets with any octets, each recorded in what the call before it left
 module _ (recorded : List ℕ → List ℕ → Recorded × List ℕ) where
-  -- the answers, call by call: a refusal's number and code, or the edge, whether the transfer is complete, and the runs absorbed
+  -- the answers, call by call: a refusal's number and code, or the edge, whether the transfer is complete, the runs absorbed, and
+  -- whether something was added
   unfoldable pub answers : List ℕ → List (List ℕ) → List Recorded
   answers l [] = []
   answers l (p ∷ ps) = recorded l p .0 ∷ answers (recorded l p .1) ps

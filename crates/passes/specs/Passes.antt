@@ -93,9 +93,9 @@ buffer n = replicate n 255
 abbrev pub upTo : ℕ → Bool → Reached
 upTo edge complete = record { edge = edge; complete = complete }
 
--- and what recording tells besides
+-- and what recording tells besides: the runs absorbed, and that it brought something new
 abbrev pub joining : ℕ → Bool → ℕ → Receipt
-joining edge complete n = record { reached = upTo edge complete; absorbed = n }
+joining edge complete n = record { reached = upTo edge complete; absorbed = n; adds = 1 }
 
 pub record Passes : Type 0 where
   -- the STATUS with one hole is 44 00 00 00 00 00 00 07 03 E8 0B B8 03 E8 07 D0

@@ -6,9 +6,10 @@ use mathlib.Core.Path.{_≡_}
 use mathlib.Core.List.{List}
 use native.Mathlib.Omega.{arith}
 use lib.ListN.{length}
-use Rattle.runs.specs.Runs.{Canonical, insert, absorbed}
-use Rattle.runs.specs.Splice.{splicedRuns}
+use Rattle.runs.specs.Runs.{Canonical, insert, absorbed, adds}
+use Rattle.runs.specs.Splice.{splicedRuns, addsAt}
 use Rattle.runs.proofs.BetweenLaws.{Between, insert-between, absorbed-between}
+use Rattle.runs.proofs.AddsLaws.{adds-between}
 use Rattle.words.specs.Words.{wordAt}
 use Rattle.run_rows.specs.Rows.{runsIn, CutTo, CutBelow}
 use Rattle.run_rows.specs.declared.Rows.{Rows}
@@ -67,10 +68,13 @@ module _ (a : List ℕ) (r : Rows) (from to i j : ℕ) (u : CutTo a (r .starts) 
         first-above = λ l. rw (← start-at a (r .starts) (r .stops) (r .count) j (omega arith)) (u .next (omega arith));
       }
 
-  -- the insertion is the splice there, and takes up the runs between
+  -- the insertion is the splice there, takes up the runs between, and adds something unless one of them has it all
   module _ (c : Canonical (runsIn a r)) where
     pub insert-cut : from ≤ to → insert from to (runsIn a r) ≡ splicedRuns from to (runsIn a r) i j
     insert-cut h = insert-between from to (runsIn a r) i j h c cuts-between
 
     pub absorbed-cut : from < to → absorbed from to (runsIn a r) ≡ j - i
     absorbed-cut h = absorbed-between from to (runsIn a r) i j (omega arith) c cuts-between h
+
+    pub adds-cut : from < to → adds from to (runsIn a r) ≡ addsAt from to (runsIn a r) i j
+    adds-cut h = adds-between from to (runsIn a r) i j h c cuts-between

@@ -6,14 +6,18 @@ use mathlib.Core.List.{List}
 use mathlib.Core.Logic.{⊎-elim}
 use native.Mathlib.Omega.{arith}
 use native.Mathlib.Nat.{add-zero}
-use lib.ListN.{length, getD}
+use native.Mathlib.Numerals.{add-one}
+use lib.ListN.{length, getD, take}
+use lib.Seq.{take-all}
 use lib.Dec.{leb}
-use borrow.Author.Tests.{eq-eqb, ne-eqb, lt-ltb, le-ltb}
+use borrow.Author.Tests.{eq-eqb, ne-eqb, lt-ltb, le-ltb, lt-leb, le-leb}
 use Rattle.runs.specs.Runs.{Run, nthRun, Canonical}
 use Rattle.runs.specs.Holes.{edgeFrom, edge, hole, holesFrom, holes, progress, complete}
-use Rattle.runs.specs.Splice.{lowOf, highOf}
+use Rattle.runs.specs.Received.{received}
+use Rattle.runs.specs.Splice.{lowOf, highOf, addsAt}
 use Rattle.runs.proofs.CompareLaws.{le-or-lt}
-use Rattle.runs.proofs.RunPlaces.{edge-is-last-stop, progress-by-first}
+use Rattle.runs.proofs.RunPlaces.{edge-is-last-stop, progress-by-first, run-some}
+use Rattle.runs.proofs.ReceivedLaws.{received-next, received-to}
 use Rattle.runs.proofs.HolePlaces.{holes-number-low, holes-number-high, hole-place-low, hole-place-first, hole-place-next}
 use Rattle.words.specs.Words.{wordAt}
 use Rattle.run_rows.specs.Rows.{runsFrom, runsIn}
@@ -140,3 +144,46 @@ module _ (a : List ℕ) (r : Rows) where
 
       pub stop-joined : (to x : ℕ) → w ≡ wordAt a (r .stops + (j - 1)) → x ≡ max to w → x ≡ highOf to (runsIn a r) i j
       stop-joined to x e f = rw (lt-ltb i j some) (f ∙ ap (max to) (e ∙ stop-is (j - 1) (omega arith)))
+
+  -- ---- whether a stretch brings something new, where it overlaps or touches the runs from i up to j
+
+  module _ (i j from to : ℕ) where
+    pub adds-apart : (j - i ≡ 1 → ⊥) → 1 ≡ addsAt from to (runsIn a r) i j
+    adds-apart z = rw (ne-eqb (j - i) 1 z)
+
+    -- v and w are the words where the one run starts and stops
+    module _ (z : j - i ≡ 1) (inside : j ≤ r .count) (v : ℕ) (is : v ≡ wordAt a (r .starts + i)) where
+      run-start : v ≡ nthRun (runsIn a r) i .start
+      run-start = is ∙ start-is i (omega arith)
+
+      pub adds-below : from < v → 1 ≡ addsAt from to (runsIn a r) i j
+      adds-below l = rw (eq-eqb (j - i) 1 z, ← run-start, lt-leb v from l)
+
+      module _ (l : v ≤ from) (w : ℕ) (stop : w ≡ wordAt a (r .stops + i)) where
+        run-stop : w ≡ nthRun (runsIn a r) i .stop
+        run-stop = stop ∙ stop-is i (omega arith)
+
+        pub adds-above : w < to → 1 ≡ addsAt from to (runsIn a r) i j
+        adds-above h = rw (eq-eqb (j - i) 1 z, ← run-start, le-leb v from l, ← run-stop, lt-leb to w h)
+
+        pub adds-within : to ≤ w → 0 ≡ addsAt from to (runsIn a r) i j
+        adds-within h = rw (eq-eqb (j - i) 1 z, ← run-start, le-leb v from l, ← run-stop, le-leb to w h)
+
+  -- ---- how many offsets the first k runs have, and then the next one
+
+  module _ (c : Canonical (runsIn a r)) (k : ℕ) (here : k < r .count) (v w : ℕ) (start : v ≡ wordAt a (r .starts + k)) (stop : w ≡ wordAt a (r .stops + k)) where
+    there : k < length (runsIn a r)
+    there = omega (arith, size-is)
+
+    pub run-rises : v < w
+    run-rises = rw (start ∙ start-is k here, stop ∙ stop-is k here) (run-some (runsIn a r) k c there)
+
+    module _ (sum : ℕ) (so-far : sum ≡ received (take k (runsIn a r))) where
+      pub sum-low : sum ≤ v
+      sum-low = rw (start ∙ start-is k here, so-far) (received-to (runsIn a r) k c there)
+
+      pub sum-next : sum + (w - v) ≡ received (take (k + 1) (runsIn a r))
+      sum-next = rw (add-one, start ∙ start-is k here, stop ∙ stop-is k here, so-far) (sym (received-next (runsIn a r) k there))
+
+  pub sum-whole : (k sum : ℕ) → r .count ≤ k → sum ≡ received (take k (runsIn a r)) → sum ≡ received (runsIn a r)
+  sum-whole k sum l e = e ∙ ap received (take-all k (runsIn a r) (omega (arith, size-is)))

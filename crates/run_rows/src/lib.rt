@@ -3,7 +3,8 @@ ghost use mathlib.Core.Path.{_≡_};
 ghost use Prim.Native.Nat.{_+_, _*_, _≤_, _<_};
 ghost use lib.ListN.{length, getD};
 ghost use Rattle.runs.specs.Holes.{edge, hole, holes, progress, complete};
-ghost use Rattle.runs.specs.Splice.{lowOf, highOf};
+ghost use Rattle.runs.specs.Received.{received};
+ghost use Rattle.runs.specs.Splice.{lowOf, highOf, addsAt};
 ghost use Rattle.run_rows.specs.Rows.{runsIn, RowsFit, RowsFine, CutTo, CutBelow};
 ghost use Rattle.run_rows.specs.Judge.{runsTest};
 use runs::Hole;
@@ -50,6 +51,23 @@ pub fn is_complete(buf: &[u8], rows: Rows, length: u64) -> bool
     ensures { λ x. ⌜ x ≡ complete length (runsIn (now (buf .entry)) rows) ⌝ }
 {
     length <= progress_of(buf, rows)
+}
+
+// How many offsets are received. No sum wraps: the runs before a run have no more of them than lie below its start.
+pub fn received_of(buf: &[u8], rows: Rows) -> u64
+    requires { ⌜ RowsFine (now buf) rows ⌝ }
+    ensures { λ x. ⌜ x ≡ received (runsIn (now (buf .entry)) rows) ⌝ }
+{
+    let n = rows.count;
+    let mut sum: u64 = 0;
+    let mut k: usize = 0;
+    while k < n {
+        let start = words::word(buf, rows.starts + k);
+        let stop = words::word(buf, rows.stops + k);
+        sum += stop - start;
+        k += 1;
+    }
+    sum
 }
 
 // How many holes there are below the edge.
@@ -181,4 +199,22 @@ pub fn joined_stop(buf: &[u8], rows: Rows, i: usize, j: usize, to: u64) -> u64
         return w;
     }
     to
+}
+
+// Whether the added offsets, from `from` on and with `to` the first after them, bring one that was not received, 1 for yes; the runs
+// that they overlap or touch are those from i up to j.
+pub fn adds_of(buf: &[u8], rows: Rows, i: usize, j: usize, from: u64, to: u64) -> u64
+    requires { ⌜ RowsFit (now buf) rows × (i ≤ j) × (j ≤ rows .count) ⌝ }
+    ensures { λ x. ⌜ x ≡ addsAt from to (runsIn (now (buf .entry)) rows) i j ⌝ }
+{
+    if j - i != 1 {
+        return 1;
+    }
+    if from < words::word(buf, rows.starts + i) {
+        return 1;
+    }
+    if words::word(buf, rows.stops + i) < to {
+        return 1;
+    }
+    0
 }

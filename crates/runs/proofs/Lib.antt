@@ -8,9 +8,11 @@ pub mod RisingLaws
 pub mod SpliceLaws
 pub mod RunPlaces
 pub mod BetweenLaws
+pub mod AddsLaws
 pub mod EdgeLaws
 pub mod HoleLaws
 pub mod ProgressLaws
 pub mod CompleteLaws
+pub mod ReceivedLaws
 pub mod HolePlaces
 pub mod Examples

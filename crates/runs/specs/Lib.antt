@@ -1,3 +1,4 @@
 pub mod Runs
 pub mod Holes
 pub mod Splice
+pub mod Received

@@ -70,3 +70,10 @@ absorbed a b [] = 0
 absorbed a b (r ∷ rs) =
     let rest = absorbed a b rs in
     cond (leb a (r .stop) && leb (r .start) b) (suc rest) rest
+
+-- whether an insertion brings an offset that was not received, 1 for yes: it doesn't where one run has all of them
+unfoldable pub adds : ℕ → ℕ → List Run → ℕ
+adds a b [] = 1
+adds a b (r ∷ rs) =
+    let rest = adds a b rs in
+    cond (leb (r .start) a && leb b (r .stop)) 0 rest

@@ -17,7 +17,7 @@ use Rattle.transfer.specs.declared.Key.{Key}
 use Rattle.transfer.specs.Transfers.{Transfer}
 use Rattle.runs.specs.Runs.{Canonical}
 use Rattle.table.specs.Tables.{keys, find, runsOf, setRuns}
-use Rattle.table.specs.Record.{dataJudged, recordRefusal, grown, absorbedIn, recordAs, recordData, recordRead, recordPacket}
+use Rattle.table.specs.Record.{dataJudged, recordRefusal, grown, absorbedIn, addsIn, recordAs, recordData, recordRead, recordPacket}
 use Rattle.transfer.specs.Record.{stopOf, receipt, runsRefusal}
 use Rattle.table.specs.declared.Recorded.the-variants.{Accepted, Refused}
 use Rattle.table.specs.Outcome.{Outcome}
@@ -25,7 +25,7 @@ use Rattle.table.specs.declared.Recorded.{Recorded}
 
 -- accepted, with the runs grown
 abbrev pub recordedAs : List Transfer → Data → Key → Outcome Recorded
-recordedAs t d k = record { answer = Accepted (receipt k (grown t d) (absorbedIn t d)); table = setRuns (d .id) (grown t d) t }
+recordedAs t d k = record { answer = Accepted (receipt k (grown t d) (absorbedIn t d) (addsIn t d)); table = setRuns (d .id) (grown t d) t }
 
 -- refused, and the table stays; or the Id is open with k, nothing of 12 to 15 is given, and there is room
 pub record-cases : (P : Outcome Recorded → Type 0) (t : List Transfer) (packet : List ℕ)

@@ -1,9 +1,9 @@
--- What opening and recording answer is what the table that they leave has received, and how many runs went into it.
+-- What opening and recording answer is what the table that they leave has received, how many runs went into it, and whether it is new.
 -- Assumes nothing.
 use Prim.Native.Nat.{ℕ, _<_}
 use mathlib.Core.Path.{_≡_, refl, ap, _∙_}
 use mathlib.Core.List.{List, []}
-use mathlib.Core.Logic.{_⊎_, ⊎-elim}
+use mathlib.Core.Logic.{_⊎_, ⊎-elim, _↔_}
 use native.Mathlib.Omega.{arith}
 use Rattle.packet_metadata.specs.Metadata.{readMetadata}
 use Rattle.packet_metadata.specs.declared.Metadata.{Metadata}
@@ -21,7 +21,7 @@ use Rattle.transfer.proofs.ReachedLaws.{reached-tells}
 use Rattle.table.specs.Tables.{Valid, find, runsOf, setRuns}
 use Rattle.table.specs.Outcome.{Outcome}
 use Rattle.table.specs.Open.{openPacket}
-use Rattle.table.specs.Record.{grown, absorbedIn, recordPacket}
+use Rattle.table.specs.Record.{grown, absorbedIn, addsIn, recordPacket}
 use Rattle.table.specs.Told.{Told, Counted}
 use Rattle.table.specs.declared.Opened.{Opened}
 use Rattle.table.specs.declared.Opened.the-variants as opened
@@ -31,14 +31,18 @@ use Rattle.table.proofs.TableLaws.{find-add-same, runs-add-same, keys-s
 use Rattle.table.proofs.FineLaws.{runs-canonical}
 use Rattle.table.proofs.OpenLaws.{open-cases}
 use Rattle.table.proofs.RecordLaws.{record-cases, grown-canonical, grown-count}
+use Rattle.table.proofs.RepeatLaws.{Known, grown-new, grown-same}
 
--- an accepted recording tells of the packet's Id in the table after it, and of the runs that were there before it
+-- an accepted recording tells of the packet's Id in the table after it, and of the runs that were there before it: how many were
+-- absorbed, and whether something was added, which is so unless all its offsets were received, and unless the table stays as it is
 pub record Recording (t u : List Transfer) (packet : List ℕ) (x : Receipt) : Type 0 where
   pub brought : Data
   pub read : readData packet ≡ data-read.Accepted brought
   pub told : Told u (brought .id) (x .reached)
   pub number : x .absorbed ≡ absorbedIn t brought
   pub counted : Counted t u (brought .id) (x .absorbed)
+  pub new : (x .adds ≡ 0) ↔ Known t brought
+  pub same : (x .adds ≡ 0) ↔ (u ≡ t)
 
 pub record-told : (t : List Transfer) (packet : List ℕ) (x : Receipt) → Valid t → recordPacket t packet .answer ≡ recorded.Accepted x
     → Recording t (recordPacket t packet .table) packet x
@@ -46,7 +50,7 @@ record-told t packet x v a =
     record-cases (λ (o : Outcome Recorded). o .answer ≡ recorded.Accepted x → Recording t (o .table) packet x) t packet
     (λ r q. absurd (let z : _≡_ {A = ℕ} 0 1 = cc in omega arith))
     (λ d k e f j l q.
-    let is : receipt k (grown t d) (absorbedIn t d) ≡ x = cc in
+    let is : receipt k (grown t d) (absorbedIn t d) (addsIn t d) ≡ x = cc in
     let some : 0 < d .length = data-some packet d e in
     let canonical : Canonical (runsOf t (d .id)) = runs-canonical (d .id) t v in
     let has : runsOf (setRuns (d .id) (grown t d) t) (d .id) ≡ grown t d = runs-set-same (d .id) (grown t d) t k f in
@@ -61,6 +65,8 @@ record-told t packet x v a =
       };
       number = refl;
       counted = rw has (grown-count t d some canonical);
+      new = grown-new t d some canonical;
+      same = grown-same t d k f some canonical;
     }))
     a
 

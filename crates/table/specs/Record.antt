@@ -12,7 +12,7 @@ use Rattle.packet_data.specs.declared.DataRead.the-variants as data-read
 use Rattle.runs.specs.Runs.{Run}
 use Rattle.transfer.specs.declared.Key.{Key}
 use Rattle.transfer.specs.Transfers.{Transfer}
-use Rattle.transfer.specs.Record.{keyRefusal, extended, absorbedBy, receipt, runsRefusal}
+use Rattle.transfer.specs.Record.{keyRefusal, extended, absorbedBy, addsBy, receipt, runsRefusal}
 use Rattle.table.specs.Tables.{keys, find, runsOf, setRuns}
 use Rattle.table.specs.declared.Recorded.{Recorded}
 use Rattle.table.specs.declared.Recorded.the-variants.{Accepted, Refused}
@@ -35,9 +35,13 @@ grown t d = extended (runsOf t (d .id)) d
 unfoldable pub absorbedIn : List Transfer → Data → ℕ
 absorbedIn t d = absorbedBy (runsOf t (d .id)) d
 
+-- whether it brings an offset that was not received for its Id
+unfoldable pub addsIn : List Transfer → Data → ℕ
+addsIn t d = addsBy (runsOf t (d .id)) d
+
 unfoldable pub recordAs : ℕ → Option Key → List Run → List Transfer → Data → Outcome Recorded
 recordAs zero none runs t d = record { answer = Refused (refusalOf 12); table = t }
-recordAs zero (some k) runs t d = record { answer = Accepted (receipt k runs (absorbedIn t d)); table = setRuns (d .id) runs t }
+recordAs zero (some k) runs t d = record { answer = Accepted (receipt k runs (absorbedIn t d) (addsIn t d)); table = setRuns (d .id) runs t }
 recordAs (suc n) k runs t d = record { answer = Refused (refusalOf (suc n)); table = t }
 
 unfoldable pub recordData : List Transfer → Data → Outcome Recorded

@@ -16,9 +16,10 @@ use Rattle.runs.specs.Runs.{Run, Member, Canonical}
 use Rattle.runs.proofs.InsertLaws.{insert-member, insert-canonical, insert-stops}
 use Rattle.runs.proofs.CountLaws.{insert-count}
 use Rattle.runs.proofs.RepeatLaws.{insert-known, absorbed-known}
+use Rattle.runs.proofs.AddsLaws.{adds-none, adds-same}
 use Rattle.transfer.specs.declared.Key.{Key}
 use Rattle.transfer.specs.Transfers.{TransferFine}
-use Rattle.transfer.specs.Record.{stopOf, keyRefusal, extended, absorbedBy, runsRefusal}
+use Rattle.transfer.specs.Record.{stopOf, keyRefusal, extended, absorbedBy, addsBy, runsRefusal}
 
 -- "Recording DATA adds the offsets from offset to offset + payload length - 1"
 pub extended-member : (rs : List Run) (d : Data) (o : ℕ)
@@ -34,6 +35,16 @@ extended-canonical rs d p h = insert-canonical (d .offset) (d .offset + d .lengt
 pub extended-count : (rs : List Run) (d : Data) → 0 < d .length → Canonical rs → length (extended rs d) + absorbedBy rs d ≡ length rs + 1
 unfolding extended absorbedBy
 extended-count rs d p h = insert-count (d .offset) (stopOf d) rs (omega arith) h
+
+-- nothing is added exactly when every offset of the packet was received, and exactly when the received set stays as it is
+module _ (rs : List Run) (d : Data) (p : 0 < d .length) (h : Canonical rs) where
+  pub none-added : (addsBy rs d ≡ 0) ↔ ((o : ℕ) → d .offset ≤ o → o < stopOf d → Member rs o)
+  unfolding addsBy
+  none-added = adds-none (d .offset) (stopOf d) rs (omega arith) h
+
+  pub same-extended : (addsBy rs d ≡ 0) ↔ (extended rs d ≡ rs)
+  unfolding addsBy extended
+  same-extended = adds-same (d .offset) (stopOf d) rs (omega arith) h
 
 -- offsets that were all received change nothing, and lie in one run
 module _ (rs : List Run) (d : Data) (p : 0 < d .length) (h : Canonical rs) (known : (o : ℕ) → d .offset ≤ o → o < stopOf d → Member rs o) where

@@ -7,7 +7,7 @@ use lib.ListN.{length}
 use lib.Dec.{ltb, eqb}
 use Rattle.refusals.specs.Refusals.{_▹_, when}
 use Rattle.packet_data.specs.declared.Data.{Data}
-use Rattle.runs.specs.Runs.{Run, insert, absorbed}
+use Rattle.runs.specs.Runs.{Run, insert, absorbed, adds}
 use Rattle.transfer.specs.declared.Key.{Key}
 use Rattle.transfer.specs.declared.Receipt.{Receipt}
 use Rattle.transfer.specs.Transfers.{reached}
@@ -32,9 +32,14 @@ extended rs d = insert (d .offset) (stopOf d) rs
 unfoldable pub absorbedBy : List Run → Data → ℕ
 absorbedBy rs d = absorbed (d .offset) (stopOf d) rs
 
--- what an accepted recording tells of a transfer that then has the runs rs: how far it has come, and that n runs were absorbed
-abbrev pub receipt : Key → List Run → ℕ → Receipt
-receipt k rs n = record { reached = reached k rs; absorbed = n }
+-- whether the packet brings an offset that was not received: "A repeat adds nothing"
+unfoldable pub addsBy : List Run → Data → ℕ
+addsBy rs d = adds (d .offset) (stopOf d) rs
+
+-- what an accepted recording tells of a transfer that then has the runs rs: how far it has come, that n runs were absorbed, and
+-- whether something was added
+abbrev pub receipt : Key → List Run → ℕ → ℕ → Receipt
+receipt k rs n m = record { reached = reached k rs; absorbed = n; adds = m }
 
 -- 16: "the received set would have more than 64 runs"
 unfoldable pub runsRefusal : List Run → ℕ

@@ -20,10 +20,12 @@ pub struct Reached {
     pub complete: bool,
 }
 
-// What an accepted recording tells: how far the transfer has come, and how many of its stored runs the packet absorbed.
+// What an accepted recording tells: how far the transfer has come, how many of its stored runs the packet absorbed, and 1 where it
+// brought an offset that was not received, else 0.
 pub struct Receipt {
     pub reached: Reached,
     pub absorbed: u64,
+    pub adds: u64,
 }
 
 // The key that METADATA opens.

@@ -9,14 +9,18 @@ use Rattle.area_status.proofs.listing_at.Tie as tie
 is-complete-requires : tie.Need-is-complete-requires
 is-complete-requires c κs = rw (c .before .rows-at .ensures) (c .before .before .before .before .pre .rows .fit)
 
+received-of-requires : tie.Need-received-of-requires
+received-of-requires c κs = rw (c .before .before .rows-at .ensures) (c .before .before .before .before .before .pre .rows)
+
 returns : tie.Need-returns
 returns c =
-    let r = c .before .before in
+    let d = c .before in
+    let r = d .before .before in
     let a = r .before .before .before .args in
-    listing-is (now (a .area)) (a .i) (r .before .key-at .result) (r .rows-at .result) (c .before .edge-of .result) (c .is-complete .result)
-    (r .before .key-at .ensures) (r .rows-at .ensures) (c .before .edge-of .ensures) (c .is-complete .ensures)
+    listing-is (now (a .area)) (a .i) (r .before .key-at .result) (r .rows-at .result) (d .before .edge-of .result) (d .is-complete .result)
+    (c .received-of .result) (r .before .key-at .ensures) (r .rows-at .ensures) (d .before .edge-of .ensures) (d .is-complete .ensures) (c .received-of .ensures)
 
 pub listing-at-spec : {M : Type 1} → statement M
 listing-at-spec =
     tie.close
-    (tie.spec (λ c κs. search needs) (λ c κs. search needs) (λ c κs. rw (c .rows-at .ensures) (c .before .before .before .pre .rows .fit)) is-complete-requires returns)
+    (tie.spec (λ c κs. search needs) (λ c κs. search needs) (λ c κs. rw (c .rows-at .ensures) (c .before .before .before .pre .rows .fit)) is-complete-requires received-of-requires returns)

@@ -5,6 +5,7 @@ use native.Mathlib.Omega.{arith}
 use borrow.Author.Needs.{needs}
 use denote.Ref.{now}
 use Rattle.runs.specs.Holes.{edge}
+use Rattle.runs.specs.Splice.{addsAt}
 use Rattle.run_rows.specs.Rows.{runsIn, CutTo, CutBelow}
 use Rattle.run_rows.specs.declared.Rows.{Rows}
 use Rattle.transfer.specs.Record.{stopOf}
@@ -44,9 +45,19 @@ edge-of-requires c κs =
     let s = r .before .before .before in
     rw (r .rows-of .ensures) (rows-fit (now (s .args .rows)) (s .args .n) (s .pre .0 .few) (s .pre .0 .room))
 
+adds-of-requires : tie.Need-adds-of-requires
+adds-of-requires c κs =
+    let b = c .before .before .before .before .before .before .before .before .before .before in
+    let r = b .before .before in
+    let s = r .before .before .before in (
+      rw (r .rows-of .ensures) (rows-fit (now (s .args .rows)) (s .args .n) (s .pre .0 .few) (s .pre .0 .room)),
+      b .cut-below .ensures .inside,
+      rw (r .rows-of .ensures) (to-place (b .before) .inside),
+    )
+
 returns-2 : tie.Need-returns-2
 returns-2 c =
-    let f = c .before in
+    let f = c .before .before in
     let g = f .before .before in
     let e = g .before in
     let m = e .before .before .before in
@@ -57,6 +68,7 @@ returns-2 c =
     extend-done (a .key) (now (a .marks)) (now (a .rows)) (a .n) (a .d) (s .pre .0) (s .pre .1) (s .pre .2) (s .pre .3) _ _
     (to-place (b .before)) (from-place b) (omega arith) _ (m .set-marks .ensures) (e .edge-of .result) (f .first .result) (g .greater .result)
     (e .edge-of .ensures ∙ ap (λ (z : Rows). edge (runsIn (now (a .rows)) z)) (r .rows-of .ensures)) (g .greater .ensures) (f .first .ensures)
+    _ (c .adds-of .ensures ∙ ap (λ (z : Rows). addsAt (a .d .offset) (stopOf (a .d)) (runsIn (now (a .rows)) z) (b .cut-below .result) (b .before .cut-to .result)) (r .rows-of .ensures))
 
 pub extend-spec : {M : Type 1} → statement M
 extend-spec =
@@ -76,5 +88,6 @@ extend-spec =
     (λ c κs. search needs)
     (λ c κs. search needs)
     (λ c. search needs)
+    adds-of-requires
     (λ c. search needs)
     returns-2)

@@ -1,72 +1,21 @@
--- `area_record::ahead::try_record` meets its contract: 22, the reader's refusal, and else what the packet's fields would be answered.
+-- `area_record::ahead::try_record` meets its contract: what was decided is answered.
 -- Assumes nothing.
 use native.Mathlib.Omega.{arith}
 use borrow.Author.Needs.{needs}
-use borrow.Author.Tests.{not-true, not-false}
-use denote.Ref.{now}
-use mathlib.Core.Path.{_≡_, sym, ap, _∙_}
-use mathlib.Core.Bool.{true}
-use Rattle.packet_data.specs.Data.{dataRefusal}
-use Rattle.packet_data.specs.declared.Data.{Data}
-use Rattle.table.specs.Record.{recordData}
-use Rattle.table.specs.declared.Recorded.{Recorded}
+use mathlib.Core.Path.{refl, ap, _∙_}
 use Rattle.table.specs.declared.Recorded.the-variants.{Refused}
-use Rattle.area.specs.Places.{readTable}
-use Rattle.area.specs.Judge.{judged}
-use Rattle.area.specs.Operations.{OnArea}
-use Rattle.area_record.proofs.RecordLaws.{fields-some, record-unheld, record-unread, record-read}
+use Rattle.area_record.proofs.DecideLaws.{refused-answer, taken-answer}
 use Rattle.area_record.proofs.ahead.try_record.Statement.{statement}
 use Rattle.area_record.proofs.ahead.try_record.Tie as tie
 
 returns : tie.Need-returns
-returns c =
-    let j = c .before .before .before in
-    let s = j .before .before .before in
-    ap Refused (c .refuse .ensures)
-    ∙ ap (λ (o : OnArea Recorded). o .answer)
-    (record-unheld (now (s .args .area)) (now (s .args .packet)) (sym (j .judge .ensures) ∙ not-true _ (c .before .if1 .taken)))
+returns c = ap Refused (c .refuse .ensures) ∙ refused-answer _ (c .before .before .before .decide .ensures) (omega arith) .0
 
--- the area passed
-passed : (c : tie.Else1) → judged (now (c .before .before .before .before .before .args .area)) ≡ true
-passed c = sym (c .before .before .judge .ensures) ∙ not-false _ (c .if1 .left)
+sub-absorbed : tie.Need-sub-absorbed
+sub-absorbed c = c .before .before .before .decide .ensures .fits (omega arith) .order
 
 returns-2 : tie.Need-returns-2
-returns-2 c =
-    let e = c .before .before in
-    let u = e .before in
-    let k = u .before .before .before in
-    let s = k .before in
-    ap Refused (c .refuse2 .ensures)
-    ∙ ap (λ (o : OnArea Recorded). o .answer)
-    (record-unread (now (s .args .area)) (passed e) (now (s .args .packet)) (u .data-refusal .result) (λ i. k .shared-slice-known .given i .fits) (u .data-refusal .ensures) (omega arith))
-
-try-fields-requires : tie.Need-try-fields-requires
-try-fields-requires c κs =
-    let f = c in
-    let e = f .before .before in
-    let s = e .before .before .before .before .before in
-    (passed e, fields-some (now (s .args .packet)) _ (omega arith) (f .data-fields .ensures))
-
-returns-3 : tie.Need-returns-3
-returns-3 c =
-    let f = c .before in
-    let e = f .before .before in
-    let s = e .before .before .before .before .before in
-    let a = now (s .args .area) in
-    let z : dataRefusal (now (s .args .packet)) ≡ 0 = omega arith in
-    c .try-fields .ensures ∙ ap (λ (d : Data). recordData (readTable a) d .answer) (f .data-fields .ensures)
-    ∙ ap (λ (o : OnArea Recorded). o .answer) (record-read a (passed e) (now (s .args .packet)) z)
+returns-2 c = taken-answer _ (c .before .before .before .decide .ensures) (omega arith) _ refl .0
 
 pub try-record-spec : {M : Type 1} → statement M
-try-record-spec =
-    tie.close
-    (tie.spec
-    (λ c κs. search needs)
-    (λ c κs. search needs)
-    (λ c κs. search needs)
-    returns
-    (λ c κs. search needs)
-    returns-2
-    (λ c κs. search needs)
-    try-fields-requires
-    returns-3)
+try-record-spec = tie.close (tie.spec (λ c κs. search needs) (λ c κs. search needs) (λ c κs. search needs) returns sub-absorbed returns-2)

@@ -1,14 +1,18 @@
--- An area in which the two rows of one transfer were spliced, and its number of runs put: it holds the table with these runs, and
--- is the area that was with this table stored in it.
+-- An area in which the two rows of one transfer were spliced, and its number of runs put: it is the area that was, with the table
+-- that has these runs stored in it.
 -- Assumes nothing.
-use Prim.Native.Nat.{ℕ, zero, suc, _+_, _^_, _≤_, _<_}
+use Prim.Native.Nat.{ℕ, zero, suc, _+_, _*_, _-_, _^_, _≤_, _<_}
 use mathlib.Core.Path.{_≡_, sym, ap, _∙_}
-use mathlib.Core.List.{List}
+use mathlib.Core.List.{List, _++_}
 use mathlib.Core.Logic.{⊎-elim}
 use native.Mathlib.Omega.{arith}
-use lib.ListN.{length, drop, length-set}
+use lib.ListN.{length, take, drop, length-set}
 use lib.Seq.{getD-set-same, getD-set-other}
-use Rattle.octets.specs.Numbers.{Octets}
+use Rattle.octets.specs.Numbers.{leDigits, Octets}
+use Rattle.octets.specs.Put.{put}
+use Rattle.octets.proofs.NumberLaws.{octets-take, octets-drop}
+use Rattle.octets.proofs.OctetLaws.{octets-append}
+use Rattle.octets.proofs.LowFirstLaws.{low-digits-octets}
 use Rattle.runs.specs.Runs.{Run, nthRun}
 use Rattle.runs.proofs.CompareLaws.{same-or}
 use Rattle.words.specs.Words.{wordAt, putWord, splicedRow}
@@ -19,9 +23,21 @@ use Rattle.area.specs.Places.{unused, nth, field, sideOf, runNumber, Holds, wit
 use Rattle.area.specs.Stored.{storedIn}
 use Rattle.area.proofs.PlaceLaws.{Few}
 use Rattle.area.proofs.StoredLaws.{stored-is}
-use Rattle.area_record.specs.Record.{runsAfter, splicedArea}
-use Rattle.area_record.proofs.SplicedRowLaws.{spliced, spliced-length, row-new, row-off}
-use Rattle.area_record.proofs.OverlayLaws.{kept-words}
+use Rattle.area_splice.specs.Splice.{runsAfter, splicedArea}
+use Rattle.area_splice.proofs.SplicedRowLaws.{spliced, spliced-length, row-new, row-off}
+use Rattle.area_splice.proofs.OverlayLaws.{kept-words}
+
+-- ---- what is written is octets
+
+put-octets : (at : ℕ) (bs l : List ℕ) → Octets bs → Octets l → Octets (put at bs l)
+unfolding put
+put-octets at bs l p q = octets-append (take at l) _ (octets-take at l q) (octets-append bs _ p (octets-drop (at + length bs) l q))
+
+row-octets : (a : List ℕ) (k n i j v : ℕ) → Octets a → Octets (splicedRow a k n i j v)
+unfolding splicedRow
+row-octets a k n i j v o =
+    put-octets ((k + i) * 8) (leDigits 8 v ++ take ((n - j) * 8) (drop ((k + j) * 8) a)) a
+    (octets-append (leDigits 8 v) _ (low-digits-octets 8 v) (octets-take ((n - j) * 8) _ (octets-drop ((k + j) * 8) a o))) o
 
 -- ---- the area after the changes
 
@@ -165,17 +181,13 @@ module _ (a : List ℕ) (t : List Transfer) (p i j : ℕ) (x : Run) (long : area
           ∙ h .sides s m q z (omega (arith, length-set t p changed)) (omega arith)
           ∙ ap (λ (y : Transfer). sideOf (nthRun (y .runs) q) s) (sym o)
 
-  -- in the words of the code's contract
-  pub spliced-holds : Holds (splicedArea a p n i j (x .start) (x .stop)) grown
-  unfolding splicedArea
-  spliced-holds = holds₃
-
-  -- and the area is the one that was, with this table stored in it
-  pub spliced-stored : Octets (splicedArea a p n i j (x .start) (x .stop)) → splicedArea a p n i j (x .start) (x .stop) ≡ storedIn a grown
+  -- and is the one that was, with this table stored in it
+  pub spliced-stored : Octets a → splicedArea a p n i j (x .start) (x .stop) ≡ storedIn a grown
   unfolding splicedArea
   spliced-stored o =
       let l : length b₃ ≡ length a = length₃ in
-      stored-is a b₃ grown o (omega arith)
+      let rows : Octets b₂ = row-octets b₁ (runAt 1 p 0) n i j (x .stop) (row-octets a (runAt 0 p 0) n i j (x .start) o) in
+      stored-is a b₃ grown (put-octets (headAt p countField * 8) (leDigits 8 (runsAfter n i j)) b₂ (low-digits-octets 8 (runsAfter n i j)) rows) (omega arith)
       (kept-words a b₃ grown holds₃
       (λ m f y k z. head-kept m f k z (λ e. omega (arith, length-set t p changed)))
       (λ s m q z y k l.

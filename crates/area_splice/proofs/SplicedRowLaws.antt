@@ -11,7 +11,7 @@ use Rattle.runs.specs.Runs.{Run, run, nthRun}
 use Rattle.runs.proofs.CompareLaws.{le-or-lt}
 use Rattle.words.specs.Words.{wordAt, splicedRow}
 use Rattle.words.proofs.RowLaws.{splice-before, splice-at, splice-later, splice-after-word}
-use Rattle.area_record.specs.Record.{runsAfter}
+use Rattle.area_splice.specs.Splice.{runsAfter}
 
 -- ---- a list of runs whose elements from i up to j gave way to x
 

@@ -1,4 +1,4 @@
--- `area_record::ahead::try_extend` meets its contract: 16 where the runs would be too many, and else edge and completeness after a splice.
+-- `area_record::ahead::decide_offsets` meets its contract: 16 where the runs would be too many, and else the splice, with edge and completeness after it.
 -- Assumes nothing.
 use native.Mathlib.Omega.{arith}
 use borrow.Author.Needs.{needs}
@@ -8,16 +8,14 @@ use mathlib.Core.Path.{refl, ap, _∙_}
 use lib.ListN.{length}
 use Rattle.run_rows.specs.Rows.{runsIn}
 use Rattle.run_rows.proofs.RowsLaws.{length-runs}
-use Rattle.table.specs.declared.Recorded.{Recorded}
-use Rattle.table.specs.declared.Recorded.the-variants.{Refused}
 use Rattle.area.specs.Layout.{runPlaces}
 use Rattle.area.specs.Places.{rowsAt}
-use Rattle.area.specs.Operations.{OnArea}
-use Rattle.area_record.specs.Record.{runsAfter}
-use Rattle.area_record.proofs.ExtendLaws.{PlaceKnown, known, extend-over, extend-answer}
+use Rattle.area_splice.specs.Splice.{runsAfter}
+use Rattle.area_record.proofs.ExtendLaws.{PlaceKnown, known, extend-over, extend-taken}
+use Rattle.area_record.proofs.DecideLaws.{decided-refused}
 use Rattle.area_record.proofs.AheadLaws.{reached-with}
-use Rattle.area_record.proofs.ahead.try_extend.Statement.{statement}
-use Rattle.area_record.proofs.ahead.try_extend.Tie as tie
+use Rattle.area_record.proofs.ahead.decide_offsets.Statement.{statement}
+use Rattle.area_record.proofs.ahead.decide_offsets.Tie as tie
 
 -- the place is one of the area's, and its rows lie in it
 place : (c : tie.Start) → let a = now (c .args .area) in PlaceKnown a (c .args .place) (c .pre .0) (c .pre .1) (rowsAt a (c .args .place))
@@ -43,19 +41,18 @@ cuts : (c : tie.After-cut-below)
     (c .cut-below .result ≤ j) × (j ≤ n) × (n ≤ runPlaces)
 cuts c = (c .cut-below .ensures .inside, c .before .cut-to .ensures .inside, rows (c .before .before) .few-runs)
 
-add-after : tie.Need-add-after
-add-after c = omega (arith, cuts c)
+add-if1 : tie.Need-add-if1
+add-if1 c = omega (arith, cuts c)
 
-add-after-2 : tie.Need-add-after-2
-add-after-2 c = omega (arith, cuts c)
+add-if1-2 : tie.Need-add-if1-2
+add-if1-2 c = omega (arith, cuts c)
 
 returns : tie.Need-returns
 returns c =
     let q = c .before .before in
     let r = q .before .before in
     let s = r .before .before in
-    ap Refused (c .refuse .ensures)
-    ∙ ap (λ (o : OnArea Recorded). o .answer)
+    decided-refused _ 16 (c .refused .ensures) (λ z. omega arith)
     (extend-over (now (s .args .area)) (s .args .place) (s .pre .0) (s .pre .1) _ (r .rows-at .ensures) (s .args .from) (s .args .to) _ _ (s .pre .2)
     (q .before .cut-to .ensures) (q .cut-below .ensures) (s .args .key) (omega arith))
 
@@ -76,6 +73,9 @@ edge-with-requires c κs = let q = c .before .before .before in rows (q .before 
 progress-with-requires : tie.Need-progress-with-requires
 progress-with-requires c κs = edge-with-requires (c .before) κs
 
+adds-of-requires : tie.Need-adds-of-requires
+adds-of-requires c κs = let q = c .before .before .before .before .before .before in (rows (q .before .before) .fit, cuts q .0, cuts q .1)
+
 -- the runs before the joined one are there
 inside : (c : tie.After-cut-below)
     → let r = c .before .before in
@@ -88,7 +88,7 @@ inside c =
 
 returns-2 : tie.Need-returns-2
 returns-2 c =
-    let v = c .before in
+    let v = c .before .before in
     let g = v .before in
     let h = g .before in
     let l = h .before in
@@ -96,27 +96,27 @@ returns-2 c =
     let q = e .before in
     let r = q .before .before in
     let s = r .before .before in
-    extend-answer (now (s .args .area)) (s .args .place) (s .pre .0) (s .pre .1) _ (r .rows-at .ensures) (s .args .from) (s .args .to) _ _ (s .pre .2)
-    (q .before .cut-to .ensures) (q .cut-below .ensures) (s .args .key) (l .joined-start .result) (h .joined-stop .result) _ (l .joined-start .ensures)
-    (h .joined-stop .ensures) (room e)
+    extend-taken (now (s .args .area)) (s .args .place) (s .pre .0) (s .pre .1) _ (r .rows-at .ensures) (s .args .from) (s .args .to) _ _ (s .pre .2)
+    (q .before .cut-to .ensures) (q .cut-below .ensures) (l .joined-start .result) (h .joined-stop .result) (l .joined-start .ensures)
+    (h .joined-stop .ensures) (omega arith) (omega arith) (room e) (λ k. r .before .shared-slice-known .given k .fits) (s .args .key) _ _ _ (c .adds-of .ensures)
     (reached-with (s .args .key) (runsIn (now (s .args .area)) (r .rows-at .result)) (q .cut-below .result) (q .before .cut-to .result)
     (l .joined-start .result) (h .joined-stop .result) (g .edge-with .result) (v .progress-with .result) (inside q) (g .edge-with .ensures) (v .progress-with .ensures))
 
-pub try-extend-spec : {M : Type 1} → statement M
-try-extend-spec =
+pub decide-offsets-spec : {M : Type 1} → statement M
+decide-offsets-spec =
     tie.close
     (tie.spec
     rows-at-requires
     cut-to-requires
     cut-below-requires
-    add-after
+    add-if1
     (λ c. search needs)
-    add-after-2
+    add-if1-2
     (λ c κs. search needs)
     returns
     joined-start-requires
     joined-stop-requires
     edge-with-requires
     progress-with-requires
-    (λ c. search needs)
+    adds-of-requires
     returns-2)

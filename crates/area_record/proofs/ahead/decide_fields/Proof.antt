@@ -1,20 +1,18 @@
--- `area_record::ahead::try_fields` meets its contract: 12, the refusals of the key, and else what the runs of the place would become.
+-- `area_record::ahead::decide_fields` meets its contract: 12, the refusals of the key, and else what the runs of the place are to become.
 -- Assumes nothing.
 use native.Mathlib.Omega.{arith}
 use borrow.Author.Needs.{needs}
 use borrow.Author.Tests.{not-true, not-false}
 use denote.Ref.{now}
-use mathlib.Core.Path.{sym, ap, _∙_}
+use mathlib.Core.Path.{sym, _∙_}
 use Rattle.octets.specs.Numbers.{Octets}
 use Rattle.transfer.proofs.ExtendLaws.{key-stop}
-use Rattle.table.specs.declared.Recorded.{Recorded}
-use Rattle.table.specs.declared.Recorded.the-variants.{Refused}
 use Rattle.area.specs.Places.{readTable, KeptAt}
-use Rattle.area.specs.Operations.{OnArea}
 use Rattle.area.proofs.KeptLaws.{place-open, kept-known}
+use Rattle.area_record.proofs.DecideLaws.{decided-refused, decided-as}
 use Rattle.area_record.proofs.RecordLaws.{fields-missing, fields-refused, fields-extended}
-use Rattle.area_record.proofs.ahead.try_fields.Statement.{statement}
-use Rattle.area_record.proofs.ahead.try_fields.Tie as tie
+use Rattle.area_record.proofs.ahead.decide_fields.Statement.{statement}
+use Rattle.area_record.proofs.ahead.decide_fields.Tie as tie
 
 -- the area's values are octets
 octets : (c : tie.After-shared-slice-known) → Octets (now (c .before .args .area))
@@ -24,8 +22,7 @@ returns : tie.Need-returns
 returns c =
     let f = c .before .before .before in
     let s = f .before .before in
-    ap Refused (c .refuse .ensures)
-    ∙ ap (λ (o : OnArea Recorded). o .answer)
+    decided-refused _ 12 (c .refused .ensures) (λ z. omega arith)
     (fields-missing (now (s .args .area)) (s .pre .0) (s .args .d) (f .find-place .result) (f .find-place .ensures) (not-true _ (c .before .if1 .taken)) (octets (f .before)))
 
 -- where the Id is open
@@ -50,21 +47,20 @@ returns-2 c =
     let e = k .before in
     let f = e .before .before in
     let s = f .before .before in
-    ap Refused (c .refuse2 .ensures)
-    ∙ ap (λ (o : OnArea Recorded). o .answer)
+    decided-refused _ (r .key-refusal .result) (c .refused2 .ensures) (omega arith)
     (fields-refused (now (s .args .area)) (s .pre .0) (s .args .d) (f .find-place .result) (f .find-place .ensures) (open-known e) (k .key-at .result) (k .key-at .ensures)
     (r .key-refusal .result) (r .key-refusal .ensures) (omega arith) (octets (f .before)))
 
-add-try-extend : tie.Need-add-try-extend
-add-try-extend c =
+add-decide-offsets : tie.Need-add-decide-offsets
+add-decide-offsets c =
     let r = c .before in
     let k = r .before in
     let d = k .before .before .before .before .before .args .d in
     let stop = key-stop (k .key-at .result) d (sym (r .key-refusal .ensures) ∙ c .if2 .left) in
     omega arith
 
-try-extend-requires : tie.Need-try-extend-requires
-try-extend-requires c κs =
+decide-offsets-requires : tie.Need-decide-offsets-requires
+decide-offsets-requires c κs =
     let e = c .before .before .before in
     let k = open-known e in
     (e .before .before .before .before .pre .0, omega (arith, k .inside), omega arith)
@@ -76,13 +72,12 @@ returns-3 c =
     let e = k .before in
     let f = e .before .before in
     let s = f .before .before in
-    c .try-extend .ensures
-    ∙ ap (λ (o : OnArea Recorded). o .answer)
+    decided-as (c .decide-offsets .ensures)
     (fields-extended (now (s .args .area)) (s .pre .0) (s .args .d) (f .find-place .result) (f .find-place .ensures) (open-known e) (k .key-at .result) (k .key-at .ensures)
     (r .key-refusal .result) (r .key-refusal .ensures) (omega arith) (octets (f .before)))
 
-pub try-fields-spec : {M : Type 1} → statement M
-try-fields-spec =
+pub decide-fields-spec : {M : Type 1} → statement M
+decide-fields-spec =
     tie.close
     (tie.spec
     (λ c κs. search needs)
@@ -92,6 +87,6 @@ try-fields-spec =
     (λ c κs. search needs)
     (λ c κs. search needs)
     returns-2
-    add-try-extend
-    try-extend-requires
+    add-decide-offsets
+    decide-offsets-requires
     returns-3)

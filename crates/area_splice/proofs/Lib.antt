@@ -1,0 +1,3 @@
+pub mod SplicedRowLaws
+pub mod OverlayLaws
+pub mod SplicedAreaLaws

@@ -17,7 +17,7 @@ use Rattle.transfer.proofs.LengthLaws.{length-passed}
 use Rattle.marks.specs.MarkedRuns.{markedRuns}
 use Rattle.marks.proofs.MarkLaws.{marked-canonical}
 use Rattle.bitmap.specs.State.{stateRefusal}
-use Rattle.bitmap.specs.WriteStatus.{idRefusal, statusRefusal, marksWritten}
+use Rattle.bitmap_status.specs.WriteStatus.{idRefusal, statusRefusal, marksWritten}
 use Rattle.bitmap.proofs.StateLaws.{state-known}
 use Rattle.bitmap.proofs.StatusLaws.{status-of}
 use Rattle.status_reads_back.specs.ReadsBack.{MarksReadBack}

@@ -25,7 +25,7 @@ use Rattle.table.specs.Tables.{keys, find, runsOf}
 use Rattle.area.specs.Judge.{tableOf}
 use Rattle.area.specs.Operations.{areaStatusWritten, areaStatusBuffer}
 use Rattle.marks.specs.MarkedRuns.{markedRuns}
-use Rattle.bitmap.specs.WriteStatus.{marksWritten, marksBuffer}
+use Rattle.bitmap_status.specs.WriteStatus.{marksWritten, marksBuffer}
 
 -- ---- the STATUS of a transfer with this key that received rs, written into `room` octets after the first k holes
 

@@ -19,7 +19,7 @@ use Rattle.marks.proofs.MarkLaws.{marked-canonical}
 use Rattle.bitmap.specs.State.{stateRefusal}
 use Rattle.bitmap_status.specs.WriteStatus.{idRefusal, statusRefusal, marksWritten}
 use Rattle.bitmap.proofs.StateLaws.{state-known}
-use Rattle.bitmap.proofs.StatusLaws.{status-of}
+use Rattle.bitmap_status.proofs.StatusLaws.{status-of}
 use Rattle.status_reads_back.specs.ReadsBack.{MarksReadBack}
 use Rattle.status_reads_back.proofs.TransferReads.{buffer-reads}
 

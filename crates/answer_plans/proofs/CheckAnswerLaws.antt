@@ -1,4 +1,4 @@
--- What the check answers once all pieces are done is what document 02 asks of it.
+-- R11.4, R11.5: what the check answers once all pieces are done.
 -- Assumes nothing.
 use Prim.Native.Nat.{ℕ, _≤_}
 use mathlib.Core.Path.{_≡_, refl, ap, _∙_}

@@ -55,7 +55,7 @@ module _ (a packet : List ℕ) where
       go (recorded.Accepted x) e h = let q = area-record-told a packet x e in (q .brought, q .read, reported (recordArea a packet .area) (q .brought .id) (x .reached) (q .told))
       go (recorded.Refused r) e h = absurd (false≢true h)
 
-  -- document 02: "runs after equal runs before plus one minus that number"
+  -- R5.8: the runs after are those before, plus one, minus those absorbed
   pub record-counts : recordAccepted (recordArea a packet .answer) ≡ true
       → (d : Data) × (readData packet ≡ data-read.Accepted d)
       × (runsHeld (recordArea a packet .area) (d .id) + recordedAnswer (recordArea a packet .answer) .absorbed ≡ runsHeld a (d .id) + 1)

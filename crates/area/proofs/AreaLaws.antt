@@ -39,7 +39,7 @@ held-once a t u e f = let p : some t ≡ some u = sym e ∙ f in cc
 pub held-exact : (a : List ℕ) (t : List Transfer) → Octets a → (tableOf a ≡ some t) ↔ (Valid t × (storedIn a t ≡ a))
 held-exact a t o = ((λ e. (held-valid a t e, held-stored a t o e)), (λ h. ap tableOf (sym (h .1)) ∙ stored-held a t (h .0)))
 
--- ---- 22: "a lent desk area is no image of a desk as described", and only then
+-- ---- R9.22: where an area holds no table, and only then
 pub unheld-iff : (a : List ℕ) → Octets a → (tableOf a ≡ none) ↔ ((t : List Transfer) → Valid t → storedIn a t ≡ a → ⊥)
 unheld-iff a o = (
   (λ e t v s.

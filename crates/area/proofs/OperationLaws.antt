@@ -85,7 +85,7 @@ pub runs-held : (a : List ℕ) (t : List Transfer) (id : ℕ) → tableOf a ≡ 
 unfolding runsHeld
 runs-held a t id e = from-held 0 (λ u. length (runsOf u id)) a t e
 
--- ---- "Desk and buffers keep what they held": on refusal the area at exit is the area at entry
+-- ---- R1.6: on refusal the area at exit is the area at entry
 module _ (a : List ℕ) (o : Octets a) where
   same-stored : {A : Type 0} (Refused : A → Type 0) (refused : A) (operation : List Transfer → Outcome A)
       → ((t : List Transfer) → Refused (operation t .answer) → operation t .table ≡ t)
@@ -147,7 +147,7 @@ module _ (a : List ℕ) (o : Octets a) where
       (λ (h : length a < areaOctets). rw (lt-ltb (length a) areaOctets h) kept-same)
       (le-or-lt areaOctets (length a))
 
--- ---- "what making a fresh desk or any accepted call leaves is the image of the desk that its rule gives"
+-- ---- R8.3: what making an area fresh or any accepted call leaves is an image of the table that its rule gives
 pub fresh-refused : (a : List ℕ) → length a < areaOctets → freshArea a ≡ record { answer = finished.Refused (refusalOf 20); area = a }
 unfolding freshArea
 fresh-refused a h = rw (lt-ltb (length a) areaOctets h)

@@ -32,7 +32,7 @@ rule a t k = wordOr t k (wordAt a k)
 stored-front : (a : List ℕ) (t : List Transfer) → length (octetsBy (rule a t) 0 areaWords) ≡ areaOctets
 stored-front a t = length-by (rule a t) 0 areaWords
 
--- "octets past it stay"
+-- R8.3: octets past the layout stay
 pub stored-past : (a : List ℕ) (t : List Transfer) → drop areaOctets (storedIn a t) ≡ drop areaOctets a
 unfolding storedIn
 stored-past a t = by-past (rule a t) 0 areaWords (drop areaOctets a)

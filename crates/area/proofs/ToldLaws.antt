@@ -1,5 +1,4 @@
--- What opening and recording tell on areas: "a page is reported complete exactly when every octet of its stated length was
--- received", by the table that the area holds after the call; how many runs a packet absorbed; and that it added nothing exactly when
+-- R6.5, R6.8: what opening and recording tell on areas, by the table that the area holds after the call; how many runs a packet absorbed; and that it added nothing exactly when
 -- every octet of the area is as before. A repeat is one such packet.
 -- Assumes nothing.
 use Prim.Native.Nat.{ℕ, _+_}
@@ -127,7 +126,7 @@ module _ (a packet : List ℕ) (x : Reached) where
           let r = open-told t packet x (held-valid a t h) e in
           (r .0, r .1, record { table = openPacket t packet .table; held = open-leaves a t h packet octets; told = r .2 }))
 
--- ---- "A repeat adds nothing and is accepted": recording an accepted packet again changes no octet, the transfer has come as far, one
+-- ---- R6.7: recording an accepted packet again changes no octet, the transfer has come as far, one
 -- run is absorbed, and nothing is added
 abbrev repeated : OnArea Recorded → OnArea Recorded
 repeated o = record { answer = withOne (o .answer); area = o .area }

@@ -8,10 +8,10 @@ use lib.Dec.{ltb, eqb}
 use Rattle.runs.specs.Runs.{Run}
 use Rattle.runs.specs.Holes.{edge, progress}
 
--- "The edge is one more than the highest received offset": a run that stays above the new one has it, and else the new one
+-- R5.4: a run that stays above the new one has it, and else the new one
 unfoldable pub edgeWith : List Run → ℕ → ℕ → ℕ
 edgeWith rs j hi = cond (ltb j (length rs)) (edge rs) hi
 
--- "Progress is the lowest offset not received": a run that stays below the new one decides it, and else the new one
+-- R5.6: a run that stays below the new one decides it, and else the new one
 unfoldable pub progressWith : List Run → ℕ → ℕ → ℕ → ℕ
 progressWith rs i lo hi = cond (ltb 0 i) (progress rs) (cond (eqb lo 0) hi 0)

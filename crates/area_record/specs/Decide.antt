@@ -1,4 +1,4 @@
--- What was decided of a packet, and what it means for the area: trying answers it, recording applies it.
+-- R6.6, R6.9: what was decided of a packet, and what it means for the area: trying answers it, recording applies it.
 -- Assumes nothing.
 use Prim.Native.Nat.{ℕ, zero, suc, _-_, _≤_, _<_}
 use mathlib.Core.Path.{_≡_}

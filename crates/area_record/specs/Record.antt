@@ -18,7 +18,7 @@ use Rattle.area.specs.Stored.{storedIn}
 use Rattle.area.specs.Operations.{OnArea}
 
 -- the area a holds the table t, and the transfer at place p, whose key is k, is to have the runs rs, n of its runs absorbed, and m says
--- whether something is added. 16: "the received set would have more than 64 runs", and the area stays; else they are stored
+-- whether something is added. R9.16: where there would be more than 64 runs, the area stays; else they are stored
 unfoldable pub runsGiven : List ℕ → List Transfer → ℕ → Key → List Run → ℕ → ℕ → OnArea Recorded
 runsGiven a t p k rs n m =
     cond (ltb runPlaces (length rs))

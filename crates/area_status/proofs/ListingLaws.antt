@@ -48,7 +48,7 @@ rising k (x ∷ t) zero (suc j) f h l = omega (arith, least-at (suc (x .key .id)
 rising k (x ∷ t) (suc i) (suc j) f h l = rising (suc (x .key .id)) t i j (f .2) (omega arith) (omega arith)
 
 module _ (a : List ℕ) (t : List Transfer) (held : tableOf a ≡ some t) where
-  -- "12 for an index at or past the number open"
+  -- R6.11: 12 for an index at or past the number open
   pub listed-past : (i : ℕ) → length t ≤ i → listedArea a i ≡ Refused (refusalOf 12)
   unfolding listedArea listedIn
   listed-past i h = from-held _ (λ t. listedIn t i) a t held ∙ rw (le-ltb i (length t) h)

@@ -1,5 +1,4 @@
--- One transfer of an area by its Id: how it stands, and its holes. Document 01 has neither operation; the numbers are those it has for
--- an Id that is not open and for a hole that the list lacks (DECISIONS: 20, 34, 36).
+-- R6.11, R6.12: one transfer of an area by its Id: how it stands, and its holes.
 -- Assumes nothing.
 use Prim.Native.Nat.{ℕ}
 use mathlib.Core.Bool.{cond}
@@ -22,7 +21,7 @@ use Rattle.area_status.specs.declared.Listed.the-variants as listed
 
 -- ---- how it stands
 
--- "12: the Id is not open"; else the transfer with the Id's key and its received offsets
+-- R6.11: 12 where the Id is not open; else the transfer with the Id's key and its received offsets
 unfoldable pub foundFor : Option Key → List Run → Listed
 foundFor none rs = listed.Refused (refusalOf 12)
 foundFor (some k) rs = listed.Open (listingOf (record { key = k; runs = rs }))
@@ -30,13 +29,13 @@ foundFor (some k) rs = listed.Open (listingOf (record { key = k; runs = rs }))
 unfoldable pub foundIn : List Transfer → ℕ → Listed
 foundIn t id = foundFor (find id (keys t)) (runsOf t id)
 
--- "Where a desk area is lent, 22 comes before all"
+-- R6.13: 22 comes first
 unfoldable pub foundArea : List ℕ → ℕ → Listed
 foundArea a id = fromTable (listed.Refused (refusalOf 22)) (λ t. foundIn t id) a
 
 -- ---- its holes
 
--- "Holes are the longest unbroken stretches of unreceived offsets below the edge", lowest first: the one with this index, 19 for an
+-- R6.12: of the holes, lowest first, the one with this index, 19 for an
 -- index at or past their number
 unfoldable pub holeIn : List Run → ℕ → HoleRead
 holeIn rs i = cond (ltb i (length (holes rs))) (hole-read.Accepted (getD (holes rs) i (hole 0 0))) (hole-read.Refused (refusalOf 19))

@@ -1,4 +1,4 @@
--- What is open in an area, for a program that takes the area up again: one transfer after the other, by index. A table's transfers
+-- R6.11: what is open in an area, for a program that takes the area up again: one transfer after the other, by index. A table's transfers
 -- stand in rising order of Id, so the index counts from the lowest Id.
 -- Assumes nothing.
 use Prim.Native.Nat.{ℕ, _<_}

@@ -1,4 +1,4 @@
--- "Given exactly when", for the bitmap receiver: 20 and 22 of the marks, and 9 of opening; and that opening answers a refusal exactly
+-- R9: when each refusal is given, for the bitmap receiver: 20 and 22 of the marks, and 9 of opening; and that opening answers a refusal exactly
 -- when its definition gives the number.
 -- Assumes nothing.
 use Prim.Native.Nat.{ℕ, suc, _-_, _^_, _≤_, _<_}
@@ -41,7 +41,7 @@ openable-iff k = (
       and-iff (lengthTest (k .width) (k .length)) (leb (k .length) longest) .1 (length-passes (k .width) (k .length) (f .0) (f .1) (omega arith), le-leb (k .length) longest h)),
 )
 
--- "a mark at or above L, more than 64 runs, or a w and L that no opening takes"
+-- R12.4: a mark at or above L, more than 64 runs, or a width and length that no opening takes
 abbrev pub Unfit : Key → List ℕ → Type 0
 Unfit k s = ((n : ℕ) × (k .length ≤ n) × (n < markCount) × (marked s n ≡ true)) ⊎ ((64 < length (markedRuns s)) ⊎ (openable k ≡ false))
 

@@ -1,4 +1,4 @@
--- "Given exactly when", for recording by marks: 12 and 16; and that recording answers a refusal exactly when its definition gives the
+-- R9: when each refusal is given, for recording by marks: 12 and 16; and that recording answers a refusal exactly when its definition gives the
 -- number.
 -- Assumes nothing.
 use Prim.Native.Nat.{ℕ, suc, _<_}

@@ -1,4 +1,4 @@
--- "Given exactly when", for STATUS by marks: 12, since an Id over 32 bits is open nowhere.
+-- R9: when each refusal is given, for STATUS by marks: 12, since an Id over 32 bits is open nowhere.
 -- Assumes nothing.
 use Prim.Native.Nat.{ℕ, _^_, _≤_}
 use mathlib.Core.Path.{_≡_}

@@ -1,4 +1,4 @@
--- "Given exactly when", for a directory entry: 6, 1, 5, 8 and 9 read; 21, 6, 8 and 9 written.
+-- R9: when each refusal is given, for a directory entry: 6, 1, 5, 8 and 9 read; 21, 6, 8 and 9 written.
 -- Assumes nothing.
 use Prim.Native.Nat.{ℕ, _+_, _^_, _<_, _≤_}
 use mathlib.Core.Path.{_≡_, refl}
@@ -18,13 +18,13 @@ use Rattle.directory_entry.proofs.PathLaws.{PathFine, path-fine}
 
 -- ---- the properties
 
--- those that are taken: "Property bits 6, 7 and 10 (special, directory, bundle) must be 0"
+-- R2.8: those that are taken
 pub record FileProperties (x : ℕ) : Type 0 where
   pub special-is : specialOf x ≡ 0
   pub bundle-is : bundleOf x ≡ 0
 
 module _ (x : ℕ) where
-  -- 6: "property bits not those of a file"
+  -- R9.6
   abbrev pub NoFile : Type 0
   NoFile = (specialOf x ≡ 0 → ⊥) ⊎ (bundleOf x ≡ 0 → ⊥)
 
@@ -40,11 +40,11 @@ module _ (x : ℕ) where
 -- ---- the path, read: r is what follows Ctime
 
 module _ (r : List ℕ) where
-  -- 1: "a path has no zero octet in fewer than 1,024 octets"
+  -- R9.1
   abbrev pub Unclosed : Type 0
   Unclosed = (zeroAt r ≡ length r) × (length r < 1024)
 
-  -- 8: "path empty, over 1,023 octets, or followed by octets"
+  -- R9.8
   abbrev pub PathWrong : Type 0
   PathWrong = (Unclosed → ⊥) × ((zeroAt r ≡ 0) ⊎ ((1023 < zeroAt r) ⊎ (zeroAt r + 1 ≡ length r → ⊥)))
 
@@ -88,11 +88,11 @@ module _ (d : ℕ) (e : List ℕ) where
   abbrev entry-named : Reasons
   entry-named = named (entryRefusal d e) entry-tests entry-is
 
-  -- 6: "property bits not those of a file"
+  -- R9.6
   pub six-iff : (entryRefusal d e ≡ 6) ↔ ((2 ≤ length e) × NoFile x)
   six-iff = given entry-named 6
 
-  -- 1: "packet ends inside a field .. or a path has no zero octet in fewer than 1,024 octets"
+  -- R9.1
   abbrev pub EntryEnds : Type 0
   EntryEnds =
       (length e < 2)
@@ -101,15 +101,15 @@ module _ (d : ℕ) (e : List ℕ) where
   pub one-iff : (entryRefusal d e ≡ 1) ↔ EntryEnds
   one-iff = given entry-named 1
 
-  -- 5, of the size: "given exactly when one of" its upper eight octets isn't zero, "once its octets are there"
+  -- R9.5, of the size
   pub five-iff : (entryRefusal d e ≡ 5) ↔ (FileProperties x × ((2 + sizeOctets x ≤ length e) × header.Large (sizeOctets x) 2 e))
   five-iff = Iff·trans (given entry-named 5) ((λ p. p .1), (λ p. (omega (arith, p .1 .0), p)))
 
-  -- 8: "path empty, over 1,023 octets, or followed by octets"
+  -- R9.8
   pub eight-iff : (entryRefusal d e ≡ 8) ↔ (FileProperties x × (header.Readable (sizeOctets x) 2 e × ((pathAt x ≤ length e) × PathWrong (afterTimes e))))
   eight-iff = Iff·trans (given entry-named 8) ((λ p. p .1), (λ p. (omega (arith, p .1 .1 .0), p)))
 
-  -- 9: "L above 2^w - 1"
+  -- R9.9
   pub nine-iff : (entryRefusal d e ≡ 9)
       ↔ (FileProperties x × (header.Readable (sizeOctets x) 2 e × ((pathAt x ≤ length e) × (PathFine (afterTimes e) × (256 ^ d ≤ sizeOf e)))))
   nine-iff = Iff·trans (given entry-named 9) ((λ p. p .1), (λ p. (omega (arith, p .1 .1 .0), p)))
@@ -120,7 +120,7 @@ module _ (d : ℕ) (e : List ℕ) where
 -- ---- the entry, written
 
 module _ (properties size mtime ctime : ℕ) where
-  -- 21: "a field to be written exceeds its bits (128 where width bits are 11)"
+  -- R9.21
   abbrev pub EntryExcess : Type 0
   EntryExcess = (2 ^ 16 ≤ properties) ⊎ ((256 ^ sizeOctets properties ≤ size) ⊎ ((2 ^ 32 ≤ mtime) ⊎ (2 ^ 32 ≤ ctime)))
 
@@ -140,7 +140,7 @@ module _ (properties size mtime ctime : ℕ) where
   excess-none-iff = given (alone entry-excess) 0
 
 module _ (path : List ℕ) where
-  -- 8: "path empty, over 1,023 octets", and "A path that holds a zero octet is 8"
+  -- R9.8
   abbrev pub PathUnfit : Type 0
   PathUnfit = (length path ≡ 0) ⊎ ((1023 < length path) ⊎ (zeroAt path ≡ length path → ⊥))
 
@@ -158,14 +158,14 @@ module _ (path : List ℕ) where
     abbrev pub write-reasons : Reasons
     write-reasons = named (entryWriteRefusal d properties size path) write-tests write-is
 
-    -- 6: "property bits not those of a file"
+    -- R9.6
     pub write-six-iff : (entryWriteRefusal d properties size path ≡ 6) ↔ NoFile properties
     write-six-iff = given write-reasons 6
 
     pub write-eight-iff : (entryWriteRefusal d properties size path ≡ 8) ↔ (FileProperties properties × PathUnfit)
     write-eight-iff = given write-reasons 8
 
-    -- 9: "L above 2^w - 1"
+    -- R9.9
     pub write-nine-iff : (entryWriteRefusal d properties size path ≡ 9) ↔ (FileProperties properties × ((PathUnfit → ⊥) × (256 ^ d ≤ size)))
     write-nine-iff = given write-reasons 9
 

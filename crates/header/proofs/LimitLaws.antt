@@ -1,4 +1,4 @@
--- "Given exactly when", for what every packet begins with: 2, 1, 3 and 4, then 6 of METADATA and DATA; 1 and 5 for a descriptor.
+-- R9: when each refusal is given, for what every packet begins with: 2, 1, 3 and 4, then 6 of METADATA and DATA; 1 and 5 for a descriptor.
 -- Assumes nothing.
 use Prim.Native.Nat.{ℕ, _+_, _<_, _≤_}
 use mathlib.Core.Path.{_≡_, refl}
@@ -25,12 +25,12 @@ module _ (s : List ℕ) where
   abbrev start-tests : Reasons
   start-tests = one 2 (below 65535 (length s)) ▸ one 1 (below (length s) (startOctets (wordOf s))) ▸ one 3 (unequal (markOf (wordOf s)) 1)
 
-  -- 2: "packet over 65,535 octets, read"
+  -- R9.2
   pub start-two-iff : (startRefusal s ≡ 2) ↔ (65535 < length s)
   unfolding startRefusal
   start-two-iff = given start-tests 2
 
-  -- 1: "packet ends inside a field", here the word or the Id
+  -- R9.1: here the word or the Id
   pub start-one-iff : (startRefusal s ≡ 1) ↔ (length s < startOctets (wordOf s))
   unfolding startRefusal
   start-one-iff = Iff·trans (given start-tests 1) ((λ p. p .1), (λ l. (omega (arith, start-between (wordOf s)), l)))
@@ -39,7 +39,7 @@ module _ (s : List ℕ) where
   eight : (markOf (wordOf s) ≡ 1 → ⊥) → startOctets (wordOf s) ≡ 8
   eight n = rw (ne-eqb (markOf (wordOf s)) 1 n)
 
-  -- 3: "bits 0 and 1 are not 0 1"
+  -- R9.3
   pub start-three-iff : (startRefusal s ≡ 3) ↔ ((length s ≤ 65535) × ((8 ≤ length s) × (markOf (wordOf s) ≡ 1 → ⊥)))
   unfolding startRefusal
   start-three-iff =
@@ -82,19 +82,19 @@ module _ (t : ℕ) (s : List ℕ) where
   abbrev pub type-reasons : Reasons
   type-reasons = reworded 0 (named (typeRefusal t s) type-tests type-is) type-none-iff
 
-  -- 2: "packet over 65,535 octets, read"
+  -- R9.2
   pub two-iff : (typeRefusal t s ≡ 2) ↔ (65535 < length s)
   two-iff = given type-reasons 2
 
-  -- 1: "packet ends inside a field", here the word or the Id
+  -- R9.1: here the word or the Id
   pub one-iff : (typeRefusal t s ≡ 1) ↔ (length s < startOctets (wordOf s))
   one-iff = given type-reasons 1
 
-  -- 3: "bits 0 and 1 are not 0 1"
+  -- R9.3
   pub three-iff : (typeRefusal t s ≡ 3) ↔ ((length s ≤ 65535) × ((8 ≤ length s) × (markOf (wordOf s) ≡ 1 → ⊥)))
   three-iff = given type-reasons 3
 
-  -- 4: type "not the one the operation takes (opening 2, recording 3)"
+  -- R9.4: the type is not the one that is taken
   pub four-iff : (typeRefusal t s ≡ 4) ↔ (StartFine s × (typeOf (wordOf s) ≡ t → ⊥))
   four-iff = given type-reasons 4
 
@@ -120,7 +120,7 @@ module _ (w : ℕ) where
   abbrev pub file-reasons : Reasons
   file-reasons = one 6 (unequal (kindOf w) 0)
 
-  -- 6: "kind .. bits not those of a file"
+  -- R9.6
   pub six-iff : (fileRefusal w ≡ 6) ↔ (kindOf w ≡ 0 → ⊥)
   unfolding fileRefusal
   six-iff = given file-reasons 6
@@ -140,12 +140,12 @@ module _ (d at : ℕ) (s : List ℕ) where
   abbrev pub descriptor-reasons : Reasons
   descriptor-reasons = one 1 (below (length s) (at + d)) ▸ one 5 large
 
-  -- 1: "packet ends inside a field"
+  -- R9.1
   pub descriptor-one-iff : (descriptorRefusal d at s ≡ 1) ↔ (length s < at + d)
   unfolding descriptorRefusal
   descriptor-one-iff = given descriptor-reasons 1
 
-  -- 5: "given exactly when one of them isn't" zero, "once its octets are there"
+  -- R9.5
   pub descriptor-five-iff : (descriptorRefusal d at s ≡ 5) ↔ ((at + d ≤ length s) × Large)
   unfolding descriptorRefusal
   descriptor-five-iff = given descriptor-reasons 5

@@ -1,4 +1,4 @@
--- The hole lists that a reader accepts, in the words of documents 01 and 02: they are the lists that `listWell` accepts.
+-- R3.6, R3.7: the hole lists that a reader accepts, sentence by sentence: they are the lists that `listWell` accepts.
 -- Assumes nothing.
 use Prim.Native.Nat.{ℕ, zero, suc, _-_, _<_, _≤_}
 use mathlib.Core.Path.{_≡_, refl, sym, _∙_}
@@ -21,20 +21,20 @@ nth hs i = getD hs i (record { start = 0; end = 0 })
 abbrev Each : (Hole → Type 0) → List Hole → Type 0
 Each P hs = (i : ℕ) → i < length hs → P (nth hs i)
 
--- "Reading a success STATUS accepts a hole list only if": partial is bit 14
+-- R3.6: what a list has to be; partial is bit 14
 pub record HoleListAccepted (partial : Bool) (progress response : ℕ) (hs : List Hole) : Type 0 where
-  -- "Progress is at most In-Response-To"
+  -- Progress is at most In-Response-To
   pub ordered : progress ≤ response
-  -- "each start is less than its end"
+  -- no hole is empty
   pub less : (i : ℕ) → i < length hs → nth hs i .start < nth hs i .end
-  -- "each start is greater than the end before it"
+  -- each starts above the end before it
   pub apart : (i : ℕ) → suc i < length hs → nth hs i .end < nth hs (suc i) .start
-  -- "none starts below Progress or ends above In-Response-To"
+  -- all lie between Progress and In-Response-To
   pub low : (i : ℕ) → i < length hs → progress ≤ nth hs i .start
   pub high : (i : ℕ) → i < length hs → nth hs i .end ≤ response
-  -- "With bit 14 clear, the first start equals Progress"
+  -- a complete list starts at Progress
   pub first : partial ≡ false → 0 < length hs → progress ≡ nth hs 0 .start
-  -- "and if there are no holes Progress equals In-Response-To"
+  -- and where it is empty, Progress is In-Response-To
   pub none : partial ≡ false → length hs ≡ 0 → progress ≡ response
 
 -- the holes after one that ends at `last`
@@ -155,7 +155,7 @@ means-holes-well partial progress response (h ∷ hs) a =
 
 -- ---- the last STATUS
 
--- "The reader also takes In-Response-To equal to Progress - 1 when there are no holes, bit 14 is clear and bit 15 is set"
+-- R3.7: In-Response-To names the last octet
 pub record LastAccepted (partial unasked : Bool) (count progress response : ℕ) : Type 0 where
   pub whole : partial ≡ false
   pub unasked-told : unasked ≡ true

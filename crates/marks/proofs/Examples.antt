@@ -7,7 +7,7 @@ use Rattle.runs.specs.Runs.{run}
 use Rattle.marks.specs.Marks.{bitOf, marked, withBit, withMark, withMarks}
 use Rattle.marks.specs.MarkedRuns.{lengthened, runsWhere}
 
--- 80 01: "Bit 0 is the highest bit of the first octet"
+-- 80 01: bit 0 is the highest bit of the first octet
 first-mark : marked (0x80 ∷ 0x01 ∷ []) 0 ≡ true
 unfolding marked bitOf
 first-mark = refl
@@ -25,7 +25,7 @@ three-runs : runsWhere (marked (0x3C ∷ 0x80 ∷ 0x01 ∷ [])) 0 24 ≡ run 2 6
 unfolding marked bitOf lengthened runsWhere
 three-runs = refl
 
--- 01 80: "touching stretches are one run", over the end of an octet too
+-- 01 80: stretches that touch are one run, over the end of an octet too
 one-run : runsWhere (marked (0x01 ∷ 0x80 ∷ [])) 0 16 ≡ run 7 9 ∷ []
 unfolding marked bitOf lengthened runsWhere
 one-run = refl

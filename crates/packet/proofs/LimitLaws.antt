@@ -1,4 +1,4 @@
--- "Given exactly when", for a packet of any type: 4 of plain reading.
+-- R9: when each refusal is given, for a packet of any type: 4 of plain reading.
 -- Assumes nothing.
 use Prim.Native.Nat.{ℕ, zero, suc}
 use mathlib.Core.Path.{_≡_, refl, sym, ap, _∙_}
@@ -55,7 +55,7 @@ module _ (s : List ℕ) where
   abbrev type : ℕ
   type = typeOf (wordOf s)
 
-  -- "type not 2, 3 or 4", and "refusal 4 no longer covers type 0"
+  -- R9.4: the type is none of the four
   pub record NoType : Type 0 where
     pub not-beacon : type ≡ 0 → ⊥
     pub not-metadata : type ≡ 2 → ⊥

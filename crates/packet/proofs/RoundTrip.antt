@@ -1,6 +1,4 @@
--- "Writing what was read gives the same octets for METADATA and DATA; reading what was written gives the same fields", and of
--- BEACON "Round trip .. as for DATA":
--- in the terms of the public operations, for every octet list and every list of fields.
+-- R4.8, R4.9: what was written reads back, and what was read writes back, in the terms of the public operations, for every octet list and every list of fields.
 -- Assumes nothing.
 use Prim.Native.Nat.{ℕ, _+_, _^_, _<_, _≤_}
 use mathlib.Core.Path.{_≡_, ap, _∙_}

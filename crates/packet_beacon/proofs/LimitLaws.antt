@@ -1,4 +1,4 @@
--- "Given exactly when", for BEACON: 26, 1 and 5 of the reader; 21, 26, 2 and 20 of the writer.
+-- R9: when each refusal is given, for BEACON: 26, 1 and 5 of the reader; 21, 26, 2 and 20 of the writer.
 -- Assumes nothing.
 use Prim.Native.Nat.{ℕ, suc, _+_, _^_, _<_, _≤_}
 use mathlib.Core.Path.{_≡_, refl}
@@ -23,7 +23,7 @@ use Rattle.packet_beacon.specs.declared.BeaconRead.the-variants.{Accepte
 -- ---- the flags
 
 module _ (w : ℕ) where
-  -- 26: "The fourth pairing, 0 1", of sending or of receiving, "and .. a last flags octet that isn't 0"
+  -- R9.26: of sending or of receiving
   abbrev pub FlagsWrong : Type 0
   FlagsWrong = (sendingPair w ≡ 1) ⊎ ((receivingPair w ≡ 1) ⊎ (lastOctet w ≡ 0 → ⊥))
 
@@ -59,22 +59,22 @@ module _ (s : List ℕ) where
   pub start-iff : (n : ℕ) → 2 ≤ n → n ≤ 4 → (beaconRefusal s ≡ n) ↔ (typeRefusal 0 s ≡ n)
   start-iff = rw read-is (of-start (typeRefusal 0 s) fields (λ z. z) (λ z. z) (λ z. z))
 
-  -- 26, "next after 4"
+  -- R9.26, next after 4
   pub twenty-six-iff : (beaconRefusal s ≡ 26) ↔ (TypeFine 0 s × FlagsWrong w)
   twenty-six-iff = given reasons 26
 
-  -- 5: "where free space is present", one of its upper eight octets isn't zero, "once its octets are there"
+  -- R9.5, of the free space
   pub five-iff : (beaconRefusal s ≡ 5) ↔ (TypeFine 0 s × ((FlagsWrong w → ⊥) × ((endpointAt w ≤ length s) × header.Large (freeOctets w) 4 s)))
   five-iff = given reasons 5
 
-  -- 1: "packet ends inside a field": the word or the Id, or then the free space
+  -- R9.1: the word or the Id, or then the free space
   pub one-iff : (beaconRefusal s ≡ 1) ↔ ((length s < startOctets w) ⊎ (TypeFine 0 s × ((FlagsWrong w → ⊥) × (length s < endpointAt w))))
   one-iff = given reasons 1
 
 -- ---- written: lengths of endpoint and buffer
 
 module _ (flags free : ℕ) where
-  -- 21: "a field to be written exceeds its bits"
+  -- R9.21
   abbrev pub Excess : Type 0
   Excess = (2 ^ 24 ≤ flags) ⊎ (256 ^ freeOctets flags ≤ free)
 
@@ -103,11 +103,11 @@ module _ (flags free : ℕ) where
     pub write-twenty-six-iff : (beaconWriteRefusal flags free endpoint room ≡ 26) ↔ ((Excess → ⊥) × FlagsWrong flags)
     write-twenty-six-iff = given write-reasons 26
 
-    -- 2: "packet over 65,535 octets .. to be written"
+    -- R9.2
     pub write-two-iff : (beaconWriteRefusal flags free endpoint room ≡ 2) ↔ ((Excess → ⊥) × ((FlagsWrong flags → ⊥) × (65535 < size)))
     write-two-iff = given write-reasons 2
 
-    -- 20: "buffer too small"
+    -- R9.20
     pub write-twenty-iff : (beaconWriteRefusal flags free endpoint room ≡ 20)
         ↔ ((Excess → ⊥) × ((FlagsWrong flags → ⊥) × ((size ≤ 65535) × (room < size))))
     write-twenty-iff = given write-reasons 20

@@ -1,4 +1,4 @@
--- "Given exactly when", for DATA: 6, 1, 5 and 10 of the reader; 21, 6, 1, 10, 2 and 20 of the writer.
+-- R9: when each refusal is given, for DATA: 6, 1, 5 and 10 of the reader; 21, 6, 1, 10, 2 and 20 of the writer.
 -- Assumes nothing.
 use Prim.Native.Nat.{ℕ, suc, _+_, _^_, _<_, _≤_}
 use mathlib.Core.Path.{_≡_, refl}
@@ -41,20 +41,20 @@ module _ (s : List ℕ) where
   pub start-iff : (n : ℕ) → 2 ≤ n → n ≤ 4 → (dataRefusal s ≡ n) ↔ (typeRefusal 3 s ≡ n)
   start-iff = rw read-is (of-start (typeRefusal 3 s) fields (λ z. z) (λ z. z) (λ z. z))
 
-  -- 6: "kind .. bits not those of a file"
+  -- R9.6
   pub six-iff : (dataRefusal s ≡ 6) ↔ (TypeFine 3 s × (kindOf w ≡ 0 → ⊥))
   six-iff = given reasons 6
 
-  -- 1: "packet ends inside a field": the word or the Id, or then the timestamp or the offset
+  -- R9.1: the word or the Id, or then the timestamp or the offset
   pub one-iff : (dataRefusal s ≡ 1) ↔ ((length s < startOctets w) ⊎ (TypeFine 3 s × ((kindOf w ≡ 0) × (length s < payloadAt w))))
   one-iff = given reasons 1
 
-  -- 5: "given exactly when one of" the upper eight octets of the offset isn't zero, "once its octets are there"
+  -- R9.5, of the offset
   pub five-iff : (dataRefusal s ≡ 5)
       ↔ (TypeFine 3 s × ((kindOf w ≡ 0) × ((payloadAt w ≤ length s) × header.Large (descriptorOctets w) (offsetAt w) s)))
   five-iff = given reasons 5
 
-  -- 10: "DATA with no payload"
+  -- R9.10
   pub ten-iff : (dataRefusal s ≡ 10)
       ↔ (TypeFine 3 s × ((kindOf w ≡ 0) × (header.Readable (descriptorOctets w) (offsetAt w) s × (length s ≡ payloadAt w))))
   ten-iff = given reasons 10
@@ -62,7 +62,7 @@ module _ (s : List ℕ) where
 -- ---- written: lengths of timestamp, payload and buffer
 
 module _ (flags id timestamp offset : ℕ) where
-  -- 21: "a field to be written exceeds its bits"; of the timestamp, "more than the flags say is 21"
+  -- R9.21, a timestamp that is too long among them
   abbrev pub Excess : Type 0
   Excess = (2 ^ 24 ≤ flags) ⊎ ((2 ^ 32 ≤ id) ⊎ ((timestampOctets flags < timestamp) ⊎ (256 ^ descriptorOctets flags ≤ offset)))
 
@@ -100,22 +100,22 @@ module _ (flags id timestamp offset : ℕ) where
     pub write-six-iff : (dataWriteRefusal flags id timestamp offset payload room ≡ 6) ↔ ((Excess → ⊥) × (kindOf flags ≡ 0 → ⊥))
     write-six-iff = given write-reasons 6
 
-    -- 1, of the timestamp: "fewer is 1"
+    -- R9.1, of the timestamp
     pub write-one-iff : (dataWriteRefusal flags id timestamp offset payload room ≡ 1)
         ↔ ((Excess → ⊥) × ((kindOf flags ≡ 0) × (timestamp < timestampOctets flags)))
     write-one-iff = given write-reasons 1
 
-    -- 10: "DATA with no payload"
+    -- R9.10
     pub write-ten-iff : (dataWriteRefusal flags id timestamp offset payload room ≡ 10)
         ↔ ((Excess → ⊥) × ((kindOf flags ≡ 0) × ((timestampOctets flags ≤ timestamp) × (payload ≡ 0))))
     write-ten-iff = given write-reasons 10
 
-    -- 2: "packet over 65,535 octets .. to be written"
+    -- R9.2
     pub write-two-iff : (dataWriteRefusal flags id timestamp offset payload room ≡ 2)
         ↔ ((Excess → ⊥) × ((kindOf flags ≡ 0) × ((timestampOctets flags ≤ timestamp) × ((payload ≡ 0 → ⊥) × (65535 < size)))))
     write-two-iff = given write-reasons 2
 
-    -- 20: "buffer too small"
+    -- R9.20
     pub write-twenty-iff : (dataWriteRefusal flags id timestamp offset payload room ≡ 20)
         ↔ ((Excess → ⊥) × ((kindOf flags ≡ 0) × ((timestampOctets flags ≤ timestamp) × ((payload ≡ 0 → ⊥) × ((size ≤ 65535) × (room < size))))))
     write-twenty-iff = given write-reasons 20

@@ -1,4 +1,4 @@
--- "reading what was written gives the same fields", and "writing what was read gives the same octets": DATA.
+-- R4.8, R4.9: DATA reads back as it was written, and writes back as it was read.
 -- Assumes nothing.
 use Prim.Native.Nat.{ℕ, _+_, _-_, _^_, _<_, _≤_}
 use mathlib.Core.Path.{_≡_, refl, sym, ap, _∙_}

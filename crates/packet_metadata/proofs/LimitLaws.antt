@@ -1,4 +1,4 @@
--- "Given exactly when", for METADATA: 6, 7, 1, 5, 8 and 9 of the reader; 21, 6, 7, 1, 8, 9, 2 and 20 of the writer.
+-- R9: when each refusal is given, for METADATA: 6, 7, 1, 5, 8 and 9 of the reader; 21, 6, 7, 1, 8, 9, 2 and 20 of the writer.
 -- Assumes nothing.
 use Prim.Native.Nat.{ℕ, zero, suc, _+_, _^_, _<_, _≤_}
 use mathlib.Core.Path.{_≡_, refl, sym, _∙_, ap}
@@ -31,7 +31,7 @@ use Rattle.packet_metadata.specs.WriteMetadata.{metadataExcess, checksum
 
 -- ---- the checksum pair
 
--- "Allowed pairs (type, words): (0,0), (1,1), (2,4), (3,5), and types 4 to 15 with 1 to 15 words"; both have 4 bits
+-- R2.7: the pairs that are taken; both numbers have 4 bits
 pub record Allowed (t n : ℕ) : Type 0 where
   pub at-0 : t ≡ 0 → n ≡ 0
   pub at-1 : t ≡ 1 → n ≡ 1
@@ -108,15 +108,15 @@ module _ (s : List ℕ) where
   pub start-iff : (n : ℕ) → 2 ≤ n → n ≤ 4 → (metadataRefusal s ≡ n) ↔ (typeRefusal 2 s ≡ n)
   start-iff = rw read-is (of-start (typeRefusal 2 s) fields (λ z. z) (λ z. z) (λ z. z))
 
-  -- 6: "kind or property bits not those of a file"
+  -- R9.6
   pub six-iff : (metadataRefusal s ≡ 6) ↔ (TypeFine 2 s × ((kindOf word ≡ 0 → ⊥) ⊎ Before ((2 ≤ length entryPart) × entry.NoFile (propertiesOf entryPart))))
   six-iff = given reasons 6
 
-  -- 7: "checksum pair not allowed"
+  -- R9.7
   pub seven-iff : (metadataRefusal s ≡ 7) ↔ (TypeFine 2 s × ((kindOf word ≡ 0) × (PairAllowed word → ⊥)))
   seven-iff = given reasons 7
 
-  -- 1: "packet ends inside a field .. or a path has no zero octet in fewer than 1,024 octets"
+  -- R9.1
   pub one-iff : (metadataRefusal s ≡ 1)
       ↔ ((length s < startOctets word) ⊎ (TypeFine 2 s × ((kindOf word ≡ 0) × (PairAllowed word × ((length s < entryAt word) ⊎ entry.EntryEnds own entryPart)))))
   one-iff = given reasons 1
@@ -125,17 +125,17 @@ module _ (s : List ℕ) where
   abbrev SizeReadable : Type 0
   SizeReadable = header.Readable (sizeOctets (propertiesOf entryPart)) 2 entryPart
 
-  -- 5, of the size: "given exactly when one of" its upper eight octets isn't zero, "once its octets are there"
+  -- R9.5, of the size
   pub five-iff : (metadataRefusal s ≡ 5)
       ↔ (TypeFine 2 s × Before (entry.FileProperties (propertiesOf entryPart) × ((2 + sizeOctets (propertiesOf entryPart) ≤ length entryPart) × header.Large (sizeOctets (propertiesOf entryPart)) 2 entryPart)))
   five-iff = given reasons 5
 
-  -- 8: "path empty, over 1,023 octets, or followed by octets"
+  -- R9.8
   pub eight-iff : (metadataRefusal s ≡ 8)
       ↔ (TypeFine 2 s × Before (entry.FileProperties (propertiesOf entryPart) × (SizeReadable × ((pathAt (propertiesOf entryPart) ≤ length entryPart) × entry.PathWrong (afterTimes entryPart)))))
   eight-iff = given reasons 8
 
-  -- 9: "L above 2^w - 1"
+  -- R9.9
   pub nine-iff : (metadataRefusal s ≡ 9)
       ↔ (TypeFine 2 s × Before (entry.FileProperties (propertiesOf entryPart) × (SizeReadable × ((pathAt (propertiesOf entryPart) ≤ length entryPart) × (PathFine (afterTimes entryPart) × (256 ^ own ≤ sizeOf entryPart))))))
   nine-iff = given reasons 9
@@ -152,7 +152,7 @@ module _ (flags id : ℕ) (checksum : List ℕ) (properties size mtime ctime : �
   abbrev octets : ℕ
   octets = metadataSize flags properties (length path)
 
-  -- 21: "a field to be written exceeds its bits"; of the checksum, "more than the flags say is 21"
+  -- R9.21, a checksum that is too long among them
   abbrev pub Excess : Type 0
   Excess = HeadExcess flags id (length checksum) ⊎ entry.EntryExcess properties size mtime ctime
 
@@ -190,32 +190,32 @@ module _ (flags id : ℕ) (checksum : List ℕ) (properties size mtime ctime : �
   pub write-twenty-one-iff : (refusal ≡ 21) ↔ Excess
   write-twenty-one-iff = given written-reasons 21
 
-  -- 6: "kind or property bits not those of a file"
+  -- R9.6
   pub write-six-iff : (refusal ≡ 6) ↔ ((Excess → ⊥) × ((kindOf flags ≡ 0 → ⊥) ⊎ Taken (entry.NoFile properties)))
   write-six-iff = given written-reasons 6
 
-  -- 7: "checksum pair not allowed"
+  -- R9.7
   pub write-seven-iff : (refusal ≡ 7) ↔ ((Excess → ⊥) × ((kindOf flags ≡ 0) × (PairAllowed flags → ⊥)))
   write-seven-iff = given written-reasons 7
 
-  -- 1, of the checksum: "fewer is 1"
+  -- R9.1, of the checksum
   pub write-one-iff : (refusal ≡ 1) ↔ ((Excess → ⊥) × ((kindOf flags ≡ 0) × (PairAllowed flags × (length checksum < checksumOctets flags))))
   write-one-iff = given written-reasons 1
 
-  -- 8: "path empty, over 1,023 octets"; "A path that holds a zero octet is 8"
+  -- R9.8
   pub write-eight-iff : (refusal ≡ 8) ↔ ((Excess → ⊥) × Taken (entry.FileProperties properties × entry.PathUnfit path))
   write-eight-iff = given written-reasons 8
 
-  -- 9: "L above 2^w - 1"
+  -- R9.9
   pub write-nine-iff : (refusal ≡ 9)
       ↔ ((Excess → ⊥) × Taken (entry.FileProperties properties × ((entry.PathUnfit path → ⊥) × (256 ^ descriptorOctets flags ≤ size))))
   write-nine-iff = given written-reasons 9
 
-  -- 2: "packet over 65,535 octets .. to be written"
+  -- R9.2
   pub write-two-iff : (refusal ≡ 2) ↔ ((Excess → ⊥) × Taken (EntryFits × (65535 < octets)))
   write-two-iff = given written-reasons 2
 
-  -- 20: "buffer too small"
+  -- R9.20
   pub write-twenty-iff : (refusal ≡ 20) ↔ ((Excess → ⊥) × Taken (EntryFits × ((octets ≤ 65535) × (room < octets))))
   write-twenty-iff = given written-reasons 20
 

@@ -1,4 +1,4 @@
--- "Given exactly when", for STATUS: 1, 5 and 11 of the reader, none of them for a failure; 21 and 20 of the failure writer.
+-- R9: when each refusal is given, for STATUS: 1, 5 and 11 of the reader, none of them for a failure; 21 and 20 of the failure writer.
 -- Assumes nothing.
 use Prim.Native.Nat.{ℕ, zero, suc, _+_, _*_, _%_, _^_, _<_, _≤_}
 use mathlib.Core.Path.{_≡_}
@@ -44,7 +44,7 @@ module _ (s : List ℕ) where
   abbrev ill : Bool
   ill = not (listWell (partialTold s) (unaskedTold s) (progressOf s) (responseOf s) (holeList s))
 
-  -- "hole list not as above": no whole pairs, or not accepted
+  -- R9.11: no whole pairs, or not accepted
   abbrev pub ListWrong : Type 0
   ListWrong = (listOctets s % (2 * d) ≡ 0 → ⊥) ⊎ (ListAccepted (partialTold s) (unaskedTold s) (progressOf s) (responseOf s) (holeList s) → ⊥)
 
@@ -141,7 +141,7 @@ module _ (s : List ℕ) where
       chains.chain-all P (typeRefusal 4 s) _ (omega (arith, header.type-le 4 s))
       (chains.when-all P (eqb (statusOf w) 0) (successRefusal s) (omega arith) (success-all P (omega arith) (omega arith) (omega arith) (omega arith)))
 
-  -- "a failure STATUS is then accepted": nothing that follows is judged
+  -- R2.12: of a failure STATUS nothing that follows is judged
   pub failure-start : (statusOf w ≡ 0 → ⊥) → statusRefusal s ≡ typeRefusal 4 s
   unfolding statusRefusal
   failure-start h = rw (ne-eqb (statusOf w) 0 h) (chains.nothing-after (typeRefusal 4 s))
@@ -152,7 +152,7 @@ module _ (s : List ℕ) where
       Iff·trans (header.after-type 4 s _ n h)
       (both Iff·rfl (Iff·trans (chains.when-iff (eqb (statusOf w) 0) (successRefusal s) n (λ e. omega arith)) (both (eqb-iff (statusOf w) 0) i)))
 
-  -- 5: "given exactly when one of" the upper eight octets "isn't" zero, of Progress, of In-Response-To, or of a descriptor of the list
+  -- R9.5, of Progress, of In-Response-To, or of a descriptor of the list
   pub five-iff : (statusRefusal s ≡ 5)
       ↔ (TypeFine 4 s × ((statusOf w ≡ 0) × (((responseAt w ≤ length s) × header.Large d (progressAt w) s)
       ⊎ (header.Readable d (progressAt w) s × (((responseAt w + d ≤ length s) × header.Large d (responseAt w) s) ⊎ (header.Readable d (responseAt w) s × (ListSmall → ⊥)))))))
@@ -160,7 +160,7 @@ module _ (s : List ℕ) where
       success-iff _ 5 (omega arith)
       (field-iff _ _ _ 5 (λ e. omega arith) (header.descriptor-five-iff d (progressAt w) s) (header.descriptor-five-iff d (responseAt w) s) list-five-iff)
 
-  -- 1: "packet ends inside a field (not in the hole list: 11)": the word or the Id, or then timestamp, Progress or In-Response-To
+  -- R9.1: the word or the Id, or then timestamp, Progress or In-Response-To
   pub one-iff : (statusRefusal s ≡ 1)
       ↔ ((length s < startOctets w) ⊎ (TypeFine 4 s × ((statusOf w ≡ 0) × ((length s < responseAt w) ⊎ (header.Readable d (progressAt w) s × (length s < responseAt w + d))))))
   unfolding statusRefusal
@@ -173,7 +173,7 @@ module _ (s : List ℕ) where
       (Iff·trans (field-iff _ _ ⊥ 1 (λ e. omega arith) (header.descriptor-one-iff d (progressAt w) s) (header.descriptor-one-iff d (responseAt w) s) list-one)
       (chains.either Iff·rfl (both Iff·rfl (⊎-elim (λ l. l) (λ p. absurd (p .1)), (λ l. inl l)))))))))
 
-  -- 11: "hole list not as above"
+  -- R9.11
   pub eleven-iff : (statusRefusal s ≡ 11)
       ↔ (TypeFine 4 s × ((statusOf w ≡ 0) × (header.Readable d (progressAt w) s × (header.Readable d (responseAt w) s × (ListSmall × ListWrong)))))
   eleven-iff =
@@ -186,7 +186,7 @@ module _ (s : List ℕ) where
 -- ---- a failure STATUS, written
 
 module _ (id status room : ℕ) where
-  -- "a field to be written exceeds its bits .. or failure code 0"
+  -- R9.21
   abbrev pub FailureExcess : Type 0
   FailureExcess = (2 ^ 32 ≤ id) ⊎ ((status ≡ 0) ⊎ (255 < status))
 
@@ -201,7 +201,7 @@ module _ (id status room : ℕ) where
       (Iff·trans (given-here (ltb 255 status) 21 _ (λ e. omega arith) (when-other (ltb room 8) 20 21 (λ e. omega arith) (λ e. omega arith)))
       (ltb-iff 255 status)))))
 
-  -- 20: "buffer too small"
+  -- R9.20
   pub write-twenty-iff : (failureWriteRefusal id status room ≡ 20) ↔ ((id < 2 ^ 32) × ((status ≡ 0 → ⊥) × ((status ≤ 255) × (room < 8))))
   unfolding failureWriteRefusal
   write-twenty-iff =

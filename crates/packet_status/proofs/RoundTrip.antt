@@ -20,7 +20,7 @@ use Rattle.packet_status.specs.declared.StatusRead.the-variants.{Failure
 use Rattle.packet_status.proofs.StatusLaws.{failure-accepted}
 use Rattle.packet_status.proofs.FailureLaws.{FailureFine, failure-fine}
 
--- "If the code isn't 0, reading stops after the Id and the rest is ignored"
+-- R2.12: what follows the Id of a failure STATUS is ignored
 pub failure-ignores-rest : (s : List ℕ) → typeRefusal 4 s ≡ 0 → (statusOf (wordOf s) ≡ 0 → ⊥) → readStatus s ≡ Failure (failureOf s)
 unfolding readStatus statusRefusal
 failure-ignores-rest s e n = rw (e, ne-eqb (statusOf (wordOf s)) 0 n) (sym (failure-accepted (statusOf (wordOf s)) s n))

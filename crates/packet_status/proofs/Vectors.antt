@@ -1,4 +1,4 @@
--- STATUS packets of document 01, "Passes to be tried", and others next to them, computed.
+-- STATUS packets of the recorded passes (R10.7), and others next to them, computed.
 -- Assumes nothing.
 use Prim.Native.Nat.{ℕ}
 use mathlib.Core.Path.{_≡_, refl}

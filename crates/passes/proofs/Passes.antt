@@ -1,4 +1,4 @@
--- The passes of document 01 hold, in one theorem. All is computed from the octets, but for "any DATA is refused", which
+-- R10.7: the recorded passes hold, in one theorem. All is computed from the octets, except that any DATA for an empty file is refused, which
 -- speaks of every packet and is proved in EmptyFile.
 -- Assumes nothing.
 use mathlib.Core.Path.{refl}

@@ -1,1 +1,1 @@
-// The passes of document 01 that are proved together: specs/ says what each is, and proofs/ has the one theorem.
+// The recorded passes, proved together (R10.7): specs/ says what each is, and proofs/ has the one theorem.

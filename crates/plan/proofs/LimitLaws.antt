@@ -1,4 +1,4 @@
--- "Given exactly when", for the plan and the check: the reader's refusals, then 11 for a failure STATUS, then 21, then 20 for the plan.
+-- R9: when each refusal is given, for the plan and the check: the reader's refusals, then 11 for a failure STATUS, then 21, then 20 for the plan.
 -- Assumes nothing.
 use Prim.Native.Nat.{ℕ, _<_}
 use mathlib.Core.Path.{_≡_, refl, sym}
@@ -18,7 +18,7 @@ use Rattle.packet_status.proofs.LimitLaws.{status-le}
 use Rattle.plan.specs.Pieces.{planOf}
 use Rattle.plan.specs.Planning.{allowed, resendRefusal, planRefusal}
 
--- "1 to 65,000, else"
+-- R9.21: 1 to 65,000
 outside-by : (m : ℕ) (a b : Bool) → ltb 0 m ≡ a → leb m 65000 ≡ b → (not (a && b) ≡ true) ↔ ((m ≡ 0) ⊎ (65000 < m))
 outside-by m true true e f = (
   (λ z. absurd (false≢true z)),
@@ -55,11 +55,11 @@ module _ (m : ℕ) (s : List ℕ) where
   pub eleven-iff : (resendRefusal m s ≡ 11) ↔ ((statusRefusal s ≡ 11) ⊎ ((statusRefusal s ≡ 0) × (statusOf (wordOf s) ≡ 0 → ⊥)))
   eleven-iff = given reasons 11
 
-  -- 21: "1 to 65,000, else refusal 21"
+  -- R9.21
   pub twenty-one-iff : (resendRefusal m s ≡ 21) ↔ ((statusRefusal s ≡ 0) × ((statusOf (wordOf s) ≡ 0) × ((m ≡ 0) ⊎ (65000 < m))))
   twenty-one-iff = given reasons 21
 
-  -- 20: "exactly when it needs more records than were lent"
+  -- R9.20
   pub twenty-iff : (room : ℕ) → (planRefusal m room s ≡ 20) ↔ ((resendRefusal m s ≡ 0) × (room < length (planOf m (holeList s))))
   unfolding planRefusal
   twenty-iff room = given (reworded 0 reasons Iff·rfl ▸ one 20 (below room (length (planOf m (holeList s))))) 20

@@ -43,7 +43,7 @@ module _ (m start end : ℕ) (some : 0 < m) where
   pub count-below : start < end → pieceCount m (hole start end) ≤ end - start
   count-below h = omega (arith, count-counted h, div-le-self (end - start - 1) m)
 
--- "how many pieces": as many as are counted
+-- a plan has as many pieces as are counted
 length-cut : (m n at end : ℕ) → length (cut m n at end) ≡ n
 length-cut m zero at end = refl
 length-cut m (suc n) at end = ap suc (length-cut m n (at + m) end)

@@ -38,7 +38,7 @@ spaced-from k (h ∷ hs) less apart first = (
 pub spaced : (m : ℕ) (s : List ℕ) → ResendFine m s → Spaced 0 (holeList s)
 spaced m s f = spaced-from 0 (holeList s) (full m s f) (apart m s f) (λ l. omega arith)
 
--- "Its plans always pass."
+-- R11.6: plans pass
 pub plan-passes : (m : ℕ) (s : List ℕ) → resendRefusal m s ≡ 0 → GoodPlan m (holeList s) (planOf m (holeList s))
 plan-passes m s e = let f = resend-fine m s e in plan-good m (f .some) 0 (holeList s) (spaced m s f)
 
@@ -68,7 +68,7 @@ module _ (m : ℕ) (s : List ℕ) (ps : List Piece) where
     (λ g. absurd (omega (arith, g .0))),
   )
 
--- "no holes": the empty list passes, and no other
+-- R11.4: without holes the empty list passes, and no other
 pub no-holes-iff : (m : ℕ) (ps : List Piece) → GoodPlan m [] ps ↔ (ps ≡ [])
 no-holes-iff m [] = ((λ g. refl), (λ e. record { rise = tt; sized = tt; in-holes = tt; no-overlap = tt; cover = tt }))
 no-holes-iff m (p ∷ ps) = ((λ g. absurd (g .in-holes .0)), (λ e. absurd (let z : _≡_ {A = ℕ} 0 1 = cc in omega arith)))

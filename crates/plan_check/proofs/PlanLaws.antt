@@ -55,6 +55,6 @@ module _ (m : ℕ) (some : 0 < m) where
   plan-goes k [] s = refl
   plan-goes k (h ∷ hs) s = goes-hole hs (planOf m hs) h (s .1 .0) ∙ plan-goes (h .end) hs (s .1 .1)
 
-  -- "Its plans always pass."
+  -- R11.6: plans pass
   pub plan-good : (k : ℕ) (hs : List Hole) → Spaced k hs → GoodPlan m hs (planOf m hs)
   plan-good k hs s = goes-means m k hs (planOf m hs) s (plan-goes k hs s)

@@ -1,4 +1,4 @@
--- "Given exactly when": what a chain gives where a number stands in several places, and the room that a packet needs.
+-- R9: when each refusal is given: what a chain gives where a number stands in several places, and the room that a packet needs.
 -- Assumes nothing.
 use Prim.Native.Nat.{ℕ, zero, suc, _<_, _≤_}
 use mathlib.Core.Path.{_≡_, refl, sym, ap, _∙_}
@@ -49,12 +49,12 @@ module _ (size room : ℕ) where
   abbrev pub room-reasons : Reasons
   room-reasons = one 2 (below 65535 size) ▸ one 20 (below room size)
 
-  -- 2: "packet over 65,535 octets .. to be written"
+  -- R9.2
   pub two-iff : (roomRefusal size room ≡ 2) ↔ (65535 < size)
   unfolding roomRefusal
   two-iff = given room-reasons 2
 
-  -- 20: "buffer too small"
+  -- R9.20
   pub twenty-iff : (roomRefusal size room ≡ 20) ↔ ((size ≤ 65535) × (room < size))
   unfolding roomRefusal
   twenty-iff = given room-reasons 20

@@ -1,4 +1,4 @@
--- "Given exactly when", once for every chain of refusals: its reasons are put together as the chain is, and `given` says of each number
+-- R1.7: when a number is given, once for every chain of refusals: its reasons are put together as the chain is, and `given` says of each number
 -- that it comes exactly when its own reason holds and no earlier one does.
 -- Assumes nothing.
 use Prim.Native.Nat.{ℕ, zero, suc, _<_, _≤_}

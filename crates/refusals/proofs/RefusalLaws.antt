@@ -30,7 +30,7 @@ pub failed : (t : Bool) (n : ℕ) → when t (suc n) ≡ 0 → t ≡ false
 failed true n e = absurd (omega arith)
 failed false n e = refl
 
--- ---- "given exactly when": the number n comes of a chain where its own test holds and those before it fail
+-- ---- R1.7: the number n comes of a chain where its own test holds and those before it fail
 
 -- n's own test comes first, and n is not given again
 pub given-here : (t : Bool) (n r : ℕ) → (n ≡ 0 → ⊥) → (r ≡ n → ⊥) → (when t n ▹ r ≡ n) ↔ (t ≡ true)

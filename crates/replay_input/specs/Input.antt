@@ -1,4 +1,4 @@
--- What stands in front of a body, and what comes next in a pass.
+-- R14.1: what stands in front of a body, and what comes next in a pass (docs/REPLAY.md).
 -- Assumes nothing.
 use Prim.Native.Nat.{ℕ}
 use mathlib.Core.Bool.{cond}

@@ -1,4 +1,4 @@
--- What a record gets: its lines, and the area after it. `room` is the buffer that is lent for STATUS, as it stands before.
+-- R14.1, R14.2: what a record gets: its lines, and the area after it (docs/REPLAY.md). `room` is the buffer that is lent for STATUS, as it stands before.
 -- Assumes nothing.
 use Prim.Native.Nat.{ℕ}
 use mathlib.Core.Bool.{cond}

@@ -11,7 +11,7 @@ use borrow.Author.Tests.{le-leb, lt-leb, lt-ltb, le-ltb}
 use Rattle.runs.specs.Runs.{Run, run, Within, Member, contains, CanonicalFrom, Canonical, StopsTo}
 use Rattle.runs.proofs.CompareLaws.{le-or-lt}
 
--- "touching stretches are one run": at least one offset lies between neighbours
+-- R5.2: at least one offset lies between neighbours
 pub canonical-apart : (k : ℕ) (r s : Run) (rs : List Run) → CanonicalFrom k (r ∷ s ∷ rs) → r .stop < s .start
 canonical-apart k r s rs h = omega arith
 

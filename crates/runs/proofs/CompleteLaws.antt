@@ -21,7 +21,7 @@ complete-iff L rs h = ((λ e x p. progress-below rs x (omega (arith, leb-true L 
     all : ((x : ℕ) → x < L → Member rs x) → L ≤ progress rs
     all f = ⊎-elim (λ (p : L ≤ progress rs). p) (λ (p : progress rs < L). absurd (progress-missing rs h (f (progress rs) p))) (le-or-lt L (progress rs))
 
--- "L = 0 is complete at once"
+-- R5.7: L = 0 is complete from the start
 pub complete-zero : (rs : List Run) → complete 0 rs ≡ true
 unfolding complete
 complete-zero rs = le-leb 0 (progress rs) (omega arith)

@@ -1,4 +1,4 @@
--- The definitions compute: small cases of each, those that document 01 lists among them.
+-- The definitions compute: small cases of each, those of the recorded passes (R10.7) among them.
 -- Assumes nothing.
 use Prim.Native.Nat.{ℕ, zero, suc, _+_, _*_}
 use mathlib.Core.Path.{_≡_, refl}
@@ -24,7 +24,7 @@ none-progress : progress [] ≡ 0
 unfolding progress
 none-progress = refl
 
--- "L = 0 is complete at once"
+-- a transfer of no octets is complete
 none-complete-0 : complete 0 [] ≡ true
 unfolding complete progress
 none-complete-0 = refl
@@ -33,7 +33,7 @@ none-complete-1 : complete 1 [] ≡ false
 unfolding complete progress
 none-complete-1 = refl
 
--- ---- "0 to 9 then 10 to 19: one run, edge 20, no hole"
+-- ---- two stretches that touch: one run, edge 20, no hole
 
 abbrev touching : List Run
 touching = insert 10 20 (insert 0 10 [])
@@ -76,7 +76,7 @@ touching-below : insert 0 10 (insert 10 20 []) ≡ run 0 20 ∷ []
 unfolding insert
 touching-below = refl
 
--- ---- "Only 5 to 9 received: Progress 0, edge 10, one hole from 0 to 5"
+-- ---- the start is missing: Progress 0, edge 10, one hole from 0 to 5
 
 abbrev late : List Run
 late = insert 5 10 []
@@ -105,7 +105,7 @@ late-last : contains late 10 ≡ false
 unfolding insert contains
 late-last = refl
 
--- ---- "L = 3,000, octets 0 to 999 and 2,000 to 2,999 received", "then 1,000 to 1,999 arrives: complete"
+-- ---- the first and last thousand of 3,000 octets, and then the middle: complete
 
 abbrev two : List Run
 two = insert 2000 3000 (insert 0 1000 [])
@@ -173,7 +173,7 @@ two-repeated : insert 2500 2600 two ≡ two
 unfolding insert
 two-repeated = refl
 
--- ---- "64 runs, then a packet apart from all: 16. A packet that touches one: accepted."
+-- ---- 64 runs: a stretch apart from all makes 65, one that touches a run does not
 
 -- n runs of one offset each, two offsets between
 unfoldable scattered : ℕ → List Run

@@ -81,7 +81,7 @@ counts-from k L (r ∷ rs) h s =
     let rest : received rs ≡ membersBelow L rs = counts-from (suc (r .stop)) L rs (h .2) (s .1) in
     omega (arith, members-cons k L r rs h, h .1, s .0)
 
--- "This project began with a sum that matched by chance": the sum is the number of offsets below L that are members
+-- R5.10: the sum is the number of offsets below L that are members
 pub received-counts : (L : ℕ) (rs : List Run) → Canonical rs → StopsTo L rs → received rs ≡ membersBelow L rs
 received-counts L rs h s = counts-from 0 L rs h s
 

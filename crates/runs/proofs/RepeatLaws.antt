@@ -24,7 +24,7 @@ insert-commutes a b c d rs p q h =
     (insert-canonical a b (insert c d rs) p (insert-canonical c d rs q h)) (insert-canonical c d (insert a b rs) q (insert-canonical a b rs p h))
     (insert-swap a b c d rs) (insert-swap c d a b rs)
 
--- "A repeat adds nothing": offsets that were received already change nothing
+-- R6.7: offsets that were received already change nothing
 pub insert-known : (a b : ℕ) (rs : List Run) → a < b → Canonical rs → ((x : ℕ) → a ≤ x → x < b → Member rs x) → insert a b rs ≡ rs
 insert-known a b rs p h f =
     canonical-unique (insert a b rs) rs (insert-canonical a b rs p h) h

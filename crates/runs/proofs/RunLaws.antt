@@ -1,4 +1,4 @@
--- "A run is a longest unbroken stretch of received offsets": the runs of a canonical list are these stretches, and no others.
+-- R5.2: the runs of a canonical list are these stretches, and no others.
 -- Assumes nothing.
 use Prim.Native.Nat.{ℕ, suc, _-_, _≤_, _<_}
 use mathlib.Core.Path.{_≡_, ap}

@@ -1,4 +1,4 @@
--- How many offsets were received: the sum of the runs' lengths. And counted one by one, which a law says is the same.
+-- R5.10: how many offsets were received: the sum of the runs' lengths. And counted one by one, which a law says is the same.
 -- Assumes nothing.
 use Prim.Native.Nat.{ℕ, zero, suc, _+_, _-_}
 use mathlib.Core.Bool.{cond}

@@ -1,4 +1,4 @@
--- R5.1 to R5.3, R5.8: the set of received offsets of one transfer, kept as its one canonical list of runs, lowest first.
+-- R5.1 to R5.3, R5.8, R5.9: the set of received offsets of one transfer, kept as its one canonical list of runs, lowest first.
 -- Assumes nothing.
 use Prim.Native.Nat.{ℕ, suc, _≤_, _<_, min, max}
 use mathlib.Core.Path.{_≡_}
@@ -71,7 +71,7 @@ absorbed a b (r ∷ rs) =
     let rest = absorbed a b rs in
     cond (leb a (r .stop) && leb (r .start) b) (suc rest) rest
 
--- whether an insertion brings an offset that was not received, 1 for yes: it doesn't where one run has all of them
+-- R5.9: whether an insertion brings an offset that was not received, 1 for yes: it doesn't where one run has all of them
 unfoldable pub adds : ℕ → ℕ → List Run → ℕ
 adds a b [] = 1
 adds a b (r ∷ rs) =

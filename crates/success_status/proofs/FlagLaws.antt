@@ -57,7 +57,7 @@ module _ (f : Fields) where
   pub flags-octets : Width (f .width) → descriptorOctets word ≡ f .width
   flags-octets w = ap (λ (n : ℕ). 2 * 2 ^ n) flags-width ∙ width-bits-octets w
 
-  -- "Bit 12 is 0"
+  -- R7.6: bit 12 is 0
   pub flags-timestamp : timestampOctets word ≡ 0
   unfolding statusFlags
   flags-timestamp = omega (arith, width-bits-lt (f .width), bit-le (f .partial), bit-le (f .unasked))
@@ -74,7 +74,7 @@ module _ (f : Fields) where
   unfolding statusFlags
   flags-status = omega (arith, width-bits-lt (f .width), bit-le (f .partial), bit-le (f .unasked))
 
-  -- "All other flags are 0, apart from the width"
+  -- R7.6: all other flags are 0
   pub flags-others : (bits 32 word 10 13 ≡ 0) × (bits 32 word 16 31 ≡ 0)
   unfolding statusFlags
   flags-others = (omega (arith, width-bits-lt (f .width), bit-le (f .partial), bit-le (f .unasked)), omega (arith, width-bits-lt (f .width), bit-le (f .partial), bit-le (f .unasked)))

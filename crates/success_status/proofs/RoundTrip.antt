@@ -1,4 +1,4 @@
--- "A STATUS that the desk wrote reads back with its fields and holes": what is written from fields and holes reads as these.
+-- R7.9: what is written from fields and holes reads as these.
 -- Assumes nothing.
 use Prim.Native.Nat.{ℕ, _+_, _*_, _^_, _<_, _≤_}
 use mathlib.Core.Path.{_≡_, ap, _∙_}

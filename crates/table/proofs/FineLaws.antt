@@ -82,7 +82,7 @@ find-remove-same m i (x ∷ t) h =
     remove-cases (λ (u : List Transfer). find i (keys u) ≡ none) i x t (λ e. fine-none (suc (x .key .id)) i t (h .2) (omega arith))
     (λ n. find-tail i (x .key) (keys (remove i t)) n ∙ find-remove-same (suc (x .key .id)) i t (h .2))
 
--- ---- "Its answers depend on that map only and not on where a transfer is kept"
+-- ---- R6.2: only the map counts, and not where a transfer is kept
 
 transfer-eq : (x y : Transfer) → x .key ≡ y .key → x .runs ≡ y .runs → x ≡ y
 transfer-eq x y p q = ap₂ (λ (k : Key) (rs : List Run). record { key = k; runs = rs }) p q
@@ -135,7 +135,7 @@ runs-canonical i t h = go (find i (keys t)) refl
     go none e = rw (runs-none i t e) tt
     go (some k) e = fine-found 0 i t k (h .fine) e .canonical
 
--- the same with "a set of received offsets"
+-- the same with the set of received offsets
 pub table-map : (t u : List Transfer) → Valid t → Valid u
     → ((i : ℕ) → find i (keys t) ≡ find i (keys u)) → ((i x : ℕ) → Member (runsOf t i) x ↔ Member (runsOf u i) x) → t ≡ u
 table-map t u h g f r =

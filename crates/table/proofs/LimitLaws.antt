@@ -1,4 +1,4 @@
--- "Given exactly when", for a table: 12 of recording and of STATUS, 17 and 18 of opening, and 16 after those before it.
+-- R9: when each refusal is given, for a table: 12 of recording and of STATUS, 17 and 18 of opening, and 16 after those before it.
 -- Assumes nothing.
 use Prim.Native.Nat.{ℕ, _+_, _<_, _≤_}
 use mathlib.Core.Path.{_≡_, refl, sym, ap, subst}
@@ -26,7 +26,7 @@ some-none e = let z : _≡_ {A = ℕ} 0 1 = cc in omega arith
 
 -- ---- recording
 
--- 12: "Id not open"
+-- R9.12
 pub twelve-iff : (o : Option Key) (d : Data) → (dataJudged o d ≡ 12) ↔ (o ≡ none)
 unfolding dataJudged
 twelve-iff none d = ((λ e. refl), (λ e. refl))
@@ -106,14 +106,14 @@ module _ (ks : List Key) (k : Key) where
       Iff·trans (none-iff (length ks) k new (apart already new (λ e. omega arith)) (apart (refuse 18) new (λ e. omega arith)) (find (k .id) ks))
       (both Iff·rfl (Iff·trans (first-iff (ltb (length ks) 16) new (refuse 17) (apart (refuse 17) new (λ e. omega arith))) (ltb-iff (length ks) 16)))
 
-  -- 17: "new Id and 16 open"
+  -- R9.17
   pub seventeen-iff : (judgeOpen ks k ≡ refuse 17) ↔ ((find (k .id) ks ≡ none) × (16 ≤ length ks))
   unfolding judgeOpen
   seventeen-iff =
       Iff·trans (none-iff (length ks) k (refuse 17) (apart already (refuse 17) (λ e. omega arith)) (apart (refuse 18) (refuse 17) (λ e. omega arith)) (find (k .id) ks))
       (both Iff·rfl (Iff·trans (second-iff (ltb (length ks) 16) new (refuse 17) (apart new (refuse 17) (λ e. omega arith))) (ltb-not (length ks) 16)))
 
-  -- "An Id that is open with equal width and L answers already open"
+  -- R6.4: an Id that is open with the same width and length
   pub already-iff : (judgeOpen ks k ≡ already) ↔ ((j : Key) × (find (k .id) ks ≡ some j) × Same j k)
   unfolding judgeOpen
   already-iff =
@@ -121,7 +121,7 @@ module _ (ks : List Key) (k : Key) where
       (λ j. Iff·trans (first-iff (same j k) already (refuse 18) (apart (refuse 18) already (λ e. omega arith))) (same-iff j k))
       (apart new already (λ e. omega arith)) (apart (refuse 17) already (λ e. omega arith)) (find (k .id) ks)
 
-  -- 18: "Id open with another width or L"
+  -- R9.18
   pub eighteen-iff : (judgeOpen ks k ≡ refuse 18) ↔ ((j : Key) × (find (k .id) ks ≡ some j) × (Same j k → ⊥))
   unfolding judgeOpen
   eighteen-iff =

@@ -1,4 +1,4 @@
--- "A call for one Id changes nothing held for another", and a refusal changes nothing.
+-- R6.2, R1.6: a call for one Id changes nothing held for another, and a refusal changes nothing.
 -- Assumes nothing.
 use Prim.Native.Nat.{ℕ}
 use mathlib.Core.Path.{_≡_, refl, ap}

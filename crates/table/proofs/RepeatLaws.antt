@@ -1,4 +1,4 @@
--- "A repeat adds nothing and is accepted." It absorbs one run, the one that it lies in.
+-- R6.7: a repeat adds nothing and is accepted. It absorbs one run, the one that it lies in.
 -- Assumes nothing.
 use Prim.Native.Nat.{ℕ, _<_, _≤_}
 use mathlib.Core.Path.{_≡_, refl, sym, ap, ap₂, _∙_}

@@ -56,7 +56,7 @@ module _ (t : List Transfer) (v : Valid t) (id k : ℕ) (unasked : Bool) (old : 
   unfolding statusBuffer bufferFor transferBuffer put
   buffer-is = rw (found, ok, sent-size, zero-add)
 
-  -- "With descriptors of d octets and h holes written the size is 8 + 2d + 2dh octets"
+  -- R7.7: the size
   pub status-written-size : statusWritten t id k unasked old ≡ Size size
   unfolding statusWritten writtenFor transferWritten
   status-written-size = rw (found, ok, sent-size)
@@ -67,7 +67,7 @@ module _ (t : List Transfer) (v : Valid t) (id k : ℕ) (unasked : Bool) (old : 
       let p : 0 < d = omega (arith, width-some (known .fine .width-is)) in
       rw (status-size key rs k unasked (length old)) at (status-size-fits key rs k unasked (length old) p ok)
 
-  -- the packet stands first, and "Octets after those stay unchanged"
+  -- R4.1: the packet stands first, and octets after it stay
   pub status-buffer-packet : take size (statusBuffer t id k unasked old) ≡ statusPacket key rs k unasked (length old)
   status-buffer-packet = rw buffer-is (take-at (statusPacket key rs k unasked (length old)) (drop size old) size sent-size)
 
@@ -81,7 +81,7 @@ module _ (t : List Transfer) (v : Valid t) (id k : ℕ) (unasked : Bool) (old : 
   allowed : (k ≡ 0) ⊎ (k < length (holes rs))
   allowed = status-fits d (length (holes rs)) k (length old) ok .allowed
 
-  -- "A STATUS that the desk wrote reads back with its fields and holes"
+  -- R7.9: it reads back
   pub status-buffer-read : readStatus (take size (statusBuffer t id k unasked old)) ≡ fieldsWith id
   status-buffer-read =
       ap readStatus status-buffer-packet

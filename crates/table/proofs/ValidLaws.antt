@@ -1,4 +1,4 @@
--- Every call leaves a table "as described".
+-- R6.1: every call leaves a table.
 -- Assumes nothing.
 use Prim.Native.Nat.{ℕ, _≤_, _<_}
 use mathlib.Core.Path.{_≡_}

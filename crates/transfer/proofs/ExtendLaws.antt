@@ -21,7 +21,7 @@ use Rattle.transfer.specs.declared.Key.{Key}
 use Rattle.transfer.specs.Transfers.{TransferFine}
 use Rattle.transfer.specs.Record.{stopOf, keyRefusal, extended, absorbedBy, addsBy, runsRefusal}
 
--- "Recording DATA adds the offsets from offset to offset + payload length - 1"
+-- R6.6: recording adds the offsets of the payload
 pub extended-member : (rs : List Run) (d : Data) (o : ℕ)
     → Member (extended rs d) o ↔ (((d .offset ≤ o) × (o < d .offset + d .length)) ⊎ Member rs o)
 unfolding extended

@@ -49,6 +49,6 @@ some-payload : (s : List ℕ) → dataRefusal s ≡ 0 → 0 < dataOf s .length
 unfolding dataOf
 some-payload s z = let f = data-fine s z in let h : payloadAt (wordOf s) < length s = f .more in omega arith
 
--- "DATA with no payload" is refused
+-- R9.10: DATA that is taken has a payload
 pub data-some : (s : List ℕ) (d : Data) → readData s ≡ data-read.Accepted d → 0 < d .length
 data-some s d e = let g = data-given s d e in rw (← (g .1)) (some-payload s (g .0))

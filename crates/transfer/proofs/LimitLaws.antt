@@ -1,4 +1,4 @@
--- "Given exactly when", for one transfer: 13 to 16 of recording.
+-- R9: when each refusal is given, for one transfer: 13 to 16 of recording.
 -- Assumes nothing.
 use Prim.Native.Nat.{_+_, _<_, _≤_}
 use mathlib.Core.Path.{_≡_}
@@ -30,14 +30,14 @@ module _ (k : Key) (d : Data) where
   same-width : (wrongWidth ≡ false) ↔ (d .width ≡ k .width)
   same-width = Iff·trans (not-not (eqb (d .width) (k .width))) (eqb-iff (d .width) (k .width))
 
-  -- 13: "DATA width not the transfer's"
+  -- R9.13
   pub thirteen-iff : (keyRefusal k d ≡ 13) ↔ (d .width ≡ k .width → ⊥)
   unfolding keyRefusal
   thirteen-iff =
       Iff·trans (given-here wrongWidth 13 _ (λ e. omega arith) (λ e. when-other wrongEnd 15 13 (λ z. omega arith) (λ z. omega arith) (given-later tooLong 14 13 (when wrongEnd 15) (λ z. omega arith) (λ z. omega arith) .0 e .1)))
       (Iff·trans (not-iff (eqb (d .width) (k .width))) (eqb-not (d .width) (k .width)))
 
-  -- 14: "offset + payload length above L"; the sum is not cut
+  -- R9.14: the sum is not cut
   pub fourteen-iff : (keyRefusal k d ≡ 14) ↔ ((d .width ≡ k .width) × (k .length < d .offset + d .length))
   unfolding keyRefusal
   fourteen-iff =
@@ -45,7 +45,7 @@ module _ (k : Key) (d : Data) where
       (both same-width
       (Iff·trans (given-here tooLong 14 _ (λ e. omega arith) (when-other wrongEnd 15 14 (λ z. omega arith) (λ z. omega arith))) (ltb-iff (k .length) (stopOf d))))
 
-  -- 15: "EOD set and offset + payload length not L"
+  -- R9.15
   pub fifteen-iff : (keyRefusal k d ≡ 15)
       ↔ ((d .width ≡ k .width) × ((d .offset + d .length ≤ k .length) × ((d .eod ≡ 1) × (d .offset + d .length ≡ k .length → ⊥))))
   unfolding keyRefusal
@@ -77,7 +77,7 @@ module _ (k : Key) (d : Data) where
       let q = given-later tooLong 14 12 (when wrongEnd 15) (λ z. omega arith) (λ z. omega arith) .0 (p .1) in
       when-other wrongEnd 15 12 (λ z. omega arith) (λ z. omega arith) (q .1)
 
--- 16: "the received set would have more than 64 runs"
+-- R9.16
 pub sixteen-iff : (rs : List Run) → (runsRefusal rs ≡ 16) ↔ (64 < length rs)
 unfolding runsRefusal
 sixteen-iff rs = Iff·trans (when-given (ltb 64 (length rs)) 16 (λ e. omega arith)) (ltb-iff 64 (length rs))

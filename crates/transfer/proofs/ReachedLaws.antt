@@ -23,7 +23,7 @@ reached-tells k rs c =
       edge-none = edge-none rs c;
     }
 
--- "L = 0 is complete at once"
+-- R5.7: L = 0 is complete from the start
 zero-complete : (n : ℕ) → eqb n 0 ≡ leb n 0
 zero-complete zero = refl
 zero-complete (suc n) = ne-eqb (suc n) 0 (λ q. omega arith) ∙ sym (lt-leb (suc n) 0 (omega arith))

@@ -1,4 +1,4 @@
--- Recording DATA in one transfer: which packets it refuses, and the received offsets after the others.
+-- R6.6, R6.8: recording DATA in one transfer: which packets it refuses, and the received offsets after the others.
 -- Assumes nothing.
 use Prim.Native.Nat.{ℕ, _+_}
 use mathlib.Core.Bool.{not, _&&_}
@@ -12,27 +12,26 @@ use Rattle.transfer.specs.declared.Key.{Key}
 use Rattle.transfer.specs.declared.Receipt.{Receipt}
 use Rattle.transfer.specs.Transfers.{reached}
 
--- "offset + payload length": the first offset after those that the packet brings
+-- R6.6: the first offset after those that the packet brings
 abbrev pub stopOf : Data → ℕ
 stopOf d = d .offset + d .length
 
--- 13: "DATA width not the transfer's"; 14: "offset + payload length above L"; 15: "EOD set and offset + payload length not L".
--- They are judged by the key alone, and not by what was received
+-- R6.6: 13, 14, 15. They are judged by the key alone, and not by what was received
 unfoldable pub keyRefusal : Key → Data → ℕ
 keyRefusal k d =
     when (not (eqb (d .width) (k .width))) 13
     ▹ when (ltb (k .length) (stopOf d)) 14
     ▹ when (eqb (d .eod) 1 && not (eqb (stopOf d) (k .length))) 15
 
--- "Recording DATA adds the offsets from offset to offset + payload length - 1"
+-- R6.6: the offsets of the payload are added
 unfoldable pub extended : List Run → Data → List Run
 extended rs d = insert (d .offset) (stopOf d) rs
 
--- document 02: "how many stored runs the packet swallowed: those that overlap or touch it"
+-- R5.8: how many stored runs the packet absorbed
 unfoldable pub absorbedBy : List Run → Data → ℕ
 absorbedBy rs d = absorbed (d .offset) (stopOf d) rs
 
--- whether the packet brings an offset that was not received: "A repeat adds nothing"
+-- R5.9: whether the packet brings an offset that was not received
 unfoldable pub addsBy : List Run → Data → ℕ
 addsBy rs d = adds (d .offset) (stopOf d) rs
 
@@ -41,6 +40,6 @@ addsBy rs d = adds (d .offset) (stopOf d) rs
 abbrev pub receipt : Key → List Run → ℕ → ℕ → Receipt
 receipt k rs n m = record { reached = reached k rs; absorbed = n; adds = m }
 
--- 16: "the received set would have more than 64 runs"
+-- R9.16: 16 where the received set would have more than 64 runs
 unfoldable pub runsRefusal : List Run → ℕ
 runsRefusal rs = when (ltb 64 (length rs)) 16

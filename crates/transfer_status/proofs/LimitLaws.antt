@@ -1,4 +1,4 @@
--- "Given exactly when", for the STATUS of one transfer: 19 and 20, with descriptors of d octets, n holes and k of them to skip.
+-- R9: when each refusal is given, for the STATUS of one transfer: 19 and 20, with descriptors of d octets, n holes and k of them to skip.
 -- Assumes nothing.
 use Prim.Native.Nat.{ℕ, zero, suc, _<_, _≤_}
 use mathlib.Core.Path.{_≡_}
@@ -24,7 +24,7 @@ small-iff d zero room = ((λ l. inl (omega arith)), (λ m. ⊎-elim (λ l. omega
 small-iff d (suc n) room = rw (ne-eqb (suc n) 0 (omega arith)) ((λ l. inr (omega arith, l)), (λ m. ⊎-elim (λ l. omega arith) (λ p. p .1) m))
 
 module _ (d n k room : ℕ) where
-  -- 19: "k must be 0 or less than the number of holes"
+  -- R9.19
   pub nineteen-iff : (sizeRefusal d n k room ≡ 19) ↔ ((k ≡ 0 → ⊥) × (n ≤ k))
   unfolding sizeRefusal
   nineteen-iff =

@@ -20,7 +20,7 @@ or-none : (a b : Bool) → a || b ≡ false → (a ≡ false) × (b ≡ false)
 or-none true b e = absurd (let z : _≡_ {A = ℕ} 0 1 = cc in omega arith)
 or-none false b e = (refl, e)
 
--- "Bit 14 is set exactly when some hole was skipped or did not fit": the first k are skipped, and of the others those past the
+-- R7.3: the first k are skipped, and of the others those past the
 -- room do not fit
 pub partial-means : (d k room n : ℕ) → (partialSent d k room n ≡ true) ↔ ((0 < k) ⊎ (holeRoom d room < n - k))
 unfolding partialSent

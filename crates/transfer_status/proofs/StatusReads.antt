@@ -1,4 +1,4 @@
--- "A STATUS that the desk wrote reads back with its fields and holes": the STATUS of a transfer, whatever is skipped and whatever room
+-- R7.9: the STATUS of a transfer, whatever is skipped and whatever room
 -- there is.
 -- Assumes nothing.
 use Prim.Native.Nat.{ℕ, _*_, _<_, _≤_}
@@ -65,7 +65,7 @@ module _ (x : Transfer) (k : ℕ) (unasked : Bool) (room : ℕ) (fine : Transfer
   sent-below : HolesHeld d sent
   sent-below = apart-held d (progress (x .runs)) (edge (x .runs)) sent edge-fits sent-apart
 
-  -- document 01's reader accepts the list that was written, with the edge
+  -- R3.6: a reader accepts the list that was written, with the edge
   edge-well : holesWell partial (progress (x .runs)) (edge (x .runs)) sent ≡ true
   edge-well =
       apart-well partial (progress (x .runs)) (edge (x .runs)) sent (progress-edge (x .runs) (fine .canonical)) sent-apart
@@ -165,7 +165,7 @@ module _ (x : Transfer) (k : ℕ) (unasked : Bool) (room : ℕ) (fine : Transfer
         (λ (l : 0 < x .key .length). inl (complete-last e l))
         (le-or-lt (x .key .length) 0)
 
-    -- "Reading a success STATUS accepts" the list that was written
+    -- R3.6: reading accepts the list that was written
     pub status-list-well : listWell partial fifteen (progress (x .runs)) to sent ≡ true
     status-list-well =
         list-well-iff partial fifteen (progress (x .runs)) to sent .1

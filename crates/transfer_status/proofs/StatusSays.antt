@@ -95,11 +95,11 @@ module _ (x : Transfer) (k : ℕ) (unasked : Bool) (room : ℕ) (fine : Transfer
   pub status-says-whole : partialSent d k room (length hs) ≡ false → (o : ℕ) → InHole sent o ↔ ((o < edge rs) × (Member rs o → ⊥))
   status-says-whole e o = rw (whole-sent d k room hs e) (hole-iff rs o (fine .canonical))
 
-  -- "Progress is the lowest offset not received"
+  -- R5.6: Progress is the lowest offset not received
   pub status-says-progress : (Member rs (progress rs) → ⊥) × ((o : ℕ) → o < progress rs → Member rs o)
   status-says-progress = progress-lowest rs (fine .canonical)
 
-  -- "Complete holds exactly when all offsets below L were received"
+  -- R5.7: complete exactly when all offsets below L were received
   pub status-says-complete : (complete (x .key .length) rs ≡ true) ↔ ((o : ℕ) → o < x .key .length → Member rs o)
   status-says-complete = complete-iff (x .key .length) rs (fine .canonical)
 
@@ -121,7 +121,7 @@ module _ (x : Transfer) (k : ℕ) (unasked : Bool) (room : ℕ) (fine : Transfer
       let q = partial-iff d k room hs a in
       ((λ z. q .0 (b .0 (sym e ∙ z))), (λ l. e ∙ b .1 (q .1 l)))
 
-  -- "Bit 15 is set if unasked or complete", and not else
+  -- R7.4: bit 15, exactly when unasked or complete
   pub status-says-fifteen : (bits 32 word 15 15 ≡ 1) ↔ ((unasked ≡ true) ⊎ ((o : ℕ) → o < x .key .length → Member rs o))
   status-says-fifteen =
       let e : bits 32 word 15 15 ≡ bit fifteen =
@@ -157,7 +157,7 @@ module _ (x : Transfer) (k : ℕ) (unasked : Bool) (room : ℕ) (fine : Transfer
   edge-to : complete L rs ≡ false → responseOf packet ≡ edge rs
   edge-to e = to-is ∙ response-not L rs e
 
-  -- "All other STATUS packets keep the edge": "one more than the highest received offset, 0 if there is none"
+  -- R7.5: until the transfer is complete it is the edge
   pub status-says-edge : (AllReceived → ⊥)
       → ((o : ℕ) → (responseOf packet ≡ suc o) ↔ (Member rs o × ((y : ℕ) → Member rs y → y ≤ o)))
       × ((responseOf packet ≡ 0) ↔ ((o : ℕ) → Member rs o → ⊥))
@@ -165,7 +165,7 @@ module _ (x : Transfer) (k : ℕ) (unasked : Bool) (room : ℕ) (fine : Transfer
       let e = edge-to (test-not (complete L rs) AllReceived status-says-complete .1 n) in
       rw e ((λ o. edge-highest rs o (fine .canonical)), edge-none rs (fine .canonical))
 
-  -- "for a complete transfer In-Response-To is L - 1, or 0 where L is 0": it is received, and no received offset is higher
+  -- R7.5: for a complete transfer it is the last offset: it is received, and no received offset is higher
   pub status-says-last : AllReceived → 0 < L → (suc (responseOf packet) ≡ L) × (Member rs (responseOf packet) × ((o : ℕ) → Member rs o → o ≤ responseOf packet))
   status-says-last a l =
       let c = status-says-complete .1 a in

@@ -27,11 +27,11 @@ use Rattle.transfer_status.specs.WriteStatus.{skipsTooMany, leastRoom, s
 -- ---- what is asked of a STATUS that is written
 
 pub record StatusFits (d n k room : ℕ) : Type 0 where
-  -- "k must be 0 or less than the number of holes"
+  -- R7.1: k is 0 or less than the number of holes
   pub allowed : (k ≡ 0) ⊎ (k < n)
   -- Progress and In-Response-To have room
   pub fields : frontSize d ≤ room
-  -- "If there are holes, room for at least one is needed"
+  -- R7.8: where there are holes, there is room for one
   pub one : 0 < n → statusSize d 1 ≤ room
 
 one-of : (a b : Bool) → not a && not b ≡ false → (a ≡ true) ⊎ (b ≡ true)
@@ -76,12 +76,12 @@ hole-room-iff d n room p h =
     let c : n * (2 * d) ≡ 2 * d * n = mul-comm n (2 * d) in
     ((λ l. omega (arith, i .0 l)), (λ l. i .1 (omega arith)))
 
--- "It writes as many holes as fit ... after the first k": as many as there are after the first k, or as have room
+-- R7.2: as many as there are after the first k, or as have room
 pub holes-sent-count : (d k room : ℕ) (hs : List Hole) → length (holesSent d k room hs) ≡ min (length hs - k) (holeRoom d room)
 unfolding holesSent
 holes-sent-count d k room hs = simp (length-take, length-drop) (min-comm (holeRoom d room) (length hs - k))
 
--- "lowest first, after the first k": the hole with the index i is the one with the index k + i
+-- R7.2: the hole with the index i is the one with the index k + i
 pub holes-sent-at : (d k room : ℕ) (hs : List Hole) (i : ℕ) (default : Hole) → i < length (holesSent d k room hs)
     → getD (holesSent d k room hs) i default ≡ getD hs (k + i) default
 unfolding holesSent

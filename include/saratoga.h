@@ -18,7 +18,7 @@
  * The library is for x86-64. It uses no heap and holds no state; each call needs less than 2,000 octets of stack
  * (docs/AREA.md has them by function).
  *
- * Bits count from 0, the highest bit of the first octet. All numbers in packets are big-endian.
+ * Bits count from 0, the highest bit of the first octet. All numbers in packets are big-endian. docs/RULES.md has every rule.
  */
 #ifndef SARATOGA_H
 #define SARATOGA_H

@@ -1,11 +1,9 @@
-// What recording does, decided before anything is written: the area is only read, and the runs that a splice would leave are looked
-// at where they are. Trying answers what was decided. The steps are small functions that hand each other plain structs, and the number
-// of a refusal goes through them, so that the compiler puts them into both callers: one function for all of them stays a call, and
-// takes a recording a quarter longer (docs/BENCHMARKS.md).
+// What recording does, decided before anything is written: the area is only read, and trying answers what was decided. The steps hand
+// each other plain structs, and the number of a refusal goes through them: as small functions the compiler puts them into both callers
+// (docs/PROVING.md, "Code that runs fast").
 ghost use mathlib.Core.Path.{_≡_};
 ghost use mathlib.Core.Bool.{true};
 ghost use Prim.Native.Nat.{_≤_, _<_};
-ghost use lib.ListN.{length};
 ghost use Rattle.packet_data.specs.Data.{dataRefusal, dataOf};
 ghost use Rattle.run_rows.specs.Rows.{runsIn, RowsFit};
 ghost use Rattle.area.specs.Judge.{judged};

@@ -1,5 +1,4 @@
 -- `area_record::ahead::brought` meets its contract: where nothing is refused, the packet's fields. Assumes nothing.
-use borrow.Author.Needs.{needs}
 use native.Mathlib.Omega.{arith}
 use Rattle.area_record.proofs.ahead.brought.Statement.{statement}
 use Rattle.area_record.proofs.ahead.brought.Tie as tie

@@ -1,7 +1,6 @@
 -- `area_record::ahead::join` meets its contract: the joined run, the edge and completeness after the splice, and whether it is new.
 -- Assumes nothing.
 use native.Mathlib.Omega.{arith}
-use borrow.Author.Needs.{needs}
 use denote.Ref.{now}
 use Prim.Native.Nat.{ℕ, _≤_}
 use mathlib.Core.Path.{_≡_, refl, sym, ap, _∙_}

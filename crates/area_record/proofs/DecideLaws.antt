@@ -1,55 +1,125 @@
--- A decision, by its two cases: a refusal leaves the area, and a packet that is taken is answered what was decided.
+-- The steps one after the other: what the last of them finds is what recording answers and leaves.
 -- Assumes nothing.
-use Prim.Native.Nat.{ℕ, zero, suc}
+use Prim.Native.Nat.{ℕ, _<_}
 use mathlib.Core.Path.{_≡_, refl, sym, ap, _∙_}
+use mathlib.Core.Bool.{Bool, true, false}
 use mathlib.Core.List.{List}
+use mathlib.Core.Logic.{⊎-elim}
 use native.Mathlib.Omega.{arith}
+use Rattle.octets.specs.Numbers.{Octets}
 use Rattle.refusals.specs.Refusals.{refusalOf}
+use Rattle.runs.proofs.CompareLaws.{same-or}
+use Rattle.packet_data.specs.Data.{dataRefusal, dataOf}
+use Rattle.packet_data.specs.declared.Data.{Data}
+use Rattle.table.specs.Record.{recordData}
 use Rattle.table.specs.declared.Recorded.{Recorded}
 use Rattle.table.specs.declared.Recorded.the-variants.{Accepted, Refused}
-use Rattle.area.specs.Operations.{OnArea}
+use Rattle.area.specs.Places.{readTable}
+use Rattle.area.specs.Judge.{judged}
+use Rattle.area.specs.Operations.{OnArea, leaves, recordArea}
 use Rattle.area_splice.specs.Splice.{splicedArea}
-use Rattle.area_record.specs.Decide.{toldBy, appliedAs, applied, SpliceFits, Decided}
-use Rattle.area_record.specs.declared.ahead.Decision.{Decision}
+use Rattle.area_record.specs.Decide.{unreadAs, refusedBy, Found, given, Located, Places, CutAt, toldBy, Joins}
+use Rattle.area_record.specs.declared.ahead.Target.{Target}
+use Rattle.area_record.specs.declared.ahead.Cuts.{Cuts}
+use Rattle.area_record.specs.declared.ahead.Joined.{Joined}
+use Rattle.area_record.proofs.RecordLaws.{fields-some, record-unheld, record-unread, record-read}
 
--- the two cases
-module _ (a : List ℕ) (d : Decision) where
-  applied-taken : (n : ℕ) → n ≡ 0
-      → appliedAs n a d ≡ record { answer = Accepted (toldBy d); area = splicedArea a (d .place) (d .count) (d .i) (d .j) (d .lo) (d .hi) }
-  unfolding appliedAs
-  applied-taken zero e = refl
-  applied-taken (suc n) e = absurd (omega arith)
+read-fine : (held : Bool) (s : List ℕ) → unreadAs held s ≡ 0 → (held ≡ true) × (dataRefusal s ≡ 0)
+read-fine true s e = (refl, e)
+read-fine false s e = absurd (omega arith)
 
-  applied-refused : (n : ℕ) → (n ≡ 0 → ⊥) → appliedAs n a d ≡ record { answer = Refused (refusalOf n); area = a }
-  unfolding appliedAs
-  applied-refused zero e = absurd (e refl)
-  applied-refused (suc n) e = refl
+-- an answer with its area, part by part
+both : {x : Recorded} {l : List ℕ} {o : OnArea Recorded} → record { answer = x; area = l } ≡ o → (x ≡ o .answer) × (l ≡ o .area)
+both f = (ap (λ (r : OnArea Recorded). r .answer) f, ap (λ (r : OnArea Recorded). r .area) f)
 
-module _ {a : List ℕ} {o : OnArea Recorded} (d : Decision) where
-  -- ---- deciding
-  pub decided-refused : (n : ℕ) → d .number ≡ n → (n ≡ 0 → ⊥) → record { answer = Refused (refusalOf n); area = a } ≡ o → Decided a d o
-  decided-refused n e z f = record {
-    fits = λ g. absurd (z (sym e ∙ g));
-    is = ap (λ (m : ℕ). appliedAs m a d) e ∙ applied-refused a d n z ∙ f;
+-- ---- what a step finds, by its three ways: a refusal goes through, one is given, or it goes on
+
+module _ {a : List ℕ} {u : ℕ} {d : Data} (t : Target) where
+  pub located-through : (u ≡ 0 → ⊥) → t .number ≡ u → Located a u d t
+  located-through z e = record { through = λ y. e; refused = λ y. absurd (z y); found = λ y. absurd (z y) }
+
+  pub located-refused : u ≡ 0 → (n : ℕ) → t .number ≡ n → (n ≡ 0 → ⊥) → refusedBy n a ≡ leaves a (recordData (readTable a) d) → Located a u d t
+  located-refused y n e z f = record {
+    through = λ x. absurd (x y);
+    refused = λ x w. ap (λ (m : ℕ). refusedBy m a) e ∙ f;
+    found = λ x w. absurd (z (sym e ∙ w));
   }
 
-  pub decided-taken : d .number ≡ 0 → SpliceFits a d
-      → record { answer = Accepted (toldBy d); area = splicedArea a (d .place) (d .count) (d .i) (d .j) (d .lo) (d .hi) } ≡ o → Decided a d o
-  decided-taken e h f = record { fits = λ g. h; is = applied-taken a d (d .number) e ∙ f }
+  pub located-found : u ≡ 0 → t .number ≡ 0 → Found a t → given a t ≡ leaves a (recordData (readTable a) d) → Located a u d t
+  located-found y e f g = record { through = λ x. absurd (x y); refused = λ x w. absurd (w e); found = λ x w. (f, g) }
 
-  -- ---- answering, and applying
-  module _ (h : Decided a d o) where
-    pub refused-answer : (d .number ≡ 0 → ⊥) → (Refused (refusalOf (d .number)) ≡ o .answer) × (a ≡ o .area)
-    refused-answer z =
-        let is : record { answer = Refused (refusalOf (d .number)); area = a } ≡ o = sym (applied-refused a d (d .number) z) ∙ h .is in
-        (ap (λ (x : OnArea Recorded). x .answer) is, ap (λ (x : OnArea Recorded). x .area) is)
+module _ {a : List ℕ} {t : Target} (c : Cuts) where
+  pub cut-through : (t .number ≡ 0 → ⊥) → c .number ≡ t .number → CutAt a t c
+  cut-through z e = record { through = λ y. e; refused = λ y. absurd (z y); places = λ y. absurd (z y) }
 
-    pub taken-answer : d .number ≡ 0 → (b : List ℕ) → b ≡ splicedArea a (d .place) (d .count) (d .i) (d .j) (d .lo) (d .hi)
-        → (Accepted (toldBy d) ≡ o .answer) × (b ≡ o .area)
-    taken-answer e b f =
-        let is : record { answer = Accepted (toldBy d); area = splicedArea a (d .place) (d .count) (d .i) (d .j) (d .lo) (d .hi) } ≡ o =
-        sym (applied-taken a d (d .number) e) ∙ h .is in
-        (ap (λ (x : OnArea Recorded). x .answer) is, f ∙ ap (λ (x : OnArea Recorded). x .area) is)
+  pub cut-refused : t .number ≡ 0 → (n : ℕ) → c .number ≡ n → (n ≡ 0 → ⊥) → refusedBy n a ≡ given a t → CutAt a t c
+  cut-refused y n e z f = record {
+    through = λ x. absurd (x y);
+    refused = λ x w. ap (λ (m : ℕ). refusedBy m a) e ∙ f;
+    places = λ x w. absurd (z (sym e ∙ w));
+  }
 
-pub decided-as : {a : List ℕ} {o u : OnArea Recorded} {d : Decision} → Decided a d o → o ≡ u → Decided a d u
-decided-as h e = record { fits = h .fits; is = h .is ∙ e }
+  pub cut-found : t .number ≡ 0 → c .number ≡ 0 → Places a t c → CutAt a t c
+  cut-found y e f = record { through = λ x. absurd (x y); refused = λ x w. absurd (w e); places = λ x w. f }
+
+-- ---- the packet s, recorded in the area a
+
+module _ (a s : List ℕ) (u : ℕ) (is : u ≡ unreadAs (judged a) s) where
+  pub passed : u ≡ 0 → (judged a ≡ true) × (dataRefusal s ≡ 0)
+  passed z = read-fine (judged a) s (sym is ∙ z)
+
+  unread-refused : Octets a → (u ≡ 0 → ⊥) → refusedBy u a ≡ recordArea a s
+  unread-refused o z = go (judged a) refl is
+    where
+      go : (b : Bool) → judged a ≡ b → u ≡ unreadAs b s → refusedBy u a ≡ recordArea a s
+      go true h e = record-unread a h s u o e z
+      go false h e = ap (λ (n : ℕ). refusedBy n a) e ∙ record-unheld a s h
+
+  -- ---- its fields d
+  module _ (d : Data) (fields : u ≡ 0 → d ≡ dataOf s) where
+    pub locate-asks : u ≡ 0 → (judged a ≡ true) × (0 < d .length)
+    locate-asks z = (passed z .0, fields-some s d (passed z .1) (fields z))
+
+    of-fields : u ≡ 0 → leaves a (recordData (readTable a) d) ≡ recordArea a s
+    of-fields z = ap (λ (x : Data). leaves a (recordData (readTable a) x)) (fields z) ∙ record-read a (passed z .0) s (passed z .1)
+
+    -- ---- its place
+    module _ (t : Target) (l : Located a u d t) where
+      read : t .number ≡ 0 → u ≡ 0
+      read z = ⊎-elim (λ (e : u ≡ 0). e) (λ (e : u ≡ 0 → ⊥). absurd (e (sym (l .through e) ∙ z))) (same-or u 0)
+
+      pub cut-asks : t .number ≡ 0 → Found a t
+      cut-asks z = l .found (read z) z .0
+
+      of-place : t .number ≡ 0 → given a t ≡ recordArea a s
+      of-place z = l .found (read z) z .1 ∙ of-fields (read z)
+
+      place-refused : Octets a → (t .number ≡ 0 → ⊥) → refusedBy (t .number) a ≡ recordArea a s
+      place-refused o z =
+          ⊎-elim
+          (λ (e : u ≡ 0). l .refused e z ∙ of-fields e)
+          (λ (e : u ≡ 0 → ⊥). ap (λ (n : ℕ). refusedBy n a) (l .through e) ∙ unread-refused o e)
+          (same-or u 0)
+
+      -- ---- and its runs
+      module _ (c : Cuts) (k : CutAt a t c) where
+        located : c .number ≡ 0 → t .number ≡ 0
+        located z = ⊎-elim (λ (e : t .number ≡ 0). e) (λ (e : t .number ≡ 0 → ⊥). absurd (e (sym (k .through e) ∙ z))) (same-or (t .number) 0)
+
+        pub join-asks : c .number ≡ 0 → Found a t × Places a t c
+        join-asks z = (cut-asks (located z), k .places (located z) z)
+
+        -- so this is answered and left where it is refused
+        pub steps-refused : Octets a → (c .number ≡ 0 → ⊥) → (Refused (refusalOf (c .number)) ≡ recordArea a s .answer) × (a ≡ recordArea a s .area)
+        steps-refused o z =
+            both
+            (⊎-elim
+            (λ (e : t .number ≡ 0). k .refused e z ∙ of-place e)
+            (λ (e : t .number ≡ 0 → ⊥). ap (λ (n : ℕ). refusedBy n a) (k .through e) ∙ place-refused o e)
+            (same-or (t .number) 0))
+
+        -- and this where it is taken
+        pub steps-taken : (j : Joined) → Joins a t c j → c .number ≡ 0 → (b : List ℕ)
+            → b ≡ splicedArea a (t .place) (c .count) (c .i) (c .j) (j .lo) (j .hi)
+            → (Accepted (toldBy c j) ≡ recordArea a s .answer) × (b ≡ recordArea a s .area)
+        steps-taken j h z b e = both (ap (λ (l : List ℕ). record { answer = Accepted (toldBy c j); area = l }) e ∙ h .is ∙ of-place (located z))

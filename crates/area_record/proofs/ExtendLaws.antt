@@ -31,8 +31,6 @@ use Rattle.area_splice.specs.Splice.{runsAfter, splicedArea}
 use Rattle.area_splice.proofs.SplicedRowLaws.{spliced, spliced-length}
 use Rattle.area_splice.proofs.SplicedAreaLaws.{spliced-stored}
 use Rattle.area_record.specs.Record.{runsGiven, offsetsGiven}
-use Rattle.area_record.specs.Decide.{Decided}
-use Rattle.area_record.proofs.DecideLaws.{decided-taken}
 
 -- ---- an area that holds a table, and a place of it
 module _ (a : List ℕ) (p : ℕ) (e : judged a ≡ true) (there : p < length (readTable a)) where
@@ -117,16 +115,16 @@ module _ (a : List ℕ) (p : ℕ) (e : judged a ≡ true) (there : p < length (r
             ∙ spliced-stored a (readTable a) p i j (run lo hi) (known .long) (read-holds a) few (few .runs p) there (v .inside) inside fits lo-fits hi-fits o
             ∙ ap (λ (l : List Run). storedIn a (withRuns (readTable a) p l)) (sym (inserted lo hi f g))
 
-        -- the decision, where e and m are the edge and whether the transfer is complete after the splice, and x whether it adds something
-        pub extend-taken : (k : Key) (e : ℕ) (m : Bool) (x : ℕ) → x ≡ addsAt from to (runsIn a r) i j → _≡_ {A = Reached} (record { edge = e; complete = m }) (reached k (spliced (runsIn a r) i j (run lo hi)))
-            → Decided a
-            (record { number = 0; place = p; count = r .count; i = i; j = j; lo = lo; hi = hi; edge = e; complete = m; adds = x })
-            (offsetsGiven a p k from to)
+        -- e and m are the edge and whether the transfer is complete after the splice, and x whether it adds something
+        pub extend-taken : (k : Key) (e : ℕ) (m : Bool) (x : ℕ) → x ≡ addsAt from to (runsIn a r) i j
+            → _≡_ {A = Reached} (record { edge = e; complete = m }) (reached k (spliced (runsIn a r) i j (run lo hi)))
+            → record {
+              answer = Accepted (record { reached = record { edge = e; complete = m }; absorbed = j - i; adds = x });
+              area = splicedArea a p (r .count) i j lo hi;
+            } ≡ offsetsGiven a p k from to
         unfolding runsGiven
         extend-taken k e m x z y =
             let told : _≡_ {A = Reached} (record { edge = e; complete = m }) (reached k new) =
             y ∙ ap (λ (l : List Run). reached k (spliced l i j (run lo hi))) runs-here ∙ ap (reached k) (sym (inserted lo hi f g)) in
-            decided-taken _ refl
-            (record { long = known .long; place-low = known .place; order = v .inside; inside = u .inside; few = known .few-runs; room = room })
-            (rw (le-ltb runPlaces (length new) (omega (arith, length-new)), between-absorbed, z ∙ sym between-adds)
-            (ap₂ (λ (q : Reached) (c : List ℕ). record { answer = Accepted (record { reached = q; absorbed = j - i; adds = adds from to rs }); area = c }) told stored))
+            rw (le-ltb runPlaces (length new) (omega (arith, length-new)), between-absorbed, z ∙ sym between-adds)
+            (ap₂ (λ (q : Reached) (c : List ℕ). record { answer = Accepted (record { reached = q; absorbed = j - i; adds = adds from to rs }); area = c }) told stored)

@@ -24,12 +24,11 @@ use Rattle.transfer.specs.Record.{stopOf, keyRefusal, extended, absorbedBy, add
 use Rattle.transfer.proofs.FieldLaws.{data-some}
 use Rattle.table.specs.Tables.{keys, find}
 use Rattle.table.specs.Record.{dataJudged, recordRefusal, grown, absorbedIn, addsIn, recordAs, recordData, recordRead, recordPacket}
-use Rattle.table.specs.declared.Recorded.{Recorded}
 use Rattle.table.specs.declared.Recorded.the-variants.{Refused}
 use Rattle.area.specs.Layout.{runPlaces}
 use Rattle.area.specs.Places.{keyAt, readTable, nth, placeIn, KeptAt}
 use Rattle.area.specs.Judge.{judged}
-use Rattle.area.specs.Operations.{OnArea, leaves, recordArea}
+use Rattle.area.specs.Operations.{leaves, recordArea}
 use Rattle.area.specs.declared.Place.{Place}
 use Rattle.area.proofs.JudgeLaws.{judged-passed}
 use Rattle.area.proofs.StoredLaws.{held-stored}

@@ -1,32 +1,40 @@
-// What recording does, decided before anything is written: the area is only read, and the runs that a splice would leave are looked
-// at where they are. Trying answers what was decided.
+// What recording does, decided before anything is written: the area is only read, and trying answers what was decided. The steps hand
+// each other plain structs, and the number of a refusal goes through them: as small functions the compiler puts them into both callers
+// (docs/PROVING.md, "Code that runs fast").
 ghost use mathlib.Core.Path.{_≡_};
 ghost use mathlib.Core.Bool.{true};
-ghost use Prim.Native.Nat.{_<_};
-ghost use lib.ListN.{length};
+ghost use Prim.Native.Nat.{_≤_, _<_};
+ghost use Rattle.packet_data.specs.Data.{dataRefusal, dataOf};
 ghost use Rattle.run_rows.specs.Rows.{runsIn, RowsFit};
-ghost use Rattle.table.specs.Record.{recordData};
-ghost use Rattle.area.specs.Places.{readTable};
 ghost use Rattle.area.specs.Judge.{judged};
-ghost use Rattle.area.specs.Operations.{leaves, recordArea};
-ghost use Rattle.area_record.specs.Record.{offsetsGiven};
+ghost use Rattle.area.specs.Operations.{recordArea};
 ghost use Rattle.area_record.specs.Ahead.{edgeWith, progressWith};
-ghost use Rattle.area_record.specs.Decide.{Decided};
+ghost use Rattle.area_record.specs.Decide.{unreadAs, Found, Located, Places, CutAt, Joins, toldBy};
 use packet_data::Data;
 use run_rows::Rows;
 use table::Recorded;
-use transfer::Key;
 use transfer::Reached;
 use transfer::Receipt;
 
-// The number of a refusal; or 0, and then of the `count` runs at `place` those from i up to j give way to one from `lo` to `hi`, and
-// the rest is told. Plain numbers, since it comes back through a call that stays a call: a struct in it would be copied once more.
-pub struct Decision {
+// Where the offsets of a packet go: at `place`, whose transfer has `length` octets, from `from` on, with `to` the first after them.
+pub struct Target {
     pub number: u64,
     pub place: usize,
+    pub length: u64,
+    pub from: u64,
+    pub to: u64,
+}
+
+// Of the `count` runs there, those from i up to j are to give way to one.
+pub struct Cuts {
+    pub number: u64,
     pub count: usize,
     pub i: usize,
     pub j: usize,
+}
+
+// That run, from `lo` to `hi`; the edge and completeness with it; and whether it brings something new.
+pub struct Joined {
     pub lo: u64,
     pub hi: u64,
     pub edge: u64,
@@ -34,20 +42,116 @@ pub struct Decision {
     pub adds: u64,
 }
 
-fn refused(number: u64) -> Decision
+// ---- the packet
+
+// 22, which counts before what the packet is, or the reader's refusal; 0 for none.
+pub fn unread(held: bool, packet: &[u8]) -> u64
+    ensures { λ r. ⌜ r ≡ unreadAs held (now (packet .entry)) ⌝ }
+{
+    let n = packet_data::data_refusal(packet);
+    if !held {
+        return 22;
+    }
+    n
+}
+
+// The fields of a packet, where nothing is refused so far.
+pub fn brought(unread: u64, packet: &[u8]) -> Data
+    requires { ⌜ (unread ≡ 0 → dataRefusal (now packet) ≡ 0) ⌝ }
+    ensures { λ r. ⌜ (unread ≡ 0 → r ≡ dataOf (now (packet .entry))) ⌝ }
+{
+    if unread != 0 {
+        return Data {
+            flags: 0,
+            id: 0,
+            width: 0,
+            timestamp: 0,
+            wanted: 0,
+            eod: 0,
+            offset: 0,
+            start: 0,
+            length: 0,
+        };
+    }
+    packet_data::data_fields(packet)
+}
+
+// ---- its place
+
+fn nowhere(number: u64) -> Target
     ensures { λ r. ⌜ r .number ≡ number ⌝ }
 {
-    Decision {
+    Target {
         number,
         place: 0,
+        length: 0,
+        from: 0,
+        to: 0,
+    }
+}
+
+// 12, then what the key of its Id says; or where its offsets go.
+pub fn locate(area: &[u8], unread: u64, d: Data) -> Target
+    requires { ⌜ (unread ≡ 0 → (judged (now area) ≡ true) × (0 < d .length)) ⌝ }
+    ensures { λ r. ⌜ Located (now (area .entry)) unread d r ⌝ }
+{
+    if unread != 0 {
+        return nowhere(unread);
+    }
+    let kept = area::find_place(area, d.id);
+    if !kept.open {
+        return nowhere(12);
+    }
+    let place = kept.at;
+    let key = area::key_at(area, place);
+    let number = transfer::key_refusal(key, d);
+    if number != 0 {
+        return nowhere(number);
+    }
+    let from = d.offset;
+    let to = from + d.length as u64;
+    Target {
+        number: 0,
+        place,
+        length: key.length,
+        from,
+        to,
+    }
+}
+
+// ---- its runs
+
+fn uncut(number: u64) -> Cuts
+    ensures { λ r. ⌜ r .number ≡ number ⌝ }
+{
+    Cuts {
+        number,
         count: 0,
         i: 0,
         j: 0,
-        lo: 0,
-        hi: 0,
-        edge: 0,
-        complete: false,
-        adds: 0,
+    }
+}
+
+// 16 where they would be too many; or those that the offsets overlap or touch.
+pub fn cut(area: &[u8], t: Target) -> Cuts
+    requires { ⌜ (t .number ≡ 0 → Found (now area) t) ⌝ }
+    ensures { λ r. ⌜ CutAt (now (area .entry)) t r ⌝ }
+{
+    if t.number != 0 {
+        return uncut(t.number);
+    }
+    let rows = area::rows_at(area, t.place);
+    let count = rows.count;
+    let j = run_rows::cut_to(area, rows.starts, count, t.to);
+    let i = run_rows::cut_below(area, rows.stops, j, t.from);
+    if area::RUNS < i + 1 + (count - j) {
+        return uncut(16);
+    }
+    Cuts {
+        number: 0,
+        count,
+        i,
+        j,
     }
 }
 
@@ -76,30 +180,19 @@ fn progress_with(area: &[u8], rows: Rows, i: usize, lo: u64, hi: u64) -> u64
     hi
 }
 
-// The offsets from `from` on, with `to` the first after them, at a place whose key is given; 16 where they would make too many runs.
-fn decide_offsets(area: &[u8], place: usize, key: Key, from: u64, to: u64) -> Decision
-    requires { ⌜ (judged (now area) ≡ true) × (place < length (readTable (now area))) × (from < to) ⌝ }
-    ensures { λ r. ⌜ Decided (now (area .entry)) r (offsetsGiven (now (area .entry)) place key from to) ⌝ }
+// The run that they make with the offsets, and what is told of it.
+pub fn join(area: &[u8], t: Target, c: Cuts) -> Joined
+    requires { ⌜ Found (now area) t × Places (now area) t c ⌝ }
+    ensures { λ r. ⌜ Joins (now (area .entry)) t c r ⌝ }
 {
-    let rows = area::rows_at(area, place);
-    let count = rows.count;
-    let j = run_rows::cut_to(area, rows.starts, count, to);
-    let i = run_rows::cut_below(area, rows.stops, j, from);
-    if area::RUNS < i + 1 + (count - j) {
-        return refused(16);
-    }
-    let lo = run_rows::joined_start(area, rows, i, j, from);
-    let hi = run_rows::joined_stop(area, rows, i, j, to);
-    let edge = edge_with(area, rows, j, hi);
-    let progress = progress_with(area, rows, i, lo, hi);
-    let complete = key.length <= progress;
-    let adds = run_rows::adds_of(area, rows, i, j, from, to);
-    Decision {
-        number: 0,
-        place,
-        count,
-        i,
-        j,
+    let rows = area::rows_at(area, t.place);
+    let lo = run_rows::joined_start(area, rows, c.i, c.j, t.from);
+    let hi = run_rows::joined_stop(area, rows, c.i, c.j, t.to);
+    let edge = edge_with(area, rows, c.j, hi);
+    let progress = progress_with(area, rows, c.i, lo, hi);
+    let complete = t.length <= progress;
+    let adds = run_rows::adds_of(area, rows, c.i, c.j, t.from, t.to);
+    Joined {
         lo,
         hi,
         edge,
@@ -108,39 +201,21 @@ fn decide_offsets(area: &[u8], place: usize, key: Key, from: u64, to: u64) -> De
     }
 }
 
-// The fields of a packet, in an area that holds a table: 12, then what the key of its Id says, then its runs.
-fn decide_fields(area: &[u8], d: Data) -> Decision
-    requires { ⌜ (judged (now area) ≡ true) × (0 < d .length) ⌝ }
-    ensures { λ r. ⌜ Decided (now (area .entry)) r (leaves (now (area .entry)) (recordData (readTable (now (area .entry))) d)) ⌝ }
+// What is told: the runs between the two places are absorbed.
+pub fn receipt(c: Cuts, s: Joined) -> Receipt
+    requires { ⌜ c .i ≤ c .j ⌝ }
+    ensures { λ r. ⌜ r ≡ toldBy c s ⌝ }
 {
-    let place = area::find_place(area, d.id);
-    if !place.open {
-        return refused(12);
+    let reached = Reached {
+        edge: s.edge,
+        complete: s.complete,
+    };
+    let absorbed = (c.j - c.i) as u64;
+    Receipt {
+        reached,
+        absorbed,
+        adds: s.adds,
     }
-    let at = place.at;
-    let key = area::key_at(area, at);
-    let n = transfer::key_refusal(key, d);
-    if n != 0 {
-        return refused(n);
-    }
-    let from = d.offset;
-    decide_offsets(area, at, key, from, from + d.length as u64)
-}
-
-// A packet that has to be DATA. That the area holds no table, which the caller has judged, counts before what the packet is.
-pub fn decide(area: &[u8], held: bool, packet: &[u8]) -> Decision
-    requires { ⌜ held ≡ judged (now area) ⌝ }
-    ensures { λ r. ⌜ Decided (now (area .entry)) r (recordArea (now (area .entry)) (now (packet .entry))) ⌝ }
-{
-    let unread = packet_data::data_refusal(packet);
-    if !held {
-        return refused(22);
-    }
-    if unread != 0 {
-        return refused(unread);
-    }
-    let d = packet_data::data_fields(packet);
-    decide_fields(area, d)
 }
 
 // What `record` would answer.
@@ -148,19 +223,13 @@ pub fn try_record(area: &[u8], packet: &[u8]) -> Recorded
     ensures { λ r. ⌜ r ≡ recordArea (now (area .entry)) (now (packet .entry)) .answer ⌝ }
 {
     let held = area::judge(area);
-    let d = decide(area, held, packet);
-    if d.number != 0 {
-        return Recorded::Refused(refusals::refuse(d.number));
+    let unread = unread(held, packet);
+    let d = brought(unread, packet);
+    let t = locate(area, unread, d);
+    let c = cut(area, t);
+    if c.number != 0 {
+        return Recorded::Refused(refusals::refuse(c.number));
     }
-    let reached = Reached {
-        edge: d.edge,
-        complete: d.complete,
-    };
-    let absorbed = (d.j - d.i) as u64;
-    let adds = d.adds;
-    Recorded::Accepted(Receipt {
-        reached,
-        absorbed,
-        adds,
-    })
+    let s = join(area, t, c);
+    Recorded::Accepted(receipt(c, s))
 }

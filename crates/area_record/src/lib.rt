@@ -5,8 +5,6 @@ ghost use Rattle.area.specs.Operations.{recordArea};
 pub mod ahead;
 
 use table::Recorded;
-use transfer::Reached;
-use transfer::Receipt;
 
 // A packet that has to be DATA, recorded in a lent area.
 pub fn record(area: &mut [u8], packet: &[u8]) -> Recorded
@@ -14,20 +12,14 @@ pub fn record(area: &mut [u8], packet: &[u8]) -> Recorded
         × (now (area .exit) ≡ recordArea (now (area .entry)) (now (packet .entry)) .area) ⌝ }
 {
     let held = area::judge(area);
-    let d = ahead::decide(area, held, packet);
-    if d.number != 0 {
-        return Recorded::Refused(refusals::refuse(d.number));
+    let unread = ahead::unread(held, packet);
+    let d = ahead::brought(unread, packet);
+    let t = ahead::locate(area, unread, d);
+    let c = ahead::cut(area, t);
+    if c.number != 0 {
+        return Recorded::Refused(refusals::refuse(c.number));
     }
-    area_splice::put_runs(area, d.place, d.count, d.i, d.j, d.lo, d.hi);
-    let reached = Reached {
-        edge: d.edge,
-        complete: d.complete,
-    };
-    let absorbed = (d.j - d.i) as u64;
-    let adds = d.adds;
-    Recorded::Accepted(Receipt {
-        reached,
-        absorbed,
-        adds,
-    })
+    let s = ahead::join(area, t, c);
+    area_splice::put_runs(area, t.place, c.count, c.i, c.j, s.lo, s.hi);
+    Recorded::Accepted(ahead::receipt(c, s))
 }

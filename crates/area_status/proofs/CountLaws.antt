@@ -22,7 +22,6 @@ use Rattle.area.proofs.OperationLaws.{from-held}
 use Rattle.area_status.specs.Listing.{listingOf, listedArea, Counts}
 use Rattle.area_status.specs.ById.{foundFor, foundIn, foundArea}
 use Rattle.area_status.specs.declared.Listing.{Listing}
-use Rattle.area_status.specs.declared.Listed.{Listed}
 use Rattle.area_status.specs.declared.Listed.the-variants.{Open, Refused}
 use Rattle.area_status.proofs.ListingLaws.{listed-past, listed-open}
 

@@ -1,35 +1,82 @@
--- `area_record::record` meets its contract: what was decided is applied, and answered.
+-- `area_record::record` meets its contract: what the steps find is applied, and answered.
 -- Assumes nothing.
 use native.Mathlib.Omega.{arith}
 use borrow.Author.Needs.{needs}
-use mathlib.Core.Path.{ap, _∙_}
-use Rattle.table.specs.declared.Recorded.the-variants.{Refused}
-use Rattle.area_record.proofs.DecideLaws.{refused-answer, taken-answer}
+use denote.Ref.{now}
+use mathlib.Core.Path.{_≡_, ap, _∙_}
+use mathlib.Core.Bool.{Bool}
+use Rattle.table.specs.declared.Recorded.the-variants.{Accepted, Refused}
+use Rattle.area.specs.Judge.{judged}
+use Rattle.area_record.specs.Decide.{unreadAs}
+use Rattle.area_record.proofs.DecideLaws.{passed, locate-asks, cut-asks, join-asks, steps-refused, steps-taken}
 use Rattle.area_record.proofs.record.Statement.{statement}
 use Rattle.area_record.proofs.record.Tie as tie
 
-decide-requires : tie.Need-decide-requires
-decide-requires c κs = c .before .judge .ensures
+-- the refusal so far
+unread-is : (c : tie.After-unread) → let s = c .before .before .before .before .before in c .unread .result ≡ unreadAs (judged (now (s .args .area))) (now (s .args .packet))
+unread-is c =
+    let s = c .before .before .before .before .before in
+    c .unread .ensures ∙ ap (λ (b : Bool). unreadAs b (now (s .args .packet))) (c .before .judge .ensures)
 
-put-runs-requires : tie.Need-put-runs-requires
-put-runs-requires c κs = let d = c .before .before .before in let k = d .decide .ensures .fits (omega arith) in search needs
+brought-requires : tie.Need-brought-requires
+brought-requires c κs z = passed _ _ _ (unread-is c) z .1
+
+locate-requires : tie.Need-locate-requires
+locate-requires c κs = let b = c .before in locate-asks _ _ _ (unread-is (b .before)) _ (b .brought .ensures)
+
+cut-requires : tie.Need-cut-requires
+cut-requires c κs =
+    let l = c .before in
+    let b = l .before .before in
+    cut-asks _ _ _ (unread-is (b .before)) _ (b .brought .ensures) _ (l .locate .ensures)
 
 returns : tie.Need-returns
 returns c =
-    let d = c .before .before .before in
-    let told = refused-answer _ (d .decide .ensures) (omega arith) in
+    let k = c .before .before .before in
+    let l = k .before .before in
+    let b = l .before .before in
+    let u = b .before in
+    let told = steps-refused _ _ _ (unread-is u) _ (b .brought .ensures) _ (l .locate .ensures) _ (k .cut .ensures)
+    (λ i. u .before .before .before .before .slice-known .given i .fits) (omega arith) in
     (ap Refused (c .refuse .ensures) ∙ told .0, told .1)
 
-sub-absorbed : tie.Need-sub-absorbed
-sub-absorbed c = c .before .before .before .before .before .before .before .decide .ensures .fits (omega arith) .order
+join-requires : tie.Need-join-requires
+join-requires c κs =
+    let k = c .before .before .before in
+    let l = k .before .before in
+    let b = l .before .before in
+    join-asks _ _ _ (unread-is (b .before)) _ (b .brought .ensures) _ (l .locate .ensures) _ (k .cut .ensures) (omega arith)
+
+put-runs-requires : tie.Need-put-runs-requires
+put-runs-requires c κs = let k = c .before .join .ensures .fits in search needs
+
+receipt-requires : tie.Need-receipt-requires
+receipt-requires c κs = c .before .before .before .before .join .ensures .fits .order
 
 returns-2 : tie.Need-returns-2
 returns-2 c =
     let put = c .before .before .before in
-    let d = put .before .before .before .before in
-    taken-answer _ (d .decide .ensures) (omega arith) _ (put .put-runs .ensures)
+    let j = put .before .before in
+    let k = j .before .before .before .before in
+    let l = k .before .before in
+    let b = l .before .before in
+    let told = steps-taken _ _ _ (unread-is (b .before)) _ (b .brought .ensures) _ (l .locate .ensures) _ (k .cut .ensures) _ (j .join .ensures) (omega arith) _ (put .put-runs .ensures) in
+    (ap Accepted (c .receipt .ensures) ∙ told .0, told .1)
 
 pub record-spec : {M : Type 1} → statement M
 record-spec =
     tie.close
-    (tie.spec (λ c κs. search needs) decide-requires (λ c κs. search needs) (λ c. search needs) returns put-runs-requires sub-absorbed (λ c. search needs) returns-2)
+    (tie.spec
+    (λ c κs. search needs)
+    (λ c κs. search needs)
+    brought-requires
+    locate-requires
+    cut-requires
+    (λ c κs. search needs)
+    (λ c. search needs)
+    returns
+    join-requires
+    put-runs-requires
+    receipt-requires
+    (λ c. search needs)
+    returns-2)

@@ -24,7 +24,7 @@ use Rattle.area_record.specs.declared.ahead.Target.{Target}
 use Rattle.area_record.specs.declared.ahead.Cuts.{Cuts}
 use Rattle.area_record.specs.declared.ahead.Joined.{Joined}
 
--- "Where a desk area is lent, 22 comes before all", then the reader's
+-- R6.13: 22 comes first, then the reader's
 abbrev pub unreadAs : Bool → List ℕ → ℕ
 unreadAs held packet = cond held (dataRefusal packet) 22
 

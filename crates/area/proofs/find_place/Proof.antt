@@ -50,13 +50,7 @@ pub find-place-spec : {M : Type 1} → statement M
 find-place-spec =
     tie.close
     (tie.spec
-    Inv-loop
-    μ-loop
-    (λ c κs. judged-passed (now (c .before .args .area)) (c .before .pre) .0)
-    loop-holds
-    (λ c κs. omega (arith, c .before .loop .inv .few, c .before .loop .inv .long))
-    returns
-    (λ c. omega (arith, c .before .before .before .loop .inv .few))
-    (λ c. omega (arith, c .before .before .before .loop .inv .few))
-    loop-again
+    Inv-loop μ-loop (λ c κs. judged-passed (now (c .before .args .area)) (c .before .pre) .0) loop-holds
+    (λ c κs. omega (arith, c .before .loop .inv .few, c .before .loop .inv .long)) returns
+    (λ c. omega (arith, c .before .before .before .loop .inv .few)) (λ c. omega (arith, c .before .before .before .loop .inv .few)) loop-again
     returns-2)

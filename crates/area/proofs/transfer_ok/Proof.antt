@@ -51,11 +51,4 @@ transfer-ok-spec =
     (tie.spec
     (λ c κs. search needs)
     (λ c. let a = c .before .before .before .args in id-not (now (a .area)) (a .i) _ (c .before .head .ensures) (omega arith))
-    (λ c κs. search needs)
-    (λ c κs. search needs)
-    (λ c κs. search needs)
-    (λ c κs. search needs)
-    returns-2
-    runs-ok-requires
-    returns-3
-    returns-4)
+    (λ c κs. search needs) (λ c κs. search needs) (λ c κs. search needs) (λ c κs. search needs) returns-2 runs-ok-requires returns-3 returns-4)

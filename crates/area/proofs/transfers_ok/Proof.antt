@@ -56,15 +56,5 @@ pub transfers-ok-spec : {M : Type 1} → statement M
 transfers-ok-spec =
     tie.close
     (tie.spec
-    Inv-loop
-    μ-loop
-    (λ c. (omega arith, rw sub-zero))
-    (λ c κs. search needs)
-    returns
-    (λ c κs. search needs)
-    add-least
-    (λ c. search needs)
-    (λ c. search needs)
-    loop-again
-    returns-2
-    (λ c. fine-end _ _ _ _ _ (c .before .loop .inv .1) (omega arith)))
+    Inv-loop μ-loop (λ c. (omega arith, rw sub-zero)) (λ c κs. search needs) returns (λ c κs. search needs) add-least (λ c. search needs)
+    (λ c. search needs) loop-again returns-2 (λ c. fine-end _ _ _ _ _ (c .before .loop .inv .1) (omega arith)))

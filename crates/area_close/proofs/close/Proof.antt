@@ -28,9 +28,6 @@ kept : (c : tie.After-find-place) → c .find-place .result .«open» ≡ true
     (c .find-place .result .at)
 kept c h = place-open _ _ (c .find-place .result) (c .find-place .ensures) h
 
-find-place-requires : tie.Need-find-place-requires
-find-place-requires c κs = passed c
-
 remove-at-requires : tie.Need-remove-at-requires
 remove-at-requires c κs =
     let f = c .before .before in
@@ -69,14 +66,5 @@ pub close-spec : {M : Type 1} → statement M
 close-spec =
     tie.close
     (tie.spec
-    (λ c κs. search needs)
-    find-place-requires
-    remove-at-requires
-    (λ c. search needs)
-    returns
-    (λ c κs. search needs)
-    (λ c. search needs)
-    returns-2
-    (λ c κs. search needs)
-    (λ c. search needs)
-    returns-3)
+    (λ c κs. search needs) (λ c κs. passed c) remove-at-requires (λ c. search needs) returns (λ c κs. search needs) (λ c. search needs)
+    returns-2 (λ c κs. search needs) (λ c. search needs) returns-3)

@@ -16,9 +16,6 @@ Inv-loop area₀ place key n q₀ area q = Opening area₀ area place n q (empty
 abbrev μ-loop : tie.MeasureT-loop
 μ-loop area₀ place key n q₀ area q = q
 
-open-count-requires : tie.Need-open-count-requires Inv-loop μ-loop
-open-count-requires c κs = judged-passed (now (c .before .before .args .area)) (c .before .before .pre .0) .0
-
 loop-holds : tie.Need-loop-holds Inv-loop μ-loop
 loop-holds c =
     let s = c .before .before .before in
@@ -46,17 +43,6 @@ pub insert-at-spec : {M : Type 1} → statement M
 insert-at-spec =
     tie.close
     (tie.spec
-    Inv-loop
-    μ-loop
-    open-count-requires
-    loop-holds
-    (λ c. search needs)
-    copy-transfer-requires
-    (λ c. search needs)
-    (λ c. search needs)
-    loop-again
-    (λ c κs. search needs)
-    (λ c. search needs)
-    (λ c κs. search needs)
-    (λ c. search needs)
-    returns)
+    Inv-loop μ-loop (λ c κs. judged-passed (now (c .before .before .args .area)) (c .before .before .pre .0) .0) loop-holds (λ c. search needs)
+    copy-transfer-requires (λ c. search needs) (λ c. search needs) loop-again (λ c κs. search needs) (λ c. search needs) (λ c κs. search needs)
+    (λ c. search needs) returns)

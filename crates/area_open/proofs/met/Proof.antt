@@ -58,11 +58,4 @@ pub met-spec : {M : Type 1} → statement M
 met-spec =
     tie.close
     (tie.spec
-    key-at-requires
-    (λ c κs. search needs)
-    returns
-    (λ c κs. search needs)
-    returns-2
-    rows-at-requires
-    reached-in-requires
-    returns-3)
+    key-at-requires (λ c κs. search needs) returns (λ c κs. search needs) returns-2 rows-at-requires reached-in-requires returns-3)

@@ -44,9 +44,6 @@ returns-2 c =
     (packet-refused (readTable a) (now (s .args .packet)) (λ q. omega (arith, u .metadata-refusal .ensures)))
     _ (ap opened.Refused (c .refuse2 .ensures ∙ ap refusalOf (u .metadata-refusal .ensures))) (λ i. k .slice-known .given i .fits) refl
 
-open-key-requires : tie.Need-open-key-requires
-open-key-requires c κs = passed (c .before .before .before .before)
-
 returns-3 : tie.Need-returns-3
 unfolding openArea
 returns-3 c =
@@ -65,16 +62,5 @@ pub open-spec : {M : Type 1} → statement M
 open-spec =
     tie.close
     (tie.spec
-    (λ c κs. search needs)
-    (λ c κs. search needs)
-    (λ c κs. search needs)
-    (λ c. search needs)
-    returns
-    (λ c κs. search needs)
-    (λ c. search needs)
-    returns-2
-    (λ c κs. search needs)
-    (λ c κs. search needs)
-    open-key-requires
-    (λ c. search needs)
-    returns-3)
+    (λ c κs. search needs) (λ c κs. search needs) (λ c κs. search needs) (λ c. search needs) returns (λ c κs. search needs) (λ c. search needs)
+    returns-2 (λ c κs. search needs) (λ c κs. search needs) (λ c κs. passed (c .before .before .before .before)) (λ c. search needs) returns-3)

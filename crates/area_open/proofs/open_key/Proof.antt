@@ -73,15 +73,5 @@ pub open-key-spec : {M : Type 1} → statement M
 open-key-spec =
     tie.close
     (tie.spec
-    (λ c κs. search needs)
-    met-requires
-    (λ c. search needs)
-    returns
-    open-count-requires
-    (λ c κs. search needs)
-    (λ c. search needs)
-    returns-2
-    insert-at-requires
-    (λ c κs. search needs)
-    (λ c. search needs)
-    returns-3)
+    (λ c κs. search needs) met-requires (λ c. search needs) returns open-count-requires (λ c κs. search needs) (λ c. search needs) returns-2
+    insert-at-requires (λ c κs. search needs) (λ c. search needs) returns-3)

@@ -17,12 +17,6 @@ Inv-loop area₀ k ws i₀ area i = (i ≤ length ws) × WordsPut area₀ area k
 abbrev μ-loop : tie.MeasureT-loop
 μ-loop area₀ k ws i₀ area i = length ws - i
 
-loop-holds : tie.Need-loop-holds Inv-loop μ-loop
-loop-holds c = (omega arith, words-start (now (c .before .before .args .area)) (c .before .before .args .k) (now (c .before .before .args .ws)))
-
-put-word-requires : tie.Need-put-word-requires Inv-loop μ-loop
-put-word-requires c κs = omega (arith, c .before .before .before .loop .inv .1 .changed .size)
-
 loop-again : tie.Need-loop-again Inv-loop μ-loop
 loop-again c =
     let p = c .before .before in
@@ -30,9 +24,6 @@ loop-again c =
     let s = p .before .before .before .before .before .before .before in
     let fits = p .before .before .before .before .before .shared-slice-known .given (l .i) .fits in
     (omega arith, words-more (now (s .args .area)) _ _ (s .args .k) (now (s .args .ws)) (l .i) _ (l .inv .1) (omega arith) refl fits (p .put-word .ensures))
-
-same-length : tie.Need-same-length Inv-loop μ-loop
-same-length c = c .before .loop .inv .1 .changed .size
 
 returns : tie.Need-returns Inv-loop μ-loop
 returns c =
@@ -45,15 +36,7 @@ pub put-words-spec : {M : Type 1} → statement M
 put-words-spec =
     tie.close
     (tie.spec
-    Inv-loop
-    μ-loop
-    loop-holds
-    (λ c. search needs)
-    (λ c. search needs)
-    (λ c. search needs)
-    put-word-requires
-    (λ c. search needs)
-    (λ c. search needs)
-    loop-again
-    same-length
-    returns)
+    Inv-loop μ-loop
+    (λ c. (omega arith, words-start (now (c .before .before .args .area)) (c .before .before .args .k) (now (c .before .before .args .ws))))
+    (λ c. search needs) (λ c. search needs) (λ c. search needs) (λ c κs. omega (arith, c .before .before .before .loop .inv .1 .changed .size))
+    (λ c. search needs) (λ c. search needs) loop-again (λ c. c .before .loop .inv .1 .changed .size) returns)

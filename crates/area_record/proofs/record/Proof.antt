@@ -18,12 +18,6 @@ unread-is c =
     let s = c .before .before .before .before .before in
     c .unread .ensures ∙ ap (λ (b : Bool). unreadAs b (now (s .args .packet))) (c .before .judge .ensures)
 
-brought-requires : tie.Need-brought-requires
-brought-requires c κs z = passed _ _ _ (unread-is c) z .1
-
-locate-requires : tie.Need-locate-requires
-locate-requires c κs = let b = c .before in locate-asks _ _ _ (unread-is (b .before)) _ (b .brought .ensures)
-
 cut-requires : tie.Need-cut-requires
 cut-requires c κs =
     let l = c .before in
@@ -47,12 +41,6 @@ join-requires c κs =
     let b = l .before .before in
     join-asks _ _ _ (unread-is (b .before)) _ (b .brought .ensures) _ (l .locate .ensures) _ (k .cut .ensures) (omega arith)
 
-put-runs-requires : tie.Need-put-runs-requires
-put-runs-requires c κs = let k = c .before .join .ensures .fits in search needs
-
-receipt-requires : tie.Need-receipt-requires
-receipt-requires c κs = c .before .before .before .before .join .ensures .fits .order
-
 returns-2 : tie.Need-returns-2
 returns-2 c =
     let put = c .before .before .before in
@@ -67,16 +55,7 @@ pub record-spec : {M : Type 1} → statement M
 record-spec =
     tie.close
     (tie.spec
-    (λ c κs. search needs)
-    (λ c κs. search needs)
-    brought-requires
-    locate-requires
-    cut-requires
-    (λ c κs. search needs)
-    (λ c. search needs)
-    returns
-    join-requires
-    put-runs-requires
-    receipt-requires
-    (λ c. search needs)
-    returns-2)
+    (λ c κs. search needs) (λ c κs. search needs) (λ c κs z. passed _ _ _ (unread-is c) z .1)
+    (λ c κs. let b = c .before in locate-asks _ _ _ (unread-is (b .before)) _ (b .brought .ensures)) cut-requires (λ c κs. search needs)
+    (λ c. search needs) returns join-requires (λ c κs. let k = c .before .join .ensures .fits in search needs)
+    (λ c κs. c .before .before .before .before .join .ensures .fits .order) (λ c. search needs) returns-2)

@@ -6,12 +6,6 @@ use Rattle.area_status.proofs.ListingLaws.{listing-is}
 use Rattle.area_status.proofs.listing_at.Statement.{statement}
 use Rattle.area_status.proofs.listing_at.Tie as tie
 
-is-complete-requires : tie.Need-is-complete-requires
-is-complete-requires c κs = rw (c .before .rows-at .ensures) (c .before .before .before .before .pre .rows .fit)
-
-received-of-requires : tie.Need-received-of-requires
-received-of-requires c κs = rw (c .before .before .rows-at .ensures) (c .before .before .before .before .before .pre .rows)
-
 returns : tie.Need-returns
 returns c =
     let d = c .before in
@@ -23,4 +17,4 @@ returns c =
 pub listing-at-spec : {M : Type 1} → statement M
 listing-at-spec =
     tie.close
-    (tie.spec (λ c κs. search needs) (λ c κs. search needs) (λ c κs. rw (c .rows-at .ensures) (c .before .before .before .pre .rows .fit)) is-complete-requires received-of-requires returns)
+    (tie.spec (λ c κs. search needs) (λ c κs. search needs) (λ c κs. rw (c .rows-at .ensures) (c .before .before .before .pre .rows .fit)) (λ c κs. rw (c .before .rows-at .ensures) (c .before .before .before .before .pre .rows .fit)) (λ c κs. rw (c .before .before .rows-at .ensures) (c .before .before .before .before .before .pre .rows)) returns)

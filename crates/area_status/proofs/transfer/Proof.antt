@@ -51,11 +51,5 @@ pub transfer-spec : {M : Type 1} → statement M
 transfer-spec =
     tie.close
     (tie.spec
-    (λ c κs. search needs)
-    (λ c κs. search needs)
-    returns
-    (λ c κs. judged-passed (now (c .before .before .before .args .area)) (passed c) .0)
-    (λ c κs. search needs)
-    returns-2
-    listing-at-requires
-    returns-3)
+    (λ c κs. search needs) (λ c κs. search needs) returns (λ c κs. judged-passed (now (c .before .before .before .args .area)) (passed c) .0)
+    (λ c κs. search needs) returns-2 listing-at-requires returns-3)

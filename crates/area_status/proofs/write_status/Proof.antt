@@ -69,14 +69,6 @@ pub write-status-spec : {M : Type 1} → statement M
 write-status-spec =
     tie.close
     (tie.spec
-    (λ c κs. search needs)
-    (λ c κs. search needs)
-    returns
-    (λ c κs. passed c)
-    (λ c κs. search needs)
-    returns-2
-    (λ c κs. let u = used c in (u .long, u .low))
-    (λ c κs. let u = used (c .before) in (u .long, u .low))
-    write-rows-requires
-    (λ c. search needs)
-    returns-3)
+    (λ c κs. search needs) (λ c κs. search needs) returns (λ c κs. passed c) (λ c κs. search needs) returns-2
+    (λ c κs. let u = used c in (u .long, u .low)) (λ c κs. let u = used (c .before) in (u .long, u .low)) write-rows-requires
+    (λ c. search needs) returns-3)

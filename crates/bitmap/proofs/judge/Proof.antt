@@ -34,9 +34,6 @@ returns-3 c =
     let a = e .before .before .before .before .before .args in
     too-many (a .key) (now (a .marks)) _ (omega arith) (taken e) (f .find-runs .result) (f .find-runs .ensures) (omega arith)
 
-edge-of-requires : tie.Need-edge-of-requires
-edge-of-requires c κs = rw (c .rows-of .ensures) (rows-fit _ _ (search needs) (search needs))
-
 returns-4 : tie.Need-returns-4
 returns-4 c =
     let x = c .before .before in
@@ -61,15 +58,5 @@ pub judge-spec : {M : Type 1} → statement M
 judge-spec =
     tie.close
     (tie.spec
-    returns
-    (λ c κs. search needs)
-    returns-2
-    (λ c κs. search needs)
-    (λ c. search needs)
-    returns-3
-    (λ c κs. search needs)
-    edge-of-requires
-    (λ c. search needs)
-    returns-4
-    (λ c. search needs)
-    returns-5)
+    returns (λ c κs. search needs) returns-2 (λ c κs. search needs) (λ c. search needs) returns-3 (λ c κs. search needs)
+    (λ c κs. rw (c .rows-of .ensures) (rows-fit _ _ (search needs) (search needs))) (λ c. search needs) returns-4 (λ c. search needs) returns-5)

@@ -14,12 +14,6 @@ use Rattle.bitmap_record.proofs.ExtendLaws.{extend-refused, extend-done
 use Rattle.bitmap_record.proofs.extend.Statement.{statement}
 use Rattle.bitmap_record.proofs.extend.Tie as tie
 
-cut-to-requires : tie.Need-cut-to-requires
-cut-to-requires c κs = rw (c .rows-of .ensures) (search needs)
-
-cut-below-requires : tie.Need-cut-below-requires
-cut-below-requires c κs = rw (c .before .rows-of .ensures) (omega (arith, c .cut-to .ensures .inside))
-
 -- the places that were found, in the rows as they stand
 to-place : (c : tie.After-cut-to) → let a = c .before .before .before .before .args in CutTo (now (a .rows)) 0 (a .n) (stopOf (a .d)) (c .cut-to .result)
 to-place c = let a = c .before .before .before .before .args in
@@ -74,20 +68,7 @@ pub extend-spec : {M : Type 1} → statement M
 extend-spec =
     tie.close
     (tie.spec
-    (λ c. search needs)
-    (λ c κs. search needs)
-    cut-to-requires
-    cut-below-requires
-    (λ c. search needs)
-    (λ c. search needs)
-    (λ c. search needs)
-    (λ c κs. search needs)
-    returns
-    (λ c κs. search needs)
-    edge-of-requires
-    (λ c κs. search needs)
-    (λ c κs. search needs)
-    (λ c. search needs)
-    adds-of-requires
-    (λ c. search needs)
-    returns-2)
+    (λ c. search needs) (λ c κs. search needs) (λ c κs. rw (c .rows-of .ensures) (search needs))
+    (λ c κs. rw (c .before .rows-of .ensures) (omega (arith, c .cut-to .ensures .inside))) (λ c. search needs) (λ c. search needs)
+    (λ c. search needs) (λ c κs. search needs) returns (λ c κs. search needs) edge-of-requires (λ c κs. search needs) (λ c κs. search needs)
+    (λ c. search needs) adds-of-requires (λ c. search needs) returns-2)

@@ -32,15 +32,8 @@ pub entry-fields-spec : {M : Type 1} → statement M
 entry-fields-spec =
     tie.close
     (tie.spec
-    (λ c κs. omega (arith, entry-fine (c .before .args .d) (now (c .before .args .e)) (c .before .pre .0) .long))
-    (λ c κs. search needs)
-    (λ c. omega (arith, known c))
-    (λ c κs. (known c .1, known c .4))
-    (λ c. omega (arith, known (c .before)))
-    (λ c κs. omega (arith, known (c .before)))
-    (λ c. omega (arith, known (c .before .before)))
-    (λ c κs. omega (arith, known (c .before .before)))
-    (λ c. omega (arith, known (c .before .before .before)))
-    (λ c. omega (arith, known (c .before .before .before)))
-    (λ c. omega (arith, known (c .before .before .before)))
-    returns)
+    (λ c κs. omega (arith, entry-fine (c .before .args .d) (now (c .before .args .e)) (c .before .pre .0) .long)) (λ c κs. search needs)
+    (λ c. omega (arith, known c)) (λ c κs. (known c .1, known c .4)) (λ c. omega (arith, known (c .before)))
+    (λ c κs. omega (arith, known (c .before))) (λ c. omega (arith, known (c .before .before)))
+    (λ c κs. omega (arith, known (c .before .before))) (λ c. omega (arith, known (c .before .before .before)))
+    (λ c. omega (arith, known (c .before .before .before))) (λ c. omega (arith, known (c .before .before .before))) returns)

@@ -107,21 +107,9 @@ pub entry-refusal-spec : {M : Type 1} → statement M
 entry-refusal-spec =
     tie.close
     (tie.spec
-    returns
-    (λ c κs. omega arith)
-    (λ c κs. search needs)
-    returns-2
-    (λ c κs. search needs)
-    (λ c. omega (arith, known c))
-    (λ c κs. (rw (known c .0) (size-width _), omega (arith, known c)))
-    returns-3
+    returns (λ c κs. omega arith) (λ c κs. search needs) returns-2 (λ c κs. search needs) (λ c. omega (arith, known c))
+    (λ c κs. (rw (known c .0) (size-width _), omega (arith, known c))) returns-3
     (λ c. rw (left (c .before), lt-ltb (length (e (c .before))) (pathAt (propertiesOf (e (c .before)))) (omega (arith, known (c .before .before .before)))))
-    (λ c. search needs)
-    (λ c. search needs)
-    (λ c. search needs)
-    (λ c κs. search needs)
-    returns-5
-    descriptor-requires
-    (λ c κs. search needs)
+    (λ c. search needs) (λ c. search needs) (λ c. search needs) (λ c κs. search needs) returns-5 descriptor-requires (λ c κs. search needs)
     (λ c. rw (size (c .before), not-true (c .before .fits2 .result) (c .if6 .taken)))
     (λ c. rw (size (c .before), not-false (c .before .fits2 .result) (c .if6 .left))))

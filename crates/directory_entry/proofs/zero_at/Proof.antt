@@ -36,12 +36,5 @@ pub zero-at-spec : {M : Type 1} → statement M
 zero-at-spec =
     tie.close
     (tie.spec
-    Inv-loop
-    μ-loop
-    (λ c. (omega arith, sym (zero-add (zeroAt (now (c .args .r))))))
-    (λ c. omega arith)
-    returns
-    (λ c. omega arith)
-    (λ c. omega arith)
-    loop-again
-    returns-2)
+    Inv-loop μ-loop (λ c. (omega arith, sym (zero-add (zeroAt (now (c .args .r)))))) (λ c. omega arith) returns (λ c. omega arith)
+    (λ c. omega arith) loop-again returns-2)

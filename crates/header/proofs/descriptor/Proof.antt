@@ -38,5 +38,4 @@ descriptor-spec =
     (λ c κs. omega (arith, there (c .before .before .before .before)))
     (λ c. let e : c .before .before .before .before .before .args .d ≡ 8 = omega arith in rw (e, c .read-eight .ensures))
     (λ c. omega (arith, there (c .before .before .before .before), sixteen c))
-    (λ c κs. omega (arith, there (c .before .before .before .before), sixteen c))
-    returns-4)
+    (λ c κs. omega (arith, there (c .before .before .before .before), sixteen c)) returns-4)

@@ -13,11 +13,8 @@ returns c =
     let a = p .args in
     sym (narrow-none (a .d) (now (a .s)) (a .n) (a .from) (p .pre .1) (width-narrow (p .pre .0) (λ e. omega arith)))
 
-each-refusal-requires : tie.Need-each-refusal-requires
-each-refusal-requires c κs = c .before .before .pre
-
 returns-2 : tie.Need-returns-2
 returns-2 c = c .each-refusal .ensures
 
 pub descriptors-refusal-spec : {M : Type 1} → statement M
-descriptors-refusal-spec = tie.close (tie.spec returns each-refusal-requires returns-2)
+descriptors-refusal-spec = tie.close (tie.spec returns (λ c κs. c .before .before .pre) returns-2)

@@ -21,18 +21,12 @@ Inv-loop s from d n at₀ count₀ at count =
 abbrev μ-loop : tie.MeasureT-loop
 μ-loop s from d n at₀ count₀ at count = count
 
-loop-holds : tie.Need-loop-holds Inv-loop μ-loop
-loop-holds c = (c .before .pre .1, refl)
-
 -- there is room for one descriptor and those after it
 room : (c : tie.In-loop Inv-loop μ-loop)
     → let a = c .before .before .before .args in
     let l = c .before .loop in
     l .at + a .d + (l .count - 1) * a .d ≤ length (now (a .s))
 room c = omega (arith, less-one (c .before .loop .count) (c .before .before .before .args .d) (omega arith))
-
-descriptor-refusal-requires : tie.Need-descriptor-refusal-requires Inv-loop μ-loop
-descriptor-refusal-requires c κs = (c .before .before .before .pre .0, omega (arith, room c))
 
 -- the refusal, with the first of those that are left
 first : (c : tie.In-loop Inv-loop μ-loop)
@@ -52,9 +46,6 @@ returns c =
     c .before .descriptor-refusal .ensures
     ∙ sym (first (c .before .before) ∙ stays (descriptorRefusal (a .d) (l .at) (now (a .s))) _ (omega arith))
 
-add-at : tie.Need-add-at Inv-loop μ-loop
-add-at c = omega (arith, room (c .before .before))
-
 loop-again : tie.Need-loop-again Inv-loop μ-loop
 loop-again c =
     let a = c .before .before .before .before .before .args in
@@ -72,13 +63,5 @@ pub each-refusal-spec : {M : Type 1} → statement M
 each-refusal-spec =
     tie.close
     (tie.spec
-    Inv-loop
-    μ-loop
-    loop-holds
-    descriptor-refusal-requires
-    returns
-    add-at
-    (λ c. omega arith)
-    (λ c. omega arith)
-    loop-again
-    returns-2)
+    Inv-loop μ-loop (λ c. (c .before .pre .1, refl)) (λ c κs. (c .before .before .before .pre .0, omega (arith, room c))) returns
+    (λ c. omega (arith, room (c .before .before))) (λ c. omega arith) (λ c. omega arith) loop-again returns-2)

@@ -5,20 +5,14 @@ use Rattle.header.proofs.DescriptorLaws.{descriptor-there}
 use Rattle.hole_list.proofs.hole_at.Statement.{statement}
 use Rattle.hole_list.proofs.hole_at.Tie as tie
 
-descriptor-requires : tie.Need-descriptor-requires
-descriptor-requires c κs = (c .before .pre .0, c .before .pre .1)
-
 add-descriptor : tie.Need-add-descriptor
 add-descriptor c =
     let p = c .before .before in
     omega (arith, descriptor-there (p .args .d) (p .args .at) (now (p .args .s)) (p .pre .1))
-
-descriptor-requires-2 : tie.Need-descriptor-requires-2
-descriptor-requires-2 c κs = (c .before .before .pre .0, c .before .before .pre .2)
 
 returns : tie.Need-returns
 returns c = rw (c .before .descriptor .ensures, c .descriptor2 .ensures)
 
 pub hole-at-spec : {M : Type 1} → statement M
 hole-at-spec =
-    tie.close (tie.spec descriptor-requires add-descriptor descriptor-requires-2 returns)
+    tie.close (tie.spec (λ c κs. (c .before .pre .0, c .before .pre .1)) add-descriptor (λ c κs. (c .before .before .pre .0, c .before .before .pre .2)) returns)

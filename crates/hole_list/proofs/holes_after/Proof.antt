@@ -6,20 +6,11 @@ use Rattle.octets.proofs.NumberLaws.{width-wide}
 use Rattle.hole_list.proofs.holes_after.Statement.{statement}
 use Rattle.hole_list.proofs.holes_after.Tie as tie
 
-holes-rise-requires : tie.Need-holes-rise-requires
-holes-rise-requires c κs = let start = c .before .before in let e : start .args .d ≡ 2 = omega arith in rw e at (start .pre)
-
 returns : tie.Need-returns
 returns c = let e : c .before .before .before .args .d ≡ 2 = omega arith in rw e (c .holes-rise .ensures)
 
-holes-rise-requires-2 : tie.Need-holes-rise-requires-2
-holes-rise-requires-2 c κs = let start = c .before .before .before in let e : start .args .d ≡ 4 = omega arith in rw e at (start .pre)
-
 returns-2 : tie.Need-returns-2
 returns-2 c = let e : c .before .before .before .before .args .d ≡ 4 = omega arith in rw e (c .holes-rise2 .ensures)
-
-holes-rise-requires-3 : tie.Need-holes-rise-requires-3
-holes-rise-requires-3 c κs = let start = c .before .before .before .before in let e : start .args .d ≡ 8 = omega arith in rw e at (start .pre)
 
 returns-3 : tie.Need-returns-3
 returns-3 c = let e : c .before .before .before .before .before .args .d ≡ 8 = omega arith in rw e (c .holes-rise3 .ensures)
@@ -28,9 +19,6 @@ returns-3 c = let e : c .before .before .before .before .before .args .d ≡ 8 =
 sixteen : (c : tie.Else3) → c .before .before .before .before .args .d ≡ 16
 sixteen c = width-wide (c .before .before .before .before .pre .0) (λ e. omega arith) (λ e. omega arith) (λ e. omega arith)
 
-holes-rise-requires-4 : tie.Need-holes-rise-requires-4
-holes-rise-requires-4 c κs = rw (sixteen c) at (c .before .before .before .before .pre)
-
 returns-4 : tie.Need-returns-4
 returns-4 c = rw (sixteen (c .before)) (c .holes-rise4 .ensures)
 
@@ -38,11 +26,7 @@ pub holes-after-spec : {M : Type 1} → statement M
 holes-after-spec =
     tie.close
     (tie.spec
-    holes-rise-requires
-    returns
-    holes-rise-requires-2
-    returns-2
-    holes-rise-requires-3
-    returns-3
-    holes-rise-requires-4
-    returns-4)
+    (λ c κs. let start = c .before .before in let e : start .args .d ≡ 2 = omega arith in rw e at (start .pre)) returns
+    (λ c κs. let start = c .before .before .before in let e : start .args .d ≡ 4 = omega arith in rw e at (start .pre)) returns-2
+    (λ c κs. let start = c .before .before .before .before in let e : start .args .d ≡ 8 = omega arith in rw e at (start .pre)) returns-3
+    (λ c κs. rw (sixteen c) at (c .before .before .before .before .pre)) returns-4)

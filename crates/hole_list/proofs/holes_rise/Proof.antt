@@ -22,9 +22,6 @@ Inv-loop s from d n prev top at₀ left₀ last₀ at left last =
 abbrev μ-loop : tie.MeasureT-loop
 μ-loop s from d n prev top at₀ left₀ last₀ at left last = left
 
-loop-holds : tie.Need-loop-holds Inv-loop μ-loop
-loop-holds c = (c .before .pre .1, c .before .pre .2, refl)
-
 -- there is room for one hole and those after it
 room : (c : tie.In-loop Inv-loop μ-loop)
     → let a = c .before .before .before .args in
@@ -42,9 +39,6 @@ pairs c =
     let a = c .before .before .before .args in
     let l = c .before .loop in
     pair-none (a .d) (now (a .s)) (l .left) (l .at) (omega arith) (l .inv .1)
-
-hole-at-requires : tie.Need-hole-at-requires Inv-loop μ-loop
-hole-at-requires c κs = let p = pairs c in (c .before .before .before .pre .0, p .0, p .1)
 
 -- the judgement, with the first of the holes that are left
 first : (c : tie.After-hole-at Inv-loop μ-loop)
@@ -105,16 +99,6 @@ pub holes-rise-spec : {M : Type 1} → statement M
 holes-rise-spec =
     tie.close
     (tie.spec
-    Inv-loop
-    μ-loop
-    loop-holds
-    hole-at-requires
-    returns
-    returns-2
-    returns-3
-    mul-at
-    add-at
-    (λ c. omega arith)
-    (λ c. omega arith)
-    loop-again
-    returns-4)
+    Inv-loop μ-loop (λ c. (c .before .pre .1, c .before .pre .2, refl))
+    (λ c κs. let p = pairs c in (c .before .before .before .pre .0, p .0, p .1)) returns returns-2 returns-3 mul-at add-at (λ c. omega arith)
+    (λ c. omega arith) loop-again returns-4)

@@ -35,9 +35,6 @@ pairs c =
     let a = start .args in
     pair-none (a .d) (now (a .s)) (a .n) (a .at) (omega arith) (start .pre .2)
 
-hole-at-requires : tie.Need-hole-at-requires
-hole-at-requires c κs = let p = pairs c in (c .before .before .pre .0, p .0, p .1)
-
 -- the judgement, with the first hole
 first : (c : tie.After-hole-at)
     → let a = c .before .before .before .args in
@@ -95,15 +92,5 @@ pub holes-well-spec : {M : Type 1} → statement M
 holes-well-spec =
     tie.close
     (tie.spec
-    (λ c κs. search needs)
-    returns
-    hole-at-requires
-    (λ c κs. search needs)
-    returns-2
-    returns-3
-    returns-4
-    mul-holes-after
-    add-holes-after
-    (λ c. search needs)
-    holes-after-requires
-    returns-5)
+    (λ c κs. search needs) returns (λ c κs. let p = pairs c in (c .before .before .pre .0, p .0, p .1)) (λ c κs. search needs) returns-2
+    returns-3 returns-4 mul-holes-after add-holes-after (λ c. search needs) holes-after-requires returns-5)

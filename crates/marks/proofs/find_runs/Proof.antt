@@ -55,20 +55,8 @@ pub find-runs-spec : {M : Type 1} → statement M
 find-runs-spec =
     tie.close
     (tie.spec
-    Inv-loop
-    μ-loop
-    (λ c κs. search needs)
-    loop-holds
-    (λ c. search needs)
-    (λ c. c .before .before .loop .inv .0)
-    returns
-    (λ c κs. (omega arith, omega arith))
-    (λ c κs. search needs)
-    (λ c. search needs)
-    (λ c κs. search needs)
-    (λ c. search needs)
-    (λ c κs. (search needs, c .before .before .before .before .before .before .before .before .first2 .ensures .within))
-    (λ c. search needs)
-    loop-again
-    (λ c. c .before .loop .inv .0)
+    Inv-loop μ-loop (λ c κs. search needs) loop-holds (λ c. search needs) (λ c. c .before .before .loop .inv .0) returns
+    (λ c κs. (omega arith, omega arith)) (λ c κs. search needs) (λ c. search needs) (λ c κs. search needs) (λ c. search needs)
+    (λ c κs. (search needs, c .before .before .before .before .before .before .before .before .first2 .ensures .within)) (λ c. search needs)
+    loop-again (λ c. c .before .loop .inv .0)
     (λ c. let l = c .before .loop in walk-ends _ (l .rows) (l .n) (l .start) (omega arith) (omega arith) (l .inv .4)))

@@ -48,16 +48,7 @@ pub first-spec : {M : Type 1} → statement M
 first-spec =
     tie.close
     (tie.spec
-    Inv-loop
-    μ-loop
-    (λ c. (all-none _ _ _, omega arith))
-    (λ c κs. omega arith)
-    returns
-    (λ c. omega arith)
-    (λ c κs. (omega arith, omega arith))
-    (λ c. omega (arith, c .skip-octets .ensures .1))
-    (λ c. omega (arith, c .skip-octets .ensures .0 .rise, c .skip-octets .ensures .1))
-    loop-again
-    (λ c. omega arith)
-    loop-again-2
+    Inv-loop μ-loop (λ c. (all-none _ _ _, omega arith)) (λ c κs. omega arith) returns (λ c. omega arith) (λ c κs. (omega arith, omega arith))
+    (λ c. omega (arith, c .skip-octets .ensures .1)) (λ c. omega (arith, c .skip-octets .ensures .0 .rise, c .skip-octets .ensures .1))
+    loop-again (λ c. omega arith) loop-again-2
     (λ c. let l = c .before .loop in record { passed = l .inv .0; within = l .inv .1; found = λ h. absurd (omega arith) }))

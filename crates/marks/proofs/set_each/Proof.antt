@@ -25,12 +25,5 @@ pub set-each-spec : {M : Type 1} → statement M
 set-each-spec =
     tie.close
     (tie.spec
-    Inv-loop
-    μ-loop
-    (λ c. (refl, omega arith, refl))
-    (λ c κs. omega arith)
-    (λ c. omega arith)
-    (λ c. omega arith)
-    loop-again
-    (λ c. c .before .loop .inv .0)
-    (λ c. let l = c .before .loop in marks-end (l .n) _ (l .marks) _ (omega arith) (l .inv .2)))
+    Inv-loop μ-loop (λ c. (refl, omega arith, refl)) (λ c κs. omega arith) (λ c. omega arith) (λ c. omega arith) loop-again
+    (λ c. c .before .loop .inv .0) (λ c. let l = c .before .loop in marks-end (l .n) _ (l .marks) _ (omega arith) (l .inv .2)))

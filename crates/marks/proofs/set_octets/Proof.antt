@@ -28,13 +28,5 @@ pub set-octets-spec : {M : Type 1} → statement M
 set-octets-spec =
     tie.close
     (tie.spec
-    Inv-loop
-    μ-loop
-    (λ c. (refl, omega arith, refl))
-    (λ c. omega arith)
-    (λ c. omega arith)
-    (λ c. omega arith)
-    (λ c. omega arith)
-    loop-again
-    (λ c. c .before .loop .inv .0)
-    (λ c. let l = c .before .loop in marks-end (l .k * 8) _ (l .marks) _ (omega arith) (l .inv .2)))
+    Inv-loop μ-loop (λ c. (refl, omega arith, refl)) (λ c. omega arith) (λ c. omega arith) (λ c. omega arith) (λ c. omega arith) loop-again
+    (λ c. c .before .loop .inv .0) (λ c. let l = c .before .loop in marks-end (l .k * 8) _ (l .marks) _ (omega arith) (l .inv .2)))

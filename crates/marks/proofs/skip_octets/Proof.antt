@@ -44,17 +44,7 @@ pub skip-octets-spec : {M : Type 1} → statement M
 skip-octets-spec =
     tie.close
     (tie.spec
-    Inv-loop
-    μ-loop
-    (λ c κs. search needs)
-    (λ c. (all-none _ _ _, omega arith))
-    (λ c. omega arith)
-    (λ c. c .before .before .before .loop .inv)
-    (λ c. omega arith)
-    (λ c κs. (omega arith, omega arith))
-    (λ c. omega (arith, c .skip-words .ensures .1))
-    (λ c. omega (arith, c .skip-words .ensures .0 .rise, c .skip-words .ensures .1))
-    loop-again
-    (λ c. omega arith)
-    loop-again-2
+    Inv-loop μ-loop (λ c κs. search needs) (λ c. (all-none _ _ _, omega arith)) (λ c. omega arith) (λ c. c .before .before .before .loop .inv)
+    (λ c. omega arith) (λ c κs. (omega arith, omega arith)) (λ c. omega (arith, c .skip-words .ensures .1))
+    (λ c. omega (arith, c .skip-words .ensures .0 .rise, c .skip-words .ensures .1)) loop-again (λ c. omega arith) loop-again-2
     (λ c. c .before .loop .inv))

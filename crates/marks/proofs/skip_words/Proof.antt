@@ -31,13 +31,5 @@ pub skip-words-spec : {M : Type 1} → statement M
 skip-words-spec =
     tie.close
     (tie.spec
-    Inv-loop
-    μ-loop
-    (λ c κs. search needs)
-    (λ c. (all-none _ _ _, omega arith))
-    (λ c κs. omega arith)
-    (λ c. c .before .before .before .loop .inv)
-    (λ c. omega arith)
-    (λ c. omega arith)
-    loop-again
-    (λ c. c .before .loop .inv))
+    Inv-loop μ-loop (λ c κs. search needs) (λ c. (all-none _ _ _, omega arith)) (λ c κs. omega arith)
+    (λ c. c .before .before .before .loop .inv) (λ c. omega arith) (λ c. omega arith) loop-again (λ c. c .before .loop .inv))

@@ -36,14 +36,5 @@ pub copy-into-spec : {M : Type 1} → statement M
 copy-into-spec =
     tie.close
     (tie.spec
-    Inv-loop
-    μ-loop
-    (λ c. (omega arith, refl, paste-zero (now (c .args .out)) (c .args .at) (now (c .args .src))))
-    (λ c. omega arith)
-    (λ c. omega arith)
-    (λ c. omega arith)
-    (λ c. omega arith)
-    (λ c. omega arith)
-    loop-again
-    (λ c. c .before .loop .inv .1)
-    returns)
+    Inv-loop μ-loop (λ c. (omega arith, refl, paste-zero (now (c .args .out)) (c .args .at) (now (c .args .src)))) (λ c. omega arith)
+    (λ c. omega arith) (λ c. omega arith) (λ c. omega arith) (λ c. omega arith) loop-again (λ c. c .before .loop .inv .1) returns)

@@ -36,15 +36,6 @@ pub move-down-spec : {M : Type 1} → statement M
 move-down-spec =
     tie.close
     (tie.spec
-    Inv-loop
-    μ-loop
-    (λ c. let a = c .args in (omega arith, refl, paste-zero (now (a .buf)) (a .to) (drop (a .from) (now (a .buf)))))
-    (λ c. omega arith)
-    (λ c. omega arith)
-    (λ c. omega arith)
-    (λ c. omega arith)
-    (λ c. omega arith)
-    (λ c. omega arith)
-    loop-again
-    (λ c. c .before .loop .inv .1)
-    returns)
+    Inv-loop μ-loop (λ c. let a = c .args in (omega arith, refl, paste-zero (now (a .buf)) (a .to) (drop (a .from) (now (a .buf)))))
+    (λ c. omega arith) (λ c. omega arith) (λ c. omega arith) (λ c. omega arith) (λ c. omega arith) (λ c. omega arith) loop-again
+    (λ c. c .before .loop .inv .1) returns)

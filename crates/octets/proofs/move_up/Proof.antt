@@ -35,15 +35,6 @@ pub move-up-spec : {M : Type 1} → statement M
 move-up-spec =
     tie.close
     (tie.spec
-    Inv-loop
-    μ-loop
-    (λ c. let a = c .args in (omega arith, refl, up-start (now (a .buf)) (a .from) (a .to) (a .n) (omega arith)))
-    (λ c. omega arith)
-    (λ c. omega arith)
-    (λ c. omega arith)
-    (λ c. omega arith)
-    (λ c. omega arith)
-    (λ c. omega arith)
-    loop-again
-    (λ c. c .before .loop .inv .1)
-    returns)
+    Inv-loop μ-loop (λ c. let a = c .args in (omega arith, refl, up-start (now (a .buf)) (a .from) (a .to) (a .n) (omega arith)))
+    (λ c. omega arith) (λ c. omega arith) (λ c. omega arith) (λ c. omega arith) (λ c. omega arith) (λ c. omega arith) loop-again
+    (λ c. c .before .loop .inv .1) returns)

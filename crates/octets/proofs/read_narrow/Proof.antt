@@ -15,8 +15,7 @@ pub read-narrow-spec : {M : Type 1} → statement M
 read-narrow-spec =
     tie.close
     (tie.spec
-    (λ c κs. omega arith)
-    (λ c. let a = c .before .before .before .args in of-width (now (a .s)) (a .at) (a .d) 8 _ (omega arith) (omega arith))
+    (λ c κs. omega arith) (λ c. let a = c .before .before .before .args in of-width (now (a .s)) (a .at) (a .d) 8 _ (omega arith) (omega arith))
     (λ c κs. omega arith)
     (λ c. let a = c .before .before .before .before .args in of-width (now (a .s)) (a .at) (a .d) 4 _ (omega arith) (omega arith))
     (λ c κs. let e = two c in omega arith)

@@ -10,9 +10,6 @@ use Rattle.octets.proofs.read_number.Tie as tie
 returns : tie.Need-returns
 returns c = let e : c .before .before .before .args .d ≡ 16 = omega arith in rw e (c .read-sixteen .ensures)
 
-read-narrow-requires : tie.Need-read-narrow-requires
-read-narrow-requires c κs = let p = c .before .before .pre in (p .0, width-narrow (p .0) (λ e. omega arith), p .1)
-
 returns-2 : tie.Need-returns-2
 returns-2 c =
     let p = c .before .before .before in
@@ -20,4 +17,4 @@ returns-2 c =
     rw (c .read-narrow .ensures) (short-number (now (a .s)) (a .at) (a .d) (width-narrow (p .pre .0) (λ e. omega arith)) (p .pre .1))
 
 pub read-number-spec : {M : Type 1} → statement M
-read-number-spec = tie.close (tie.spec (λ c κs. omega arith) returns read-narrow-requires returns-2)
+read-number-spec = tie.close (tie.spec (λ c κs. omega arith) returns (λ c κs. let p = c .before .before .pre in (p .0, width-narrow (p .0) (λ e. omega arith), p .1)) returns-2)

@@ -69,22 +69,7 @@ pub read-packet-spec : {M : Type 1} → statement M
 read-packet-spec =
     tie.close
     (tie.spec
-    (λ c κs. search needs)
-    (λ c κs. search needs)
-    returns
-    (λ c κs. start-word (now (c .before .before .before .args .p)) (omega arith))
-    (λ c κs. search needs)
-    (λ c κs. search needs)
-    (λ c κs. search needs)
-    returns-2
-    (λ c κs. search needs)
-    (λ c κs. search needs)
-    returns-3
-    (λ c κs. search needs)
-    (λ c κs. search needs)
-    returns-4
-    (λ c κs. search needs)
-    (λ c κs. search needs)
-    returns-5
-    (λ c κs. search needs)
+    (λ c κs. search needs) (λ c κs. search needs) returns (λ c κs. start-word (now (c .before .before .before .args .p)) (omega arith))
+    (λ c κs. search needs) (λ c κs. search needs) (λ c κs. search needs) returns-2 (λ c κs. search needs) (λ c κs. search needs) returns-3
+    (λ c κs. search needs) (λ c κs. search needs) returns-4 (λ c κs. search needs) (λ c κs. search needs) returns-5 (λ c κs. search needs)
     returns-6)

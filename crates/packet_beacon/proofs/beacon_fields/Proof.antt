@@ -51,14 +51,6 @@ pub beacon-fields-spec : {M : Type 1} → statement M
 beacon-fields-spec =
     tie.close
     (tie.spec
-    (λ c κs. beacon-fine (now (c .before .args .p)) (c .before .pre) .head .long)
-    (λ c κs. search needs)
-    (λ c κs. search needs)
-    (λ c κs. search needs)
-    (λ c κs. search needs)
-    (λ c κs. search needs)
-    (λ c κs. search needs)
-    (λ c κs. search needs)
-    (λ c κs. search needs)
-    sub-t12
-    returns)
+    (λ c κs. beacon-fine (now (c .before .args .p)) (c .before .pre) .head .long) (λ c κs. search needs) (λ c κs. search needs)
+    (λ c κs. search needs) (λ c κs. search needs) (λ c κs. search needs) (λ c κs. search needs) (λ c κs. search needs) (λ c κs. search needs)
+    sub-t12 returns)

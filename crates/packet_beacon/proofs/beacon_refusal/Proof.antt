@@ -33,10 +33,5 @@ pub beacon-refusal-spec : {M : Type 1} → statement M
 beacon-refusal-spec =
     tie.close
     (tie.spec
-    (λ c κs. search needs)
-    returns
-    (λ c κs. type-fine 0 (now (c .before .before .before .args .p)) (omega arith) .long)
-    (λ c κs. search needs)
-    (λ c κs. type-fine 0 (now (c .before .before .before .before .before .args .p)) (omega arith) .long)
-    (λ c κs. search needs)
-    returns-2)
+    (λ c κs. search needs) returns (λ c κs. type-fine 0 (now (c .before .before .before .args .p)) (omega arith) .long) (λ c κs. search needs)
+    (λ c κs. type-fine 0 (now (c .before .before .before .before .before .args .p)) (omega arith) .long) (λ c κs. search needs) returns-2)

@@ -41,11 +41,5 @@ pub beacon-write-refusal-spec : {M : Type 1} → statement M
 beacon-write-refusal-spec =
     tie.close
     (tie.spec
-    (λ c κs. search needs)
-    returns
-    (λ c κs. search needs)
-    (λ c κs. search needs)
-    add-room-refusal
-    (λ c κs. search needs)
-    (λ c κs. search needs)
+    (λ c κs. search needs) returns (λ c κs. search needs) (λ c κs. search needs) add-room-refusal (λ c κs. search needs) (λ c κs. search needs)
     returns-2)

@@ -45,9 +45,4 @@ pub write-beacon-spec : {M : Type 1} → statement M
 write-beacon-spec =
     tie.close
     (tie.spec
-    (λ c κs. search needs)
-    (λ c κs. search needs)
-    returns
-    put-beacon-requires
-    (λ c. search needs)
-    returns-2)
+    (λ c κs. search needs) (λ c κs. search needs) returns put-beacon-requires (λ c. search needs) returns-2)

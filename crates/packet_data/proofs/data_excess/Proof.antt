@@ -49,11 +49,6 @@ pub data-excess-spec : {M : Type 1} → statement M
 data-excess-spec =
     tie.close
     (tie.spec
-    returns
-    returns-2
-    (λ c κs. search needs)
-    returns-3
-    (λ c κs. search needs)
-    (λ c κs. search needs)
+    returns returns-2 (λ c κs. search needs) returns-3 (λ c κs. search needs) (λ c κs. search needs)
     (λ c. rw (left (c .before), not-true (c .before .fits2 .result) (c .if4 .taken)))
     (λ c. rw (left (c .before), not-false (c .before .fits2 .result) (c .if4 .left))))

@@ -58,13 +58,7 @@ pub data-fields-spec : {M : Type 1} → statement M
 data-fields-spec =
     tie.close
     (tie.spec
-    (λ c κs. omega (arith, data-fine (now (c .before .args .p)) (c .before .pre) .head .long))
-    (λ c κs. search needs)
-    (λ c κs. search needs)
+    (λ c κs. omega (arith, data-fine (now (c .before .args .p)) (c .before .pre) .head .long)) (λ c κs. search needs) (λ c κs. search needs)
     (λ c κs. search needs)
     (λ c κs. data-fine (now (c .before .before .before .before .before .args .p)) (c .before .before .before .before .before .pre) .head .long)
-    (λ c κs. search needs)
-    (λ c κs. search needs)
-    descriptor-requires
-    sub-t11
-    returns)
+    (λ c κs. search needs) (λ c κs. search needs) descriptor-requires sub-t11 returns)

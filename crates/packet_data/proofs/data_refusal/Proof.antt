@@ -91,15 +91,6 @@ pub data-refusal-spec : {M : Type 1} → statement M
 data-refusal-spec =
     tie.close
     (tie.spec
-    (λ c κs. search needs)
-    returns
-    (λ c κs. omega (arith, type-fine 3 (now (c .before .before .before .args .p)) (omega arith) .long))
-    (λ c κs. search needs)
-    returns-2
-    (λ c κs. search needs)
-    (λ c κs. search needs)
-    (λ c κs. search needs)
-    descriptor-refusal-requires
-    returns-3
-    returns-4
-    returns-5)
+    (λ c κs. search needs) returns (λ c κs. omega (arith, type-fine 3 (now (c .before .before .before .args .p)) (omega arith) .long))
+    (λ c κs. search needs) returns-2 (λ c κs. search needs) (λ c κs. search needs) (λ c κs. search needs) descriptor-refusal-requires returns-3
+    returns-4 returns-5)

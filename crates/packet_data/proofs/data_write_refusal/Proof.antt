@@ -69,14 +69,5 @@ pub data-write-refusal-spec : {M : Type 1} → statement M
 data-write-refusal-spec =
     tie.close
     (tie.spec
-    (λ c κs. search needs)
-    returns
-    (λ c κs. search needs)
-    returns-2
-    (λ c κs. search needs)
-    returns-3
-    returns-4
-    (λ c κs. search needs)
-    add-room-refusal
-    (λ c κs. search needs)
-    returns-5)
+    (λ c κs. search needs) returns (λ c κs. search needs) returns-2 (λ c κs. search needs) returns-3 returns-4 (λ c κs. search needs)
+    add-room-refusal (λ c κs. search needs) returns-5)

@@ -39,12 +39,6 @@ pub payload-spec : {M : Type 1} → statement M
 payload-spec =
     tie.close
     (tie.spec
-    (λ c κs. search needs)
-    (λ c. search needs)
-    returns
-    (λ c κs. omega (arith, data-fine (now (c .before .before .before .args .p)) (omega arith) .head .long))
-    (λ c κs. search needs)
-    (λ c. omega (arith, starts c))
-    (λ c. omega (arith, starts c))
-    (λ c. search needs)
-    returns-2)
+    (λ c κs. search needs) (λ c. search needs) returns
+    (λ c κs. omega (arith, data-fine (now (c .before .before .before .args .p)) (omega arith) .head .long)) (λ c κs. search needs)
+    (λ c. omega (arith, starts c)) (λ c. omega (arith, starts c)) (λ c. search needs) returns-2)

@@ -45,9 +45,4 @@ pub write-data-spec : {M : Type 1} → statement M
 write-data-spec =
     tie.close
     (tie.spec
-    (λ c κs. search needs)
-    (λ c κs. search needs)
-    returns
-    put-data-requires
-    (λ c. search needs)
-    returns-2)
+    (λ c κs. search needs) (λ c κs. search needs) returns put-data-requires (λ c. search needs) returns-2)

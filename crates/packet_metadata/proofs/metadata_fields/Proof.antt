@@ -58,14 +58,8 @@ pub metadata-fields-spec : {M : Type 1} → statement M
 metadata-fields-spec =
     tie.close
     (tie.spec
-    (λ c κs. omega (arith, metadata-fine (now (c .before .args .p)) (c .before .pre) .start .long))
-    (λ c κs. search needs)
-    (λ c κs. search needs)
-    (λ c κs. search needs)
-    (λ c. search needs)
-    (λ c. omega (arith, known c))
-    (λ c. omega (arith, known c))
-    (λ c. search needs)
-    entry-fields-requires
+    (λ c κs. omega (arith, metadata-fine (now (c .before .args .p)) (c .before .pre) .start .long)) (λ c κs. search needs)
+    (λ c κs. search needs) (λ c κs. search needs) (λ c. search needs) (λ c. omega (arith, known c)) (λ c. omega (arith, known c))
+    (λ c. search needs) entry-fields-requires
     (λ c κs. let start = c .before .before .before .before .before .before .before in metadata-fine (now (start .args .p)) (start .pre) .start .long)
     returns)

@@ -80,19 +80,6 @@ pub metadata-refusal-spec : {M : Type 1} → statement M
 metadata-refusal-spec =
     tie.close
     (tie.spec
-    (λ c κs. search needs)
-    returns
-    (λ c κs. omega (arith, type-fine 2 (now (c .before .before .before .args .p)) (omega arith) .long))
-    (λ c κs. search needs)
-    (λ c κs. search needs)
-    returns-2
-    returns-3
-    (λ c κs. search needs)
-    (λ c. search needs)
-    returns-4
-    (λ c. search needs)
-    (λ c. search needs)
-    (λ c. search needs)
-    (λ c κs. search needs)
-    (λ c κs. search needs)
-    returns-5)
+    (λ c κs. search needs) returns (λ c κs. omega (arith, type-fine 2 (now (c .before .before .before .args .p)) (omega arith) .long))
+    (λ c κs. search needs) (λ c κs. search needs) returns-2 returns-3 (λ c κs. search needs) (λ c. search needs) returns-4 (λ c. search needs)
+    (λ c. search needs) (λ c. search needs) (λ c κs. search needs) (λ c κs. search needs) returns-5)

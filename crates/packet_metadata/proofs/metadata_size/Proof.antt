@@ -9,11 +9,6 @@ pub metadata-size-spec : {M : Type 1} → statement M
 metadata-size-spec =
     tie.close
     (tie.spec
-    (λ c κs. search needs)
-    (λ c. search needs)
-    (λ c κs. search needs)
-    (λ c. omega (arith, size-le (c .before .before .args .properties)))
-    (λ c. omega (arith, size-le (c .before .before .args .properties)))
-    (λ c. omega (arith, size-le (c .before .before .args .properties)))
-    (λ c. omega (arith, size-le (c .before .before .args .properties)))
-    (λ c. search needs))
+    (λ c κs. search needs) (λ c. search needs) (λ c κs. search needs) (λ c. omega (arith, size-le (c .before .before .args .properties)))
+    (λ c. omega (arith, size-le (c .before .before .args .properties))) (λ c. omega (arith, size-le (c .before .before .args .properties)))
+    (λ c. omega (arith, size-le (c .before .before .args .properties))) (λ c. search needs))

@@ -43,10 +43,4 @@ pub write-metadata-spec : {M : Type 1} → statement M
 write-metadata-spec =
     tie.close
     (tie.spec
-    (λ c κs. search needs)
-    (λ c κs. search needs)
-    returns
-    put-metadata-requires
-    (λ c κs. search needs)
-    (λ c. search needs)
-    returns-2)
+    (λ c κs. search needs) (λ c κs. search needs) returns put-metadata-requires (λ c κs. search needs) (λ c. search needs) returns-2)

@@ -16,9 +16,6 @@ use native.Mathlib.Omega.{arith}
 use Rattle.packet_status.proofs.hole_count.Statement.{statement}
 use Rattle.packet_status.proofs.hole_count.Tie as tie
 
-word-requires : tie.Need-word-requires
-word-requires c κs = omega (arith, status-fine (now (c .before .args .p)) (c .before .pre .0) .typed .long)
-
 -- the octets that the word gives, and where the list starts
 known : (c : tie.After-timestamp-octets)
     → let s = now (c .before .before .before .before .args .p) in
@@ -35,23 +32,8 @@ known c =
     let d : c .before .descriptor-octets .result ≡ descriptorOctets (wordOf s) = c .before .descriptor-octets .ensures ∙ ap descriptorOctets e in
     (d, c .timestamp-octets .ensures ∙ ap timestampOctets e, fields-there s (f .descriptors), rw d (octets-width (wordOf s)))
 
-mul-holes : tie.Need-mul-holes
-mul-holes c = omega (arith, width-le (known c .3))
-
-add-holes-2 : tie.Need-add-holes-2
-add-holes-2 c = omega (arith, width-le (known c .3))
-
-sub-result : tie.Need-sub-result
-sub-result c = let k = known c in omega arith
-
-mul-result : tie.Need-mul-result
-mul-result c = omega (arith, width-le (known c .3))
-
-div-result : tie.Need-div-result
-div-result c = omega (arith, width-some (known c .3))
-
 returns : tie.Need-returns
 returns c = let k = known c in rw (k .0, k .1)
 
 pub hole-count-spec : {M : Type 1} → statement M
-hole-count-spec = tie.close (tie.spec word-requires (λ c κs. search needs) (λ c κs. search needs) (λ c. search needs) mul-holes add-holes-2 sub-result mul-result div-result returns)
+hole-count-spec = tie.close (tie.spec (λ c κs. omega (arith, status-fine (now (c .before .args .p)) (c .before .pre .0) .typed .long)) (λ c κs. search needs) (λ c κs. search needs) (λ c. search needs) (λ c. omega (arith, width-le (known c .3))) (λ c. omega (arith, width-le (known c .3))) (λ c. let k = known c in omega arith) (λ c. omega (arith, width-le (known c .3))) (λ c. omega (arith, width-some (known c .3))) returns)

@@ -16,9 +16,6 @@ use native.Mathlib.Omega.{arith}
 use Rattle.packet_status.proofs.hole_of_width.Statement.{statement}
 use Rattle.packet_status.proofs.hole_of_width.Tie as tie
 
-word-requires : tie.Need-word-requires
-word-requires c κs = let start = c .before in omega (arith, hole-fine (start .args .index) (now (start .args .p)) (start .pre .0) .typed .long)
-
 -- the octets that the word gives, and the place of the hole
 known : (c : tie.After-timestamp-octets)
     → let a = c .before .before .before .args in
@@ -39,24 +36,6 @@ known c =
     let n = hole-none i s f in
     (t, rw d (octets-width (wordOf s)), rw (d, t) (hole-fits i s f), rw (d, t) (n .0), rw (d, t) (n .1))
 
-mul-holes : tie.Need-mul-holes
-mul-holes c = let k = known c in omega arith
-
-add-holes-2 : tie.Need-add-holes-2
-add-holes-2 c = let k = known c in omega arith
-
-mul-hole-at : tie.Need-mul-hole-at
-mul-hole-at c = let k = known c in omega arith
-
-mul-hole-at-2 : tie.Need-mul-hole-at-2
-mul-hole-at-2 c = let k = known c in omega arith
-
-add-hole-at : tie.Need-add-hole-at
-add-hole-at c = let k = known c in omega arith
-
-hole-at-requires : tie.Need-hole-at-requires
-hole-at-requires c κs = let k = known c in (k .1, k .3, k .4)
-
 returns : tie.Need-returns
 unfolding indexedHole
 returns c = let k = known (c .before) in rw (c .hole-at .ensures, c .before .before .before .before .pre .1, k .0)
@@ -65,13 +44,7 @@ pub hole-of-width-spec : {M : Type 1} → statement M
 hole-of-width-spec =
     tie.close
     (tie.spec
-    word-requires
-    (λ c κs. search needs)
-    (λ c. search needs)
-    mul-holes
-    add-holes-2
-    mul-hole-at
-    mul-hole-at-2
-    add-hole-at
-    hole-at-requires
-    returns)
+    (λ c κs. let start = c .before in omega (arith, hole-fine (start .args .index) (now (start .args .p)) (start .pre .0) .typed .long))
+    (λ c κs. search needs) (λ c. search needs) (λ c. let k = known c in omega arith) (λ c. let k = known c in omega arith)
+    (λ c. let k = known c in omega arith) (λ c. let k = known c in omega arith) (λ c. let k = known c in omega arith)
+    (λ c κs. let k = known c in (k .1, k .3, k .4)) returns)

@@ -18,9 +18,6 @@ returns : tie.Need-returns
 unfolding holeRefusal
 returns c = let s = now (c .before .before .before .args .p) in c .before .status-refusal .ensures ∙ sym (stays (statusRefusal s) _ (omega arith))
 
-word-requires : tie.Need-word-requires
-word-requires c κs = omega (arith, status-fine (now (c .before .before .before .args .p)) (omega arith) .typed .long)
-
 returns-2 : tie.Need-returns-2
 unfolding holeRefusal
 returns-2 c =
@@ -62,11 +59,5 @@ pub hole-refusal-spec : {M : Type 1} → statement M
 hole-refusal-spec =
     tie.close
     (tie.spec
-    (λ c κs. search needs)
-    returns
-    word-requires
-    (λ c κs. search needs)
-    returns-2
-    success-fields-requires
-    returns-3
-    returns-4)
+    (λ c κs. search needs) returns (λ c κs. omega (arith, status-fine (now (c .before .before .before .args .p)) (omega arith) .typed .long))
+    (λ c κs. search needs) returns-2 success-fields-requires returns-3 returns-4)

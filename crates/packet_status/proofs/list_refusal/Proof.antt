@@ -22,9 +22,6 @@ use native.Mathlib.Omega.{arith}
 use Rattle.packet_status.proofs.list_refusal.Statement.{statement}
 use Rattle.packet_status.proofs.list_refusal.Tie as tie
 
-word-requires : tie.Need-word-requires
-word-requires c κs = let start = c .before in omega (arith, fields-there (now (start .args .p)) (start .pre))
-
 -- the word of the packet, and the octets that it gives
 known : (c : tie.After-timestamp-octets)
     → let s = now (c .before .before .before .before .before .args .p) in
@@ -41,21 +38,6 @@ known c =
     let d : c .before .descriptor-octets .result ≡ descriptorOctets (wordOf s) = c .before .descriptor-octets .ensures ∙ ap descriptorOctets e in
     (e, d, c .timestamp-octets .ensures ∙ ap timestampOctets e, fields-there s (start .pre), rw d (octets-width (wordOf s)))
 
-mul-holes : tie.Need-mul-holes
-mul-holes c = omega (arith, octets-le (c .before .before .before .word .result))
-
-add-holes : tie.Need-add-holes
-add-holes c = omega (arith, octets-le (c .before .before .before .word .result))
-
-sub-rest : tie.Need-sub-rest
-sub-rest c = let k = known c in omega arith
-
-mul-if1 : tie.Need-mul-if1
-mul-if1 c = let k = known c in omega arith
-
-rem-if1 : tie.Need-rem-if1
-rem-if1 c = omega (arith, width-some (known c .4))
-
 -- the octets after In-Response-To, by the code's places and by the packet's
 rest : (c : tie.After-timestamp-octets)
     → let s = now (c .before .before .before .before .before .args .p) in
@@ -70,21 +52,12 @@ returns c =
     let s = now (start .args .p) in
     rw (ne-eqb (listOctets s % (2 * descriptorOctets (wordOf s))) 0 (λ z. c .if1 .taken (rest (c .before) ∙ z)))
 
-mul-count : tie.Need-mul-count
-mul-count c = let k = known (c .before) in omega arith
-
-div-count : tie.Need-div-count
-div-count c = omega (arith, width-some (known (c .before) .4))
-
 descriptor-requires : tie.Need-descriptor-requires
 descriptor-requires c κs =
     let timestamp-place = c .before .before .before in
     let k = known timestamp-place in
     let start = timestamp-place .before .before .before .before .before in
     (k .4, rw (k .1, k .2) (start .pre .progress-none))
-
-add-descriptor : tie.Need-add-descriptor
-add-descriptor c = let k = known (c .before .before .before .before) in omega arith
 
 descriptor-requires-2 : tie.Need-descriptor-requires-2
 descriptor-requires-2 c κs =
@@ -163,24 +136,10 @@ pub list-refusal-spec : {M : Type 1} → statement M
 list-refusal-spec =
     tie.close
     (tie.spec
-    word-requires
-    (λ c κs. search needs)
-    (λ c κs. search needs)
-    (λ c κs. search needs)
-    (λ c. search needs)
-    mul-holes
-    add-holes
-    sub-rest
-    mul-if1
-    rem-if1
-    returns
-    mul-count
-    div-count
-    descriptor-requires
-    add-descriptor
-    descriptor-requires-2
-    (λ c κs. search needs)
-    returns-2
-    holes-well-requires
-    returns-3
-    returns-4)
+    (λ c κs. let start = c .before in omega (arith, fields-there (now (start .args .p)) (start .pre))) (λ c κs. search needs)
+    (λ c κs. search needs) (λ c κs. search needs) (λ c. search needs) (λ c. omega (arith, octets-le (c .before .before .before .word .result)))
+    (λ c. omega (arith, octets-le (c .before .before .before .word .result))) (λ c. let k = known c in omega arith)
+    (λ c. let k = known c in omega arith) (λ c. omega (arith, width-some (known c .4))) returns (λ c. let k = known (c .before) in omega arith)
+    (λ c. omega (arith, width-some (known (c .before) .4))) descriptor-requires
+    (λ c. let k = known (c .before .before .before .before) in omega arith) descriptor-requires-2 (λ c κs. search needs) returns-2
+    holes-well-requires returns-3 returns-4)

@@ -12,27 +12,15 @@ use Rattle.packet_status.proofs.StatusLaws.{hole-fine}
 use Rattle.packet_status.proofs.listed_hole.Statement.{statement}
 use Rattle.packet_status.proofs.listed_hole.Tie as tie
 
-word-requires : tie.Need-word-requires
-word-requires c κs = let start = c .before in omega (arith, hole-fine (start .args .index) (now (start .args .p)) (start .pre) .typed .long)
-
 -- the packet's width
 width : (c : tie.After-descriptor-octets) → c .descriptor-octets .result ≡ descriptorOctets (wordOf (now (c .before .before .before .args .p)))
 width c = c .descriptor-octets .ensures ∙ ap descriptorOctets (c .before .word .ensures)
 
-hole-of-width-requires : tie.Need-hole-of-width-requires
-hole-of-width-requires c κs = let at = c .before in (at .before .before .before .pre, omega (arith, width at))
-
 returns : tie.Need-returns
 returns c = c .hole-of-width .ensures
 
-hole-of-width-requires-2 : tie.Need-hole-of-width-requires-2
-hole-of-width-requires-2 c κs = let at = c .before .before in (at .before .before .before .pre, omega (arith, width at))
-
 returns-2 : tie.Need-returns-2
 returns-2 c = c .hole-of-width2 .ensures
-
-hole-of-width-requires-3 : tie.Need-hole-of-width-requires-3
-hole-of-width-requires-3 c κs = let at = c .before .before .before in (at .before .before .before .pre, omega (arith, width at))
 
 returns-3 : tie.Need-returns-3
 returns-3 c = c .hole-of-width3 .ensures
@@ -52,13 +40,8 @@ pub listed-hole-spec : {M : Type 1} → statement M
 listed-hole-spec =
     tie.close
     (tie.spec
-    word-requires
-    (λ c κs. search needs)
-    hole-of-width-requires
-    returns
-    hole-of-width-requires-2
-    returns-2
-    hole-of-width-requires-3
-    returns-3
-    hole-of-width-requires-4
-    returns-4)
+    (λ c κs. let start = c .before in omega (arith, hole-fine (start .args .index) (now (start .args .p)) (start .pre) .typed .long))
+    (λ c κs. search needs) (λ c κs. let at = c .before in (at .before .before .before .pre, omega (arith, width at))) returns
+    (λ c κs. let at = c .before .before in (at .before .before .before .pre, omega (arith, width at))) returns-2
+    (λ c κs. let at = c .before .before .before in (at .before .before .before .pre, omega (arith, width at))) returns-3
+    hole-of-width-requires-4 returns-4)

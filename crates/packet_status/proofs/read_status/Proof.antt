@@ -20,9 +20,6 @@ returns c =
     let e : c .before .before .status-refusal .result ≡ statusRefusal s = c .before .before .status-refusal .ensures in
     rw (c .refuse .ensures, e) (answered-refused Refused (statusRefusal s) _ (omega arith))
 
-word-requires : tie.Need-word-requires
-word-requires c κs = omega (arith, status-fine (now (c .before .before .before .args .p)) (omega arith) .typed .long)
-
 success-fields-requires : tie.Need-success-fields-requires
 success-fields-requires c κs =
     let s = now (c .before .before .before .before .before .before .args .p) in
@@ -39,9 +36,6 @@ returns-2 c =
     let y : statusOf (wordOf s) ≡ 0 = omega arith in
     rw (z, y, c .success-fields .ensures)
 
-id-requires : tie.Need-id-requires
-id-requires c κs = status-fine (now (c .before .before .before .before .before .before .args .p)) (omega arith) .typed .long
-
 returns-3 : tie.Need-returns-3
 unfolding readStatus failureOf
 returns-3 c =
@@ -57,12 +51,7 @@ pub read-status-spec : {M : Type 1} → statement M
 read-status-spec =
     tie.close
     (tie.spec
-    (λ c κs. search needs)
-    (λ c κs. search needs)
-    returns
-    word-requires
-    (λ c κs. search needs)
-    success-fields-requires
-    returns-2
-    id-requires
-    returns-3)
+    (λ c κs. search needs) (λ c κs. search needs) returns
+    (λ c κs. omega (arith, status-fine (now (c .before .before .before .args .p)) (omega arith) .typed .long)) (λ c κs. search needs)
+    success-fields-requires returns-2
+    (λ c κs. status-fine (now (c .before .before .before .before .before .before .args .p)) (omega arith) .typed .long) returns-3)

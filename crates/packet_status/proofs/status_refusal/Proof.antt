@@ -17,9 +17,6 @@ returns : tie.Need-returns
 unfolding statusRefusal
 returns c = let s = now (c .before .before .before .args .p) in c .before .type-refusal .ensures ∙ sym (stays (typeRefusal 4 s) _ (omega arith))
 
-word-requires : tie.Need-word-requires
-word-requires c κs = omega (arith, type-fine 4 (now (c .before .before .before .args .p)) (omega arith) .long)
-
 returns-2 : tie.Need-returns-2
 unfolding statusRefusal
 returns-2 c =
@@ -27,9 +24,6 @@ returns-2 c =
     let s = now (start .args .p) in
     let z : typeRefusal 4 s ≡ 0 = omega arith in
     rw (z, ne-eqb (statusOf (wordOf s)) 0 (omega arith))
-
-success-refusal-requires : tie.Need-success-refusal-requires
-success-refusal-requires c κs = type-fine 4 (now (c .before .before .before .before .before .before .before .args .p)) (omega arith) .long
 
 returns-3 : tie.Need-returns-3
 unfolding statusRefusal
@@ -43,10 +37,6 @@ pub status-refusal-spec : {M : Type 1} → statement M
 status-refusal-spec =
     tie.close
     (tie.spec
-    (λ c κs. search needs)
-    returns
-    word-requires
-    (λ c κs. search needs)
-    returns-2
-    success-refusal-requires
-    returns-3)
+    (λ c κs. search needs) returns (λ c κs. omega (arith, type-fine 4 (now (c .before .before .before .args .p)) (omega arith) .long))
+    (λ c κs. search needs) returns-2
+    (λ c κs. type-fine 4 (now (c .before .before .before .before .before .before .before .args .p)) (omega arith) .long) returns-3)

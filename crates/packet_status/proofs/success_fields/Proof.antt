@@ -33,35 +33,17 @@ known c =
     let d : c .before .descriptor-octets .result ≡ descriptorOctets (wordOf s) = c .before .descriptor-octets .ensures ∙ ap descriptorOctets e in
     (e, d, c .timestamp-octets .ensures ∙ ap timestampOctets e, fields-there s (f .descriptors), rw d (octets-width (wordOf s)))
 
-mul-holes : tie.Need-mul-holes
-mul-holes c = omega (arith, octets-le (c .before .before .before .word .result))
-
-add-holes : tie.Need-add-holes
-add-holes c = omega (arith, octets-le (c .before .before .before .word .result))
-
 descriptor-requires : tie.Need-descriptor-requires
 descriptor-requires c κs =
     let k = known (c .before) in
     let start = c .before .before .before .before .before .before in
     (k .4, rw (k .1, k .2) (success-fine (now (start .args .p)) (start .pre .1) .descriptors .progress-none))
 
-add-descriptor : tie.Need-add-descriptor
-add-descriptor c = let k = known (c .before .before) in omega arith
-
 descriptor-requires-2 : tie.Need-descriptor-requires-2
 descriptor-requires-2 c κs =
     let k = known (c .before .before) in
     let start = c .before .before .before .before .before .before .before in
     (k .4, rw (k .1, k .2) (success-fine (now (start .args .p)) (start .pre .1) .descriptors .response-none))
-
-sub-t13 : tie.Need-sub-t13
-sub-t13 c = let k = known (c .before .before .before) in omega arith
-
-mul-t14 : tie.Need-mul-t14
-mul-t14 c = let k = known (c .before .before .before) in omega arith
-
-div-t15 : tie.Need-div-t15
-div-t15 c = omega (arith, width-some (known (c .before .before .before) .4))
 
 returns : tie.Need-returns
 unfolding successOf
@@ -75,18 +57,9 @@ pub success-fields-spec : {M : Type 1} → statement M
 success-fields-spec =
     tie.close
     (tie.spec
-    (λ c κs. search needs)
-    (λ c κs. search needs)
-    (λ c κs. search needs)
-    (λ c κs. search needs)
-    (λ c. search needs)
-    mul-holes
-    add-holes
-    (λ c κs. search needs)
-    descriptor-requires
-    add-descriptor
-    descriptor-requires-2
-    sub-t13
-    mul-t14
-    div-t15
-    returns)
+    (λ c κs. search needs) (λ c κs. search needs) (λ c κs. search needs) (λ c κs. search needs) (λ c. search needs)
+    (λ c. omega (arith, octets-le (c .before .before .before .word .result)))
+    (λ c. omega (arith, octets-le (c .before .before .before .word .result))) (λ c κs. search needs) descriptor-requires
+    (λ c. let k = known (c .before .before) in omega arith) descriptor-requires-2
+    (λ c. let k = known (c .before .before .before) in omega arith) (λ c. let k = known (c .before .before .before) in omega arith)
+    (λ c. omega (arith, width-some (known (c .before .before .before) .4))) returns)

@@ -31,9 +31,6 @@ octets c =
     let d : c .before .descriptor-octets .result ≡ descriptorOctets (wordOf s) = c .before .descriptor-octets .ensures ∙ ap descriptorOctets e in
     (d, c .timestamp-octets .ensures ∙ ap timestampOctets e, rw d (octets-width (wordOf s)))
 
-descriptor-refusal-requires : tie.Need-descriptor-refusal-requires
-descriptor-refusal-requires c κs = let k = octets c in (k .2, omega (arith, width-le (k .2)))
-
 -- the refusal of Progress
 progress : (c : tie.After-descriptor-refusal)
     → let s = now (c .before .before .before .before .before .args .p) in
@@ -48,12 +45,6 @@ returns c =
     let w = wordOf s in
     let g = progress (c .before) in
     g ∙ sym (stays (descriptorRefusal (descriptorOctets w) (progressAt w) s) _ (omega arith))
-
-add-descriptor-refusal : tie.Need-add-descriptor-refusal
-add-descriptor-refusal c = omega (arith, width-le (octets (c .before .before) .2))
-
-descriptor-refusal-requires-2 : tie.Need-descriptor-refusal-requires-2
-descriptor-refusal-requires-2 c κs = let k = octets (c .before .before) in (k .2, omega (arith, width-le (k .2)))
 
 -- Progress is not refused, and the refusal of In-Response-To
 response : (c : tie.After-descriptor-refusal2)
@@ -84,18 +75,6 @@ there c =
     let w = wordOf s in
     let z : descriptorRefusal (descriptorOctets w) (responseAt w) s ≡ 0 = omega (arith, response (c .before) .1) in
     (z, omega (arith, descriptor-there (descriptorOctets w) (responseAt w) s z))
-
-mul-pair : tie.Need-mul-pair
-mul-pair c = omega (arith, width-le (octets (c .before .before .before .before) .2))
-
-add-holes : tie.Need-add-holes
-add-holes c = omega (arith, width-le (octets (c .before .before .before .before) .2))
-
-sub-rest : tie.Need-sub-rest
-sub-rest c = let k = octets (c .before .before .before .before) in let t = there c in omega arith
-
-div-descriptors-refusal : tie.Need-div-descriptors-refusal
-div-descriptors-refusal c = omega (arith, width-some (octets (c .before .before .before .before) .2))
 
 descriptors-refusal-requires : tie.Need-descriptors-refusal-requires
 descriptors-refusal-requires c κs =
@@ -131,9 +110,6 @@ none c =
     let l = listed (c .before) in
     record { progress-none = response (e .before) .0; response-none = there e .0; list-none = omega arith }
 
-list-refusal-requires : tie.Need-list-refusal-requires
-list-refusal-requires c κs = none c
-
 returns-4 : tie.Need-returns-4
 unfolding successRefusal
 returns-4 c =
@@ -144,20 +120,11 @@ pub success-refusal-spec : {M : Type 1} → statement M
 success-refusal-spec =
     tie.close
     (tie.spec
-    (λ c κs. search needs)
-    (λ c κs. search needs)
-    (λ c κs. search needs)
-    (λ c. search needs)
-    descriptor-refusal-requires
-    returns
-    add-descriptor-refusal
-    descriptor-refusal-requires-2
-    returns-2
-    mul-pair
-    add-holes
-    sub-rest
-    div-descriptors-refusal
-    descriptors-refusal-requires
-    returns-3
-    list-refusal-requires
+    (λ c κs. search needs) (λ c κs. search needs) (λ c κs. search needs) (λ c. search needs)
+    (λ c κs. let k = octets c in (k .2, omega (arith, width-le (k .2)))) returns (λ c. omega (arith, width-le (octets (c .before .before) .2)))
+    (λ c κs. let k = octets (c .before .before) in (k .2, omega (arith, width-le (k .2)))) returns-2
+    (λ c. omega (arith, width-le (octets (c .before .before .before .before) .2)))
+    (λ c. omega (arith, width-le (octets (c .before .before .before .before) .2)))
+    (λ c. let k = octets (c .before .before .before .before) in let t = there c in omega arith)
+    (λ c. omega (arith, width-some (octets (c .before .before .before .before) .2))) descriptors-refusal-requires returns-3 (λ c κs. none c)
     returns-4)

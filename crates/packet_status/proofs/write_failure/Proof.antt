@@ -19,9 +19,6 @@ returns c =
     let e : c .before .before .failure-write-refusal .result ≡ n = c .before .before .failure-write-refusal .ensures in
     (rw (c .refuse .ensures, e) (written-refused n 8 (omega arith)), buffer-refused n (failureOctets (a .id) (a .status)) (now (a .out)) (omega arith))
 
-join-requires : tie.Need-join-requires
-join-requires c κs = let a = c .before .before .before .before .args in let f = failure-fine (a .id) (a .status) (length (now (a .out))) (omega arith) in omega arith
-
 write-number-requires : tie.Need-write-number-requires
 write-number-requires c κs =
     let start = c .before .before .before .before .before in
@@ -47,11 +44,6 @@ pub write-failure-spec : {M : Type 1} → statement M
 write-failure-spec =
     tie.close
     (tie.spec
-    (λ c κs. search needs)
-    (λ c κs. search needs)
-    returns
-    join-requires
-    write-number-requires
-    write-number-requires-2
-    (λ c. search needs)
-    returns-2)
+    (λ c κs. search needs) (λ c κs. search needs) returns
+    (λ c κs. let a = c .before .before .before .before .args in let f = failure-fine (a .id) (a .status) (length (now (a .out))) (omega arith) in omega arith)
+    write-number-requires write-number-requires-2 (λ c. search needs) returns-2)

@@ -11,12 +11,9 @@ returns : tie.Need-returns
 unfolding advanced
 returns c = let a = c .before .before .before .before .args in rw (lt-ltb (a .c .offset + a .n) (a .c .end) (omega arith))
 
-cursor-at-requires : tie.Need-cursor-at-requires
-cursor-at-requires c κs = c .before .before .before .before .pre .0
-
 returns-2 : tie.Need-returns-2
 unfolding advanced
 returns-2 c = let a = c .before .before .before .before .before .args in rw (le-ltb (a .c .offset + a .n) (a .c .end) (omega arith)) (c .cursor-at .ensures)
 
 pub advance-spec : {M : Type 1} → statement M
-advance-spec = tie.close (tie.spec (λ c. search needs) returns cursor-at-requires returns-2)
+advance-spec = tie.close (tie.spec (λ c. search needs) returns (λ c κs. c .before .before .before .before .pre .0) returns-2)

@@ -27,9 +27,6 @@ Inv-loop s holes m d count₀ i₀ count i =
 abbrev μ-loop : tie.MeasureT-loop
 μ-loop s holes m d count₀ i₀ count i = holes - i
 
-loop-holds : tie.Need-loop-holds Inv-loop μ-loop
-loop-holds c = (omega arith, omega arith, λ l. omega arith)
-
 -- the index is one of the list's
 within : (c : tie.In-loop Inv-loop μ-loop) → c .before .loop .i < length (holeList (now (c .before .before .before .args .status)))
 within c = omega (arith, c .before .before .before .pre .1)
@@ -61,9 +58,6 @@ fine c =
     let f = resend-fine m s (start .pre .0) in
     (rw (read c) (full m s f (c .before .before .loop .i) (within (c .before))), f .some)
 
-pieces-of-requires : tie.Need-pieces-of-requires Inv-loop μ-loop
-pieces-of-requires c κs = fine c
-
 -- with its pieces the sum stays at or below its end
 below : (c : tie.After-pieces-of Inv-loop μ-loop) → c .before .before .before .loop .count + c .pieces-of .result ≤ c .before .hole-of-width .result .end
 below c =
@@ -74,9 +68,6 @@ below c =
     let f = fine p in
     let a : l .count ≤ h .start = rw (read p) (l .inv .2 (omega arith)) in
     omega (arith, c .pieces-of .ensures, count-below m (h .start) (h .end) (f .1) (f .0))
-
-add-count : tie.Need-add-count Inv-loop μ-loop
-add-count c = let k : c .before .hole-of-width .result .end < 2 ^ 64 = c .before .hole-of-width .ok .1 .1 .1 .0 .1 in record { fits = omega (arith, below c) }
 
 loop-again : tie.Need-loop-again Inv-loop μ-loop
 loop-again c =
@@ -106,4 +97,4 @@ returns c =
     omega (arith, rw z at e)
 
 pub count-of-width-spec : {M : Type 1} → statement M
-count-of-width-spec = tie.close (tie.spec Inv-loop μ-loop loop-holds hole-of-width-requires pieces-of-requires add-count (λ c. search needs) (λ c. omega arith) loop-again returns)
+count-of-width-spec = tie.close (tie.spec Inv-loop μ-loop (λ c. (omega arith, omega arith, λ l. omega arith)) hole-of-width-requires (λ c κs. fine c) (λ c. let k : c .before .hole-of-width .result .end < 2 ^ 64 = c .before .hole-of-width .ok .1 .1 .1 .0 .1 in record { fits = omega (arith, below c) }) (λ c. search needs) (λ c. omega arith) loop-again returns)

@@ -22,20 +22,11 @@ word-requires c κs =
 width : (c : tie.After-descriptor-octets) → c .descriptor-octets .result ≡ descriptorOctets (wordOf (now (c .before .before .before .args .status)))
 width c = c .descriptor-octets .ensures ∙ ap descriptorOctets (c .before .word .ensures)
 
-count-of-width-requires : tie.Need-count-of-width-requires
-count-of-width-requires c κs = let at = c .before in let p = at .before .before .before .pre in (p .0, p .1, omega (arith, width at))
-
 returns : tie.Need-returns
 returns c = c .count-of-width .ensures
 
-count-of-width-requires-2 : tie.Need-count-of-width-requires-2
-count-of-width-requires-2 c κs = let at = c .before .before in let p = at .before .before .before .pre in (p .0, p .1, omega (arith, width at))
-
 returns-2 : tie.Need-returns-2
 returns-2 c = c .count-of-width2 .ensures
-
-count-of-width-requires-3 : tie.Need-count-of-width-requires-3
-count-of-width-requires-3 c κs = let at = c .before .before .before in let p = at .before .before .before .pre in (p .0, p .1, omega (arith, width at))
 
 returns-3 : tie.Need-returns-3
 returns-3 c = c .count-of-width3 .ensures
@@ -55,13 +46,8 @@ pub count-pieces-spec : {M : Type 1} → statement M
 count-pieces-spec =
     tie.close
     (tie.spec
-    word-requires
-    (λ c κs. search needs)
-    count-of-width-requires
-    returns
-    count-of-width-requires-2
-    returns-2
-    count-of-width-requires-3
-    returns-3
-    count-of-width-requires-4
-    returns-4)
+    word-requires (λ c κs. search needs)
+    (λ c κs. let at = c .before in let p = at .before .before .before .pre in (p .0, p .1, omega (arith, width at))) returns
+    (λ c κs. let at = c .before .before in let p = at .before .before .before .pre in (p .0, p .1, omega (arith, width at))) returns-2
+    (λ c κs. let at = c .before .before .before in let p = at .before .before .before .pre in (p .0, p .1, omega (arith, width at))) returns-3
+    count-of-width-requires-4 returns-4)

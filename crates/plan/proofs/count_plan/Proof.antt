@@ -38,13 +38,10 @@ returns c =
 fine : (c : tie.Else1) → resendRefusal (c .before .before .before .before .args .largest) (now (c .before .before .before .before .args .status)) ≡ 0
 fine c = let k = known (c .before .before) in omega arith
 
-count-pieces-requires : tie.Need-count-pieces-requires
-count-pieces-requires c κs = (fine c, known (c .before .before) .1 (fine c))
-
 returns-2 : tie.Need-returns-2
 returns-2 c =
     let e = fine (c .before) in
     rw (e, c .count-pieces .ensures, known (c .before .before .before) .1 e)
 
 pub count-plan-spec : {M : Type 1} → statement M
-count-plan-spec = tie.close (tie.spec (λ c κs. search needs) returns count-pieces-requires returns-2)
+count-plan-spec = tie.close (tie.spec (λ c κs. search needs) returns (λ c κs. (fine c, known (c .before .before) .1 (fine c))) returns-2)

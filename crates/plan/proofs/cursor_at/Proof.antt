@@ -17,9 +17,6 @@ returns : tie.Need-returns
 unfolding cursorAt
 returns c = let a = c .before .before .args in rw (le-ltb (a .index) (a .count) (omega arith))
 
-listed-hole-requires : tie.Need-listed-hole-requires
-listed-hole-requires c κs = let start = c .before .before in start .pre (start .args .index) (omega arith)
-
 returns-2 : tie.Need-returns-2
 unfolding cursorAt
 returns-2 c =
@@ -32,4 +29,4 @@ returns-2 c =
     rw (lt-ltb (a .index) (a .count) l, e, sym (c .listed-hole .ensures))
 
 pub cursor-at-spec : {M : Type 1} → statement M
-cursor-at-spec = tie.close (tie.spec returns listed-hole-requires (λ c. search needs) returns-2)
+cursor-at-spec = tie.close (tie.spec returns (λ c κs. let start = c .before .before in start .pre (start .args .index) (omega arith)) (λ c. search needs) returns-2)

@@ -7,11 +7,8 @@ use borrow.Author.Needs.{needs}
 use Rattle.plan.proofs.pieces_of.Statement.{statement}
 use Rattle.plan.proofs.pieces_of.Tie as tie
 
-add-result : tie.Need-add-result
-add-result c = let a = c .args in record { fits = omega (arith, div-le-self (a .end - a .start - 1) (a .largest)) }
-
 returns : tie.Need-returns
 returns c = let a = c .args in count-counted (a .largest) (a .start) (a .end) (omega arith) (omega arith)
 
 pub pieces-of-spec : {M : Type 1} → statement M
-pieces-of-spec = tie.close (tie.spec (λ c. search needs) (λ c. search needs) (λ c. search needs) add-result returns)
+pieces-of-spec = tie.close (tie.spec (λ c. search needs) (λ c. search needs) (λ c. search needs) (λ c. let a = c .args in record { fits = omega (arith, div-le-self (a .end - a .start - 1) (a .largest)) }) returns)

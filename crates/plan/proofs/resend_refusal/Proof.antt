@@ -27,9 +27,6 @@ returns c =
 read : (c : tie.Else1) → statusRefusal (now (c .before .before .before .args .status)) ≡ 0
 read c = omega (arith, c .before .status-refusal .ensures)
 
-word-requires : tie.Need-word-requires
-word-requires c κs = omega (arith, status-fine (now (c .before .before .before .args .status)) (read c) .typed .long)
-
 returns-2 : tie.Need-returns-2
 unfolding resendRefusal
 returns-2 c =
@@ -46,11 +43,5 @@ pub resend-refusal-spec : {M : Type 1} → statement M
 resend-refusal-spec =
     tie.close
     (tie.spec
-    (λ c κs. search needs)
-    returns
-    word-requires
-    (λ c κs. search needs)
-    (λ c κs. search needs)
-    (λ c κs. search needs)
-    (λ c κs. search needs)
-    returns-2)
+    (λ c κs. search needs) returns (λ c κs. omega (arith, status-fine (now (c .before .before .before .args .status)) (read c) .typed .long))
+    (λ c κs. search needs) (λ c κs. search needs) (λ c κs. search needs) (λ c κs. search needs) returns-2)

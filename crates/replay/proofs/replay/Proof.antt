@@ -14,12 +14,6 @@ Inv-loop fd area₀ body₀ lent₀ out₀ number₀ area body lent out number =
 abbrev μ-loop : tie.MeasureT-loop
 μ-loop fd area₀ body₀ lent₀ out₀ number₀ area body lent out number = 18446744073709551615 - number
 
-fresh-requires : tie.Need-fresh-requires Inv-loop μ-loop
-fresh-requires c κs = tt
-
-loop-holds : tie.Need-loop-holds Inv-loop μ-loop
-loop-holds c = (refl, refl, refl, refl)
-
 step-requires : tie.Need-step-requires Inv-loop μ-loop
 step-requires c κs =
     let loop-place = c .before .before .before .before .before in
@@ -64,18 +58,6 @@ same-length-4 c =
 returns : tie.Need-returns Inv-loop μ-loop
 returns c = tt
 
-same-length-5 : tie.Need-same-length-5 Inv-loop μ-loop
-same-length-5 c = c .before .loop .inv .0 ∙ c .before .before .before .before .fresh .kept .0
-
-same-length-6 : tie.Need-same-length-6 Inv-loop μ-loop
-same-length-6 c = c .before .loop .inv .1
-
-same-length-7 : tie.Need-same-length-7 Inv-loop μ-loop
-same-length-7 c = c .before .loop .inv .2
-
-same-length-8 : tie.Need-same-length-8 Inv-loop μ-loop
-same-length-8 c = c .before .loop .inv .3
-
 returns-2 : tie.Need-returns-2 Inv-loop μ-loop
 returns-2 c = tt
 
@@ -83,21 +65,6 @@ pub replay-spec : {M : Type 1} → statement M
 replay-spec =
     tie.close
     (tie.spec
-    Inv-loop
-    μ-loop
-    fresh-requires
-    loop-holds
-    step-requires
-    (λ c. omega arith)
-    (λ c. omega arith)
-    loop-again
-    same-length
-    same-length-2
-    same-length-3
-    same-length-4
-    returns
-    same-length-5
-    same-length-6
-    same-length-7
-    same-length-8
-    returns-2)
+    Inv-loop μ-loop (λ c κs. tt) (λ c. (refl, refl, refl, refl)) step-requires (λ c. omega arith) (λ c. omega arith) loop-again same-length
+    same-length-2 same-length-3 same-length-4 returns (λ c. c .before .loop .inv .0 ∙ c .before .before .before .before .fresh .kept .0)
+    (λ c. c .before .loop .inv .1) (λ c. c .before .loop .inv .2) (λ c. c .before .loop .inv .3) returns-2)

@@ -7,16 +7,10 @@ use borrow.Author.Needs.{needs}
 use Rattle.replay_answers.proofs.put_close.Statement.{statement}
 use Rattle.replay_answers.proofs.put_close.Tie as tie
 
-put-closed-requires : tie.Need-put-closed-requires
-put-closed-requires c κs = c .before .before .before .before .pre
-
 put-refused-requires : tie.Need-put-refused-requires
 put-refused-requires c κs =
     let start = c .before .before .before .before .before in
     start .pre
-
-same-length : tie.Need-same-length
-same-length c = c .before .before .put-closed .ensures .size
 
 returns : tie.Need-returns
 unfolding closeText
@@ -27,9 +21,6 @@ returns c =
     let a = start .args in
     added-as (ap (closeText (a .number) (a .id)) (sym (enum-told-place .enum-told .given .1)))
     (put-closed-place .put-closed .ensures)
-
-same-length-2 : tie.Need-same-length-2
-same-length-2 c = c .before .before .put-refused .ensures .size
 
 returns-2 : tie.Need-returns-2
 unfolding closeText
@@ -45,11 +36,5 @@ pub put-close-spec : {M : Type 1} → statement M
 put-close-spec =
     tie.close
     (tie.spec
-    (λ c. search needs)
-    put-closed-requires
-    (λ c. search needs)
-    put-refused-requires
-    same-length
-    returns
-    same-length-2
-    returns-2)
+    (λ c. search needs) (λ c κs. c .before .before .before .before .pre) (λ c. search needs) put-refused-requires
+    (λ c. c .before .before .put-closed .ensures .size) returns (λ c. c .before .before .put-refused .ensures .size) returns-2)

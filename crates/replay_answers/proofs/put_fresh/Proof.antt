@@ -17,9 +17,6 @@ put-refused-requires c κs =
     let start = c .before .before .before .before .before in
     start .pre
 
-same-length : tie.Need-same-length
-same-length c = c .before .before .put-plain .ensures .size
-
 returns : tie.Need-returns
 unfolding freshText
 returns c =
@@ -29,9 +26,6 @@ returns c =
     let a = start .args in
     added-as (ap (freshText (a .number)) (sym (enum-told-place .enum-told .given .1)))
     (put-plain-place .put-plain .ensures)
-
-same-length-2 : tie.Need-same-length-2
-same-length-2 c = c .before .before .put-refused .ensures .size
 
 returns-2 : tie.Need-returns-2
 unfolding freshText
@@ -47,12 +41,5 @@ pub put-fresh-spec : {M : Type 1} → statement M
 put-fresh-spec =
     tie.close
     (tie.spec
-    (λ c. search needs)
-    (λ c. search needs)
-    put-plain-requires
-    (λ c. search needs)
-    put-refused-requires
-    same-length
-    returns
-    same-length-2
-    returns-2)
+    (λ c. search needs) (λ c. search needs) put-plain-requires (λ c. search needs) put-refused-requires
+    (λ c. c .before .before .put-plain .ensures .size) returns (λ c. c .before .before .put-refused .ensures .size) returns-2)

@@ -22,9 +22,6 @@ put-refused-requires c κs =
     let start = c .before .before .before .before .before in
     start .pre
 
-same-length : tie.Need-same-length
-same-length c = c .before .before .put-opened .ensures .size
-
 returns : tie.Need-returns
 unfolding openingText
 returns c =
@@ -35,9 +32,6 @@ returns c =
     added-as (ap (openingText (a .number) (a .m)) (sym (a-place .a .given .1)))
     (put-opened-place .put-opened .ensures)
 
-same-length-2 : tie.Need-same-length-2
-same-length-2 c = c .before .before .put-opened2 .ensures .size
-
 returns-2 : tie.Need-returns-2
 unfolding openingText
 returns-2 c =
@@ -47,9 +41,6 @@ returns-2 c =
     let a = start .args in
     added-as (ap (openingText (a .number) (a .m)) (sym (a2-place .a2 .given .1)))
     (put-opened2-place .put-opened2 .ensures)
-
-same-length-3 : tie.Need-same-length-3
-same-length-3 c = c .before .before .put-refused .ensures .size
 
 returns-3 : tie.Need-returns-3
 unfolding openingText
@@ -65,17 +56,6 @@ pub put-opening-spec : {M : Type 1} → statement M
 put-opening-spec =
     tie.close
     (tie.spec
-    (λ c. search needs)
-    (λ c. search needs)
-    put-opened-requires
-    (λ c. search needs)
-    (λ c. search needs)
-    put-opened-requires-2
-    (λ c. search needs)
-    put-refused-requires
-    same-length
-    returns
-    same-length-2
-    returns-2
-    same-length-3
-    returns-3)
+    (λ c. search needs) (λ c. search needs) put-opened-requires (λ c. search needs) (λ c. search needs) put-opened-requires-2
+    (λ c. search needs) put-refused-requires (λ c. c .before .before .put-opened .ensures .size) returns
+    (λ c. c .before .before .put-opened2 .ensures .size) returns-2 (λ c. c .before .before .put-refused .ensures .size) returns-3)

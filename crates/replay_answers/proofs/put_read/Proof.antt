@@ -38,9 +38,6 @@ put-refused-requires c κs =
     let start = c .before .before .before .before .before .before in
     start .pre
 
-same-length : tie.Need-same-length
-same-length c = c .before .before .put-beacon .ensures .size
-
 returns : tie.Need-returns
 unfolding readText
 returns c =
@@ -50,9 +47,6 @@ returns c =
     let a = start .args in
     added-as (ap (readText (a .number) (now (a .p))) (sym (a-place .a .given .1)))
     (put-beacon-place .put-beacon .ensures)
-
-same-length-2 : tie.Need-same-length-2
-same-length-2 c = c .before .before .put-metadata .ensures .size
 
 returns-2 : tie.Need-returns-2
 unfolding readText
@@ -64,9 +58,6 @@ returns-2 c =
     added-as (ap (readText (a .number) (now (a .p))) (sym (a2-place .a2 .given .1)))
     (put-metadata-place .put-metadata .ensures)
 
-same-length-3 : tie.Need-same-length-3
-same-length-3 c = c .before .before .put-data .ensures .size
-
 returns-3 : tie.Need-returns-3
 unfolding readText
 returns-3 c =
@@ -76,9 +67,6 @@ returns-3 c =
     let a = start .args in
     added-as (ap (readText (a .number) (now (a .p))) (sym (a3-place .a3 .given .1)))
     (put-data-place .put-data .ensures)
-
-same-length-4 : tie.Need-same-length-4
-same-length-4 c = c .before .before .put-success .ensures .size
 
 returns-4 : tie.Need-returns-4
 unfolding readText
@@ -90,9 +78,6 @@ returns-4 c =
     added-as (ap (readText (a .number) (now (a .p))) (sym (a4-place .a4 .given .1)))
     (put-success-place .put-success .ensures)
 
-same-length-5 : tie.Need-same-length-5
-same-length-5 c = c .before .before .put-failure .ensures .size
-
 returns-5 : tie.Need-returns-5
 unfolding readText
 returns-5 c =
@@ -102,9 +87,6 @@ returns-5 c =
     let a = start .args in
     added-as (ap (readText (a .number) (now (a .p))) (sym (a5-place .a5 .given .1)))
     (put-failure-place .put-failure .ensures)
-
-same-length-6 : tie.Need-same-length-6
-same-length-6 c = c .before .before .put-refused .ensures .size
 
 returns-6 : tie.Need-returns-6
 unfolding readText
@@ -120,27 +102,8 @@ pub put-read-spec : {M : Type 1} → statement M
 put-read-spec =
     tie.close
     (tie.spec
-    (λ c. search needs)
-    put-beacon-requires
-    (λ c. search needs)
-    put-metadata-requires
-    (λ c. search needs)
-    put-data-requires
-    (λ c. search needs)
-    put-success-requires
-    (λ c. search needs)
-    put-failure-requires
-    (λ c. search needs)
-    put-refused-requires
-    same-length
-    returns
-    same-length-2
-    returns-2
-    same-length-3
-    returns-3
-    same-length-4
-    returns-4
-    same-length-5
-    returns-5
-    same-length-6
-    returns-6)
+    (λ c. search needs) put-beacon-requires (λ c. search needs) put-metadata-requires (λ c. search needs) put-data-requires (λ c. search needs)
+    put-success-requires (λ c. search needs) put-failure-requires (λ c. search needs) put-refused-requires
+    (λ c. c .before .before .put-beacon .ensures .size) returns (λ c. c .before .before .put-metadata .ensures .size) returns-2
+    (λ c. c .before .before .put-data .ensures .size) returns-3 (λ c. c .before .before .put-success .ensures .size) returns-4
+    (λ c. c .before .before .put-failure .ensures .size) returns-5 (λ c. c .before .before .put-refused .ensures .size) returns-6)

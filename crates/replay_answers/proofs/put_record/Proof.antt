@@ -18,9 +18,6 @@ put-refused-requires c κs =
     let start = c .before .before .before .before .before in
     start .pre
 
-same-length : tie.Need-same-length
-same-length c = c .before .before .put-recording .ensures .size
-
 returns : tie.Need-returns
 unfolding recordText
 returns c =
@@ -30,9 +27,6 @@ returns c =
     let a = start .args in
     added-as (ap (λ (x : DataRead). recordText (a .number) x (a .a)) (sym (d-place .d .given .1)))
     (put-recording-place .put-recording .ensures)
-
-same-length-2 : tie.Need-same-length-2
-same-length-2 c = c .before .before .put-refused .ensures .size
 
 returns-2 : tie.Need-returns-2
 unfolding recordText
@@ -48,11 +42,5 @@ pub put-record-spec : {M : Type 1} → statement M
 put-record-spec =
     tie.close
     (tie.spec
-    (λ c. search needs)
-    put-recording-requires
-    (λ c. search needs)
-    put-refused-requires
-    same-length
-    returns
-    same-length-2
-    returns-2)
+    (λ c. search needs) put-recording-requires (λ c. search needs) put-refused-requires (λ c. c .before .before .put-recording .ensures .size)
+    returns (λ c. c .before .before .put-refused .ensures .size) returns-2)

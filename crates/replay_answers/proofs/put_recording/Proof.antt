@@ -17,9 +17,6 @@ put-refused-requires c κs =
     let start = c .before .before .before .before .before in
     start .pre
 
-same-length : tie.Need-same-length
-same-length c = c .before .before .put-recorded .ensures .size
-
 returns : tie.Need-returns
 unfolding recordingText
 returns c =
@@ -29,9 +26,6 @@ returns c =
     let a = start .args in
     added-as (ap (recordingText (a .number) (a .d)) (sym (a-place .a .given .1)))
     (put-recorded-place .put-recorded .ensures)
-
-same-length-2 : tie.Need-same-length-2
-same-length-2 c = c .before .before .put-refused .ensures .size
 
 returns-2 : tie.Need-returns-2
 unfolding recordingText
@@ -47,11 +41,5 @@ pub put-recording-spec : {M : Type 1} → statement M
 put-recording-spec =
     tie.close
     (tie.spec
-    (λ c. search needs)
-    put-recorded-requires
-    (λ c. search needs)
-    put-refused-requires
-    same-length
-    returns
-    same-length-2
-    returns-2)
+    (λ c. search needs) put-recorded-requires (λ c. search needs) put-refused-requires (λ c. c .before .before .put-recorded .ensures .size)
+    returns (λ c. c .before .before .put-refused .ensures .size) returns-2)

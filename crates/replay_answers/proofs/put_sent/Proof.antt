@@ -11,9 +11,6 @@ use borrow.Author.Needs.{needs}
 use Rattle.replay_answers.proofs.put_sent.Statement.{statement}
 use Rattle.replay_answers.proofs.put_sent.Tie as tie
 
-same-length : tie.Need-same-length
-same-length c = c .before .before .put-packet .ensures .size
-
 returns : tie.Need-returns
 unfolding sentText
 returns c =
@@ -36,11 +33,5 @@ pub put-sent-spec : {M : Type 1} → statement M
 put-sent-spec =
     tie.close
     (tie.spec
-    (λ c. search needs)
-    (λ c. search needs)
-    (λ c κs. search needs)
-    (λ c κs. search needs)
-    (λ c. search needs)
-    same-length
-    returns
-    returns-2)
+    (λ c. search needs) (λ c. search needs) (λ c κs. search needs) (λ c κs. search needs) (λ c. search needs)
+    (λ c. c .before .before .put-packet .ensures .size) returns returns-2)

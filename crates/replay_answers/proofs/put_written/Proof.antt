@@ -16,9 +16,6 @@ put-refused-requires c κs =
     let start = c .before .before .before .before .before .before in
     start .pre
 
-same-length : tie.Need-same-length
-same-length c = c .before .before .put-packet .ensures .size
-
 returns : tie.Need-returns
 unfolding statusText
 returns c =
@@ -29,9 +26,6 @@ returns c =
     let a = start .args in
     added-as (ap (λ (x : Written). statusText (a .number) x (now (a .lent))) (sym (w-place .w .given .1)))
     (added-as (ap (octetsLine (a .number) w-written) (part-place .part .ensures)) (put-packet-place .put-packet .ensures))
-
-same-length-2 : tie.Need-same-length-2
-same-length-2 c = c .before .before .put-refused .ensures .size
 
 returns-2 : tie.Need-returns-2
 unfolding statusText
@@ -47,13 +41,5 @@ pub put-written-spec : {M : Type 1} → statement M
 put-written-spec =
     tie.close
     (tie.spec
-    (λ c. search needs)
-    (λ c. search needs)
-    (λ c κs. search needs)
-    (λ c κs. search needs)
-    (λ c. search needs)
-    put-refused-requires
-    same-length
-    returns
-    same-length-2
-    returns-2)
+    (λ c. search needs) (λ c. search needs) (λ c κs. search needs) (λ c κs. search needs) (λ c. search needs) put-refused-requires
+    (λ c. c .before .before .put-packet .ensures .size) returns (λ c. c .before .before .put-refused .ensures .size) returns-2)

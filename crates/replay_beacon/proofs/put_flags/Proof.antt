@@ -22,22 +22,9 @@ returns c =
     then put-field2-place .put-field2 .ensures
     then put-field3-place .put-field3 .ensures
 
-same-length : tie.Need-same-length
-same-length c = returns c .size
-
 pub put-flags-spec : {M : Type 1} → statement M
 put-flags-spec =
     tie.close
     (tie.spec
-    (λ c κs. search needs)
-    (λ c. search needs)
-    (λ c κs. search needs)
-    (λ c. search needs)
-    (λ c κs. search needs)
-    (λ c κs. search needs)
-    (λ c. search needs)
-    (λ c κs. search needs)
-    (λ c. search needs)
-    (λ c κs. search needs)
-    same-length
-    returns)
+    (λ c κs. search needs) (λ c. search needs) (λ c κs. search needs) (λ c. search needs) (λ c κs. search needs) (λ c κs. search needs)
+    (λ c. search needs) (λ c κs. search needs) (λ c. search needs) (λ c κs. search needs) (λ c. returns c .size) returns)

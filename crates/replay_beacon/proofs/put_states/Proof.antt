@@ -16,18 +16,9 @@ returns c =
     then put-text2-place .put-text2 .ensures
     then put-state2-place .put-state2 .ensures
 
-same-length : tie.Need-same-length
-same-length c = returns c .size
-
 pub put-states-spec : {M : Type 1} → statement M
 put-states-spec =
     tie.close
     (tie.spec
-    (λ c. search needs)
-    (λ c κs. search needs)
-    (λ c κs. search needs)
-    (λ c. search needs)
-    (λ c κs. search needs)
-    (λ c κs. search needs)
-    same-length
-    returns)
+    (λ c. search needs) (λ c κs. search needs) (λ c κs. search needs) (λ c. search needs) (λ c κs. search needs) (λ c κs. search needs)
+    (λ c. returns c .size) returns)

@@ -5,9 +5,6 @@ use Rattle.text.proofs.AddedLaws.{_then_}
 use Rattle.replay_fields.proofs.put_field.Statement.{statement}
 use Rattle.replay_fields.proofs.put_field.Tie as tie
 
-put-decimal-requires : tie.Need-put-decimal-requires
-put-decimal-requires c κs = c .before .before .before .put-text .ensures .within
-
 returns : tie.Need-returns
 returns c =
     let put-decimal-place = c .before .before in
@@ -15,8 +12,5 @@ returns c =
     put-text-place .put-text .ensures
     then put-decimal-place .put-decimal .ensures
 
-same-length : tie.Need-same-length
-same-length c = returns c .size
-
 pub put-field-spec : {M : Type 1} → statement M
-put-field-spec = tie.close (tie.spec (λ c κs. search needs) put-decimal-requires same-length returns)
+put-field-spec = tie.close (tie.spec (λ c κs. search needs) (λ c κs. c .before .before .before .put-text .ensures .within) (λ c. returns c .size) returns)

@@ -13,9 +13,6 @@ returns c =
     let start = if1-place .before .before .before in
     rw (eq-eqb (start .args .index) 0 (if1-place .if1 .taken)) (put-pair-place .put-pair .ensures)
 
-put-pair-requires-2 : tie.Need-put-pair-requires-2
-put-pair-requires-2 c κs = c .before .before .before .push .ensures .within
-
 returns-2 : tie.Need-returns-2
 returns-2 c =
     let put-pair2-place = c .before .before in
@@ -28,10 +25,5 @@ pub put-in-list-spec : {M : Type 1} → statement M
 put-in-list-spec =
     tie.close
     (tie.spec
-    (λ c κs. search needs)
-    (λ c. search needs)
-    returns
-    (λ c κs. search needs)
-    put-pair-requires-2
-    (λ c. search needs)
-    returns-2)
+    (λ c κs. search needs) (λ c. search needs) returns (λ c κs. search needs) (λ c κs. c .before .before .before .push .ensures .within)
+    (λ c. search needs) returns-2)

@@ -5,9 +5,6 @@ use Rattle.text.proofs.AddedLaws.{_then_}
 use Rattle.replay_fields.proofs.put_number.Statement.{statement}
 use Rattle.replay_fields.proofs.put_number.Tie as tie
 
-put-number-requires : tie.Need-put-number-requires
-put-number-requires c κs = (c .before .before .before .put-text .ensures .within, search needs)
-
 returns : tie.Need-returns
 returns c =
     let put-number-place = c .before .before in
@@ -15,8 +12,5 @@ returns c =
     put-text-place .put-text .ensures
     then put-number-place .put-number .ensures
 
-same-length : tie.Need-same-length
-same-length c = returns c .size
-
 pub put-number-spec : {M : Type 1} → statement M
-put-number-spec = tie.close (tie.spec (λ c κs. search needs) put-number-requires same-length returns)
+put-number-spec = tie.close (tie.spec (λ c κs. search needs) (λ c κs. (c .before .before .before .put-text .ensures .within, search needs)) (λ c. returns c .size) returns)

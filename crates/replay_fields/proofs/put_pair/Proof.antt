@@ -5,9 +5,6 @@ use Rattle.text.proofs.AddedLaws.{_then_}
 use Rattle.replay_fields.proofs.put_pair.Statement.{statement}
 use Rattle.replay_fields.proofs.put_pair.Tie as tie
 
-put-field-requires : tie.Need-put-field-requires
-put-field-requires c κs = c .before .before .before .put-decimal .ensures .within
-
 returns : tie.Need-returns
 returns c =
     let put-field-place = c .before .before in
@@ -15,8 +12,5 @@ returns c =
     put-decimal-place .put-decimal .ensures
     then put-field-place .put-field .ensures
 
-same-length : tie.Need-same-length
-same-length c = returns c .size
-
 pub put-pair-spec : {M : Type 1} → statement M
-put-pair-spec = tie.close (tie.spec (λ c κs. search needs) put-field-requires same-length returns)
+put-pair-spec = tie.close (tie.spec (λ c κs. search needs) (λ c κs. c .before .before .before .put-decimal .ensures .within) (λ c. returns c .size) returns)

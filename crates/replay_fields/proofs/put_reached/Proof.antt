@@ -21,17 +21,8 @@ returns c =
     put-field-place .put-field .ensures
     then added-as (ap (field w-complete) (flag-of-place .flag-of .ensures)) (put-field2-place .put-field2 .ensures)
 
-same-length : tie.Need-same-length
-same-length c = returns c .size
-
 pub put-reached-spec : {M : Type 1} → statement M
 put-reached-spec =
     tie.close
     (tie.spec
-    (λ c. search needs)
-    (λ c κs. search needs)
-    (λ c. search needs)
-    (λ c κs. search needs)
-    put-field-requires-2
-    same-length
-    returns)
+    (λ c. search needs) (λ c κs. search needs) (λ c. search needs) (λ c κs. search needs) put-field-requires-2 (λ c. returns c .size) returns)

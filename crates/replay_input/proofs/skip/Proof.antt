@@ -10,20 +10,11 @@ Inv-loop fd n left₀ left = Unit {0}
 abbrev μ-loop : tie.MeasureT-loop
 μ-loop fd n left₀ left = left
 
-loop-holds : tie.Need-loop-holds Inv-loop μ-loop
-loop-holds c = tt
-
-skip-some-requires : tie.Need-skip-some-requires Inv-loop μ-loop
-skip-some-requires c κs = tt
-
 returns : tie.Need-returns Inv-loop μ-loop
 returns c = tt
 
 returns-2 : tie.Need-returns-2 Inv-loop μ-loop
 returns-2 c = tt
-
-loop-again : tie.Need-loop-again Inv-loop μ-loop
-loop-again c = tt
 
 returns-3 : tie.Need-returns-3 Inv-loop μ-loop
 returns-3 c = tt
@@ -32,12 +23,4 @@ pub skip-spec : {M : Type 1} → statement M
 skip-spec =
     tie.close
     (tie.spec
-    Inv-loop
-    μ-loop
-    loop-holds
-    skip-some-requires
-    returns
-    returns-2
-    (λ c. omega arith)
-    loop-again
-    returns-3)
+    Inv-loop μ-loop (λ c. tt) (λ c κs. tt) returns returns-2 (λ c. omega arith) (λ c. tt) returns-3)

@@ -6,12 +6,6 @@ use Rattle.replay_lines.specs.Lines.{closeLine}
 use Rattle.replay_lines.proofs.put_closed.Statement.{statement}
 use Rattle.replay_lines.proofs.put_closed.Tie as tie
 
-put-field-requires : tie.Need-put-field-requires
-put-field-requires c κs = c .before .before .before .before .put-decimal .ensures .within
-
-push-requires : tie.Need-push-requires
-push-requires c κs = c .before .before .before .put-field .ensures .within
-
 returns : tie.Need-returns
 unfolding closeLine
 returns c =
@@ -22,16 +16,9 @@ returns c =
     then put-field-place .put-field .ensures
     then push-place .push .ensures
 
-same-length : tie.Need-same-length
-same-length c = returns c .size
-
 pub put-closed-spec : {M : Type 1} → statement M
 put-closed-spec =
     tie.close
     (tie.spec
-    (λ c κs. search needs)
-    (λ c. search needs)
-    put-field-requires
-    push-requires
-    same-length
-    returns)
+    (λ c κs. search needs) (λ c. search needs) (λ c κs. c .before .before .before .before .put-decimal .ensures .within)
+    (λ c κs. c .before .before .before .put-field .ensures .within) (λ c. returns c .size) returns)

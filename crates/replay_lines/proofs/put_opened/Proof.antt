@@ -9,22 +9,10 @@ use Rattle.replay_lines.specs.Lines.{openedLine}
 use Rattle.replay_lines.proofs.put_opened.Statement.{statement}
 use Rattle.replay_lines.proofs.put_opened.Tie as tie
 
-put-field-requires : tie.Need-put-field-requires
-put-field-requires c κs = c .before .before .before .before .put-decimal .ensures .within
-
 put-field-requires-2 : tie.Need-put-field-requires-2
 put-field-requires-2 c κs =
     let put-field-place = c .before .before .before .before .before in
     put-field-place .put-field .ensures .within
-
-put-field-requires-3 : tie.Need-put-field-requires-3
-put-field-requires-3 c κs = c .before .before .before .before .put-field2 .ensures .within
-
-put-reached-requires : tie.Need-put-reached-requires
-put-reached-requires c κs = c .before .before .before .put-field3 .ensures .within
-
-put-text-requires : tie.Need-put-text-requires
-put-text-requires c κs = c .before .before .before .put-reached .ensures .within
 
 returns : tie.Need-returns
 unfolding openedLine
@@ -43,22 +31,11 @@ returns c =
     then put-reached-place .put-reached .ensures
     then put-text-place .put-text .ensures
 
-same-length : tie.Need-same-length
-same-length c = returns c .size
-
 pub put-opened-spec : {M : Type 1} → statement M
 put-opened-spec =
     tie.close
     (tie.spec
-    (λ c κs. search needs)
-    (λ c. search needs)
-    put-field-requires
-    (λ c. search needs)
-    (λ c κs. search needs)
-    put-field-requires-2
-    (λ c. search needs)
-    put-field-requires-3
-    put-reached-requires
-    put-text-requires
-    same-length
-    returns)
+    (λ c κs. search needs) (λ c. search needs) (λ c κs. c .before .before .before .before .put-decimal .ensures .within) (λ c. search needs)
+    (λ c κs. search needs) put-field-requires-2 (λ c. search needs) (λ c κs. c .before .before .before .before .put-field2 .ensures .within)
+    (λ c κs. c .before .before .before .put-field3 .ensures .within) (λ c κs. c .before .before .before .put-reached .ensures .within)
+    (λ c. returns c .size) returns)

@@ -6,12 +6,6 @@ use Rattle.replay_lines.specs.Lines.{octetsLine}
 use Rattle.replay_lines.proofs.put_packet.Statement.{statement}
 use Rattle.replay_lines.proofs.put_packet.Tie as tie
 
-put-octets-requires : tie.Need-put-octets-requires
-put-octets-requires c κs = c .before .before .before .put-decimal .ensures .within
-
-push-requires : tie.Need-push-requires
-push-requires c κs = c .before .before .before .put-octets .ensures .within
-
 returns : tie.Need-returns
 unfolding octetsLine
 returns c =
@@ -22,9 +16,6 @@ returns c =
     then put-octets-place .put-octets .ensures
     then push-place .push .ensures
 
-same-length : tie.Need-same-length
-same-length c = returns c .size
-
 pub put-packet-spec : {M : Type 1} → statement M
 put-packet-spec =
-    tie.close (tie.spec (λ c κs. search needs) put-octets-requires push-requires same-length returns)
+    tie.close (tie.spec (λ c κs. search needs) (λ c κs. c .before .before .before .put-decimal .ensures .within) (λ c κs. c .before .before .before .put-octets .ensures .within) (λ c. returns c .size) returns)

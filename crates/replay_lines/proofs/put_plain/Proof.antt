@@ -6,9 +6,6 @@ use Rattle.replay_lines.specs.Lines.{plainLine}
 use Rattle.replay_lines.proofs.put_plain.Statement.{statement}
 use Rattle.replay_lines.proofs.put_plain.Tie as tie
 
-put-text-requires : tie.Need-put-text-requires
-put-text-requires c κs = c .before .before .before .put-decimal .ensures .within
-
 returns : tie.Need-returns
 unfolding plainLine
 returns c =
@@ -17,8 +14,5 @@ returns c =
     put-decimal-place .put-decimal .ensures
     then put-text-place .put-text .ensures
 
-same-length : tie.Need-same-length
-same-length c = returns c .size
-
 pub put-plain-spec : {M : Type 1} → statement M
-put-plain-spec = tie.close (tie.spec (λ c κs. search needs) put-text-requires same-length returns)
+put-plain-spec = tie.close (tie.spec (λ c κs. search needs) (λ c κs. c .before .before .before .put-decimal .ensures .within) (λ c. returns c .size) returns)

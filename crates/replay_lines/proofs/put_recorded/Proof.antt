@@ -6,24 +6,6 @@ use Rattle.replay_lines.specs.Lines.{recordLine}
 use Rattle.replay_lines.proofs.put_recorded.Statement.{statement}
 use Rattle.replay_lines.proofs.put_recorded.Tie as tie
 
-put-field-requires : tie.Need-put-field-requires
-put-field-requires c κs = c .before .before .before .before .put-decimal .ensures .within
-
-put-field-requires-2 : tie.Need-put-field-requires-2
-put-field-requires-2 c κs = c .before .before .before .before .put-field .ensures .within
-
-put-field-requires-3 : tie.Need-put-field-requires-3
-put-field-requires-3 c κs = c .before .before .before .before .put-field2 .ensures .within
-
-put-reached-requires : tie.Need-put-reached-requires
-put-reached-requires c κs = c .before .before .before .put-field3 .ensures .within
-
-put-field-requires-4 : tie.Need-put-field-requires-4
-put-field-requires-4 c κs = c .before .before .before .before .put-reached .ensures .within
-
-push-requires : tie.Need-push-requires
-push-requires c κs = c .before .before .before .put-field4 .ensures .within
-
 returns : tie.Need-returns
 unfolding recordLine
 returns c =
@@ -42,23 +24,12 @@ returns c =
     then put-field4-place .put-field4 .ensures
     then push-place .push .ensures
 
-same-length : tie.Need-same-length
-same-length c = returns c .size
-
 pub put-recorded-spec : {M : Type 1} → statement M
 put-recorded-spec =
     tie.close
     (tie.spec
-    (λ c κs. search needs)
-    (λ c. search needs)
-    put-field-requires
-    (λ c. search needs)
-    put-field-requires-2
-    (λ c. search needs)
-    put-field-requires-3
-    put-reached-requires
-    (λ c. search needs)
-    put-field-requires-4
-    push-requires
-    same-length
-    returns)
+    (λ c κs. search needs) (λ c. search needs) (λ c κs. c .before .before .before .before .put-decimal .ensures .within) (λ c. search needs)
+    (λ c κs. c .before .before .before .before .put-field .ensures .within) (λ c. search needs)
+    (λ c κs. c .before .before .before .before .put-field2 .ensures .within) (λ c κs. c .before .before .before .put-field3 .ensures .within)
+    (λ c. search needs) (λ c κs. c .before .before .before .before .put-reached .ensures .within)
+    (λ c κs. c .before .before .before .put-field4 .ensures .within) (λ c. returns c .size) returns)

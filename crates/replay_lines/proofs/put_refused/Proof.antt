@@ -6,15 +6,6 @@ use Rattle.replay_lines.specs.Lines.{refusedLine}
 use Rattle.replay_lines.proofs.put_refused.Statement.{statement}
 use Rattle.replay_lines.proofs.put_refused.Tie as tie
 
-put-field-requires : tie.Need-put-field-requires
-put-field-requires c κs = c .before .before .before .before .put-decimal .ensures .within
-
-put-field-requires-2 : tie.Need-put-field-requires-2
-put-field-requires-2 c κs = c .before .before .before .before .put-field .ensures .within
-
-push-requires : tie.Need-push-requires
-push-requires c κs = c .before .before .before .put-field2 .ensures .within
-
 returns : tie.Need-returns
 unfolding refusedLine
 returns c =
@@ -27,18 +18,10 @@ returns c =
     then put-field2-place .put-field2 .ensures
     then push-place .push .ensures
 
-same-length : tie.Need-same-length
-same-length c = returns c .size
-
 pub put-refused-spec : {M : Type 1} → statement M
 put-refused-spec =
     tie.close
     (tie.spec
-    (λ c κs. search needs)
-    (λ c. search needs)
-    put-field-requires
-    (λ c. search needs)
-    put-field-requires-2
-    push-requires
-    same-length
-    returns)
+    (λ c κs. search needs) (λ c. search needs) (λ c κs. c .before .before .before .before .put-decimal .ensures .within) (λ c. search needs)
+    (λ c κs. c .before .before .before .before .put-field .ensures .within) (λ c κs. c .before .before .before .put-field2 .ensures .within)
+    (λ c. returns c .size) returns)

@@ -6,12 +6,6 @@ use Rattle.replay_lines.specs.Lines.{unknownLine}
 use Rattle.replay_lines.proofs.put_unknown.Statement.{statement}
 use Rattle.replay_lines.proofs.put_unknown.Tie as tie
 
-put-number-requires : tie.Need-put-number-requires
-put-number-requires c κs = (c .before .before .before .before .put-decimal .ensures .within, search needs)
-
-push-requires : tie.Need-push-requires
-push-requires c κs = c .before .before .before .put-number .ensures .within
-
 returns : tie.Need-returns
 unfolding unknownLine
 returns c =
@@ -22,16 +16,9 @@ returns c =
     then put-number-place .put-number .ensures
     then push-place .push .ensures
 
-same-length : tie.Need-same-length
-same-length c = returns c .size
-
 pub put-unknown-spec : {M : Type 1} → statement M
 put-unknown-spec =
     tie.close
     (tie.spec
-    (λ c κs. search needs)
-    (λ c. search needs)
-    put-number-requires
-    push-requires
-    same-length
-    returns)
+    (λ c κs. search needs) (λ c. search needs) (λ c κs. (c .before .before .before .before .put-decimal .ensures .within, search needs))
+    (λ c κs. c .before .before .before .put-number .ensures .within) (λ c. returns c .size) returns)

@@ -20,19 +20,9 @@ returns c =
     then put-number-place .put-number .ensures
     then added-as (ap (field w-width) (bits-of-place .bits-of .ensures)) (put-field2-place .put-field2 .ensures)
 
-same-length : tie.Need-same-length
-same-length c = returns c .size
-
 pub put-head-spec : {M : Type 1} → statement M
 put-head-spec =
     tie.close
     (tie.spec
-    (λ c κs. search needs)
-    (λ c κs. search needs)
-    (λ c. search needs)
-    (λ c κs. search needs)
-    (λ c. search needs)
-    (λ c κs. search needs)
-    (λ c κs. search needs)
-    same-length
-    returns)
+    (λ c κs. search needs) (λ c κs. search needs) (λ c. search needs) (λ c κs. search needs) (λ c. search needs) (λ c κs. search needs)
+    (λ c κs. search needs) (λ c. returns c .size) returns)

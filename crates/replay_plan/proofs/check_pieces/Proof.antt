@@ -61,12 +61,4 @@ pub check-pieces-spec : {M : Type 1} → statement M
 check-pieces-spec =
     tie.close
     (tie.spec
-    Inv-loop
-    μ-loop
-    loop-holds
-    (λ c κs. omega arith)
-    check-step-requires
-    (λ c. omega arith)
-    (λ c. omega arith)
-    loop-again
-    returns)
+    Inv-loop μ-loop loop-holds (λ c κs. omega arith) check-step-requires (λ c. omega arith) (λ c. omega arith) loop-again returns)

@@ -42,11 +42,5 @@ pub plan-record-spec : {M : Type 1} → statement M
 plan-record-spec =
     tie.close
     (tie.spec
-    (λ c κs. search needs)
-    (λ c. search needs)
-    returns
-    (λ c κs. omega arith)
-    (λ c κs. search needs)
-    (λ c κs. search needs)
-    (λ c. search needs)
+    (λ c κs. search needs) (λ c. search needs) returns (λ c κs. omega arith) (λ c κs. search needs) (λ c κs. search needs) (λ c. search needs)
     returns-2)

@@ -82,24 +82,10 @@ returns-2 c =
     then added-as (ap (λ (n : ℕ). field w-check n) told) (put-field-place .put-field .ensures)
     then push-place .push .ensures)
 
-same-length-2 : tie.Need-same-length-2
-same-length-2 c = returns-2 c .size
-
 pub put-check-spec : {M : Type 1} → statement M
 put-check-spec =
     tie.close
     (tie.spec
-    (λ c κs. search needs)
-    check-pieces-requires
-    (λ c κs. search needs)
-    (λ c κs. search needs)
-    (λ c. search needs)
-    returns
-    (λ c κs. search needs)
-    (λ c κs. search needs)
-    (λ c κs. search needs)
-    (λ c. search needs)
-    (λ c κs. search needs)
-    (λ c κs. search needs)
-    same-length-2
-    returns-2)
+    (λ c κs. search needs) check-pieces-requires (λ c κs. search needs) (λ c κs. search needs) (λ c. search needs) returns
+    (λ c κs. search needs) (λ c κs. search needs) (λ c κs. search needs) (λ c. search needs) (λ c κs. search needs) (λ c κs. search needs)
+    (λ c. returns-2 c .size) returns-2)

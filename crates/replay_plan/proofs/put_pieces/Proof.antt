@@ -48,12 +48,6 @@ planned c =
     l .inv .1 ∙ ap (λ (x : Cursor). cursorAfter (holeList s) m x (l .i)) (start .pre .2) in
     rw e (planned-at m recordsLent s (planRefusal m recordsLent s) refl (l .i) (omega (arith, start .pre .1)))
 
-piece-at-requires : tie.Need-piece-at-requires Inv-loop μ-loop
-piece-at-requires c κs = planned c .ordered
-
-put-in-list-requires : tie.Need-put-in-list-requires Inv-loop μ-loop
-put-in-list-requires c κs = c .before .before .before .before .loop .inv .2 .within
-
 next-cursor-requires : tie.Need-next-cursor-requires Inv-loop μ-loop
 next-cursor-requires c κs =
     let p = planned (c .before .before .before .before .before .before) in
@@ -75,9 +69,6 @@ loop-again c =
           then added-as (ap (λ (x : Piece). inList (l .i) (pieceText x)) (piece-place .piece-at .ensures ∙ planned turn .gives)) (put-place .put-in-list .ensures)),
     )
 
-same-length : tie.Need-same-length Inv-loop μ-loop
-same-length c = c .before .loop .inv .2 .size
-
 returns : tie.Need-returns Inv-loop μ-loop
 returns c =
     let e : c .before .loop .i ≡ c .before .before .before .before .args .count = omega arith in
@@ -87,15 +78,6 @@ pub put-pieces-spec : {M : Type 1} → statement M
 put-pieces-spec =
     tie.close
     (tie.spec
-    Inv-loop
-    μ-loop
-    loop-holds
-    piece-at-requires
-    (λ c. search needs)
-    put-in-list-requires
-    next-cursor-requires
-    (λ c. omega arith)
-    (λ c. omega arith)
-    loop-again
-    same-length
-    returns)
+    Inv-loop μ-loop loop-holds (λ c κs. planned c .ordered) (λ c. search needs)
+    (λ c κs. c .before .before .before .before .loop .inv .2 .within) next-cursor-requires (λ c. omega arith) (λ c. omega arith) loop-again
+    (λ c. c .before .loop .inv .2 .size) returns)

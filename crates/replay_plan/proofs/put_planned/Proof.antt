@@ -59,20 +59,9 @@ returns c =
     then added-as (ap (λ (k : ℕ). piecesText plan k) counted) (put-pieces-place .put-pieces .ensures)
     then push-place .push .ensures)
 
-same-length : tie.Need-same-length
-same-length c = returns c .size
-
 pub put-planned-spec : {M : Type 1} → statement M
 put-planned-spec =
     tie.close
     (tie.spec
-    cursor-at-requires
-    (λ c κs. search needs)
-    (λ c. search needs)
-    (λ c κs. search needs)
-    (λ c. search needs)
-    (λ c κs. search needs)
-    put-pieces-requires
-    (λ c κs. search needs)
-    same-length
-    returns)
+    cursor-at-requires (λ c κs. search needs) (λ c. search needs) (λ c κs. search needs) (λ c. search needs) (λ c κs. search needs)
+    put-pieces-requires (λ c κs. search needs) (λ c. returns c .size) returns)

@@ -59,17 +59,5 @@ pub status-spec : {M : Type 1} → statement M
 status-spec =
     tie.close
     (tie.spec
-    (λ c κs. search needs)
-    (λ c. search needs)
-    returns
-    (λ c κs. omega arith)
-    (λ c κs. omega arith)
-    (λ c. search needs)
-    (λ c κs. omega arith)
-    (λ c κs. search needs)
-    (λ c. search needs)
-    slice-aggregate-write
-    (λ c κs. search needs)
-    (λ c. search needs)
-    (λ c. search needs)
-    returns-2)
+    (λ c κs. search needs) (λ c. search needs) returns (λ c κs. omega arith) (λ c κs. omega arith) (λ c. search needs) (λ c κs. omega arith)
+    (λ c κs. search needs) (λ c. search needs) slice-aggregate-write (λ c κs. search needs) (λ c. search needs) (λ c. search needs) returns-2)

@@ -26,9 +26,6 @@ known c =
     let a = start .args in
     listed-hole (now (a .p)) (a .index) (omega (arith, start .pre .1, c .if1 .left))
 
-listed-hole-requires : tie.Need-listed-hole-requires
-listed-hole-requires c κs = known c
-
 returns-2 : tie.Need-returns-2
 unfolding holeAfter
 returns-2 c =
@@ -44,9 +41,4 @@ pub put-hole-spec : {M : Type 1} → statement M
 put-hole-spec =
     tie.close
     (tie.spec
-    returns
-    listed-hole-requires
-    (λ c. search needs)
-    (λ c κs. search needs)
-    (λ c. search needs)
-    returns-2)
+    returns (λ c κs. known c) (λ c. search needs) (λ c κs. search needs) (λ c. search needs) returns-2)

@@ -24,18 +24,12 @@ loop-holds c =
     let start = c .before .before .before in
     (omega arith, added-none (now (start .args .out)) (start .args .at) (omega arith))
 
-put-hole-requires : tie.Need-put-hole-requires Inv-loop μ-loop
-put-hole-requires c κs = (c .before .before .loop .inv .1 .within, c .before .before .before .hole-count .ensures)
-
 loop-again : tie.Need-loop-again Inv-loop μ-loop
 unfolding holesText
 loop-again c =
     let put-hole-place = c .before .before in
     let loop-place = put-hole-place .before .before .before in
     (omega arith, rw add-one (loop-place .loop .inv .1 then put-hole-place .put-hole .ensures))
-
-same-length : tie.Need-same-length Inv-loop μ-loop
-same-length c = c .before .loop .inv .1 .size
 
 returns : tie.Need-returns Inv-loop μ-loop
 returns c =
@@ -46,13 +40,6 @@ pub put-holes-spec : {M : Type 1} → statement M
 put-holes-spec =
     tie.close
     (tie.spec
-    Inv-loop
-    μ-loop
-    (λ c κs. search needs)
-    loop-holds
-    put-hole-requires
-    (λ c. omega arith)
-    (λ c. omega arith)
-    loop-again
-    same-length
-    returns)
+    Inv-loop μ-loop (λ c κs. search needs) loop-holds
+    (λ c κs. (c .before .before .loop .inv .1 .within, c .before .before .before .hole-count .ensures)) (λ c. omega arith) (λ c. omega arith)
+    loop-again (λ c. c .before .loop .inv .1 .size) returns)

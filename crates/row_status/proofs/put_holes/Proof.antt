@@ -63,15 +63,5 @@ pub put-holes-spec : {M : Type 1} → statement M
 put-holes-spec =
     tie.close
     (tie.spec
-    put-pairs-requires
-    (λ c. search needs)
-    returns
-    put-pairs-requires-2
-    (λ c. search needs)
-    returns-2
-    put-pairs-requires-3
-    (λ c. search needs)
-    returns-3
-    put-pairs-requires-4
-    (λ c. search needs)
-    returns-4)
+    put-pairs-requires (λ c. search needs) returns put-pairs-requires-2 (λ c. search needs) returns-2 put-pairs-requires-3 (λ c. search needs)
+    returns-3 put-pairs-requires-4 (λ c. search needs) returns-4)

@@ -25,12 +25,6 @@ Inv-loop buf rows width first count out₀ from at₀ j₀ left₀ out at j left
 abbrev μ-loop : tie.MeasureT-loop
 μ-loop buf rows width first count out₀ from at₀ j₀ left₀ out at j left = left
 
-loop-holds : tie.Need-loop-holds Inv-loop μ-loop
-loop-holds c = let s = c .before .before in (refl, s .pre .2, s .pre .1, refl)
-
-hole-at-requires : tie.Need-hole-at-requires Inv-loop μ-loop
-hole-at-requires c κs = (c .before .before .before .before .pre .0, omega arith)
-
 put-hole-requires : tie.Need-put-hole-requires Inv-loop μ-loop
 put-hole-requires c κs =
     let l = c .before .before .before in
@@ -70,9 +64,6 @@ loop-again c =
           (omega arith) (l .inv .2) (omega arith) (hole-at-place .hole-at .ensures) (put-hole-place .put-hole .ensures) (l .inv .3),
     )
 
-same-length : tie.Need-same-length Inv-loop μ-loop
-same-length c = c .before .loop .inv .0
-
 returns : tie.Need-returns Inv-loop μ-loop
 returns c =
     let l = c .before .loop in
@@ -83,16 +74,6 @@ pub put-pairs-spec : {M : Type 1} → statement M
 put-pairs-spec =
     tie.close
     (tie.spec
-    Inv-loop
-    μ-loop
-    loop-holds
-    hole-at-requires
-    put-hole-requires
-    mul-at
-    add-at
-    add-j
-    (λ c. omega arith)
-    (λ c. omega arith)
-    loop-again
-    same-length
-    returns)
+    Inv-loop μ-loop (λ c. let s = c .before .before in (refl, s .pre .2, s .pre .1, refl))
+    (λ c κs. (c .before .before .before .before .pre .0, omega arith)) put-hole-requires mul-at add-at add-j (λ c. omega arith)
+    (λ c. omega arith) loop-again (λ c. c .before .loop .inv .0) returns)

@@ -16,9 +16,6 @@ use Rattle.transfer_status.proofs.StatusWriter.{sent-room, transfer-refused, tr
 use Rattle.row_status.proofs.write_rows.Statement.{statement}
 use Rattle.row_status.proofs.write_rows.Tie as tie
 
-size-refusal-requires : tie.Need-size-refusal-requires
-size-refusal-requires c κs = width-le (c .before .before .before .pre .1)
-
 -- the refusal, by the transfer's holes
 number : (c : tie.After-size-refusal)
     → let a = c .before .before .before .before .args in
@@ -66,12 +63,6 @@ sized : (c : tie.After-partial-sent)
     (a .key .width ≤ 16) × (statusSize (a .key .width) (c .before .holes-to-send .result) ≤ length (now (a .out)))
 sized c = (width-le (c .before .before .before .before .before .before .before .pre .1), known (c .before) .1)
 
-front-size-requires : tie.Need-front-size-requires
-front-size-requires c κs = sized c .0
-
-status-size-requires : tie.Need-status-size-requires
-status-size-requires c κs = (sized (c .before) .0, omega (arith, sized (c .before) .1))
-
 put-front-requires : tie.Need-put-front-requires
 put-front-requires c κs =
     let partial-place = c .before .before .before in
@@ -105,15 +96,6 @@ pub write-rows-spec : {M : Type 1} → statement M
 write-rows-spec =
     tie.close
     (tie.spec
-    (λ c κs. search needs)
-    size-refusal-requires
-    (λ c κs. search needs)
-    returns
-    (λ c κs. search needs)
-    (λ c κs. search needs)
-    front-size-requires
-    status-size-requires
-    put-front-requires
-    put-holes-requires
-    (λ c. search needs)
-    returns-2)
+    (λ c κs. search needs) (λ c κs. width-le (c .before .before .before .pre .1)) (λ c κs. search needs) returns (λ c κs. search needs)
+    (λ c κs. search needs) (λ c κs. sized c .0) (λ c κs. (sized (c .before) .0, omega (arith, sized (c .before) .1))) put-front-requires
+    put-holes-requires (λ c. search needs) returns-2)

@@ -26,15 +26,5 @@ pub cut-to-spec : {M : Type 1} → statement M
 cut-to-spec =
     tie.close
     (tie.spec
-    Inv-loop
-    μ-loop
-    (λ c. halves-start _ _ _ _)
-    (λ c. search needs)
-    (λ c. search needs)
-    (λ c κs. search needs)
-    (λ c. search needs)
-    (λ c. search needs)
-    loop-again
-    (λ c. search needs)
-    loop-again-2
-    (λ c. halves-end _ _ _ _ _ _ (omega arith) (c .before .loop .inv)))
+    Inv-loop μ-loop (λ c. halves-start _ _ _ _) (λ c. search needs) (λ c. search needs) (λ c κs. search needs) (λ c. search needs)
+    (λ c. search needs) loop-again (λ c. search needs) loop-again-2 (λ c. halves-end _ _ _ _ _ _ (omega arith) (c .before .loop .inv)))

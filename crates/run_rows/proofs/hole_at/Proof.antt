@@ -47,17 +47,8 @@ pub hole-at-spec : {M : Type 1} → statement M
 hole-at-spec =
     tie.close
     (tie.spec
-    (λ c κs. omega (arith, some (c .before)))
-    (λ c. omega (arith, low (c .before)))
-    (λ c κs. omega (arith, low (c .before)))
-    (λ c. omega (arith, low (c .before .before)))
-    (λ c. omega (arith, low (c .before .before .before)))
-    (λ c κs. omega (arith, low (c .before .before .before)))
-    returns
-    returns-2
-    (λ c. search needs)
-    (λ c. omega (arith, high (c .before .before)))
-    (λ c κs. omega (arith, high (c .before .before)))
-    (λ c. omega (arith, high (c .before .before .before .before)))
-    (λ c κs. omega (arith, high (c .before .before .before .before)))
-    returns-3)
+    (λ c κs. omega (arith, some (c .before))) (λ c. omega (arith, low (c .before))) (λ c κs. omega (arith, low (c .before)))
+    (λ c. omega (arith, low (c .before .before))) (λ c. omega (arith, low (c .before .before .before)))
+    (λ c κs. omega (arith, low (c .before .before .before))) returns returns-2 (λ c. search needs)
+    (λ c. omega (arith, high (c .before .before))) (λ c κs. omega (arith, high (c .before .before)))
+    (λ c. omega (arith, high (c .before .before .before .before))) (λ c κs. omega (arith, high (c .before .before .before .before))) returns-3)

@@ -58,16 +58,5 @@ pub received-of-spec : {M : Type 1} → statement M
 received-of-spec =
     tie.close
     (tie.spec
-    Inv-loop
-    μ-loop
-    loop-holds
-    (λ c. search needs)
-    (λ c κs. search needs)
-    (λ c. search needs)
-    (λ c κs. search needs)
-    sub-sum
-    add-sum
-    (λ c. search needs)
-    (λ c. search needs)
-    loop-again
-    returns)
+    Inv-loop μ-loop loop-holds (λ c. search needs) (λ c κs. search needs) (λ c. search needs) (λ c κs. search needs) sub-sum add-sum
+    (λ c. search needs) (λ c. search needs) loop-again returns)

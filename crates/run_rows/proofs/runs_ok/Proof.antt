@@ -66,20 +66,6 @@ pub runs-ok-spec : {M : Type 1} → statement M
 runs-ok-spec =
     tie.close
     (tie.spec
-    Inv-loop
-    μ-loop
-    returns
-    (λ c κs. search needs)
-    (λ c κs. search needs)
-    returns-2
-    loop-holds
-    (λ c. search needs)
-    (λ c κs. search needs)
-    returns-3
-    (λ c. search needs)
-    (λ c κs. search needs)
-    returns-4
-    (λ c. search needs)
-    (λ c. search needs)
-    loop-again
+    Inv-loop μ-loop returns (λ c κs. search needs) (λ c κs. search needs) returns-2 loop-holds (λ c. search needs) (λ c κs. search needs)
+    returns-3 (λ c. search needs) (λ c κs. search needs) returns-4 (λ c. search needs) (λ c. search needs) loop-again
     (λ c. let l = c .before .loop in later-end _ _ _ _ _ _ _ _ (l .inv .2) (omega arith)))

@@ -8,9 +8,6 @@ use Rattle.success_status.proofs.PutLaws.{fields-put}
 use Rattle.success_status.proofs.put_fields.Statement.{statement}
 use Rattle.success_status.proofs.put_fields.Tie as tie
 
-join-requires : tie.Need-join-requires
-join-requires c κs = (omega arith, rw (c .before .status-flags .ensures) (flags-fit (c .before .before .before .args .f)))
-
 returns : tie.Need-returns
 returns c =
     let fourth = c .before .before in
@@ -28,12 +25,5 @@ pub put-fields-spec : {M : Type 1} → statement M
 put-fields-spec =
     tie.close
     (tie.spec
-    (λ c κs. search needs)
-    join-requires
-    (λ c κs. search needs)
-    (λ c κs. search needs)
-    (λ c κs. search needs)
-    (λ c. search needs)
-    (λ c κs. search needs)
-    (λ c. search needs)
-    returns)
+    (λ c κs. search needs) (λ c κs. (omega arith, rw (c .before .status-flags .ensures) (flags-fit (c .before .before .before .args .f))))
+    (λ c κs. search needs) (λ c κs. search needs) (λ c κs. search needs) (λ c. search needs) (λ c κs. search needs) (λ c. search needs) returns)

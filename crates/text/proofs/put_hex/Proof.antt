@@ -43,16 +43,8 @@ pub put-hex-spec : {M : Type 1} → statement M
 put-hex-spec =
     tie.close
     (tie.spec
-    Inv-loop
-    μ-loop
-    loop-holds
-    (λ c. omega arith)
+    Inv-loop μ-loop loop-holds (λ c. omega arith)
     (λ c κs. omega (arith, c .before .shared-slice-known2 .given (c .before .before .before .loop .i)))
-    (λ c κs. c .before .before .before .before .loop .inv .1 .within)
-    (λ c κs. omega arith)
-    (λ c κs. c .before .before .before .before .push .ensures .within)
-    (λ c. omega arith)
-    (λ c. omega arith)
-    loop-again
-    (λ c. c .before .loop .inv .1 .size)
-    returns)
+    (λ c κs. c .before .before .before .before .loop .inv .1 .within) (λ c κs. omega arith)
+    (λ c κs. c .before .before .before .before .push .ensures .within) (λ c. omega arith) (λ c. omega arith) loop-again
+    (λ c. c .before .loop .inv .1 .size) returns)

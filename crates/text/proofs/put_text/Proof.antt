@@ -18,12 +18,6 @@ Inv-loop out₀ at s next₀ i₀ out next i = (i ≤ length s) × Added out₀ 
 abbrev μ-loop : tie.MeasureT-loop
 μ-loop out₀ at s next₀ i₀ out next i = length s - i
 
-loop-holds : tie.Need-loop-holds Inv-loop μ-loop
-loop-holds c = (omega arith, added-none (now (c .before .before .args .out)) (c .before .before .args .at) (omega arith))
-
-push-requires : tie.Need-push-requires Inv-loop μ-loop
-push-requires c κs = c .before .before .before .loop .inv .1 .within
-
 loop-again : tie.Need-loop-again Inv-loop μ-loop
 loop-again c =
     let push-place = c .before .before in
@@ -42,4 +36,4 @@ returns c =
 pub put-text-spec : {M : Type 1} → statement M
 put-text-spec =
     tie.close
-    (tie.spec Inv-loop μ-loop loop-holds (λ c. omega arith) push-requires (λ c. omega arith) (λ c. omega arith) loop-again (λ c. c .before .loop .inv .1 .size) returns)
+    (tie.spec Inv-loop μ-loop (λ c. (omega arith, added-none (now (c .before .before .args .out)) (c .before .before .args .at) (omega arith))) (λ c. omega arith) (λ c κs. c .before .before .before .loop .inv .1 .within) (λ c. omega arith) (λ c. omega arith) loop-again (λ c. c .before .loop .inv .1 .size) returns)

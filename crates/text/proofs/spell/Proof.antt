@@ -45,22 +45,8 @@ pub spell-spec : {M : Type 1} → statement M
 spell-spec =
     tie.close
     (tie.spec
-    Inv-loop
-    μ-loop
-    loop-holds
-    (λ c. omega arith)
-    (λ c. omega arith)
-    (λ c. omega arith)
-    (λ c. length-set (c .before .before .loop .text) _ _ ∙ c .before .before .loop .inv .1 ∙ sym (c .before .before .before .pre))
-    returns
-    (λ c. omega arith)
-    (λ c. omega arith)
-    (λ c. omega arith)
-    (λ c. omega arith)
-    (λ c. omega arith)
-    loop-again
-    (λ c. omega arith)
-    (λ c. omega arith)
-    (λ c. omega arith)
-    (λ c. length-set (c .before .loop .text) _ _ ∙ c .before .loop .inv .1 ∙ sym (c .before .before .pre))
+    Inv-loop μ-loop loop-holds (λ c. omega arith) (λ c. omega arith) (λ c. omega arith)
+    (λ c. length-set (c .before .before .loop .text) _ _ ∙ c .before .before .loop .inv .1 ∙ sym (c .before .before .before .pre)) returns
+    (λ c. omega arith) (λ c. omega arith) (λ c. omega arith) (λ c. omega arith) (λ c. omega arith) loop-again (λ c. omega arith)
+    (λ c. omega arith) (λ c. omega arith) (λ c. length-set (c .before .loop .text) _ _ ∙ c .before .loop .inv .1 ∙ sym (c .before .before .pre))
     returns-2)

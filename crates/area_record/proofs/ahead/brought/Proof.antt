@@ -6,11 +6,8 @@ use Rattle.area_record.proofs.ahead.brought.Tie as tie
 returns : tie.Need-returns
 returns c z = absurd (omega arith)
 
-data-fields-requires : tie.Need-data-fields-requires
-data-fields-requires c κs = c .before .before .pre (omega arith)
-
 returns-2 : tie.Need-returns-2
 returns-2 c z = c .data-fields .ensures
 
 pub brought-spec : {M : Type 1} → statement M
-brought-spec = tie.close (tie.spec returns data-fields-requires returns-2)
+brought-spec = tie.close (tie.spec returns (λ c κs. c .before .before .pre (omega arith)) returns-2)

@@ -27,20 +27,11 @@ place : (c : tie.Else1)
     PlaceKnown a (s .args .t .place) (found c .held) (found c .there) (rowsAt a (s .args .t .place))
 place c = let s = c .before .before .before in known (now (s .args .area)) (s .args .t .place) (found c .held) (found c .there) _ refl
 
-rows-at-requires : tie.Need-rows-at-requires
-rows-at-requires c κs = let k = place c in (k .long, k .place)
-
 rows : (c : tie.After-rows-at)
     → let e = c .before in
     let s = e .before .before .before in
     PlaceKnown (now (s .args .area)) (s .args .t .place) (found e .held) (found e .there) (c .rows-at .result)
 rows c = let e = c .before in let s = e .before .before .before in known (now (s .args .area)) (s .args .t .place) (found e .held) (found e .there) _ (c .rows-at .ensures)
-
-cut-to-requires : tie.Need-cut-to-requires
-cut-to-requires c κs = rows c .fit .starts-fit
-
-cut-below-requires : tie.Need-cut-below-requires
-cut-below-requires c κs = let f = rows (c .before) .fit .stops-fit in omega (arith, c .cut-to .ensures .inside)
 
 -- the cuts are two of its places
 cuts : (c : tie.After-cut-below)
@@ -48,12 +39,6 @@ cuts : (c : tie.After-cut-below)
     let n = c .before .before .rows-at .result .count in
     (c .cut-below .result ≤ j) × (j ≤ n) × (n ≤ runPlaces)
 cuts c = (c .cut-below .ensures .inside, c .before .cut-to .ensures .inside, rows (c .before .before) .few-runs)
-
-add-if2 : tie.Need-add-if2
-add-if2 c = omega (arith, cuts c)
-
-add-if2-2 : tie.Need-add-if2-2
-add-if2-2 c = omega (arith, cuts c)
 
 returns-2 : tie.Need-returns-2
 returns-2 c =
@@ -84,14 +69,6 @@ pub cut-spec : {M : Type 1} → statement M
 cut-spec =
     tie.close
     (tie.spec
-    (λ c κs. search needs)
-    returns
-    rows-at-requires
-    cut-to-requires
-    cut-below-requires
-    add-if2
-    (λ c. search needs)
-    add-if2-2
-    (λ c κs. search needs)
-    returns-2
-    returns-3)
+    (λ c κs. search needs) returns (λ c κs. let k = place c in (k .long, k .place)) (λ c κs. rows c .fit .starts-fit)
+    (λ c κs. let f = rows (c .before) .fit .stops-fit in omega (arith, c .cut-to .ensures .inside)) (λ c. omega (arith, cuts c))
+    (λ c. search needs) (λ c. omega (arith, cuts c)) (λ c κs. search needs) returns-2 returns-3)

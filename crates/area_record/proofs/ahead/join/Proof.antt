@@ -23,9 +23,6 @@ place : (c : tie.Start)
     PlaceKnown a (t .place) (c .pre .0 .held) (c .pre .0 .there) (rowsAt a (t .place))
 place c = known (now (c .args .area)) (c .args .t .place) (c .pre .0 .held) (c .pre .0 .there) _ refl
 
-rows-at-requires : tie.Need-rows-at-requires
-rows-at-requires c κs = let k = place (c .before) in (k .long, k .place)
-
 rows : (c : tie.After-rows-at)
     → let s = c .before .before in PlaceKnown (now (s .args .area)) (s .args .t .place) (s .pre .0 .held) (s .pre .0 .there) (c .rows-at .result)
 rows c = let s = c .before .before in known (now (s .args .area)) (s .args .t .place) (s .pre .0 .held) (s .pre .0 .there) _ (c .rows-at .ensures)
@@ -44,17 +41,8 @@ module _ (c : tie.After-rows-at) where
 joined-start-requires : tie.Need-joined-start-requires
 joined-start-requires c κs = (rows c .fit, upper c .inside)
 
-joined-stop-requires : tie.Need-joined-stop-requires
-joined-stop-requires c κs = joined-start-requires (c .before) κs
-
 edge-with-requires : tie.Need-edge-with-requires
 edge-with-requires c κs = rows (c .before .before) .fit
-
-progress-with-requires : tie.Need-progress-with-requires
-progress-with-requires c κs = edge-with-requires (c .before) κs
-
-adds-of-requires : tie.Need-adds-of-requires
-adds-of-requires c κs = let r = c .before .before .before .before .before in (rows r .fit, lower r .inside, upper r .inside)
 
 -- the runs before the joined one are there
 inside : (c : tie.After-rows-at) → let s = c .before .before in s .args .c .i ≤ length (runsIn (now (s .args .area)) (c .rows-at .result))
@@ -100,10 +88,6 @@ pub join-spec : {M : Type 1} → statement M
 join-spec =
     tie.close
     (tie.spec
-    rows-at-requires
-    joined-start-requires
-    joined-stop-requires
-    edge-with-requires
-    progress-with-requires
-    adds-of-requires
-    returns)
+    (λ c κs. let k = place (c .before) in (k .long, k .place)) joined-start-requires (λ c κs. joined-start-requires (c .before) κs)
+    edge-with-requires (λ c κs. edge-with-requires (c .before) κs)
+    (λ c κs. let r = c .before .before .before .before .before in (rows r .fit, lower r .inside, upper r .inside)) returns)

@@ -30,9 +30,6 @@ returns c = located-through _ (omega arith) (c .nowhere .ensures)
 held : (c : tie.Else1) → judged (now (c .before .before .args .area)) ≡ true
 held c = c .before .before .pre (omega arith) .0
 
-find-place-requires : tie.Need-find-place-requires
-find-place-requires c κs = held c
-
 returns-2 : tie.Need-returns-2
 returns-2 c =
     let f = c .before .before .before in
@@ -101,14 +98,5 @@ pub locate-spec : {M : Type 1} → statement M
 locate-spec =
     tie.close
     (tie.spec
-    (λ c κs. search needs)
-    returns
-    find-place-requires
-    (λ c κs. search needs)
-    returns-2
-    key-at-requires
-    (λ c κs. search needs)
-    (λ c κs. search needs)
-    returns-3
-    add-to
-    returns-4)
+    (λ c κs. search needs) returns (λ c κs. held c) (λ c κs. search needs) returns-2 key-at-requires (λ c κs. search needs)
+    (λ c κs. search needs) returns-3 add-to returns-4)

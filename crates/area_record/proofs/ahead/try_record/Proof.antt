@@ -19,15 +19,6 @@ unread-is c =
     let s = c .before .before .before .before in
     c .unread .ensures ∙ ap (λ (b : Bool). unreadAs b (now (s .args .packet))) (c .before .judge .ensures)
 
-brought-requires : tie.Need-brought-requires
-brought-requires c κs z = passed _ _ _ (unread-is c) z .1
-
-locate-requires : tie.Need-locate-requires
-locate-requires c κs = locate-asks _ _ _ (unread-is (c .before)) _ (c .brought .ensures)
-
-cut-requires : tie.Need-cut-requires
-cut-requires c κs = let b = c .before in cut-asks _ _ _ (unread-is (b .before)) _ (b .brought .ensures) _ (c .locate .ensures)
-
 returns : tie.Need-returns
 returns c =
     let k = c .before .before .before in
@@ -57,13 +48,7 @@ pub try-record-spec : {M : Type 1} → statement M
 try-record-spec =
     tie.close
     (tie.spec
-    (λ c κs. search needs)
-    (λ c κs. search needs)
-    brought-requires
-    locate-requires
-    cut-requires
-    (λ c κs. search needs)
-    returns
-    join-requires
-    (λ c κs. c .join .ensures .fits .order)
-    returns-2)
+    (λ c κs. search needs) (λ c κs. search needs) (λ c κs z. passed _ _ _ (unread-is c) z .1)
+    (λ c κs. locate-asks _ _ _ (unread-is (c .before)) _ (c .brought .ensures))
+    (λ c κs. let b = c .before in cut-asks _ _ _ (unread-is (b .before)) _ (b .brought .ensures) _ (c .locate .ensures)) (λ c κs. search needs)
+    returns join-requires (λ c κs. c .join .ensures .fits .order) returns-2)

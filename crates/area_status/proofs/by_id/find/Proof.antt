@@ -55,11 +55,4 @@ pub find-spec : {M : Type 1} → statement M
 find-spec =
     tie.close
     (tie.spec
-    (λ c κs. search needs)
-    (λ c κs. search needs)
-    returns
-    (λ c κs. passed c)
-    (λ c κs. search needs)
-    returns-2
-    (λ c κs. used c)
-    returns-3)
+    (λ c κs. search needs) (λ c κs. search needs) returns (λ c κs. passed c) (λ c κs. search needs) returns-2 (λ c κs. used c) returns-3)

@@ -86,15 +86,6 @@ pub transfer-hole-spec : {M : Type 1} → statement M
 transfer-hole-spec =
     tie.close
     (tie.spec
-    (λ c κs. search needs)
-    (λ c κs. search needs)
-    returns
-    (λ c κs. passed c)
-    (λ c κs. search needs)
-    returns-2
-    (λ c κs. let u = used c in (u .long, u .low))
-    (λ c κs. rw (c .rows-at .ensures) (used (c .before) .rows))
-    (λ c κs. search needs)
-    returns-3
-    hole-at-requires
-    returns-4)
+    (λ c κs. search needs) (λ c κs. search needs) returns (λ c κs. passed c) (λ c κs. search needs) returns-2
+    (λ c κs. let u = used c in (u .long, u .low)) (λ c κs. rw (c .rows-at .ensures) (used (c .before) .rows)) (λ c κs. search needs) returns-3
+    hole-at-requires returns-4)

@@ -1,1 +1,2 @@
 pub mod BitmapAnswers
+pub mod MarksReported

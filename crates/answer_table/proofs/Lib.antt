@@ -1,1 +1,3 @@
 pub mod ReportLaws
+pub mod ListingLaws
+pub mod NumberLaws

@@ -29,7 +29,7 @@ use Rattle.answer_table.specs.TableAnswers.{openedAnswer}
 use Rattle.answer_table.specs.Reported.{Reported}
 
 -- the two numbers of an answer, from what is told
-reported : (a : List ℕ) (id : ℕ) (x : Reached) → AreaTold a id x → Reported a id (x .edge) (bit (x .complete))
+abbrev pub reported : (a : List ℕ) (id : ℕ) (x : Reached) → AreaTold a id x → Reported a id (x .edge) (bit (x .complete))
 reported a id x h =
     let t = h .told in
     record {

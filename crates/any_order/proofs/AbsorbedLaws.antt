@@ -1,6 +1,6 @@
 -- The sum of the absorbed runs: each call keeps it, so every list of calls does.
 -- Assumes nothing.
-use Prim.Native.Nat.{ℕ, _+_}
+use Prim.Native.Nat.{ℕ, suc, _+_}
 use mathlib.Core.Path.{_≡_, refl, sym, ap, _∙_}
 use mathlib.Core.Bool.{Bool, true, false, cond}
 use mathlib.Core.List.{List, [], _∷_}
@@ -73,7 +73,7 @@ record-balanced : (t : List Transfer) (p : Packet) (i : ℕ) → Valid t
 unfolding counted
 record-balanced t p i v =
     record-cases (λ (o : Outcome Recorded). Balanced i p (o .answer) (length (runsOf (o .table) i)) (length (runsOf t i))) t (p .octets)
-    (λ r. refused-balanced i p (recorded.Refused r) (length (runsOf t i)) refl refl)
+    (λ n. refused-balanced i p (recorded.Refused (refusalOf (suc n))) (length (runsOf t i)) refl refl)
     (λ d k e f j l. taken d k e f (ℕ-discrete (d .id) i))
   where
     taken : (d : Data) (k : Key) → readData (p .octets) ≡ data-read.Accepted d → find (d .id) (keys t) ≡ some k → Dec (d .id ≡ i)

@@ -81,6 +81,15 @@ module _ {A : Type 0} (refused : A) (answer : List Transfer → A) (a : List ℕ
   unfolding fromTable fromFound
   from-unjudged e = ap (fromFound refused answer) (judged-unheld a e)
 
+  -- by cases
+  pub from-cases : (P : A → Type 0) → P refused → ((t : List Transfer) → tableOf a ≡ some t → P (answer t)) → P (fromTable refused answer a)
+  unfolding fromTable fromFound
+  from-cases P n s = go (tableOf a) refl
+    where
+      go : (x : Option (List Transfer)) → tableOf a ≡ x → P (fromFound refused answer x)
+      go none e = n
+      go (some t) e = s t e
+
 pub runs-held : (a : List ℕ) (t : List Transfer) (id : ℕ) → tableOf a ≡ some t → runsHeld a id ≡ length (runsOf t id)
 unfolding runsHeld
 runs-held a t id e = from-held 0 (λ u. length (runsOf u id)) a t e

@@ -3,3 +3,6 @@ pub mod WriteStatusLaws
 pub mod ListingLaws
 pub mod ByIdLaws
 pub mod CountLaws
+pub mod ToldLaws
+pub mod LackLaws
+pub mod NumberLaws

@@ -36,7 +36,7 @@ listed-unheld a i e = ap (fromFound (Refused (refusalOf 22)) (λ t. listedIn t i
 
 -- ---- in rising order of Id
 
-least-at : (k : ℕ) (t : List Transfer) (j : ℕ) → FineFrom k t → j < length t → k ≤ nth t j .key .id
+pub least-at : (k : ℕ) (t : List Transfer) (j : ℕ) → FineFrom k t → j < length t → k ≤ nth t j .key .id
 least-at k [] j f h = absurd (omega arith)
 least-at k (x ∷ t) zero f h = f .0
 least-at k (x ∷ t) (suc j) f h = omega (arith, f .0, least-at (suc (x .key .id)) t j (f .2) (omega arith))

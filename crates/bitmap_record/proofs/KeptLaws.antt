@@ -42,7 +42,7 @@ module _ (k : Key) (s packet : List ℕ) where
     unfolding recordRefusal
     fine = state-known k s (first-none (stateRefusal k s) _ e)
 
-    payload : 0 < dataOf packet .length
+    pub payload : 0 < dataOf packet .length
     unfolding recordRefusal
     payload = payload-some packet (dataOf packet) (first-none (dataRefusal packet) _ (rest-none (stateRefusal k s) _ e)) refl
 

@@ -8,7 +8,7 @@ use mathlib.Core.Logic.{_⊎_, inl, inr, ⊎-elim, _≢_, _↔_}
 use native.Mathlib.Nat.{add-zero, zero-add, mod-lt}
 use native.Mathlib.Omega.{arith}
 use lib.ListN.{length, getD, drop, set, replicate, length-set, length-replicate, getD-replicate, List·getD-append}
-use lib.Seq.{getD-set-same, getD-set-other, drop-set-lt, ext-getD}
+use lib.Seq.{set-getD, getD-set-same, getD-set-other, drop-set-lt, ext-getD}
 use lib.Dec.{eqb}
 use lib.Bits.{bitAnd, bitOr}
 use Rattle.octets.specs.Numbers.{Octets}
@@ -55,6 +55,11 @@ module _ (s : List ℕ) (n : ℕ) (h : n < 8 * length s) where
       (bit-stays (getD s (n / 8) 0) (n % 8) (m % 8) (mod-lt n (omega arith)) (mod-lt m (omega arith)) (λ z. e (omega arith))))
       (λ (u : m / 8 ≢ n / 8). rw (getD-set-other s (n / 8) (m / 8) (withBit (getD s (n / 8) 0) (n % 8)) 0 u)) (same-or (m / 8) (n / 8))
 
+-- one that is set already: every octet stays
+mark-known : (s : List ℕ) (n : ℕ) → marked s n ≡ true → withMark n s ≡ s
+unfolding marked withMark withBit
+mark-known s n e = rw e (set-getD s (n / 8) 0)
+
 -- ---- several, one after the other
 
 pub length-marks : (n k : ℕ) (s : List ℕ) → n + k ≤ 8 * length s → length (withMarks n k s) ≡ length s
@@ -88,6 +93,12 @@ marks-set n (suc k) s m h p q =
     ⊎-elim (λ (u : suc n ≤ m). marks-set (suc n) k (withMark n s) m (omega arith) u (omega arith))
     (λ (u : m < suc n). let i : m ≡ n = omega arith in rw i (marks-other (suc n) k (withMark n s) n (omega arith) (inl (omega arith)) ∙ mark-set s n (omega arith)))
     (le-or-lt (suc n) m)
+
+-- R6.7: where all of them are set already, every octet stays
+pub marks-known : (n k : ℕ) (s : List ℕ) → ((m : ℕ) → n ≤ m → m < n + k → marked s m ≡ true) → withMarks n k s ≡ s
+unfolding withMarks
+marks-known n zero s f = refl
+marks-known n (suc k) s f = rw (mark-known s n (f n (omega arith) (omega arith))) (marks-known (suc n) k s (λ m p q. f m (omega arith) (omega arith)))
 
 -- setting some and then those after them is setting them all
 pub marks-add : (n j k : ℕ) (s : List ℕ) → withMarks n (j + k) s ≡ withMarks (n + j) k (withMarks n j s)

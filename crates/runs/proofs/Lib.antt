@@ -11,6 +11,7 @@ pub mod BetweenLaws
 pub mod AddsLaws
 pub mod EdgeLaws
 pub mod HoleLaws
+pub mod MissingLaws
 pub mod ProgressLaws
 pub mod CompleteLaws
 pub mod ReceivedLaws

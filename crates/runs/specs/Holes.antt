@@ -1,11 +1,12 @@
 -- R5.4 to R5.7: what a canonical list of runs says of its transfer: the edge, the holes, the progress, and whether it is complete.
 -- Assumes nothing.
 use Prim.Native.Nat.{ℕ, suc, _≤_, _<_}
+use mathlib.Core.Path.{_≡_}
 use mathlib.Core.Bool.{Bool, cond}
 use mathlib.Core.List.{List, [], _∷_}
 use mathlib.Core.Logic.{_⊎_}
 use lib.Dec.{ltb, leb, eqb}
-use Rattle.runs.specs.Runs.{Run}
+use Rattle.runs.specs.Runs.{Run, Member}
 use Rattle.runs.specs.declared.Hole.{Hole}
 
 -- R5.4: where the last run stops
@@ -29,6 +30,15 @@ holesFrom k (r ∷ rs) =
 
 abbrev pub holes : List Run → List Hole
 holes rs = holesFrom 0 rs
+
+-- R5.5: a longest unbroken stretch below the edge that was not received: it isn't empty, none of its offsets is received, the one before
+-- it, if there is one, is, and so is the one at its end
+pub record LongestMissing (rs : List Run) (h : Hole) : Type 0 where
+  pub some : h .start < h .end
+  pub below : h .end ≤ edge rs
+  pub missing : (x : ℕ) → h .start ≤ x → x < h .end → Member rs x → ⊥
+  pub before : (x : ℕ) → suc x ≡ h .start → Member rs x
+  pub after : Member rs (h .end)
 
 -- R5.6: where the run that holds offset 0 stops, and 0 where no run does
 unfoldable pub progress : List Run → ℕ

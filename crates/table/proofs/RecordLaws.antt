@@ -5,13 +5,11 @@ use mathlib.Core.Path.{_≡_, refl, ap, _∙_}
 use mathlib.Core.List.{List}
 use mathlib.Core.Option.{Option, none, some}
 use lib.ListN.{length}
-use Rattle.refusals.specs.Refusals.{_▹_, refusalOf}
-use Rattle.refusals.specs.declared.Refusal.{Refusal}
+use Rattle.refusals.specs.Refusals.{_▹_, refusalOf, answered}
 use Rattle.refusals.proofs.RefusalLaws.{first-none, rest-none}
 use Rattle.transfer.proofs.ExtendLaws.{extended-canonical, extended-count, key-stop, runs-few, few-runs}
-use Rattle.packet_data.specs.Data.{readData}
+use Rattle.packet_data.specs.Data.{dataRefusal, dataOf, readData}
 use Rattle.packet_data.specs.declared.Data.{Data}
-use Rattle.packet_data.specs.declared.DataRead.{DataRead}
 use Rattle.packet_data.specs.declared.DataRead.the-variants as data-read
 use Rattle.transfer.specs.declared.Key.{Key}
 use Rattle.transfer.specs.Transfers.{Transfer}
@@ -27,26 +25,27 @@ use Rattle.table.specs.declared.Recorded.{Recorded}
 abbrev pub recordedAs : List Transfer → Data → Key → Outcome Recorded
 recordedAs t d k = record { answer = Accepted (receipt k (grown t d) (absorbedIn t d) (addsIn t d)); table = setRuns (d .id) (grown t d) t }
 
--- refused, and the table stays; or the Id is open with k, nothing of 12 to 15 is given, and there is room
+-- refused, with a number that is not 0 (R1.5), and the table stays; or the Id is open with k, nothing of 12 to 15 is given, and there
+-- is room
 pub record-cases : (P : Outcome Recorded → Type 0) (t : List Transfer) (packet : List ℕ)
-    → ((r : Refusal) → P (record { answer = Refused r; table = t }))
+    → ((n : ℕ) → P (record { answer = Refused (refusalOf (suc n)); table = t }))
     → ((d : Data) (k : Key) → readData packet ≡ data-read.Accepted d → find (d .id) (keys t) ≡ some k → dataJudged (some k) d ≡ 0
     → length (grown t d) ≤ 64 → P (recordedAs t d k))
     → P (recordPacket t packet)
-unfolding recordPacket recordRead recordData recordAs recordRefusal
-record-cases P t packet refused taken = go (readData packet) refl
+unfolding recordPacket recordRead recordData recordAs recordRefusal readData
+record-cases P t packet refused taken = go (dataRefusal packet) refl
   where
     judged : (d : Data) (o : Option Key) (n : ℕ) → readData packet ≡ data-read.Accepted d → find (d .id) (keys t) ≡ o
         → recordRefusal o (grown t d) d ≡ n → P (recordAs n o (grown t d) t d)
-    judged d none zero e q z = refused (refusalOf 12)
+    judged d none zero e q z = refused 11
     judged d (some k) zero e q z =
         taken d k e q (first-none (dataJudged (some k) d) _ z)
         (runs-few (grown t d) (rest-none (dataJudged (some k) d) _ z))
-    judged d o (suc n) e q z = refused (refusalOf (suc n))
+    judged d o (suc n) e q z = refused n
 
-    go : (r : DataRead) → readData packet ≡ r → P (recordRead t r)
-    go (data-read.Accepted d) e = judged d (find (d .id) (keys t)) _ e refl refl
-    go (data-read.Refused r) e = refused r
+    go : (n : ℕ) → dataRefusal packet ≡ n → P (recordRead t (answered data-read.Refused n (data-read.Accepted (dataOf packet))))
+    go zero e = judged (dataOf packet) (find (dataOf packet .id) (keys t)) _ (rw e) refl refl
+    go (suc n) e = refused n
 
 -- and then it is accepted
 pub record-taken : (t : List Transfer) (packet : List ℕ) (d : Data) (k : Key) → readData packet ≡ data-read.Accepted d

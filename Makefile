@@ -8,7 +8,7 @@
 # make bench-instructions   the same in instructions, by callgrind
 # make bench-descriptors    reading a descriptor now, at earlier commits and in plain C, in time and instructions; needs the history
 # make link     builds the link program, target/link/saratoga-link (docs/LINK.md)
-# make plan     builds the sending house's planner, target/plan/saratoga-plan (docs/PLAN.md)
+# make plan     builds the sender's planner, target/plan/saratoga-plan (docs/PLAN.md)
 # make install  header, archive, pkg-config file, replay, the tools, the link program and the planner, with man pages, below
 #               PREFIX (default /usr/local; PREFIX=$HOME/.local needs no root); make uninstall takes them away
 PREFIX ?= /usr/local

@@ -13,7 +13,7 @@
  *
  * Where a packet is refused with a `code` that isn't 0, has at least 8 octets and is no BEACON, a failure STATUS goes out by
  * saratoga_write_failure, with that code and the Id in octets 4 to 7 of the packet: every packet begins with a word and an Id,
- * but for BEACON, which has none and is never answered. saratoga_failure_id gives that Id, or says that there is none.
+ * except a BEACON, which has none and is never answered. saratoga_failure_id gives that Id, or says that there is none.
  *
  * The library is for x86-64. It uses no heap and holds no state; each call needs less than 2,000 octets of stack
  * (docs/AREA.md has them by function).
@@ -54,7 +54,7 @@ extern "C" {
 /*
  * Masks on `flags`, which is bits 8 to 31 of the packet as a 24-bit number: bit b is 1 << (31 - b).
  */
-#define SARATOGA_WIDTH_MASK UINT64_C(0xC00000) /* bits 8 and 9 but of BEACON: the descriptor width */
+#define SARATOGA_WIDTH_MASK UINT64_C(0xC00000) /* bits 8 and 9, except of BEACON: the descriptor width */
 #define SARATOGA_WIDTH_16 UINT64_C(0x000000)
 #define SARATOGA_WIDTH_32 UINT64_C(0x400000)
 #define SARATOGA_WIDTH_64 UINT64_C(0x800000)
@@ -387,7 +387,7 @@ struct saratoga_checked {
 struct saratoga_planned saratoga_plan(const uint8_t *status, size_t status_len, uint64_t largest,
                                       struct saratoga_piece *pieces, size_t piece_count);
 
-/* How many records saratoga_plan needs. It refuses the same, but for 20. */
+/* How many records saratoga_plan needs. It refuses the same, except 20. */
 struct saratoga_planned saratoga_plan_count(const uint8_t *status, size_t status_len, uint64_t largest);
 
 /*

@@ -4,7 +4,7 @@
  *     link.c      command line, start and end; the order of writes is explained there
  *     source.c    where packets come from: a pass, or a UDP socket and the senders that are heard
  *     dispatch.c  what is done with a packet, and what is answered
- *     table.c     the transfer table: in memory, on disk, and taken up again
+ *     table.c     the transfer table: in memory, on disk, and resumed from there
  *     store.c     files of a transfer: .part, .page, .aside and .meta
  *     disk.c      plain files: written, forced to disk, replaced; and where there is no room
  *     meta.c      METADATA as text

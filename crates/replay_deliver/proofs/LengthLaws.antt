@@ -1,4 +1,4 @@
--- How long the lines of a packet off the dish are at most, where a buffer of m octets is lent for STATUS.
+-- How long the lines of a packet off the link are at most, where a buffer of m octets is lent for STATUS.
 -- Assumes nothing.
 use Prim.Native.Nat.{ℕ, _+_}
 use mathlib.Core.List.{List}

@@ -1,4 +1,4 @@
--- `P`: "what a link program does with a packet off the dish". `room` is the lent buffer as it stands before.
+-- `P`: "what a link program does with a packet off the link". `room` is the lent buffer as it stands before.
 -- Assumes nothing.
 use Prim.Native.Nat.{ℕ}
 use mathlib.Core.List.{List, _++_}

@@ -1,4 +1,4 @@
-// What a link program does with a packet off the dish: METADATA opens, DATA is recorded, STATUS and BEACON are read, and
+// What a link program does with a packet off the link: METADATA opens, DATA is recorded, STATUS and BEACON are read, and
 // what is to be sent is a second line.
 ghost use mathlib.Core.Path.{_≡_};
 ghost use Prim.Native.Nat.{_≤_};

@@ -24,7 +24,7 @@ use Rattle.replay_status.proofs.BufferLaws.{failure-buffer-most, area-b
 abbrev pub sentMost : ℕ → ℕ
 sentMost m = shortMost + 2 * m
 
--- ---- a packet off the dish
+-- ---- a packet off the link
 
 module _ {room : List ℕ} {m : ℕ} (h : AtMost room m) where
   nothing : AtMost [] (sentMost m)

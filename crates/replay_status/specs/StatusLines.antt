@@ -1,4 +1,4 @@
--- The lines of STATUS: what is to be sent for a packet off the dish, and what a record `S` gets. `room` is the lent buffer as it stands
+-- The lines of STATUS: what is to be sent for a packet off the link, and what a record `S` gets. `room` is the lent buffer as it stands
 -- before. Assumes nothing.
 use Prim.Native.Nat.{ℕ, min}
 use mathlib.Core.Bool.{Bool, false, not, cond}

@@ -12,8 +12,8 @@
  * Apart from that, any octets and any numbers may be passed.
  *
  * Where a packet is refused with a `code` that isn't 0, has at least 8 octets and is no BEACON, a failure STATUS goes out by
- * saratoga_write_failure, with that code and the Id in octets 4 to 7 of the packet: every packet begins with a word and an Id,
- * except a BEACON, which has none and is never answered. saratoga_failure_id gives that Id, or says that there is none.
+ * saratoga_write_failure, with that code and the Id in octets 4 to 7 of the packet. A BEACON has no Id and is never answered.
+ * saratoga_failure_id gives the Id, or says that there is none.
  *
  * The library is for x86-64. It uses no heap and holds no state; each call needs less than 2,000 octets of stack
  * (docs/AREA.md has them by function).

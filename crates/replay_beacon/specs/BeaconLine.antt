@@ -12,7 +12,7 @@ use Rattle.text.specs.Decimal.{decimalOf}
 use Rattle.replay_fields.specs.LineWords.{newline, w-beacon, w-largest, w-bundles, w-streams, w-sending, w-receiving, w-cannot, w-not-now, w-willing, w-free-width, w-free, w-endpoint}
 use Rattle.replay_fields.specs.Fields.{field, octetsField, numberField, bitsOf}
 
--- "cannot, can but not now, can and will"
+-- R2.13: the word of each of the three states
 unfoldable pub stateText : Willingness → List ℕ
 stateText Cannot = w-cannot
 stateText NotNow = w-not-now

@@ -18,8 +18,8 @@ pub const TRANSFERS: usize = 16;
 
 pub const RUNS: usize = 64;
 
-// A head: the Id, the width, the length, and the number of runs.
-pub const HEAD_WORDS: usize = 4;
+// A head: the Id, the width, the length, the number of runs, and 1 where a timestamp is kept, else 0.
+pub const HEAD_WORDS: usize = 5;
 
 pub const ID: usize = 0;
 
@@ -29,6 +29,11 @@ pub const LENGTH: usize = 2;
 
 pub const RUN_COUNT: usize = 3;
 
+pub const STAMPED: usize = 4;
+
+// The words of a timestamp.
+pub const STAMP_WORDS: usize = 2;
+
 // Where the heads begin, the starts of all runs, and their stops, in words of 8 octets; and the octets of the layout.
 const HEADS_AT: usize = 1;
 
@@ -36,7 +41,9 @@ const STARTS_AT: usize = HEADS_AT + TRANSFERS * HEAD_WORDS;
 
 const STOPS_AT: usize = STARTS_AT + TRANSFERS * RUNS;
 
-pub const AREA_OCTETS: usize = (STOPS_AT + TRANSFERS * RUNS) * 8;
+const STAMPS_AT: usize = STOPS_AT + TRANSFERS * RUNS;
+
+pub const AREA_OCTETS: usize = (STAMPS_AT + TRANSFERS * STAMP_WORDS) * 8;
 
 // Where an Id is kept, or would be put, and whether it is open.
 pub struct Place {
@@ -131,7 +138,10 @@ fn transfer_ok(area: &[u8], i: usize) -> bool
         if RUNS < rows.count {
             return false;
         }
-        return run_rows::runs_ok(area, rows, size);
+        if run_rows::runs_ok(area, rows, size) {
+            return head(area, i, STAMPED) <= 1;
+        }
+        return false;
     }
     false
 }

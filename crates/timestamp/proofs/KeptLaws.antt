@@ -12,7 +12,7 @@ use Rattle.octets.specs.Put.{put}
 use Rattle.octets.proofs.NumberLaws.{length-digits, digits-value, octets-take, octets-drop}
 use Rattle.octets.proofs.PutLaws.{put-next, put-nil}
 use Rattle.timestamp.specs.declared.Kept.{Kept}
-use Rattle.timestamp.specs.Timestamps.{stamped, keptOctets, stampAt}
+use Rattle.timestamp.specs.Timestamps.{stamped, keptOctets, stampFrom}
 use Rattle.timestamp.proofs.StampLaws.{none-stamped, stamped-some}
 
 module _ (k : Kept) where
@@ -66,13 +66,13 @@ both p q = cc
 
 -- two halves, one after the other
 pub kept-read : (s : List ℕ) (at : ℕ) (k : Kept) → Octets s → at + 16 ≤ length s → k .stamped ≡ true
-    → k .high ≡ beValue (take 8 (drop at s)) → k .low ≡ beValue (take 8 (drop (at + 8) s)) → keptOctets k ≡ stampAt true at s
-unfolding stampAt
+    → k .high ≡ beValue (take 8 (drop at s)) → k .low ≡ beValue (take 8 (drop (at + 8) s)) → keptOctets k ≡ stampFrom true at s
+unfolding stampFrom
 kept-read s at k o h e high low =
     let first : beDigits 8 (k .high) ≡ take 8 (drop at s) = ap (λ (n : ℕ). beDigits 8 n) high ∙ half s at o (omega arith) in
     let second : beDigits 8 (k .low) ≡ take 8 (drop (at + 8) s) = ap (λ (n : ℕ). beDigits 8 n) low ∙ half s (at + 8) o (omega arith) in
     kept-some k e ∙ both first second ∙ sym (rw (take-add 8 8 (drop at s), drop-drop 8 at s))
 
-pub read-none : (at : ℕ) (s : List ℕ) (k : Kept) → k .stamped ≡ false → keptOctets k ≡ stampAt false at s
-unfolding stampAt
+pub read-none : (at : ℕ) (s : List ℕ) (k : Kept) → k .stamped ≡ false → keptOctets k ≡ stampFrom false at s
+unfolding stampFrom
 read-none at s k e = kept-none k e

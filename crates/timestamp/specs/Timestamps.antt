@@ -28,5 +28,5 @@ unfoldable pub keptOctets : Kept → List ℕ
 keptOctets k = cond (k .stamped) (beDigits 8 (k .high) ++ beDigits 8 (k .low)) []
 
 -- the 16 octets from a place on, where there is a timestamp there
-unfoldable pub stampAt : Bool → ℕ → List ℕ → List ℕ
-stampAt b at s = cond b (take 16 (drop at s)) []
+unfoldable pub stampFrom : Bool → ℕ → List ℕ → List ℕ
+stampFrom b at s = cond b (take 16 (drop at s)) []

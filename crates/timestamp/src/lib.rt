@@ -4,7 +4,7 @@ ghost use mathlib.Core.Bool.{true};
 ghost use Prim.Native.Nat.{_+_, _≤_};
 ghost use lib.ListN.{length};
 ghost use Rattle.octets.specs.Put.{put};
-ghost use Rattle.timestamp.specs.Timestamps.{keptOctets, stampAt};
+ghost use Rattle.timestamp.specs.Timestamps.{keptOctets, stampFrom};
 
 // Whether a timestamp is kept, and then its first eight octets and its last eight, each as a number.
 pub struct Kept {
@@ -16,7 +16,7 @@ pub struct Kept {
 // The timestamp that stands from `at` on, or none.
 pub fn read_stamp(s: &[u8], at: usize, stamped: bool) -> Kept
     requires { ⌜ (stamped ≡ true → at + 16 ≤ length (now s)) ⌝ }
-    ensures { λ r. ⌜ keptOctets r ≡ stampAt stamped at (now (s .entry)) ⌝ }
+    ensures { λ r. ⌜ keptOctets r ≡ stampFrom stamped at (now (s .entry)) ⌝ }
 {
     if !stamped {
         return Kept {

@@ -7,7 +7,7 @@ use lib.ListN.{length}
 use denote.Ref.{now}
 use borrow.Author.Tests.{not-true, not-false}
 use native.Mathlib.Omega.{arith}
-use Rattle.timestamp.specs.Timestamps.{stampAt}
+use Rattle.timestamp.specs.Timestamps.{stampFrom}
 use Rattle.timestamp.proofs.KeptLaws.{kept-read, read-none}
 use Rattle.timestamp.proofs.read_stamp.Statement.{statement}
 use Rattle.timestamp.proofs.read_stamp.Tie as tie
@@ -16,7 +16,7 @@ returns : tie.Need-returns
 returns c =
     let a = c .before .before .args in
     let e : a .stamped ≡ false = not-true _ (c .if1 .taken) in
-    read-none (a .at) (now (a .s)) _ refl ∙ ap (λ (b : Bool). stampAt b (a .at) (now (a .s))) (sym e)
+    read-none (a .at) (now (a .s)) _ refl ∙ ap (λ (b : Bool). stampFrom b (a .at) (now (a .s))) (sym e)
 
 -- where there is a timestamp there are 16 octets
 stamped : (c : tie.Else1) → c .before .before .args .stamped ≡ true
@@ -41,7 +41,7 @@ returns-2 c =
     let a = start .args in
     kept-read (now (a .s)) (a .at) _ (λ i. else-place .before .shared-slice-known .given i .fits) (room else-place) refl
     (c .before .read-eight .ensures) (c .read-eight2 .ensures)
-    ∙ ap (λ (b : Bool). stampAt b (a .at) (now (a .s))) (sym (stamped else-place))
+    ∙ ap (λ (b : Bool). stampFrom b (a .at) (now (a .s))) (sym (stamped else-place))
 
 pub read-stamp-spec : {M : Type 1} → statement M
 read-stamp-spec =

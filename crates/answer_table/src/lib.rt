@@ -115,7 +115,7 @@ fn listed_answer(a: Listed) -> ListedAnswer
 pub fn fresh(area: &mut [u8]) -> DoneAnswer
     ensures { λ r. ⌜ (r ≡ doneAnswer (freshArea (now (area .entry)) .answer)) × (now (area .exit) ≡ freshArea (now (area .entry)) .area) ⌝ }
 {
-    done_answer(area_open::fresh(area))
+    done_answer(area_fresh::fresh(area))
 }
 
 pub fn open(area: &mut [u8], packet: &[u8]) -> OpenedAnswer

@@ -14,8 +14,8 @@ use Rattle.words.proofs.WordLaws.{by-known}
 use Rattle.area.specs.Layout.{transferPlaces, runPlaces, headWords, areaWords, areaOctets, idField, headAt, runAt}
 use Rattle.area.specs.Stored.{freshIn}
 use Rattle.area_move.specs.Changes.{Changed}
-use Rattle.area_open.specs.Fresh.{noNumbers, WordsPut}
-use Rattle.area_open.specs.declared.Numbers.{Numbers}
+use Rattle.area_fresh.specs.Fresh.{noNumbers, WordsPut}
+use Rattle.area_fresh.specs.declared.Numbers.{Numbers}
 use Rattle.area_move.proofs.ChangeLaws.{put-changed}
 
 -- ---- the loop

@@ -1,4 +1,4 @@
--- `area_open::fresh` meets its contract: 20, or every number of the layout 0.
+-- `area_fresh::fresh` meets its contract: 20, or every number of the layout 0.
 -- Assumes nothing.
 use native.Mathlib.Omega.{arith}
 use borrow.Author.Needs.{needs}
@@ -9,9 +9,9 @@ use Rattle.table.specs.declared.Finished.the-variants as finished
 use Rattle.area.specs.Layout.{idField, headAt, runAt}
 use Rattle.area.specs.Operations.{OnArea}
 use Rattle.area.proofs.OperationLaws.{fresh-refused, fresh-done}
-use Rattle.area_open.proofs.FreshLaws.{words-at, fresh-stored}
-use Rattle.area_open.proofs.fresh.Statement.{statement}
-use Rattle.area_open.proofs.fresh.Tie as tie
+use Rattle.area_fresh.proofs.FreshLaws.{words-at, fresh-stored}
+use Rattle.area_fresh.proofs.fresh.Statement.{statement}
+use Rattle.area_fresh.proofs.fresh.Tie as tie
 
 returns : tie.Need-returns
 returns c =

@@ -1,4 +1,4 @@
--- `area_open::put_words` meets its contract. The loop's invariant: the first i words are put. The measure is how many are left.
+-- `area_fresh::put_words` meets its contract. The loop's invariant: the first i words are put. The measure is how many are left.
 -- Assumes nothing.
 use borrow.Author.Needs.{needs}
 use native.Mathlib.Omega.{arith}
@@ -6,10 +6,10 @@ use Prim.Native.Nat.{_-_, _≤_}
 use mathlib.Core.Path.{_≡_, refl, subst}
 use denote.Ref.{now}
 use lib.ListN.{length}
-use Rattle.area_open.specs.Fresh.{WordsPut}
-use Rattle.area_open.proofs.FreshLaws.{words-start, words-more}
-use Rattle.area_open.proofs.put_words.Statement.{statement}
-use Rattle.area_open.proofs.put_words.Tie as tie
+use Rattle.area_fresh.specs.Fresh.{WordsPut}
+use Rattle.area_fresh.proofs.FreshLaws.{words-start, words-more}
+use Rattle.area_fresh.proofs.put_words.Statement.{statement}
+use Rattle.area_fresh.proofs.put_words.Tie as tie
 
 abbrev Inv-loop : tie.InvT-loop
 Inv-loop area₀ k ws i₀ area i = (i ≤ length ws) × WordsPut area₀ area k ws i

@@ -1,8 +1,8 @@
--- `area_open::no_numbers` meets its contract.
+-- `area_fresh::no_numbers` meets its contract.
 -- Assumes nothing.
 use mathlib.Core.Path.{refl}
-use Rattle.area_open.proofs.no_numbers.Statement.{statement}
-use Rattle.area_open.proofs.no_numbers.Tie as tie
+use Rattle.area_fresh.proofs.no_numbers.Statement.{statement}
+use Rattle.area_fresh.proofs.no_numbers.Tie as tie
 
 returns : tie.Need-returns
 returns c = refl

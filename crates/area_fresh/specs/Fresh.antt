@@ -7,7 +7,7 @@ use lib.ListN.{getD, replicate}
 use Rattle.words.specs.Words.{wordAt}
 use Rattle.area.specs.Layout.{transferPlaces, runPlaces, headWords}
 use Rattle.area_move.specs.Changes.{Changed}
-use Rattle.area_open.specs.declared.Numbers.{Numbers}
+use Rattle.area_fresh.specs.declared.Numbers.{Numbers}
 
 abbrev pub noNumbers : Numbers
 noNumbers = record {

@@ -135,7 +135,7 @@ pub fn record(area: &mut [u8], packet: &[u8]) -> RecordedAnswer
 pub fn try_record(area: &[u8], packet: &[u8]) -> RecordedAnswer
     ensures { λ r. ⌜ r ≡ recordedAnswer (recordArea (now (area .entry)) (now (packet .entry)) .answer) ⌝ }
 {
-    answers::recorded_answer(area_record::ahead::try_record(area, packet))
+    answers::recorded_answer(area_record::try_record(area, packet))
 }
 
 pub fn close(area: &mut [u8], id: u64) -> DoneAnswer

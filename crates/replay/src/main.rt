@@ -48,7 +48,7 @@ fn step(
 fn replay(fd: i32, area: &mut [u8], body: &mut [u8], lent: &mut [u8], out: &mut [u8])
     requires { ⌜ Room (now body) (now lent) (now out) ⌝ }
 {
-    area_open::fresh(area);
+    area_fresh::fresh(area);
     let mut number = 1;
     while number < u64::MAX && step(fd, number, area, body, lent, out) {
         number += 1;

@@ -14,8 +14,8 @@ use Rattle.runs.specs.Runs.{Run}
 use Rattle.transfer.specs.declared.Key.{Key}
 use Rattle.timestamp.specs.Timestamps.{renewed}
 use Rattle.transfer.specs.Transfers.{Transfer, empty}
-use Rattle.table.specs.Tables.{FineFrom, keys, find, runsOf, add, setRuns, remove}
-use Rattle.table.proofs.TableLaws.{find-head, find-tail, runs-head, runs-tail}
+use Rattle.table.specs.Tables.{FineFrom, keys, find, runsOf, stampOf, add, setRuns, remove}
+use Rattle.table.proofs.TableLaws.{find-head, find-tail, runs-head, runs-tail, stamp-head, stamp-tail}
 use Rattle.table.proofs.FineLaws.{fine-none}
 use Rattle.area.specs.Places.{nth, placeOf, withRuns, insertAt, removeAt}
 
@@ -54,6 +54,11 @@ module _ (id : ℕ) where
   runs-at none-left h e = absurd (omega arith)
   runs-at (here {x} {t} l) h e = runs-head id x t e
   runs-at (later {x} {t} {p} l r) h e = runs-tail id x t (λ q. omega arith) ∙ runs-at r (omega arith) e
+
+  pub stamp-at : {t : List Transfer} {p : ℕ} → Placed id t p → p < length t → nth t p .key .id ≡ id → stampOf t id ≡ nth t p .stamp
+  stamp-at none-left h e = absurd (omega arith)
+  stamp-at (here {x} {t} l) h e = stamp-head id x t e
+  stamp-at (later {x} {t} {p} l r) h e = stamp-tail id x t (λ q. omega arith) ∙ stamp-at r (omega arith) e
 
   pub set-at : (rs : List Run) (s : List ℕ) {t : List Transfer} {p : ℕ} → Placed id t p → p < length t → nth t p .key .id ≡ id → setRuns id rs s t ≡ withRuns t p rs s
   unfolding setRuns

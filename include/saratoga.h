@@ -140,13 +140,13 @@ extern "C" {
 
 /* Refusal numbers, each with its `code`: R9.1 to R9.26. */
 #define SARATOGA_REFUSED_TRUNCATED 1     /* 0x00: packet ends inside a field, or in a path of fewer than 1,024 octets */
-#define SARATOGA_REFUSED_TOO_LONG 2      /* 0x00: packet over 65,535 octets, read or to be written */
+#define SARATOGA_REFUSED_TOO_LONG 2      /* 0x00: packet over 65,535 octets, or it would be when written */
 #define SARATOGA_REFUSED_VERSION 3       /* 0x00: bits 0 and 1 are not 0 1 */
 #define SARATOGA_REFUSED_TYPE 4          /* 0x0A: type not 0, 2, 3 or 4, or not the one that the function takes */
 #define SARATOGA_REFUSED_WIDTH 5         /* 0x09: the upper eight octets of a 128-bit descriptor aren't all zero */
-#define SARATOGA_REFUSED_KIND 6          /* 0x01: kind or property bits not those of a file */
+#define SARATOGA_REFUSED_KIND 6          /* 0x01: not a plain file, by its kind or its property bits */
 #define SARATOGA_REFUSED_CHECKSUM 7      /* 0x01: pair of checksum type and length not allowed */
-#define SARATOGA_REFUSED_PATH 8          /* 0x01: path empty, over 1,023 octets, or followed by octets */
+#define SARATOGA_REFUSED_PATH 8          /* 0x01: path without octets, over 1,023 octets, or not at the end */
 #define SARATOGA_REFUSED_SIZE 9          /* 0x09: size above what the packet's width, or the marks, can hold */
 #define SARATOGA_REFUSED_NO_PAYLOAD 10   /* 0x01: DATA with no payload */
 #define SARATOGA_REFUSED_HOLES 11        /* 0x00: hole list not allowed, or a hole or a plan asked of a failure STATUS */
@@ -415,7 +415,7 @@ struct saratoga_written saratoga_write_beacon(uint64_t flags, uint64_t free_spac
  *
  * Order of refusals (R4.4): 21 (flags over 24 bits, id, mtime or ctime over 32, properties over 16, size over its own
  * width, checksum longer than the flags say), 6 (kind), 7, 1 (checksum shorter than the flags say), 6 (property bits),
- * 8 (path empty, over 1,023 octets or with a zero octet in it), 9, 20. (2 does not arise: no METADATA gets that long.)
+ * 8 (path with no octet, over 1,023, or with a zero octet in it), 9, 20. (2 does not arise: no METADATA gets that long.)
  */
 struct saratoga_written saratoga_write_metadata(uint64_t flags, uint64_t id, const uint8_t *checksum,
                                                 size_t checksum_len, uint64_t properties, uint64_t size,
@@ -555,9 +555,8 @@ struct saratoga_done saratoga_close(uint8_t *area, size_t area_len, uint64_t id)
  * Writes a success STATUS of an open transfer into `out`; octets after it stay. The area is only read. Progress is the
  * lowest offset not received, In-Response-To the edge or, where the transfer is complete, its length less one (0 where the
  * length is 0). The first `skip` holes are left out, then as many are written as `out` has room for, lowest first. Bit 14
- * is set where a hole was skipped or did not fit, bit 15 where `unasked` is not 0 or the transfer is complete. With
- * descriptors of d octets (2, 4, 8 or 16) and h holes written, the size is 8 + 2 d + 2 d h, so SARATOGA_STATUS_OCTETS are
- * always enough.
+ * is set where a hole is left out, bit 15 where `unasked` is not 0 or the transfer is complete. A STATUS of h holes has
+ * 8 + 2 d + 2 d h octets, where d is 2, 4, 8 or 16, the octets of a descriptor. So SARATOGA_STATUS_OCTETS are always enough.
  *
  * Set `unasked` to 0 where the STATUS answers DATA that asked for it (SARATOGA_FLAG_STATUS_WANTED), and to 1 where nobody
  * asked: after METADATA, by a timer, or on completion.

@@ -5,20 +5,19 @@
  * - Accepted: `number` and `code` are 0.
  * - Refused: `number` is one of SARATOGA_REFUSED_..., `code` is the status code to send to the peer in a failure
  *   STATUS (0: send nothing), and every other field is 0. No lent buffer and no area is touched.
- * Where several refusals apply, the first in the order stated at the function is given.
+ * Where several refusals apply, the first in the order stated at the function is given. docs/RULES.md has every rule; a number
+ * such as R6.6 at a function is the rule with its order of refusals.
  *
- * Pointers must not be NULL, also where the length is 0, and must be valid for their length: readable where const,
+ * Pointers must not be NULL, even where the length is 0, and must be valid for their length: readable where const,
  * else readable and writable. A buffer or an area to be written must not overlap any other argument.
  * Apart from that, any octets and any numbers may be passed.
  *
- * Where a packet is refused with a `code` that isn't 0, has at least 8 octets and is no BEACON, a failure STATUS goes out by
- * saratoga_write_failure, with that code and the Id in octets 4 to 7 of the packet. A BEACON has no Id and is never answered.
- * saratoga_failure_id gives the Id, or says that there is none.
+ * Whether a refused packet is answered with a failure STATUS, and to which Id, is what saratoga_failure_id says (R13.1).
  *
  * The library is for x86-64. It uses no heap and holds no state; each call needs less than 2,000 octets of stack
  * (docs/AREA.md has them by function).
  *
- * Bits count from 0, the highest bit of the first octet. All numbers in packets are big-endian. docs/RULES.md has every rule.
+ * Bits count from 0, the highest bit of the first octet. All numbers in packets are big-endian.
  */
 #ifndef SARATOGA_H
 #define SARATOGA_H
@@ -54,11 +53,11 @@ extern "C" {
 /*
  * Masks on `flags`, which is bits 8 to 31 of the packet as a 24-bit number: bit b is 1 << (31 - b).
  */
-#define SARATOGA_WIDTH_MASK UINT64_C(0xC00000) /* bits 8 and 9, except of BEACON: the descriptor width */
+#define SARATOGA_WIDTH_MASK UINT64_C(0xC00000) /* bits 8 and 9, except in BEACON: the descriptor width */
 #define SARATOGA_WIDTH_16 UINT64_C(0x000000)
 #define SARATOGA_WIDTH_32 UINT64_C(0x400000)
 #define SARATOGA_WIDTH_64 UINT64_C(0x800000)
-#define SARATOGA_WIDTH_128 UINT64_C(0xC00000) /* of numbers below 2^64: the upper eight octets are zero, else 5 */
+#define SARATOGA_WIDTH_128 UINT64_C(0xC00000) /* for numbers below 2^64: the upper eight octets are zero, else 5 */
 #define SARATOGA_KIND_MASK UINT64_C(0x300000) /* bits 10 and 11 of METADATA and DATA: 0 is a file, the one kind taken */
 #define SARATOGA_FLAG_ENDED UINT64_C(0x080000)         /* bit 12 of METADATA: the transfer was ended by its sender */
 #define SARATOGA_FLAG_ERRORS_TAKEN UINT64_C(0x040000)  /* bit 13 of METADATA: the content may come with errors */
@@ -70,7 +69,7 @@ extern "C" {
 #define SARATOGA_FLAG_END_OF_DATA UINT64_C(0x008000)   /* bit 16 of DATA: it holds the last octet */
 
 /*
- * The flags of BEACON, to be put together with |: one of each group, and the single flags that hold. Bits 20 to 23 have
+ * The flags of BEACON, to be combined with |: one of each group, and the single flags that apply. Bits 20 to 23 have
  * no use and are kept as read; bits 24 to 31 must be 0 (26).
  */
 #define SARATOGA_LARGEST_MASK UINT64_C(0xC00000) /* bits 8 and 9: the widest descriptors that the node supports */
@@ -80,11 +79,11 @@ extern "C" {
 #define SARATOGA_LARGEST_128 UINT64_C(0xC00000)
 #define SARATOGA_FLAG_BUNDLES UINT64_C(0x200000) /* bit 10: the node also takes bundles */
 #define SARATOGA_FLAG_STREAMS UINT64_C(0x100000) /* bit 11: the node supports streams */
-#define SARATOGA_SEND_MASK UINT64_C(0x0C0000)    /* bits 12 and 13: sending files; 0 1 is refused with 26 */
+#define SARATOGA_SEND_MASK UINT64_C(0x0C0000)    /* bits 12 and 13: sending files; 01 is refused with 26 */
 #define SARATOGA_SEND_CANNOT UINT64_C(0x000000)
 #define SARATOGA_SEND_NOT_NOW UINT64_C(0x080000)
 #define SARATOGA_SEND_WILLING UINT64_C(0x0C0000)
-#define SARATOGA_RECEIVE_MASK UINT64_C(0x030000) /* bits 14 and 15: receiving files; 0 1 is refused with 26 */
+#define SARATOGA_RECEIVE_MASK UINT64_C(0x030000) /* bits 14 and 15: receiving files; 01 is refused with 26 */
 #define SARATOGA_RECEIVE_CANNOT UINT64_C(0x000000)
 #define SARATOGA_RECEIVE_NOT_NOW UINT64_C(0x020000)
 #define SARATOGA_RECEIVE_WILLING UINT64_C(0x030000)
@@ -94,9 +93,9 @@ extern "C" {
 #define SARATOGA_FREE_SPACE_16 UINT64_C(0x004000)
 #define SARATOGA_FREE_SPACE_32 UINT64_C(0x005000)
 #define SARATOGA_FREE_SPACE_64 UINT64_C(0x006000)
-#define SARATOGA_FREE_SPACE_128 UINT64_C(0x007000) /* of numbers below 2^64, as SARATOGA_WIDTH_128 */
+#define SARATOGA_FREE_SPACE_128 UINT64_C(0x007000) /* for numbers below 2^64, as SARATOGA_WIDTH_128 */
 
-/* Willingness to send and to receive, as BEACON is read. */
+/* Willingness to send and to receive, as read from a BEACON. */
 #define SARATOGA_CANNOT 0  /* it can't at all */
 #define SARATOGA_NOT_NOW 1 /* it can, but not now */
 #define SARATOGA_WILLING 2 /* it can and will */
@@ -112,12 +111,12 @@ extern "C" {
 #define SARATOGA_CHECKSUM_MD5 UINT64_C(0x42)   /* 16 octets */
 #define SARATOGA_CHECKSUM_SHA1 UINT64_C(0x53)  /* 20 octets */
 
-/* Bits 8 and 9 of `properties`, of 16 bits: the width in which METADATA has the size. */
+/* Bits 8 and 9 of `properties`, which has 16 bits: the width of the size in METADATA. */
 #define SARATOGA_PROPERTIES_WIDTH_MASK UINT64_C(0x00C0)
 #define SARATOGA_PROPERTIES_WIDTH_16 UINT64_C(0x0000)
 #define SARATOGA_PROPERTIES_WIDTH_32 UINT64_C(0x0040)
 #define SARATOGA_PROPERTIES_WIDTH_64 UINT64_C(0x0080)
-#define SARATOGA_PROPERTIES_WIDTH_128 UINT64_C(0x00C0) /* of sizes below 2^64, as SARATOGA_WIDTH_128 */
+#define SARATOGA_PROPERTIES_WIDTH_128 UINT64_C(0x00C0) /* for sizes below 2^64, as SARATOGA_WIDTH_128 */
 
 /* Status codes, bits 24 to 31 of STATUS, as the draft names them. A refusal's `code` is 0x00, 01, 03, 06, 09 or 0A. */
 #define SARATOGA_CODE_SUCCESS 0x00            /* no error; as the `code` of a refusal: send nothing */
@@ -139,15 +138,15 @@ extern "C" {
 #define SARATOGA_CODE_METADATA_FIRST 0x10     /* METADATA required before the transfer is accepted */
 #define SARATOGA_CODE_UNEXPECTED 0x11         /* a STATUS with an error came unexpectedly, the request is ended */
 
-/* Refusal numbers, each with its `code`. */
+/* Refusal numbers, each with its `code`: R9.1 to R9.26. */
 #define SARATOGA_REFUSED_TRUNCATED 1     /* 0x00: packet ends inside a field, or in a path of fewer than 1,024 octets */
-#define SARATOGA_REFUSED_TOO_LONG 2      /* 0x00: packet over 65,535 octets, read or to be written */
+#define SARATOGA_REFUSED_TOO_LONG 2      /* 0x00: packet over 65,535 octets, or it would be when written */
 #define SARATOGA_REFUSED_VERSION 3       /* 0x00: bits 0 and 1 are not 0 1 */
 #define SARATOGA_REFUSED_TYPE 4          /* 0x0A: type not 0, 2, 3 or 4, or not the one that the function takes */
 #define SARATOGA_REFUSED_WIDTH 5         /* 0x09: the upper eight octets of a 128-bit descriptor aren't all zero */
-#define SARATOGA_REFUSED_KIND 6          /* 0x01: kind or property bits not those of a file */
+#define SARATOGA_REFUSED_KIND 6          /* 0x01: not a plain file, by its kind or its property bits */
 #define SARATOGA_REFUSED_CHECKSUM 7      /* 0x01: pair of checksum type and length not allowed */
-#define SARATOGA_REFUSED_PATH 8          /* 0x01: path empty, over 1,023 octets, or followed by octets */
+#define SARATOGA_REFUSED_PATH 8          /* 0x01: path without octets, over 1,023 octets, or not at the end */
 #define SARATOGA_REFUSED_SIZE 9          /* 0x09: size above what the packet's width, or the marks, can hold */
 #define SARATOGA_REFUSED_NO_PAYLOAD 10   /* 0x01: DATA with no payload */
 #define SARATOGA_REFUSED_HOLES 11        /* 0x00: hole list not allowed, or a hole or a plan asked of a failure STATUS */
@@ -162,7 +161,7 @@ extern "C" {
 #define SARATOGA_REFUSED_BUFFER 20       /* 0x00: buffer, marks or area to be made fresh too small, or too few records */
 #define SARATOGA_REFUSED_FIELD 21        /* 0x00: a field over its bits, failure code 0, or a largest payload not 1 to 65,000 */
 #define SARATOGA_REFUSED_AREA 22         /* 0x00: area too short, or it holds no transfer table; or marks of no transfer */
-#define SARATOGA_REFUSED_BEACON 26       /* 0x00: BEACON with a pairing 0 1, or a last flags octet that isn't 0 */
+#define SARATOGA_REFUSED_BEACON 26       /* 0x00: BEACON with a pair 01, or a last flags octet that isn't 0 */
 
 /* A refusal in plain words; 0 is "accepted". Any number has a text. */
 static inline const char *saratoga_refusal_text(uint64_t number)
@@ -225,7 +224,7 @@ static inline const char *saratoga_code_text(uint64_t code)
     return code < sizeof texts / sizeof texts[0] ? texts[code] : "unknown status code";
 }
 
-/* The number that `count` octets stand for, the highest first; of more than eight, the last eight count. */
+/* The big-endian number in `count` octets; of more than eight, only the last eight count. */
 static inline uint64_t saratoga_number_of(const uint8_t *octets, uint64_t count)
 {
     uint64_t number = 0, i;
@@ -235,8 +234,8 @@ static inline uint64_t saratoga_number_of(const uint8_t *octets, uint64_t count)
 }
 
 /*
- * Whether a packet that was refused with this `code` is answered with a failure STATUS: 1, with the Id to be written in `id`;
- * else 0, and `id` stays.
+ * Whether a packet that was refused with this `code` is answered with a failure STATUS (R13.1): 1, with the Id to write in `id`;
+ * else 0, and `id` stays. The code must not be 0, and the packet needs 8 octets and a type other than BEACON, which has no Id.
  *
  *     if (saratoga_failure_id(packet, packet_len, refused.code, &id))
  *         written = saratoga_write_failure(id, refused.code, out, sizeof out);
@@ -263,8 +262,8 @@ struct saratoga_hole {
 
 /*
  * A packet that was read. Places (`..._at`) count octets from the packet's start. A field that the packet's type
- * lacks is 0. A failure STATUS has only `type`, `flags`, `id` and `status`. Look at `number` before `type`: that is 0 of a
- * BEACON and of a refusal.
+ * lacks is 0. A failure STATUS has only `type`, `flags`, `id` and `status`. Look at `number` before `type`: `type` is 0 both for a
+ * BEACON and in a refusal.
  */
 struct saratoga_packet {
     uint64_t number, code;
@@ -291,60 +290,55 @@ struct saratoga_packet {
     uint64_t status;                   /* bits 24 to 31: 0 for a success STATUS, else the failure code */
     uint64_t progress;                 /* the lowest offset not received */
     uint64_t in_response_to;           /* one more than the highest received; once complete, the last offset */
-    uint64_t holes_at, hole_count;     /* right after In-Response-To, also where there are none */
+    uint64_t holes_at, hole_count;     /* right after In-Response-To, even where there are none */
 
     /* BEACON */
     uint64_t largest_width;             /* octets of the widest descriptors that the node supports: 2, 4, 8 or 16 */
     uint64_t bundles, streams;          /* 1 where the node supports them, else 0 */
     uint64_t send, receive;             /* each SARATOGA_CANNOT, SARATOGA_NOT_NOW or SARATOGA_WILLING */
     uint64_t free_width;                /* octets of the free space: 2, 4, 8 or 16; 0 where none is given */
-    uint64_t free_space;                /* in KiB (1,024 octets each), rounded down; the width's largest: more than that */
+    uint64_t free_space;                /* in KiB (1,024 octets), rounded down; the width's largest number: more than that */
     uint64_t endpoint_at, endpoint_len; /* who it is: any octets, to the packet's end; may be none */
 };
 
 /*
  * Reads a packet: BEACON; or METADATA, DATA or STATUS, of a file, with descriptors of 16, 32, 64 or 128 bits.
  *
- * Numbers are below 2^64: a descriptor of 128 bits is taken where its upper eight octets are zero. Where one of them isn't,
- * the packet is refused with 5, once all 16 octets are there, whatever is wrong after them.
- * BEACON: four octets are a whole one, with nothing in it but flags. Where bit 17 is clear there is no free space, and
- * bits 18 and 19 are neither tested nor lost.
- * METADATA: the pairs of checksum type (bits 28 to 31) and length in 32-bit words (bits 24 to 27) that are taken are
- * 0 with 0, 1 with 1, 2 with 4, 3 with 5, and 4 to 15 with 1 to 15. The path is 1 to 1,023 octets; one zero octet
- * after it ends the packet. The size may stand in another width than the packet's own, but must fit that too; no other
- * field has that width, so none is judged where it is 128 bits.
+ * Numbers are below 2^64: a descriptor of 128 bits is refused with 5 where one of its upper eight octets is not zero (R3.9).
+ * BEACON: four octets are a whole one, with flags only. Where bit 17 is clear there is no free space, and
+ * bits 18 and 19 may have any value.
+ * METADATA: the checksum pairs that are taken are in R2.7. The path is 1 to 1,023 octets; one zero octet
+ * after it ends the packet. The size may have another width than the packet's own, but must fit the packet's too. No other
+ * field has the packet's width.
  * STATUS with a code that isn't 0 (failure): what follows the Id is ignored.
- * STATUS with code 0 (success): Progress is at most In-Response-To; the holes are whole pairs, each start less than
- * its end and greater than the end before it, none below Progress or above In-Response-To. With bit 14 clear the
- * first hole starts at Progress, and where there is none Progress is In-Response-To. With bit 15 set and bit 14 clear
- * and no hole, In-Response-To may also be one less than Progress: the last octet of a complete transfer. That alone
- * does not say complete, since other receivers write it of a file that goes on: Progress equal to its length does. What was
- * received ends, in a STATUS that saratoga_write_status wrote, at the greater of Progress and In-Response-To.
+ * STATUS with code 0 (success): R3.6 and R3.7 say which hole lists are taken. In-Response-To one less than Progress is what
+ * saratoga_write_status writes for a complete file that has octets, but other receivers also write it while a file goes on: it is
+ * complete where Progress equals its length. In a STATUS that saratoga_write_status wrote, the edge is the greater of
+ * Progress and In-Response-To.
  *
- * Order of refusals: 2, 1 (first 8 octets; first 4 where the first octet is 0x40, a BEACON's), 3, 4; a failure STATUS is
- * then accepted; then
+ * Order of refusals (R3.1 to R3.9): 2, 1 (first 8 octets; first 4 where the first octet is 0x40, a BEACON's), 3, 4; a failure
+ * STATUS is then accepted; then
  * BEACON:   26, and where bit 17 is set 1, 5 (free space).
  * METADATA: 6 (kind), 7, 1 (checksum, properties), 6 (property bits 6, 7, 10), 1, 5 (size), 1 (times), 1 or 8 (path), 9.
  * DATA:     6, 1 (timestamp), 1, 5 (offset), 10.
- * STATUS:   1 (timestamp), 1, 5 (Progress), 1, 5 (In-Response-To), 5 (any descriptor of the hole list that is whole, a
- *           start without its end too), 11.
+ * STATUS:   1 (timestamp), 1, 5 (Progress), 1, 5 (In-Response-To), 5 (hole list), 11.
  */
 struct saratoga_packet saratoga_read(const uint8_t *packet, size_t packet_len);
 
 /*
- * Reads hole `index`, counted from 0, of a success STATUS. The whole packet is judged as by saratoga_read, at each call. To
- * walk a long list in one pass, read it once by saratoga_read, and ask saratoga_hole_at for each hole.
+ * Reads hole `index`, counted from 0, of a success STATUS. Each call judges the whole packet as saratoga_read does. To
+ * go through a long list once, call saratoga_read, and then saratoga_hole_at for each hole.
  *
- * Order of refusals: 2, 1, 3, 4 (any type but STATUS), 11 (a failure STATUS), 1 and 5 as for saratoga_read, 11, 19 (`index`
+ * Order of refusals (R3.12): those of saratoga_read, with 4 for any type except STATUS; 11 (a failure STATUS), 19 (`index`
  * is not below the number of holes).
  */
 struct saratoga_hole saratoga_read_hole(const uint8_t *packet, size_t packet_len, uint64_t index);
 
 /*
- * Hole `index`, counted from 0, of a packet that saratoga_read gave `read` of: the pair of `width` octets each at that place
- * of the list from `holes_at` on. Nothing is judged again. Of a success STATUS it is what saratoga_read_hole answers.
+ * Hole `index`, counted from 0, of a packet that was read: `read` is what saratoga_read answered for `packet`. Nothing is judged
+ * again. For a success STATUS it is what saratoga_read_hole answers.
  *
- * Refusal: 19 (`index` is not below `hole_count`, which is 0 of every other packet and of a refusal).
+ * Refusal: 19 (`index` is not below `hole_count`, which is 0 for every other packet and in a refusal).
  */
 static inline struct saratoga_hole saratoga_hole_at(const uint8_t *packet, const struct saratoga_packet *read, uint64_t index)
 {
@@ -377,12 +371,12 @@ struct saratoga_checked {
 
 /*
  * Plans what to send again after a success STATUS: the pieces that fill its holes, none longer than `largest`, in the first
- * `count` records of `pieces`; those past the plan stay. Each hole is cut from its low end, into pieces of `largest` octets but
- * perhaps its last. A STATUS that lists no hole has a plan of no piece. Where the hole list is not complete (bit 14), the plan is
- * for the holes that are listed.
+ * `count` records of `pieces`; later records stay as they are. Each hole is cut from its low end into pieces of `largest` octets,
+ * the last of which may be shorter. A STATUS without holes has a plan without pieces. Where the hole list is not complete
+ * (bit 14), the plan is for the holes that are listed.
  *
- * Order of refusals: those of saratoga_read, with 4 for any type but STATUS; 11 (a failure STATUS), 21 (`largest` is not 1 to
- * 65,000), 20 (the plan has more than `piece_count` pieces).
+ * Order of refusals (R11.3): those of saratoga_read, with 4 for any type except STATUS; 11 (a failure STATUS), 21 (`largest` is
+ * not 1 to 65,000), 20 (the plan has more than `piece_count` pieces).
  */
 struct saratoga_planned saratoga_plan(const uint8_t *status, size_t status_len, uint64_t largest,
                                       struct saratoga_piece *pieces, size_t piece_count);
@@ -391,23 +385,23 @@ struct saratoga_planned saratoga_plan(const uint8_t *status, size_t status_len, 
 struct saratoga_planned saratoga_plan_count(const uint8_t *status, size_t status_len, uint64_t largest);
 
 /*
- * Checks any list of pieces, whoever made it. It passes exactly when the pieces rise, none is empty or longer than `largest`,
- * each lies in one hole that the STATUS lists, no two overlap, and together they cover every listed hole. `piece_count` is the
- * length of the list itself: a record past the plan is one piece too many.
+ * Checks any list of pieces. It passes exactly when each offset is above the one before, each length is 1 to `largest`, each piece
+ * lies inside a single hole that the STATUS lists, no octet is in two pieces, and every octet of every listed hole is in a
+ * piece (R11.4). `piece_count` is the length of the list itself: a record past the plan is one piece too many.
  *
- * Order of refusals: as of saratoga_plan_count. A list that does not pass is not refused.
+ * Order of refusals (R11.5): as for saratoga_plan_count. A list that does not pass is not refused.
  */
 struct saratoga_checked saratoga_check_plan(const uint8_t *status, size_t status_len, uint64_t largest,
                                             const struct saratoga_piece *pieces, size_t piece_count);
 
 /*
- * Writes BEACON into `out`; octets after the packet stay. `flags` is bits 8 to 31 as a 24-bit number, put together from the
+ * Writes BEACON into `out`; octets after the packet stay. `flags` is bits 8 to 31 as a 24-bit number, made from the
  * masks for BEACON above; the type is set here. `free_space` is in KiB: a program divides its free octets by 1,024, drops
- * the rest, and gives the width's largest number where there is more. Where bit 17 is clear it must be 0. `endpoint` may
- * hold any octets, and may have none. The size is 4 octets, the free space's and the endpoint's.
+ * the remainder, and gives the width's largest number where there is more. Where bit 17 is clear it must be 0. `endpoint` may
+ * hold any octets, or none. The packet has 4 octets, those of the free space and those of the endpoint.
  *
- * Order of refusals: 21 (flags over 24 bits, free space over its width, free space not 0 where bit 17 is clear), 26, 2, 20.
- * In 128 bits any number can be written, by this writer and by those below: the upper eight octets are then zero.
+ * Order of refusals (R4.6): 21 (flags over 24 bits, free space over its width, free space not 0 where bit 17 is clear), 26, 2, 20.
+ * In 128 bits every number fits, for this writer and for those below: the upper eight octets are then zero.
  */
 struct saratoga_written saratoga_write_beacon(uint64_t flags, uint64_t free_space, const uint8_t *endpoint,
                                               size_t endpoint_len, uint8_t *out, size_t out_len);
@@ -415,13 +409,13 @@ struct saratoga_written saratoga_write_beacon(uint64_t flags, uint64_t free_spac
 /*
  * Writes METADATA into `out`; octets after the packet stay. `flags` is bits 8 to 31 as a 24-bit number: the caller
  * sets width, kind 00 and the checksum pair in it; the type is set here. `checksum_len` must be four times the words
- * that bits 24 to 27 give. `properties` is 16 bits; its bits 8 and 9 give the width in which `size` is written.
+ * that bits 24 to 27 give. `properties` has 16 bits; its bits 8 and 9 give the width in which `size` is written.
  * `path` comes without a closing zero octet and may hold none; the zero octet is added here. The packet has at most
  * 1,118 octets.
  *
- * Order of refusals: 21 (flags over 24 bits, id, mtime or ctime over 32, properties over 16, size over its own
+ * Order of refusals (R4.4): 21 (flags over 24 bits, id, mtime or ctime over 32, properties over 16, size over its own
  * width, checksum longer than the flags say), 6 (kind), 7, 1 (checksum shorter than the flags say), 6 (property bits),
- * 8 (path empty, over 1,023 octets or with a zero octet in it), 9, 20.
+ * 8 (path with no octet, over 1,023, or with a zero octet in it), 9, 20. (2 does not arise: no METADATA gets that long.)
  */
 struct saratoga_written saratoga_write_metadata(uint64_t flags, uint64_t id, const uint8_t *checksum,
                                                 size_t checksum_len, uint64_t properties, uint64_t size,
@@ -433,7 +427,7 @@ struct saratoga_written saratoga_write_metadata(uint64_t flags, uint64_t id, con
  * width, kind 00 and the single flags in it; the type is set here. `timestamp_len` must be 16 where bit 12 of the
  * flags is set, else 0.
  *
- * Order of refusals: 21 (flags over 24 bits, id over 32, offset over the width, timestamp longer than the flags
+ * Order of refusals (R4.5): 21 (flags over 24 bits, id over 32, offset over the width, timestamp longer than the flags
  * say), 6, 1 (timestamp shorter than the flags say), 10, 2, 20.
  */
 struct saratoga_written saratoga_write_data(uint64_t flags, uint64_t id, const uint8_t *timestamp,
@@ -441,10 +435,10 @@ struct saratoga_written saratoga_write_data(uint64_t flags, uint64_t id, const u
                                             size_t payload_len, uint8_t *out, size_t out_len);
 
 /*
- * Writes a failure STATUS of 8 octets into `out`: flags 0 apart from the code `status`, 1 to 255. Octets after it
+ * Writes a failure STATUS of 8 octets into `out`: every flag is 0 except the code `status`, 1 to 255. Octets after it
  * stay.
  *
- * Order of refusals: 21 (id over 32 bits, status 0 or over 255), 20.
+ * Order of refusals (R4.7): 21 (id over 32 bits, status 0 or over 255), 20.
  */
 struct saratoga_written saratoga_write_failure(uint64_t id, uint64_t status, uint8_t *out, size_t out_len);
 
@@ -452,17 +446,17 @@ struct saratoga_written saratoga_write_failure(uint64_t id, uint64_t status, uin
  * Receiving.
  *
  * The transfer table holds what is open: at most 16 Ids, each with a descriptor width, a length and the set of offsets
- * received. A run is a longest unbroken stretch of received offsets; a transfer holds at most 64. The edge is the first
- * offset after the last one received, 0 where there is none. A hole is a longest unbroken stretch of offsets below the
- * edge that were not received. A transfer is complete when every offset below its length was received.
+ * received. A run is an unbroken stretch of received offsets, as long as it can be; a transfer holds at most 64. The edge is the
+ * first offset above all that was received, 0 where nothing was. A hole is an unbroken stretch of missing offsets below the
+ * edge, as long as it can be. A transfer is complete when no offset below its length is missing.
  *
  * Between calls the program keeps the table in an area of its own, of SARATOGA_AREA_OCTETS octets, as docs/AREA.md lays
- * it out. The program may copy it, save it and take it up again; nothing else holds any state. An area may be longer:
- * octets past SARATOGA_AREA_OCTETS are never read or written. One call at a time may use an area, and packet, buffer
+ * it out. The program may copy it, save it and go on with it later; nothing else holds any state. An area may be longer:
+ * octets past SARATOGA_AREA_OCTETS are never read or written. Only one call at a time may use an area, and packet, buffer
  * and area must not overlap.
  *
- * Every function but saratoga_fresh judges the area first, and refuses with 22 before all else where it is shorter than
- * SARATOGA_AREA_OCTETS or its used words hold no table. Unused words may hold anything: they are never looked at, and
+ * Every function except saratoga_fresh judges the area first, and refuses with 22 before anything else where it is shorter than
+ * SARATOGA_AREA_OCTETS or its used words hold no table (R8.2). Unused words may hold anything: they are never looked at, and
  * stay as they are, so equal tables need not be equal areas (docs/AREA.md). A refusal leaves area and buffers untouched.
  *
  * No payload is kept. The program must write a packet's payload to disk BEFORE it records the packet if it relies on
@@ -472,7 +466,7 @@ struct saratoga_written saratoga_write_failure(uint64_t id, uint64_t status, uin
 /* Octets of an area. */
 #define SARATOGA_AREA_OCTETS 16904
 
-/* A call with no result but that it was accepted. */
+/* A call that answers only whether it was accepted. */
 struct saratoga_done {
     uint64_t number, code;
 };
@@ -486,24 +480,24 @@ struct saratoga_opened {
 };
 
 /*
- * A recorded packet: the transfer as it stands with it; how many of the runs stored before the packet overlaps or touches; and
+ * A recorded packet: edge and completeness of the transfer after it; how many of the runs stored before it overlaps or touches; and
  * whether it brings an octet that was not received.
  *
- * The transfer then has as many runs less as were absorbed, and one more. A repeat absorbs 1, the run that it lies in. Over the
- * recordings accepted since the transfer was opened, the numbers add up to how many these are, less the runs that it has.
+ * Afterwards the transfer has one run more, less the runs absorbed. A repeat absorbs 1, the run that it lies in. Over all
+ * recordings accepted since the transfer was opened, the runs absorbed are the recordings less the runs now held (R10.6).
  *
- * Where an accepted packet has `adds` 0, every octet of it came before, in one packet or in several: the set of received octets
- * stays as it is, and so does every octet of the area. Its payload need not be written to disk again.
+ * Where `adds` is 0 in an accepted answer, every octet of the packet came before, in one packet or in several: the set of received
+ * octets stays as it is, and so does every octet of the area. The payload need not be written to disk again.
  */
 struct saratoga_recorded {
     uint64_t number, code;
     uint64_t edge;
     uint64_t complete; /* 1 where every octet was received, else 0 */
     uint64_t absorbed; /* at most 64 */
-    uint64_t adds;     /* 0 where the packet brings no octet that was not received, else 1 */
+    uint64_t adds;     /* 1 where the packet brings an octet that was not received, else 0 */
 };
 
-/* An open transfer. `received` equals `length` exactly where it is complete: an octet that came twice counts once. */
+/* An open transfer. `received` equals `length` exactly when it is complete: an octet that came twice counts once. */
 struct saratoga_listed {
     uint64_t number, code;
     uint64_t id;
@@ -516,37 +510,36 @@ struct saratoga_listed {
 };
 
 /*
- * Makes the area that of a table with nothing open, whatever it held: SARATOGA_AREA_OCTETS octets are written.
+ * Makes the area hold a table with nothing open, whatever it held before: SARATOGA_AREA_OCTETS octets are written.
  *
- * Refusal: 20 (area shorter than SARATOGA_AREA_OCTETS), and no other.
+ * Refusal (R8.4): 20 (area shorter than SARATOGA_AREA_OCTETS), and no other.
  */
 struct saratoga_done saratoga_fresh(uint8_t *area, size_t area_len);
 
 /*
  * Opens the transfer of a METADATA packet: its Id, with the packet's own descriptor width and the size as the length,
- * and nothing received. A length of 0 is complete at once. Where the Id is open with the same width and length, nothing
- * changes: `already_open` is 1, and edge and completeness are those of the transfer as it stands. Path, times and
+ * and nothing received. An empty file is complete from then on. Where the Id is open with the same width and length, nothing
+ * changes: `already_open` is 1, and edge and completeness are those of the transfer as it is. Path, times and
  * checksum are not kept and not compared.
  *
- * Order of refusals: 22, the reader's for METADATA with 4 for any other type (2, 1, 3, 4, 6, 7, 1, 6, 1, 5, 1, 1 or 8,
- * 9: see saratoga_read), 18, 17.
+ * Order of refusals (R6.4): 22, those of saratoga_read for METADATA, with 4 for any other type, 18, 17.
  */
 struct saratoga_opened saratoga_open(uint8_t *area, size_t area_len, const uint8_t *packet, size_t packet_len);
 
 /*
- * Records a DATA packet: adds the offsets of its payload to those received. A repeat adds nothing and is accepted, with
+ * Records a DATA packet: adds the offsets of its payload to those received. A repeat is accepted, and has
  * `adds` 0. Write the payload to disk first (see above).
  *
- * Order of refusals: 22, the reader's for DATA with 4 for any other type (2, 1, 3, 4, 6, 1, 5, 10: see saratoga_read),
- * 12, 13 (64 and 128 bits are two widths), 14, 15, 16.
+ * Order of refusals (R6.6): 22, those of saratoga_read for DATA, with 4 for any other type, 12, 13 (64 and 128 bits are
+ * two widths), 14, 15, 16.
  */
 struct saratoga_recorded saratoga_record(uint8_t *area, size_t area_len, const uint8_t *packet, size_t packet_len);
 
 /*
- * Answers what saratoga_record would, and records nothing: the area is only read. A program learns so whether a packet is
- * taken, and whether it adds anything, before it writes the payload to disk.
+ * Answers what saratoga_record would answer, and records nothing: the area is only read. So a program can learn whether a packet
+ * is accepted, and whether it adds anything, before it writes the payload to disk.
  *
- * Order of refusals: as for saratoga_record.
+ * Order of refusals (R6.9): as for saratoga_record.
  */
 struct saratoga_recorded saratoga_try_record(const uint8_t *area, size_t area_len, const uint8_t *packet,
                                              size_t packet_len);
@@ -554,7 +547,7 @@ struct saratoga_recorded saratoga_try_record(const uint8_t *area, size_t area_le
 /*
  * Closes a transfer: its Id is no longer open, and what was received is forgotten. Its place can be used again.
  *
- * Order of refusals: 22, 12 (also for any id over 32 bits).
+ * Order of refusals (R6.10): 22, 12 (also for any id over 32 bits).
  */
 struct saratoga_done saratoga_close(uint8_t *area, size_t area_len, uint64_t id);
 
@@ -562,39 +555,38 @@ struct saratoga_done saratoga_close(uint8_t *area, size_t area_len, uint64_t id)
  * Writes a success STATUS of an open transfer into `out`; octets after it stay. The area is only read. Progress is the
  * lowest offset not received, In-Response-To the edge or, where the transfer is complete, its length less one (0 where the
  * length is 0). The first `skip` holes are left out, then as many are written as `out` has room for, lowest first. Bit 14
- * is set where a hole was skipped or did not fit, bit 15 where `unasked` is not 0 or the transfer is complete. With
- * descriptors of d octets (2, 4, 8 or 16) and h holes written, the size is 8 + 2 d + 2 d h, so SARATOGA_STATUS_OCTETS are
- * always enough.
+ * is set where a hole is left out, bit 15 where `unasked` is not 0 or the transfer is complete. A STATUS of h holes has
+ * 8 + 2 d + 2 d h octets, where d is 2, 4, 8 or 16, the octets of a descriptor. So SARATOGA_STATUS_OCTETS are always enough.
  *
- * Set `unasked` to 0 where the STATUS answers DATA that asked for it (SARATOGA_FLAG_STATUS_WANTED), and to 1 where it goes
- * out of itself: after METADATA, by a timer, or on completion.
+ * Set `unasked` to 0 where the STATUS answers DATA that asked for it (SARATOGA_FLAG_STATUS_WANTED), and to 1 where nobody
+ * asked: after METADATA, by a timer, or on completion.
  *
- * Order of refusals: 22, 12 (also for any id over 32 bits), 19 (`skip` is neither 0 nor below the number of holes),
+ * Order of refusals (R7.1): 22, 12 (also for any id over 32 bits), 19 (`skip` is neither 0 nor below the number of holes),
  * 20 (no room for the fields before the holes or, where there are holes, for one of them).
  */
 struct saratoga_written saratoga_write_status(const uint8_t *area, size_t area_len, uint64_t id, uint64_t skip,
                                               uint64_t unasked, uint8_t *out, size_t out_len);
 
 /*
- * Lists the open transfers, for a program that takes up an area again: gives number `index`, counted from 0, in rising
- * order of Id. The area is only read. 12 ends the listing: a program counts up from 0 until it comes.
+ * Lists the open transfers, for a program that resumes with a saved area: gives transfer `index`, counted from 0, in rising
+ * order of Id. The area is only read. 12 ends the listing: a program counts up from 0 until it gets 12.
  *
- * Order of refusals: 22, 12 (`index` is not below the number open).
+ * Order of refusals (R6.11): 22, 12 (`index` is not below the number open).
  */
 struct saratoga_listed saratoga_transfer(const uint8_t *area, size_t area_len, uint64_t index);
 
 /*
- * Finds one open transfer by its Id, and gives what saratoga_transfer lists of it. The area is only read.
+ * Finds one open transfer by its Id, and gives what saratoga_transfer lists for it. The area is only read.
  *
- * Order of refusals: 22, 12 (also for any id over 32 bits).
+ * Order of refusals (R6.11): 22, 12 (also for any id over 32 bits).
  */
 struct saratoga_listed saratoga_find(const uint8_t *area, size_t area_len, uint64_t id);
 
 /*
- * Gives hole `index`, counted from 0 with the lowest, of an open transfer. Holes end at the edge: what lies between the edge
- * and the length is none of them. The area is only read. 19 ends the holes: a program counts up from 0 until it comes.
+ * Gives hole `index` of an open transfer, counted from 0, the lowest first. Holes end at the edge: what lies between the edge
+ * and the length is no hole. The area is only read. 19 ends the holes: a program counts up from 0 until it gets 19.
  *
- * Order of refusals: 22, 12 (also for any id over 32 bits), 19 (`index` is not below the number of holes).
+ * Order of refusals (R6.12): 22, 12 (also for any id over 32 bits), 19 (`index` is not below the number of holes).
  */
 struct saratoga_hole saratoga_transfer_hole(const uint8_t *area, size_t area_len, uint64_t id, uint64_t index);
 
@@ -603,9 +595,9 @@ struct saratoga_hole saratoga_transfer_hole(const uint8_t *area, size_t area_len
  *
  * A second receiver, made to be followed by eye: one transfer of at most SARATOGA_BITMAP_LONGEST octets, with one mark for
  * each. Mark n is bit n of an area of SARATOGA_BITMAP_OCTETS octets, `marks[n / 8] & 0x80 >> n % 8`, and is set once
- * octet n was received (docs/AREA.md). The Id, the width and the length travel in a struct by value: opening hands it out,
+ * octet n was received (docs/AREA.md). The Id, the width and the length are in a struct that is passed by value: opening hands it out,
  * the program passes it to each call with the same marks, and an accepted recording hands it back. A refusal hands back zeros,
- * so that a program keeps the struct that it has:
+ * so a program keeps the struct it has:
  *
  *     if (recorded.number == 0)
  *         transfer = recorded.transfer;
@@ -614,9 +606,9 @@ struct saratoga_hole saratoga_transfer_hole(const uint8_t *area, size_t area_len
  *
  * It answers what the transfer table answers, for every packet of its transfer, and writes the same STATUS.
  *
- * Every function refuses with 20 before all else where the area is shorter than SARATOGA_BITMAP_OCTETS. Recording and STATUS
- * judge marks and struct next, and refuse with 22 where the width is not 2, 4, 8 or 16, the length is above what the width
- * or the marks can hold, a mark at or above the length is set, or the marks have more than 64 runs.
+ * Every function refuses with 20 before anything else where the area is shorter than SARATOGA_BITMAP_OCTETS. Recording and STATUS
+ * then judge marks and struct, and refuse with 22 where the width is not 2, 4, 8 or 16, the length is above what the width
+ * or the marks can hold, a mark at or above the length is set, or the marks have more than 64 runs (R12.4).
  */
 
 /* Octets of the marks, and of the longest transfer. */
@@ -633,7 +625,7 @@ struct saratoga_bitmap {
 /* An opened transfer. */
 struct saratoga_bitmap_opened {
     uint64_t number, code;
-    uint64_t edge;                   /* 0: nothing is received */
+    uint64_t edge;                   /* 0: nothing was received */
     uint64_t complete;               /* 1 where the length is 0, else 0 */
     struct saratoga_bitmap transfer; /* its fields are 0 on refusal */
 };
@@ -644,25 +636,25 @@ struct saratoga_bitmap_recorded {
     uint64_t edge;
     uint64_t complete;               /* 1 where every octet was received, else 0 */
     uint64_t absorbed;               /* at most 64 */
-    uint64_t adds;                   /* 0 where the packet brings no octet that was not received, else 1 */
+    uint64_t adds;                   /* 1 where the packet brings an octet that was not received, else 0 */
     struct saratoga_bitmap transfer; /* to be passed to the next call; its fields are 0 on refusal */
 };
 
 /*
- * Opens the transfer of a METADATA packet, and always starts anew: every mark is cleared, whatever was marked before.
- * Senders repeat METADATA, and a repeat starts anew too: compare its Id, width and size with the transfer at hand first.
+ * Opens the transfer of a METADATA packet, and clears every mark, whatever was marked before. Senders repeat METADATA, and
+ * a repeat clears the marks too: compare its Id, width and size with the transfer at hand first.
  *
- * Order of refusals: 20, the reader's for METADATA with 4 for any other type (see saratoga_open), 9 (size above
+ * Order of refusals (R12.3): 20, those of saratoga_read for METADATA, with 4 for any other type, 9 (size above
  * SARATOGA_BITMAP_LONGEST).
  */
 struct saratoga_bitmap_opened saratoga_bitmap_open(uint8_t *marks, size_t marks_len, const uint8_t *packet,
                                                    size_t packet_len);
 
 /*
- * Records a DATA packet: sets the marks of its payload's offsets. A repeat sets none and is accepted, with `adds` 0. Write the
+ * Records a DATA packet: sets the marks of its payload's offsets. A repeat is accepted, and has `adds` 0. Write the
  * payload to disk first (see above).
  *
- * Order of refusals: 20, 22, the reader's for DATA with 4 for any other type (see saratoga_record), 12 (another Id), 13, 14,
+ * Order of refusals (R12.5): 20, 22, those of saratoga_read for DATA, with 4 for any other type, 12 (another Id), 13, 14,
  * 15, 16.
  */
 struct saratoga_bitmap_recorded saratoga_bitmap_record(struct saratoga_bitmap transfer, uint8_t *marks, size_t marks_len,
@@ -672,7 +664,7 @@ struct saratoga_bitmap_recorded saratoga_bitmap_record(struct saratoga_bitmap tr
  * Writes a success STATUS of the transfer into `out`, as saratoga_write_status does; octets after it stay. The marks are
  * only read.
  *
- * Order of refusals: 20 (marks), 22, 12 (an Id over 32 bits), 19, 20 (`out`).
+ * Order of refusals (R12.6): 20 (marks), 22, 12 (an Id over 32 bits), 19, 20 (`out`).
  */
 struct saratoga_written saratoga_bitmap_status(struct saratoga_bitmap transfer, const uint8_t *marks, size_t marks_len,
                                                uint64_t skip, uint64_t unasked, uint8_t *out, size_t out_len);

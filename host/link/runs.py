@@ -4,7 +4,7 @@
     host/link/runs.py            the table
     host/link/runs.py --check    exit status 1 unless docs/LINK.md holds these very figures
 
-A page of PACKETS packets goes over a link that loses each packet with the same chance, by itself. The sender sends
+A file of PACKETS packets goes over a link that loses each packet with the same chance, by itself. The sender sends
 `window` packets, asks for STATUS, sends again what it names until nothing of the window is missing, and goes on. (STATUS
 and its request are taken as not lost: a loss of these costs time, not runs.) A packet that would begin a 65th run is
 refused with 16.
@@ -31,7 +31,7 @@ def losses(loss, chance):
 
 
 def packets_before_refusal(loss, window, chance):
-    """How many packets of the page were sent before the first refusal with 16; None where there was none."""
+    """How many packets of the file were sent before the first refusal with 16; None where there was none."""
     start = runs = 0
     before = -1  # the loss before; one at -1 would be that of a packet before the first
     for number in losses(loss, chance):
@@ -46,19 +46,19 @@ def packets_before_refusal(loss, window, chance):
 
 
 def table():
-    lines = ["| Loss | Sent without a pause: first refusal after | Largest window never refused in 400 pages "
+    lines = ["| Loss | Sent without a pause: first refusal after | Largest window never refused in 400 files "
              "| Refused at the next larger window tried |", "|---|---|---|---|"]
     for loss in LOSSES:
         chance = random.Random(int(loss * 1000))
         ends = [packets_before_refusal(loss, PACKETS, chance) for _ in range(TRIALS)]
         refused = sorted(end for end in ends if end is not None)
         first = f"{refused[len(refused) // 2]:,} packets (median)" if len(refused) > TRIALS // 2 else (
-            f"never, in {TRIALS} pages" if not refused else f"{len(refused)} of {TRIALS} pages refused")
+            f"never, in {TRIALS} files" if not refused else f"{len(refused)} of {TRIALS} files refused")
         best, worse = 0, ""
         for window in WINDOWS:
             count = sum(packets_before_refusal(loss, window, chance) is not None for _ in range(TRIALS))
             if count:
-                worse = f"{window:,} packets: {count / TRIALS:.1%} of pages"
+                worse = f"{window:,} packets: {count / TRIALS:.1%} of files"
                 break
             best = window
         lines.append(f"| {loss:.1%} | {first} | {best:,} packets | {worse or 'none'} |")

@@ -1,5 +1,5 @@
 /*
- * saratoga-plan, for the house that sends: what to send again after a STATUS, one piece a line; and whether a list that
+ * saratoga-plan, for a sender: what to send again after a STATUS, one piece a line; and whether a list that
  * someone else made is such a plan. Plans and verdicts are the library's. Here: the command line, files and numbers.
  */
 #include "plan.h"
@@ -20,7 +20,7 @@ static const char help[] =
     "standard input. A piece is a line with an offset and a length, both decimal.\n"
     "\n"
     "  -m, --largest OCTETS  no piece is longer: 1 to 65000\n"
-    "      --check LIST      check the pieces in this file; - is standard input. Lines that begin with # are passed over\n"
+    "      --check LIST      check the pieces in this file; - is standard input. Lines that begin with # are skipped\n"
     "      --count           only say how many pieces\n"
     "  -h, --help            this text\n"
     "      --version         the library's version\n"

@@ -8,7 +8,7 @@ use mathlib.Core.List.{List}
 use mathlib.Core.Logic.{_⊎_, inl, inr, ⊎-elim}
 use native.Mathlib.Nat.{mul-le-mul}
 use native.Mathlib.Omega.{arith}
-use lib.ListN.{length, drop, getD}
+use lib.ListN.{length, take, drop, getD}
 use Rattle.octets.proofs.NumberLaws.{width-le}
 use Rattle.timestamp.specs.Timestamps.{stamped}
 use Rattle.timestamp.proofs.StampLaws.{stamp-le}
@@ -33,7 +33,7 @@ use Rattle.packet_status.specs.declared.StatusRead.the-variants.{Success}
 use Rattle.packet_status.specs.declared.HoleRead.the-variants as hole-read
 use Rattle.success_status.specs.SuccessStatus.{statusSize, statusFlags, fieldsRead}
 use Rattle.success_status.specs.declared.Fields.{Fields}
-use Rattle.success_status.proofs.RoundTrip.{FieldsFit, word-written, progress-written, response-written, holes-written, typed-written, status-taken, status-read-written, hole-read-written, hole-past-written}
+use Rattle.success_status.proofs.RoundTrip.{FieldsFit, word-written, stamp-written, progress-written, response-written, holes-written, typed-written, status-taken, status-read-written, hole-read-written, hole-past-written}
 use Rattle.transfer.specs.Transfers.{Transfer, TransferFine}
 use Rattle.transfer_status.specs.WriteStatus.{holeRoom, holesSent, partialSent, responseSent, fieldsSent, statusPacket}
 use Rattle.transfer_status.proofs.StatusSize.{holes-sent-count}
@@ -134,6 +134,11 @@ module _ (x : Transfer) (k : ℕ) (unasked : Bool) (room : ℕ) (fine : Transfer
   pub status-response-read : responseOf packet ≡ to
   unfolding statusPacket
   status-response-read = response-written fields (x .stamp) sent fields-fit
+
+  -- R7.10: the timestamp, after the Id
+  pub status-stamp-read : take ts (drop 8 packet) ≡ x .stamp
+  unfolding statusPacket
+  status-stamp-read = stamp-written fields (x .stamp) sent fields-fit
 
   pub status-holes-read : holeList packet ≡ sent
   unfolding statusPacket

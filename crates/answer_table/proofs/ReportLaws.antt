@@ -73,12 +73,12 @@ module _ (a packet : List ℕ) where
 
   -- an accepted recording tells that it added nothing exactly when the received set of its Id is as before
   pub record-adds : Octets packet → recordAccepted (recordArea a packet .answer) ≡ true
-      → (t u : List Transfer) (d : Data) × (tableOf a ≡ some t) × (tableOf (recordArea a packet .area) ≡ some u) × (readData packet ≡ data-read.Accepted d)
+      → (t : List Transfer) × (u : List Transfer) × (d : Data) × (tableOf a ≡ some t) × (tableOf (recordArea a packet .area) ≡ some u) × (readData packet ≡ data-read.Accepted d)
       × ((recordedAnswer (recordArea a packet .answer) .adds ≡ 0) ↔ (runsOf u (d .id) ≡ runsOf t (d .id)))
   record-adds octets = go (recordArea a packet .answer) refl
     where
       go : (r : Recorded) → recordArea a packet .answer ≡ r → recordAccepted r ≡ true
-          → (t u : List Transfer) (d : Data) × (tableOf a ≡ some t) × (tableOf (recordArea a packet .area) ≡ some u) × (readData packet ≡ data-read.Accepted d)
+          → (t : List Transfer) × (u : List Transfer) × (d : Data) × (tableOf a ≡ some t) × (tableOf (recordArea a packet .area) ≡ some u) × (readData packet ≡ data-read.Accepted d)
           × ((recordedAnswer r .adds ≡ 0) ↔ (runsOf u (d .id) ≡ runsOf t (d .id)))
       go (recorded.Accepted x) e h = let q = area-record-told a packet x octets e in (q .before, q .after, q .brought, q .held, q .left, q .read, q .same)
       go (recorded.Refused r) e h = absurd (false≢true h)

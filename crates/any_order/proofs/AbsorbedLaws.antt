@@ -21,6 +21,7 @@ use Rattle.transfer.specs.declared.Key.{Key}
 use Rattle.transfer.specs.declared.Reached.{Reached}
 use Rattle.transfer.specs.declared.Receipt.{Receipt}
 use Rattle.transfer.specs.Transfers.{Transfer, keyOf}
+use Rattle.transfer.specs.Record.{stampIn}
 use Rattle.transfer.proofs.FieldLaws.{data-some}
 use Rattle.table.specs.Tables.{Valid, keys, find, runsOf, setRuns}
 use Rattle.table.specs.Outcome.{Outcome}
@@ -77,15 +78,15 @@ record-balanced t p i v =
     (λ d k e f j l. taken d k e f (ℕ-discrete (d .id) i))
   where
     taken : (d : Data) (k : Key) → readData (p .octets) ≡ data-read.Accepted d → find (d .id) (keys t) ≡ some k → Dec (d .id ≡ i)
-        → Balanced i p (recordedAs t d k .answer) (length (runsOf (recordedAs t d k .table) i)) (length (runsOf t i))
+        → Balanced i p (recordedAs t (p .octets) d k .answer) (length (runsOf (recordedAs t (p .octets) d k .table) i)) (length (runsOf t i))
     taken d k e f (yes q) =
         let same : idIn p ≡ i = id-is p d e ∙ q in
-        let has : runsOf (setRuns (d .id) (grown t d) t) i ≡ grown t d = ap (runsOf (setRuns (d .id) (grown t d) t)) (sym q) ∙ runs-set-same (d .id) (grown t d) t k f in
+        let has : runsOf (setRuns (d .id) (grown t d) (stampIn (p .octets) d) t) i ≡ grown t d = ap (runsOf (setRuns (d .id) (grown t d) (stampIn (p .octets) d) t)) (sym q) ∙ runs-set-same (d .id) (grown t d) (stampIn (p .octets) d) t k f in
         let count = grown-count t d (data-some (p .octets) d e) (runs-canonical (d .id) t v) in
         let here : length (runsOf t (d .id)) ≡ length (runsOf t i) = ap (λ (j : ℕ). length (runsOf t j)) q in
         rw (eq-eqb (idIn p) i same, has) (omega arith)
     taken d k e f (no n) =
-        rw (runs-set-other (d .id) i (grown t d) t n) (balanced-none i p (recordedAs t d k .answer) (length (runsOf t i)) (λ z. n (sym (id-is p d e) ∙ z)))
+        rw (runs-set-other (d .id) i (grown t d) (stampIn (p .octets) d) t n) (balanced-none i p (recordedAs t (p .octets) d k .answer) (length (runsOf t i)) (λ z. n (sym (id-is p d e) ∙ z)))
 
 -- ---- each call, on an area
 
@@ -119,7 +120,7 @@ record-held-balanced a p i =
     (λ t h.
     let v = held-valid a t h in
     let u = recordPacket t (p .octets) .table in
-    rw (runs-held _ u i (stored-held a u (record-valid t (p .octets) v)), runs-held a t i h) (record-balanced t p i v))
+    rw (runs-held _ u i (stored-held a u (record-valid t (p .octets) (p .are-octets) v)), runs-held a t i h) (record-balanced t p i v))
 
 -- ---- any list of calls
 

@@ -1,6 +1,8 @@
 pub mod FillLaws
+pub mod LastLaws
 pub mod TableOrder
 pub mod Sorting
-pub mod AreaOrder
 pub mod Example
+pub mod KeptOrder
+pub mod AreaOrder
 pub mod AbsorbedLaws

@@ -2,14 +2,16 @@
 -- Assumes nothing.
 use Prim.Native.Nat.{ℕ, _+_, _≤_, _<_}
 use mathlib.Core.Path.{_≡_, refl, sym, ap, ap₂, subst, _∙_}
-use mathlib.Core.Bool.{Bool, true, false, cond}
+use mathlib.Core.Bool.{Bool, true, false, cond, _||_}
 use mathlib.Core.List.{List, [], _∷_, _++_, map, Permᴰ·symm}
 use mathlib.Core.Logic.{_⊎_, inl, inr}
 use mathlib.Core.Option.{none, some}
 use native.Mathlib.Nat.{le-trans}
 use native.Mathlib.Omega.{arith}
 use native.Mathlib.Decide.{ℕ-discrete}
-use lib.ListN.{length}
+use lib.ListN.{length, take, drop, getD}
+use Rattle.refusals.specs.declared.Refusal.{Refusal}
+use Rattle.refusals.specs.declared.Written.the-variants.{Refused}
 use Rattle.packet_metadata.specs.Metadata.{readMetadata}
 use Rattle.packet_metadata.specs.declared.Metadata.{Metadata}
 use Rattle.packet_metadata.specs.declared.MetadataRead.the-variants as metadata-read
@@ -19,29 +21,31 @@ use Rattle.packet_data.specs.declared.DataRead.{DataRead}
 use Rattle.packet_data.specs.declared.DataRead.the-variants as data-read
 use Rattle.runs.specs.Runs.{Run, Canonical, insert}
 use Rattle.transfer.specs.declared.Key.{Key}
+use Rattle.timestamp.specs.Timestamps.{stamped, renewed}
 use Rattle.transfer.specs.Transfers.{Transfer, keyOf}
-use Rattle.transfer.specs.Record.{extended}
-use Rattle.table.specs.Tables.{Valid, keys, find, runsOf, add, setRuns}
+use Rattle.transfer.specs.Record.{stampIn, extended}
+use Rattle.table.specs.Tables.{Valid, keys, find, runsOf, stampOf, add, setRuns}
 use Rattle.table.specs.Open.{openPacket, openAccepted}
 use Rattle.table.specs.Record.{dataJudged, grown, recordPacket, recordAccepted}
-use Rattle.any_order.specs.Order.{Packet, Call, opening, recording, openings, recordings, taken, after, idRead, offsetRead, stopRead, idIn, offsetIn, stopIn, In, Brings, Brought, Rising, Sorted}
-use Rattle.any_order.specs.Demand3.{Holds}
-use Rattle.table.proofs.TableLaws.{find-add-same, find-add-other, keys-set, runs-add, runs-set-same, runs-set-other}
+use Rattle.table.specs.WriteStatus.{statusWritten, statusBuffer}
+use Rattle.any_order.specs.Order.{Packet, Call, opening, recording, openings, recordings, taken, after, idRead, offsetRead, stopRead, idIn, offsetIn, stopIn, In, stampOctets, stamps, anyStamp, lastStamp, Brings, Brought, Rising, Sorted}
+use Rattle.any_order.specs.TableDemand3.{callTable, accepted, ending, KeepsLast, SortedEnd, TableDemand3}
+use Rattle.table.proofs.TableLaws.{find-add-same, find-add-other, keys-set, runs-add, runs-set-same, runs-set-other, stamp-add, stamp-set-same, stamp-set-other}
 use Rattle.table.proofs.FineLaws.{table-unique}
 use Rattle.table.proofs.OpenLaws.{open-cases, open-alike}
 use Rattle.table.proofs.RecordLaws.{record-cases, record-taken}
 use Rattle.table.proofs.OtherLaws.{open-kept, record-kept}
+use Rattle.table.proofs.StatusAlike.{stamp-valid, same-written, same-long, same-outside, same-buffer, carried, refused-buffer}
 use Rattle.transfer.proofs.FieldLaws.{data-some}
+use Rattle.timestamp.proofs.StampLaws.{stamped-none, none-stamped, stamp-length, renewed-stamped}
+use Rattle.transfer.proofs.StampLaws.{stamp-bit, renewed-by}
 use Rattle.table.proofs.ValidLaws.{fresh-valid, open-valid, record-valid}
 use Rattle.any_order.proofs.FillLaws.{in-perm, one, one-same, one-other, one-cases, one-canonical, fill, fill-nil, fill-only, fill-holds, fill-same, fill-grows, Ahead, ahead-one}
+use Rattle.any_order.proofs.LastLaws.{stamps-same, stamps-other, any-same, none-any, last-none, last-is}
+use Rattle.any_order.proofs.Sorting.{sort-sorts}
 use Rattle.table.specs.Outcome.{Outcome}
 use Rattle.table.specs.declared.Opened.{Opened}
 use Rattle.table.specs.declared.Recorded.{Recorded}
-
--- a call on a table: whether it is accepted, and the table after it
-unfoldable pub callTable : List Transfer → Call → Bool × List Transfer
-callTable t (opening p) = let o = openPacket t (p .octets) in (openAccepted (o .answer), o .table)
-callTable t (recording p) = let o = recordPacket t (p .octets) in (recordAccepted (o .answer), o .table)
 
 -- ---- lists of accepted calls, for any call that changes nothing where it is refused
 
@@ -97,13 +101,19 @@ call-kept t (recording p) e = record-kept t (p .octets) e
 pub call-valid : (t : List Transfer) (c : Call) → Valid t → Valid (callTable t c .1)
 unfolding callTable
 call-valid t (opening p) v = open-valid t (p .octets) (p .are-octets) v
-call-valid t (recording p) v = record-valid t (p .octets) v
+call-valid t (recording p) v = record-valid t (p .octets) (p .are-octets) v
 
 -- an opening: no runs change, what was open stays so, and what it brings is open
 pub open-runs : (t : List Transfer) (p : Packet) (i : ℕ) → runsOf (opened t p) i ≡ runsOf t i
 open-runs t p i =
     open-cases (λ (o : Outcome Opened). runsOf (o .table) i ≡ runsOf t i) t (p .octets) (λ r. refl) (λ m e f. refl)
     (λ m e f l. runs-add i (keyOf m) t f)
+
+-- nor does a timestamp
+open-stamp : (t : List Transfer) (p : Packet) (i : ℕ) → stampOf (opened t p) i ≡ stampOf t i
+open-stamp t p i =
+    open-cases (λ (o : Outcome Opened). stampOf (o .table) i ≡ stampOf t i) t (p .octets) (λ r. refl) (λ m e f. refl)
+    (λ m e f l. stamp-add i (keyOf m) t f)
 
 find-later : (t : List Transfer) (j k : Key) (i : ℕ) → find (j .id) (keys t) ≡ none → find i (keys t) ≡ some k → find i (keys (add j t)) ≡ some k
 find-later t j k i n e = find-add-other i j t (λ q. absent (ap (λ (x : ℕ). find x (keys t)) (sym q) ∙ n)) ∙ e
@@ -159,7 +169,7 @@ fit-later : (t : List Transfer) (o p : Packet) → Fit (keys t) p → Fit (keys 
 fit-later t o p (d, k, e, f, j) = (d, k, e, open-finds t o (d .id) k f, j)
 
 rec-keys : (t : List Transfer) (p : Packet) → keys (recorded t p) ≡ keys t
-rec-keys t p = record-cases (λ (o : Outcome Recorded). keys (o .table) ≡ keys t) t (p .octets) (λ r. refl) (λ d k e f j l. keys-set (d .id) (grown t d) t)
+rec-keys t p = record-cases (λ (o : Outcome Recorded). keys (o .table) ≡ keys t) t (p .octets) (λ r. refl) (λ d k e f j l. keys-set (d .id) (grown t d) (stampIn (p .octets) d) t)
 
 rec-runs : (t : List Transfer) (p : Packet) (i : ℕ) → Records t p → runsOf (recorded t p) i ≡ one i p (runsOf t i)
 rec-runs t p i a =
@@ -167,14 +177,48 @@ rec-runs t p i a =
     (λ r z. absurd (let y : _≡_ {A = ℕ} 0 1 = cc in omega arith)) (λ d k e f j l z. go d k e f (ℕ-discrete (d .id) i)) a
   where
     go : (d : Data) (k : Key) → readData (p .octets) ≡ data-read.Accepted d → find (d .id) (keys t) ≡ some k → Dec (d .id ≡ i)
-        → runsOf (setRuns (d .id) (grown t d) t) i ≡ one i p (runsOf t i)
+        → runsOf (setRuns (d .id) (grown t d) (stampIn (p .octets) d) t) i ≡ one i p (runsOf t i)
     go d k e f (yes q) =
-        ap (runsOf (setRuns (d .id) (grown t d) t)) (sym q)
-        ∙ runs-set-same (d .id) (grown t d) t k f
+        ap (runsOf (setRuns (d .id) (grown t d) (stampIn (p .octets) d) t)) (sym q)
+        ∙ runs-set-same (d .id) (grown t d) (stampIn (p .octets) d) t k f
         ∙ sym (grown-is t p d e)
         ∙ ap (λ (x : ℕ). insert (offsetIn p) (stopIn p) (runsOf t x)) (id-is p d e ∙ q)
         ∙ sym (one-same i p (runsOf t i) (id-is p d e ∙ q))
-    go d k e f (no n) = runs-set-other (d .id) i (grown t d) t n ∙ sym (one-other i p (runsOf t i) (λ q. n (sym (id-is p d e) ∙ q)))
+    go d k e f (no n) = runs-set-other (d .id) i (grown t d) (stampIn (p .octets) d) t n ∙ sym (one-other i p (runsOf t i) (λ q. n (sym (id-is p d e) ∙ q)))
+
+-- the timestamp of the Id: where bit 12 is set the packet's, and else the one that was kept
+rec-stamp : (t : List Transfer) (p : Packet) (i : ℕ) → Records t p → stampOf (recorded t p) i ≡ cond (stamps i p) (stampOctets p) (stampOf t i)
+rec-stamp t p i a =
+    record-cases (λ (o : Outcome Recorded). recordAccepted (o .answer) ≡ true → stampOf (o .table) i ≡ cond (stamps i p) (stampOctets p) (stampOf t i)) t (p .octets)
+    (λ r z. absurd (let y : _≡_ {A = ℕ} 0 1 = cc in omega arith)) (λ d k e f j l z. go d k e f (ℕ-discrete (d .id) i)) a
+  where
+    go : (d : Data) (k : Key) → readData (p .octets) ≡ data-read.Accepted d → find (d .id) (keys t) ≡ some k → Dec (d .id ≡ i)
+        → stampOf (setRuns (d .id) (grown t d) (stampIn (p .octets) d) t) i ≡ cond (stamps i p) (stampOctets p) (stampOf t i)
+    go d k e f (yes q) =
+        ap (stampOf (setRuns (d .id) (grown t d) (stampIn (p .octets) d) t)) (sym q)
+        ∙ stamp-set-same (d .id) (grown t d) (stampIn (p .octets) d) t k f
+        ∙ ap (λ (x : ℕ). renewed (stampIn (p .octets) d) (stampOf t x)) q
+        ∙ renewed-by (p .octets) d (stampOf t i) e
+        ∙ ap (λ (b : Bool). cond b (stampOctets p) (stampOf t i)) (sym (stamps-same i p (id-is p d e ∙ q)))
+    go d k e f (no n) =
+        stamp-set-other (d .id) i (grown t d) (stampIn (p .octets) d) t n
+        ∙ ap (λ (b : Bool). cond b (stampOctets p) (stampOf t i)) (sym (stamps-other i p (λ q. n (sym (id-is p d e) ∙ q))))
+
+rec-stamped : (t : List Transfer) (p : Packet) (i : ℕ) → Records t p → stamped (stampOf (recorded t p) i) ≡ (stamps i p || stamped (stampOf t i))
+rec-stamped t p i a =
+    record-cases (λ (o : Outcome Recorded). recordAccepted (o .answer) ≡ true → stamped (stampOf (o .table) i) ≡ (stamps i p || stamped (stampOf t i))) t (p .octets)
+    (λ r z. absurd (let y : _≡_ {A = ℕ} 0 1 = cc in omega arith)) (λ d k e f j l z. go d k e f (ℕ-discrete (d .id) i)) a
+  where
+    go : (d : Data) (k : Key) → readData (p .octets) ≡ data-read.Accepted d → find (d .id) (keys t) ≡ some k → Dec (d .id ≡ i)
+        → stamped (stampOf (setRuns (d .id) (grown t d) (stampIn (p .octets) d) t) i) ≡ (stamps i p || stamped (stampOf t i))
+    go d k e f (yes q) =
+        ap (λ (x : ℕ). stamped (stampOf (setRuns (d .id) (grown t d) (stampIn (p .octets) d) t) x)) (sym q)
+        ∙ ap stamped (stamp-set-same (d .id) (grown t d) (stampIn (p .octets) d) t k f)
+        ∙ renewed-stamped (stampIn (p .octets) d) (stampOf t (d .id))
+        ∙ ap₂ (λ (b : Bool) (x : ℕ). b || stamped (stampOf t x)) (stamp-bit (p .octets) d e ∙ sym (stamps-same i p (id-is p d e ∙ q))) q
+    go d k e f (no n) =
+        ap stamped (stamp-set-other (d .id) i (grown t d) (stampIn (p .octets) d) t n)
+        ∙ ap (λ (b : Bool). b || stamped (stampOf t i)) (sym (stamps-other i p (λ q. n (sym (id-is p d e) ∙ q))))
 
 rec-fit : (t : List Transfer) (p : Packet) → Records t p → Fit (keys t) p
 rec-fit t p =
@@ -232,6 +276,42 @@ runs-along t (opening o ∷ cs) u i l =
     runs-along (opened t o) cs u i (l .1) ∙ ap (λ (rs : List Run). fill rs i (recordings cs)) (open-runs t o i)
 runs-along t (recording q ∷ cs) u i l =
     runs-along (recorded t q) cs u i (l .1) ∙ ap (λ (rs : List Run). fill rs i (recordings cs)) (rec-runs t q i (l .0))
+
+-- the timestamp of an Id: the last that the recordings bring, and where they bring none the one that was kept
+stamp-along : (t : List Transfer) (cs : List Call) (u : List Transfer) (i : ℕ) → Moves t cs u
+    → stampOf u i ≡ cond (anyStamp i (recordings cs)) (lastStamp i (recordings cs)) (stampOf t i)
+unfolding recordings anyStamp lastStamp callTable
+stamp-along t [] u i l = ap (λ (x : List Transfer). stampOf x i) (sym l)
+stamp-along t (opening o ∷ cs) u i l =
+    stamp-along (opened t o) cs u i (l .1)
+    ∙ ap (λ (s : List ℕ). cond (anyStamp i (recordings cs)) (lastStamp i (recordings cs)) s) (open-stamp t o i)
+stamp-along t (recording q ∷ cs) u i l =
+    stamp-along (recorded t q) cs u i (l .1)
+    ∙ ap (λ (s : List ℕ). cond (anyStamp i (recordings cs)) (lastStamp i (recordings cs)) s) (rec-stamp t q i (l .0))
+    ∙ later (stamps i q) (anyStamp i (recordings cs)) (lastStamp i (recordings cs)) (stampOctets q) (stampOf t i)
+  where
+    later : (a b : Bool) (last s old : List ℕ) → cond b last (cond a s old) ≡ cond (a || b) (cond b last (cond a s [])) old
+    later true true last s old = refl
+    later true false last s old = refl
+    later false true last s old = refl
+    later false false last s old = refl
+
+stamped-along : (t : List Transfer) (cs : List Call) (u : List Transfer) (i : ℕ) → Moves t cs u
+    → stamped (stampOf u i) ≡ (anyStamp i (recordings cs) || stamped (stampOf t i))
+unfolding recordings anyStamp callTable
+stamped-along t [] u i l = ap (λ (x : List Transfer). stamped (stampOf x i)) (sym l)
+stamped-along t (opening o ∷ cs) u i l =
+    stamped-along (opened t o) cs u i (l .1) ∙ ap (λ (s : List ℕ). anyStamp i (recordings cs) || stamped s) (open-stamp t o i)
+stamped-along t (recording q ∷ cs) u i l =
+    stamped-along (recorded t q) cs u i (l .1)
+    ∙ ap (λ (b : Bool). anyStamp i (recordings cs) || b) (rec-stamped t q i (l .0))
+    ∙ later (stamps i q) (anyStamp i (recordings cs)) (stamped (stampOf t i))
+  where
+    later : (a b c : Bool) → b || (a || c) ≡ (a || b) || c
+    later true true c = refl
+    later true false c = refl
+    later false true c = refl
+    later false false c = refl
 
 room-along : (t : List Transfer) (cs : List Call) (u : List Transfer) (i : ℕ) → Moves t cs u → length (runsOf t i) ≤ 64 → length (runsOf u i) ≤ 64
 unfolding callTable
@@ -303,6 +383,22 @@ ends-room : (cs : List Call) (u : List Transfer) → Moves [] cs u → (i : ℕ)
 unfolding runsOf
 ends-room cs u l i = room-along [] cs u i l (omega arith)
 
+ends-stamp : (cs : List Call) (u : List Transfer) → Moves [] cs u → (i : ℕ) → stampOf u i ≡ lastStamp i (recordings cs)
+unfolding stampOf
+ends-stamp cs u l i = stamp-along [] cs u i l ∙ go (anyStamp i (recordings cs)) refl
+  where
+    go : (b : Bool) → anyStamp i (recordings cs) ≡ b → cond b (lastStamp i (recordings cs)) [] ≡ lastStamp i (recordings cs)
+    go true e = refl
+    go false e = sym (last-none i (recordings cs) e)
+
+ends-stamped : (cs : List Call) (u : List Transfer) → Moves [] cs u → (i : ℕ) → stamped (stampOf u i) ≡ anyStamp i (recordings cs)
+unfolding stampOf
+ends-stamped cs u l i = stamped-along [] cs u i l ∙ rw none-stamped (or-false (anyStamp i (recordings cs)))
+  where
+    or-false : (b : Bool) → b || false ≡ b
+    or-false true = refl
+    or-false false = refl
+
 opens-bare : (ps : List Packet) (v : List Transfer) → Moves [] (opens ps) v → (i : ℕ) → runsOf v i ≡ []
 opens-bare ps v l i = ends (opens ps) v l i ∙ rw (recordings-opens ps) (fill-nil [] i)
 
@@ -329,8 +425,14 @@ records-lead t (p ∷ ps) f h c u n =
     (λ j. rw (rec-runs t p j a) (n j)) in
     (b .0, (a, b .1))
 
--- accepted calls, and the same calls sorted: all are accepted again, and they lead to the same table
-sorted-leads : (cs s : List Call) (u : List Transfer) → Moves [] cs u → Sorted cs s → Moves [] s u
+-- accepted calls, and the same calls sorted: all are accepted again, and they lead to a table with the same keys and the same runs
+record Led (u : List Transfer) (s : List Call) : Type 0 where
+  to : List Transfer
+  moves : Moves [] s to
+  keys-same : keys to ≡ keys u
+  runs-same : (i : ℕ) → runsOf to i ≡ runsOf u i
+
+sorted-leads : (cs s : List Call) (u : List Transfer) → Moves [] cs u → Sorted cs s → Led u s
 sorted-leads cs s u l σ = go (opens-lead [] cs u [] l refl)
   where
     same : (i : ℕ) → fill [] i (σ .last) ≡ runsOf u i
@@ -339,48 +441,157 @@ sorted-leads cs s u l σ = go (opens-lead [] cs u [] l refl)
         (λ p m. in-perm p (Permᴰ·symm (σ .all)) m)
         ∙ sym (ends cs u l i)
 
-    end : (v : List Transfer) → Moves [] (opens (openings cs)) v → keys v ≡ keys u → (w : List Transfer) × Moves v (records (σ .last)) w → Moves [] s u
+    end : (v : List Transfer) → Moves [] (opens (openings cs)) v → keys v ≡ keys u → (w : List Transfer) × Moves v (records (σ .last)) w → Led u s
     end v a e (w, b) =
-        let all : Moves [] s w = rw (σ .is) (leads-append callTable [] (opens (openings cs)) v (records (σ .last)) w a b) in
-        let x : w ≡ u =
-        table-unique w u (valid-along [] s w all fresh-valid) (valid-along [] cs u l fresh-valid)
-        (λ i. ap (find i) (records-keys v (σ .last) w b ∙ e)) (λ i. records-end v (σ .last) w b i (opens-bare (openings cs) v a i) ∙ same i) in
-        rw x at all
+        record {
+          to = w;
+          moves = rw (σ .is) (leads-append callTable [] (opens (openings cs)) v (records (σ .last)) w a b);
+          keys-same = records-keys v (σ .last) w b ∙ e;
+          runs-same = λ i. records-end v (σ .last) w b i (opens-bare (openings cs) v a i) ∙ same i;
+        }
 
-    go : (v : List Transfer) × Moves [] (opens (openings cs)) v × (keys v ≡ keys u) → Moves [] s u
+    go : (v : List Transfer) × Moves [] (opens (openings cs)) v × (keys v ≡ keys u) → Led u s
     go (v, a, e) =
         let bare : (i : ℕ) → runsOf v i ≡ [] = opens-bare (openings cs) v a in
         end v a e
         (records-lead v (σ .last) (λ p m. rw e (fit-all [] cs u l p (in-perm p (σ .all) m))) (σ .rising)
         (λ i. rw (bare i) tt) (λ i p m k. rw (bare i) tt) (λ i. rw (bare i, same i) (ends-room cs u l i)))
 
--- ---- the theorem
+-- the recordings of a sorted list are those of the list
+recordings-append : (ps qs : List Packet) → recordings (opens ps ++ records qs) ≡ qs
+unfolding recordings
+recordings-append [] qs = recordings-records qs
+recordings-append (p ∷ ps) qs = recordings-append ps qs
 
-pub record TableOrderFree (cs : List Call) : Type 0 where
-  -- nothing in the sorted order is refused
-  pub none-refused : (s : List Call) → Sorted (taken callTable [] cs) s → taken callTable [] s ≡ s
-  -- both end with the same table
-  pub same-table : (s : List Call) → Sorted (taken callTable [] cs) s → after callTable [] s ≡ after callTable [] cs
-  -- which holds what the accepted calls brought
-  pub brought : Holds (after callTable [] cs) (taken callTable [] cs)
+sorted-recordings : (cs s : List Call) (σ : Sorted cs s) → recordings s ≡ σ .last
+sorted-recordings cs s σ = rw (σ .is) (recordings-append (openings cs) (σ .last))
+
+sorted-any : (cs s : List Call) → Sorted cs s → (i : ℕ) → anyStamp i (recordings s) ≡ anyStamp i (recordings cs)
+sorted-any cs s σ i =
+    rw (sorted-recordings cs s σ)
+    (any-same i (σ .last) (recordings cs) (λ p m. in-perm p (σ .all) m) (λ p m. in-perm p (Permᴰ·symm (σ .all)) m))
+
+-- ---- the theorem
 
 nothing-open : (k : Key) → find (k .id) (keys []) ≡ some k → ⊥
 unfolding keys find
 nothing-open k e = let z : _≡_ {A = ℕ} 0 1 = cc in omega arith
 
-pub table-order : (cs : List Call) → TableOrderFree cs
-table-order cs =
-    let l : Moves [] (taken callTable [] cs) (after callTable [] cs) = leads-taken callTable call-kept [] cs in
+-- what a list leads to
+leads : (cs : List Call) → Moves [] (accepted cs) (ending cs)
+leads cs = leads-taken callTable call-kept [] cs
+
+ending-valid : (cs : List Call) → Valid (ending cs)
+ending-valid cs = valid-along [] (accepted cs) (ending cs) (leads cs) fresh-valid
+
+-- any list of calls, by itself
+keeps-last : (cs : List Call) → KeepsLast (ending cs) (accepted cs)
+keeps-last cs =
+    let kept : (i : ℕ) → stampOf (ending cs) i ≡ lastStamp i (recordings (accepted cs)) = ends-stamp (accepted cs) (ending cs) (leads cs) in
+    let whether : (i : ℕ) → stamped (stampOf (ending cs) i) ≡ anyStamp i (recordings (accepted cs)) = ends-stamped (accepted cs) (ending cs) (leads cs) in
+    let sixteen : (i : ℕ) → anyStamp i (recordings (accepted cs)) ≡ true → length (stampOf (ending cs) i) ≡ 16 =
+    λ i e. stamp-length (stampOf (ending cs) i) (stamp-valid i (ending cs) (ending-valid cs)) ∙ ap (λ (b : Bool). cond b 16 0) (whether i ∙ e) in
     record {
-      none-refused = λ s σ. leads-all callTable [] s _ (sorted-leads _ s _ l σ);
-      same-table = λ s σ. leads-after callTable [] s _ (sorted-leads _ s _ l σ);
+      kept = kept;
+      kept-last = λ i earlier p later e id bit none. kept i ∙ ap (lastStamp i) e ∙ last-is i earlier p later id bit none;
+      kept-none = λ i none. kept i ∙ last-none i (recordings (accepted cs)) (none-any i (recordings (accepted cs)) none);
+      whether = whether;
+      sixteen = sixteen;
+      carried = λ id k unasked buffer size w e.
+          ap (λ (n : ℕ). take n (drop 8 (statusBuffer (ending cs) id k unasked buffer))) (sym (sixteen id e))
+          ∙ carried (ending cs) (ending-valid cs) id k unasked buffer size w ∙ kept id;
+    }
+
+module _ (cs s : List Call) (σ : Sorted (accepted cs) s) where
+  led : Led (ending cs) s
+  led = sorted-leads (accepted cs) s (ending cs) (leads cs) σ
+
+  all-accepted : accepted s ≡ s
+  all-accepted = leads-all callTable [] s (led .to) (led .moves)
+
+  arrives : ending s ≡ led .to
+  arrives = leads-after callTable [] s (led .to) (led .moves)
+
+  end-keys : keys (ending s) ≡ keys (ending cs)
+  end-keys = ap keys arrives ∙ led .keys-same
+
+  end-runs : (i : ℕ) → runsOf (ending s) i ≡ runsOf (ending cs) i
+  end-runs i = ap (λ (t : List Transfer). runsOf t i) arrives ∙ led .runs-same i
+
+  end-stamped : (i : ℕ) → stamped (stampOf (ending s) i) ≡ stamped (stampOf (ending cs) i)
+  end-stamped i =
+      keeps-last s .whether i
+      ∙ ap (λ (x : List Call). anyStamp i (recordings x)) all-accepted ∙ sorted-any (accepted cs) s σ i ∙ sym (keeps-last cs .whether i)
+
+  -- where the one keeps none, the other keeps none
+  end-stamp : (i : ℕ) → stampOf (ending cs) i ≡ [] → stampOf (ending s) i ≡ stampOf (ending cs) i
+  end-stamp i e = stamped-none (stampOf (ending s) i) (end-stamped i ∙ ap stamped e ∙ none-stamped) ∙ sym e
+
+  module _ (id k : ℕ) (unasked : Bool) (buffer : List ℕ) where
+    abbrev first : List ℕ
+    first = statusBuffer (ending cs) id k unasked buffer
+
+    abbrev second : List ℕ
+    second = statusBuffer (ending s) id k unasked buffer
+
+    answers : statusWritten (ending s) id k unasked buffer ≡ statusWritten (ending cs) id k unasked buffer
+    answers =
+        same-written (ending cs) (ending s) (ending-valid cs) (ending-valid s) id (ap (find id) end-keys) (end-runs id) (end-stamped id) k unasked buffer
+
+    lengths : length second ≡ length first
+    lengths = same-long (ending cs) (ending s) (ending-valid cs) (ending-valid s) id (ap (find id) end-keys) (end-runs id) (end-stamped id) k unasked buffer
+
+    buffers : stampOf (ending cs) id ≡ [] → second ≡ first
+    buffers e =
+        same-buffer (ending cs) (ending s) (ending-valid cs) (ending-valid s) id (ap (find id) end-keys) (end-runs id) (end-stamped id) k unasked buffer (end-stamp id e)
+
+    octets : (n : ℕ) → (stampOf (ending cs) id ≡ []) ⊎ ((n < 8) ⊎ (24 ≤ n)) → getD second n 0 ≡ getD first n 0
+    octets n (inl e) = ap (λ (l : List ℕ). getD l n 0) (buffers e)
+    octets n (inr h) =
+        same-outside (ending cs) (ending s) (ending-valid cs) (ending-valid s) id (ap (find id) end-keys) (end-runs id) (end-stamped id) k unasked buffer n h
+
+    refused : (r : Refusal) → statusWritten (ending cs) id k unasked buffer ≡ Refused r → second ≡ first
+    refused r e =
+        refused-buffer (ending s) (ending-valid s) id k unasked buffer r (answers ∙ e)
+        ∙ sym (refused-buffer (ending cs) (ending-valid cs) id k unasked buffer r e)
+
+  sorted-end : SortedEnd cs s
+  sorted-end =
+      record {
+        none-refused = all-accepted;
+        same-end = record {
+          alike = record {
+            same-keys = end-keys;
+            same-runs = end-runs;
+            both-or-neither = end-stamped;
+            same-answer = answers;
+            same-length = lengths;
+            same-octets = octets;
+            same-refused = refused;
+          };
+          first-keeps = keeps-last cs;
+          second-keeps = keeps-last s;
+          same-buffer = λ id k unasked buffer none. buffers id k unasked buffer (keeps-last cs .kept-none id none);
+          same-table = λ none.
+              table-unique (ending s) (ending cs) (ending-valid s) (ending-valid cs) (λ i. ap (find i) end-keys) end-runs
+              (λ i. end-stamp i (keeps-last cs .kept-none i (none i)));
+        };
+      }
+
+pub table-order : TableDemand3
+table-order cs =
+    record {
+      sorted = sorted-end cs;
+      by-transfer = λ s τ. sorted-end cs s (τ .sorted);
+      some-order = sort-sorts (accepted cs);
+      valid = ending-valid cs;
       brought = record {
         opened = λ k. (
-          (λ h. from-fresh k (found-only [] (taken callTable [] cs) (after callTable [] cs) k l h)),
-          (λ h. found-all [] (taken callTable [] cs) (after callTable [] cs) k l h),
+          (λ h. from-fresh k (found-only [] (accepted cs) (ending cs) k (leads cs) h)),
+          (λ h. found-all [] (accepted cs) (ending cs) k (leads cs) h),
         );
         received = λ i n.
-            let e : runsOf (after callTable [] cs) i ≡ fill [] i (recordings (taken callTable [] cs)) = ends (taken callTable [] cs) (after callTable [] cs) l i in (
+            let e : runsOf (ending cs) i ≡ fill [] i (recordings (accepted cs)) = ends (accepted cs) (ending cs) (leads cs) i in (
               (λ h. from-none (fill-only [] i _ n (rw e at h))),
               (λ h. rw e (fill-holds [] i _ n h)),
             );

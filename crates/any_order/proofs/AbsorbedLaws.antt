@@ -23,7 +23,7 @@ use Rattle.transfer.specs.declared.Receipt.{Receipt}
 use Rattle.transfer.specs.Transfers.{Transfer, keyOf}
 use Rattle.transfer.specs.Record.{stampIn}
 use Rattle.transfer.proofs.FieldLaws.{data-some}
-use Rattle.table.specs.Tables.{Valid, keys, find, runsOf, setRuns}
+use Rattle.table.specs.Tables.{Valid, keys, find, runsOf}
 use Rattle.table.specs.Outcome.{Outcome}
 use Rattle.table.specs.Open.{openPacket}
 use Rattle.table.specs.Record.{grown, recordPacket}
@@ -48,7 +48,7 @@ use Rattle.area.proofs.OperationLaws.{on-cases, runs-held}
 use Rattle.any_order.specs.Order.{Packet, opening, recording, idIn}
 use Rattle.any_order.specs.Demand3.{callArea}
 use Rattle.any_order.specs.Absorbed.{AnyCall, call, closing, leftBy, afterAll, counted, countedBy, countedOver, recordingsTaken, absorbedSum, KeptOpen, SumOverStretch, AddsUp, SumFromOpening}
-use Rattle.any_order.proofs.TableOrder.{open-runs, id-is}
+use Rattle.any_order.proofs.CallLaws.{open-runs, id-is, left}
 
 -- ---- a recording, on a table
 
@@ -78,15 +78,17 @@ record-balanced t p i v =
     (λ d k e f j l. taken d k e f (ℕ-discrete (d .id) i))
   where
     taken : (d : Data) (k : Key) → readData (p .octets) ≡ data-read.Accepted d → find (d .id) (keys t) ≡ some k → Dec (d .id ≡ i)
-        → Balanced i p (recordedAs t (p .octets) d k .answer) (length (runsOf (recordedAs t (p .octets) d k .table) i)) (length (runsOf t i))
+        → Balanced i p (recordedAs t (p .octets) d k .answer) (length (runsOf (left t p d) i)) (length (runsOf t i))
     taken d k e f (yes q) =
         let same : idIn p ≡ i = id-is p d e ∙ q in
-        let has : runsOf (setRuns (d .id) (grown t d) (stampIn (p .octets) d) t) i ≡ grown t d = ap (runsOf (setRuns (d .id) (grown t d) (stampIn (p .octets) d) t)) (sym q) ∙ runs-set-same (d .id) (grown t d) (stampIn (p .octets) d) t k f in
+        let has : runsOf (left t p d) i ≡ grown t d =
+        ap (runsOf (left t p d)) (sym q) ∙ runs-set-same (d .id) (grown t d) (stampIn (p .octets) d) t k f in
         let count = grown-count t d (data-some (p .octets) d e) (runs-canonical (d .id) t v) in
         let here : length (runsOf t (d .id)) ≡ length (runsOf t i) = ap (λ (j : ℕ). length (runsOf t j)) q in
         rw (eq-eqb (idIn p) i same, has) (omega arith)
     taken d k e f (no n) =
-        rw (runs-set-other (d .id) i (grown t d) (stampIn (p .octets) d) t n) (balanced-none i p (recordedAs t (p .octets) d k .answer) (length (runsOf t i)) (λ z. n (sym (id-is p d e) ∙ z)))
+        rw (runs-set-other (d .id) i (grown t d) (stampIn (p .octets) d) t n)
+        (balanced-none i p (recordedAs t (p .octets) d k .answer) (length (runsOf t i)) (λ z. n (sym (id-is p d e) ∙ z)))
 
 -- ---- each call, on an area
 

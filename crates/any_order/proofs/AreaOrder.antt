@@ -29,7 +29,7 @@ use Rattle.any_order.specs.Order.{Call, opening, recording, taken}
 use Rattle.any_order.specs.TableDemand3.{callTable, KeepsLast, SameEnd}
 use Rattle.any_order.specs.Demand3.{callArea, SameStatus, Carries, made, Demand3, Demand3ByTransfer}
 use Rattle.table.proofs.ValidLaws.{fresh-valid}
-use Rattle.any_order.proofs.TableOrder.{call-valid}
+use Rattle.any_order.proofs.CallLaws.{call-valid}
 use Rattle.any_order.proofs.KeptOrder.{kept-order}
 use Rattle.any_order.proofs.Sorting.{sort-sorts}
 

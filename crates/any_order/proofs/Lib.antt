@@ -1,7 +1,11 @@
 pub mod FillLaws
 pub mod LastLaws
-pub mod TableOrder
+pub mod LeadLaws
+pub mod CallLaws
+pub mod AlongLaws
+pub mod SortedLaws
 pub mod Sorting
+pub mod TableOrder
 pub mod Example
 pub mod KeptOrder
 pub mod AreaOrder

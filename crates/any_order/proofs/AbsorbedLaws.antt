@@ -32,7 +32,6 @@ use Rattle.table.specs.declared.Opened.{Opened}
 use Rattle.table.specs.declared.Opened.the-variants as opened
 use Rattle.table.specs.declared.Recorded.{Recorded}
 use Rattle.table.specs.declared.Recorded.the-variants as recorded
-use Rattle.table.specs.declared.Finished.{Finished}
 use Rattle.table.specs.declared.Finished.the-variants as finished
 use Rattle.table.proofs.TableLaws.{runs-add-same, runs-set-same, runs-set-other}
 use Rattle.table.proofs.FineLaws.{runs-canonical}
@@ -40,14 +39,13 @@ use Rattle.table.proofs.OpenLaws.{open-cases}
 use Rattle.table.proofs.RecordLaws.{record-cases, recordedAs, grown-count}
 use Rattle.table.proofs.OtherLaws.{close-other}
 use Rattle.table.proofs.ValidLaws.{open-valid, record-valid, close-valid}
-use Rattle.area.specs.Judge.{tableOf}
-use Rattle.area.specs.Operations.{OnArea, leaves, onTable, openArea, recordArea, closeArea, runsHeld}
+use Rattle.area.specs.Operations.{OnArea, onTable, openArea, recordArea, closeArea, runsHeld}
 use Rattle.area.proofs.JudgeLaws.{held-valid}
 use Rattle.area.proofs.StoredLaws.{stored-held}
 use Rattle.area.proofs.OperationLaws.{on-cases, runs-held}
 use Rattle.any_order.specs.Order.{Packet, opening, recording, idIn}
 use Rattle.any_order.specs.Demand3.{callArea}
-use Rattle.any_order.specs.Absorbed.{AnyCall, call, closing, leftBy, afterAll, counted, countedBy, countedOver, recordingsTaken, absorbedSum, KeptOpen, SumOverStretch, AddsUp, SumFromOpening}
+use Rattle.any_order.specs.Absorbed.{AnyCall, call, closing, leftBy, afterAll, counted, countedBy, countedOver, recordingsTaken, absorbedSum, KeptOpen, SumOverStretch, SumFromOpening}
 use Rattle.any_order.proofs.CallLaws.{open-runs, id-is, left}
 
 -- ---- a recording, on a table

@@ -2,7 +2,7 @@
 -- Assumes nothing.
 use Prim.Native.Nat.{ℕ}
 use mathlib.Core.Path.{_≡_, refl, sym, ap, _∙_}
-use mathlib.Core.Bool.{Bool, true, false, cond, _||_}
+use mathlib.Core.Bool.{Bool, true, false, cond, _&&_, _||_}
 use mathlib.Core.List.{List, [], _∷_, _++_}
 use mathlib.Core.Logic.{_⊎_, inl, inr}
 use native.Mathlib.Omega.{arith}
@@ -13,13 +13,16 @@ use Rattle.any_order.specs.Order.{Packet, idIn, In, withStamp, stampOcte
 
 -- ---- one recording
 
-pub stamps-same : (i : ℕ) (p : Packet) → idIn p ≡ i → stamps i p ≡ withStamp p
+stamps-own : (p : Packet) → stamps (idIn p) p ≡ withStamp p
 unfolding stamps
-stamps-same i p e = rw (eq-eqb (idIn p) i e)
+stamps-own p = rw (eq-eqb (idIn p) (idIn p) refl)
+
+pub stamps-same : (i : ℕ) (p : Packet) → idIn p ≡ i → stamps i p ≡ withStamp p
+stamps-same i p e = ap (λ (j : ℕ). stamps j p) (sym e) ∙ stamps-own p
 
 pub stamps-other : (i : ℕ) (p : Packet) → (idIn p ≡ i → ⊥) → stamps i p ≡ false
 unfolding stamps
-stamps-other i p n = rw (ne-eqb (idIn p) i n)
+stamps-other i p n = ap (λ (b : Bool). b && withStamp p) (ne-eqb (idIn p) i n)
 
 -- where it has bit 12 clear or another Id
 pub stamps-not : (i : ℕ) (p : Packet) → (idIn p ≡ i → withStamp p ≡ false) → stamps i p ≡ false
@@ -72,7 +75,8 @@ any-behind i (p ∷ ps) qs e = or-iff (stamps i p) (anyStamp i (ps ++ qs)) .1 (i
 last-behind : (i : ℕ) (ps qs : List Packet) → anyStamp i qs ≡ true → lastStamp i (ps ++ qs) ≡ lastStamp i qs
 unfolding lastStamp
 last-behind i [] qs e = refl
-last-behind i (p ∷ ps) qs e = rw (any-behind i ps qs e) (last-behind i ps qs e)
+last-behind i (p ∷ ps) qs e =
+    ap (λ (b : Bool). cond b (lastStamp i (ps ++ qs)) (cond (stamps i p) (stampOctets p) [])) (any-behind i ps qs e) ∙ last-behind i ps qs e
 
 here : (i : ℕ) (p : Packet) (qs : List Packet) → idIn p ≡ i → withStamp p ≡ true → anyStamp i (p ∷ qs) ≡ true
 unfolding anyStamp

@@ -1,11 +1,11 @@
 -- The order theorem on tables.
 -- Assumes nothing.
-use Prim.Native.Nat.{ℕ, _≤_, _<_}
+use Prim.Native.Nat.{ℕ}
 use mathlib.Core.Path.{_≡_, sym, ap, _∙_}
 use mathlib.Core.Bool.{Bool, true, cond}
 use mathlib.Core.List.{List, []}
 use mathlib.Core.Logic.{_⊎_, inl, inr}
-use mathlib.Core.Option.{none, some}
+use mathlib.Core.Option.{some}
 use native.Mathlib.Omega.{arith}
 use lib.ListN.{length, take, drop, getD}
 use Rattle.refusals.specs.declared.Refusal.{Refusal}
@@ -16,18 +16,18 @@ use Rattle.transfer.specs.Transfers.{Transfer}
 use Rattle.table.specs.Tables.{Valid, keys, find, runsOf, stampOf}
 use Rattle.table.specs.WriteStatus.{statusWritten, statusBuffer}
 use Rattle.any_order.specs.Order.{Call, recordings, anyStamp, lastStamp, Sorted}
-use Rattle.any_order.specs.TableDemand3.{callTable, accepted, ending, KeepsLast, SortedEnd, TableDemand3}
+use Rattle.any_order.specs.TableDemand3.{callTable, accepted, ending, Elsewhere, KeepsLast, SortedEnd, TableDemand3}
 use Rattle.table.proofs.FineLaws.{table-unique}
 use Rattle.table.proofs.StatusAlike.{stamp-valid, same-written, same-long, same-outside, same-buffer, carried, refused-buffer}
 use Rattle.timestamp.proofs.StampLaws.{stamped-none, none-stamped, stamp-length}
 use Rattle.table.proofs.ValidLaws.{fresh-valid}
 use Rattle.any_order.proofs.FillLaws.{fill, fill-only, fill-holds}
 use Rattle.any_order.proofs.LastLaws.{none-any, last-none, last-is}
-use Rattle.any_order.proofs.Sorting.{sort-sorts}
 use Rattle.any_order.proofs.LeadLaws.{leads-taken, leads-all, leads-after}
-use Rattle.any_order.proofs.CallLaws.{opened, call-kept}
+use Rattle.any_order.proofs.CallLaws.{call-kept}
 use Rattle.any_order.proofs.AlongLaws.{Moves, valid-along, found-only, found-all, ends, ends-stamp, ends-stamped}
 use Rattle.any_order.proofs.SortedLaws.{Led, sorted-leads, sorted-any}
+use Rattle.any_order.proofs.Sorting.{sort-sorts}
 
 nothing-open : (k : Key) → find (k .id) (keys []) ≡ some k → ⊥
 unfolding keys find
@@ -101,7 +101,7 @@ module _ (cs s : List Call) (σ : Sorted (accepted cs) s) where
     buffers e =
         same-buffer (ending cs) (ending s) (ending-valid cs) (ending-valid s) id (ap (find id) end-keys) (end-runs id) (end-stamped id) k unasked buffer (end-stamp id e)
 
-    octets : (n : ℕ) → (stampOf (ending cs) id ≡ []) ⊎ ((n < 8) ⊎ (24 ≤ n)) → getD second n 0 ≡ getD first n 0
+    octets : (n : ℕ) → Elsewhere (ending cs) id n → getD second n 0 ≡ getD first n 0
     octets n (inl e) = ap (λ (l : List ℕ). getD l n 0) (buffers e)
     octets n (inr h) =
         same-outside (ending cs) (ending s) (ending-valid cs) (ending-valid s) id (ap (find id) end-keys) (end-runs id) (end-stamped id) k unasked buffer n h

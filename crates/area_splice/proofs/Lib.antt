@@ -1,3 +1,4 @@
 pub mod SplicedRowLaws
 pub mod OverlayLaws
 pub mod SplicedAreaLaws
+pub mod StampedAreaLaws

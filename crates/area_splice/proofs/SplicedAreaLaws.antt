@@ -30,9 +30,12 @@ use Rattle.area_splice.proofs.OverlayLaws.{Stores, half-same, kept-word
 
 -- ---- what is written is octets
 
-pub put-octets : (at : ℕ) (bs l : List ℕ) → Octets bs → Octets l → Octets (put at bs l)
+put-octets : (at : ℕ) (bs l : List ℕ) → Octets bs → Octets l → Octets (put at bs l)
 unfolding put
 put-octets at bs l p q = octets-append (take at l) _ (octets-take at l q) (octets-append bs _ p (octets-drop (at + length bs) l q))
+
+pub word-octets : (k v : ℕ) (l : List ℕ) → Octets l → Octets (putWord k v l)
+word-octets k v l o = put-octets (k * 8) (leDigits 8 v) l (low-digits-octets 8 v) o
 
 row-octets : (a : List ℕ) (k n i j v : ℕ) → Octets a → Octets (splicedRow a k n i j v)
 unfolding splicedRow
@@ -206,7 +209,7 @@ module _ (a : List ℕ) (t : List Transfer) (p i j : ℕ) (x : Run) (long : area
       let l : length b₃ ≡ length a = length₃ in
       let rows : Octets b₂ = row-octets b₁ (runAt 1 p 0) n i j (x .stop) (row-octets a (runAt 0 p 0) n i j (x .start) o) in
       record {
-        octets = put-octets (headAt p countField * 8) (leDigits 8 (runsAfter n i j)) b₂ (low-digits-octets 8 (runsAfter n i j)) rows;
+        octets = word-octets (headAt p countField) (runsAfter n i j) b₂ rows;
         long = omega arith;
         words =
             kept-words a b₃ grown holds₃

@@ -1,69 +1,32 @@
 -- An area in which a timestamp was kept at a place: where it had the words of a table stored in another area, it has those of the table
 -- that keeps the timestamp there.
 -- Assumes nothing.
-use Prim.Native.Nat.{ℕ, zero, suc, _+_, _*_, _^_, _≤_, _<_}
+use Prim.Native.Nat.{ℕ, zero, suc, _<_}
 use mathlib.Core.Path.{_≡_, refl, sym, ap, ap₂, subst, _∙_}
-use mathlib.Core.Bool.{Bool, true, cond}
+use mathlib.Core.Bool.{cond}
 use mathlib.Core.List.{List, []}
-use mathlib.Core.Logic.{_⊎_, inl, inr, ⊎-elim}
+use mathlib.Core.Logic.{inl, inr, ⊎-elim}
 use native.Mathlib.Omega.{arith}
-use lib.ListN.{length, take, drop, length-drop, length-set}
-use lib.Dec.{ltb, eqb}
-use lib.Seq.{drop-drop, length-take-le, getD-set-same, getD-set-other}
-use Rattle.octets.specs.Numbers.{leValue, leDigits, Octets}
-use Rattle.octets.proofs.PutParts.{part-of}
-use Rattle.octets.proofs.LowFirstLaws.{low-digits-octets, low-part-lt}
+use lib.ListN.{length, drop, length-set}
+use lib.Dec.{ltb}
+use lib.Seq.{getD-set-same, getD-set-other}
+use Rattle.octets.specs.Numbers.{Octets}
+use Rattle.octets.proofs.LowFirstLaws.{low-part-lt}
 use Rattle.runs.specs.Runs.{Run, nthRun}
 use Rattle.runs.proofs.CompareLaws.{same-or}
 use Rattle.words.specs.Words.{wordAt, putWord}
 use Rattle.words.proofs.RowLaws.{put-length, put-at, put-other, put-after}
-use Rattle.timestamp.specs.Timestamps.{Stamp, stamped, renewed}
-use Rattle.timestamp.proofs.StampLaws.{none-stamped, stamped-some, none-renewed, renewed-some}
+use Rattle.timestamp.specs.Timestamps.{Stamp, renewed}
+use Rattle.timestamp.proofs.StampLaws.{stamped-some, renewed-some}
 use Rattle.transfer.specs.Transfers.{Transfer}
-use Rattle.area.specs.Layout.{transferPlaces, runPlaces, headWords, stampWords, stampedField, areaWords, areaOctets, headAt, runAt, halfAt}
+use Rattle.area.specs.Layout.{transferPlaces, runPlaces, headWords, stampWords, stampedField, areaOctets, headAt, runAt, halfAt}
 use Rattle.area.specs.Places.{unused, nth, field, sideOf, stampCode, halfOf, withRuns}
-use Rattle.area.specs.Stored.{headOr, runOr, halfOr, wordOr}
+use Rattle.area.specs.Stored.{headOr, runOr, wordOr}
 use Rattle.area.proofs.PlaceLaws.{place-cases, or-count, or-head, or-run, or-half, head-used, half-used, code-sixteen}
-use Rattle.area_splice.specs.Splice.{Brings, stampedArea}
+use Rattle.area_splice.specs.Splice.{stampedArea}
 use Rattle.area_splice.proofs.OverlayLaws.{Stores, half-same}
-use Rattle.area_splice.proofs.SplicedAreaLaws.{put-octets}
-
--- ---- the definition, by whether there is a timestamp
-
-none-kept : (a : List ℕ) (p : ℕ) → stampedArea a p [] ≡ a
-unfolding stampedArea
-none-kept a p = rw none-stamped
-
-pub nothing-brought : (a : List ℕ) (p n : ℕ) (l : List ℕ) → n ≡ 0 → a ≡ stampedArea a p (take n l)
-nothing-brought a p n l e = rw e (sym (none-kept a p))
-
-abbrev words-put : List ℕ → ℕ → ℕ → ℕ → List ℕ
-words-put a p x y = putWord (halfAt p 1) y (putWord (halfAt p 0) x (putWord (headAt p stampedField) 1 a))
-
-one-kept : (a : List ℕ) (p : ℕ) (s : List ℕ) → 0 < length s → stampedArea a p s ≡ words-put a p (halfOf s 0) (halfOf s 1)
-unfolding stampedArea
-one-kept a p s h = rw (stamped-some s h)
-
-word-octets : (k v : ℕ) (l : List ℕ) → Octets l → Octets (putWord k v l)
-word-octets k v l o = put-octets (k * 8) (leDigits 8 v) l (low-digits-octets 8 v) o
-
--- the three words in a row, the halves as they were read from the packet
-pub halves-brought : (a x y z packet : List ℕ) (p n h at first last : ℕ) → (n ≡ 0 → ⊥) → Brings packet n → h ≡ headAt p stampedField → at ≡ halfAt p 0
-    → first ≡ leValue (take 8 (drop 8 packet)) → last ≡ leValue (take 8 (drop 16 packet)) → x ≡ putWord h 1 a → y ≡ putWord at first x
-    → z ≡ putWord (at + 1) last y → z ≡ stampedArea a p (take n (drop 8 packet))
-halves-brought a x y z packet p n h at first last some brings e f u v i j k =
-    let size : n ≡ 16 = brings .size some in
-    let whole : 24 ≤ length packet = omega (arith, brings .whole) in
-    let rest = drop 8 packet in
-    let long : 16 ≤ length rest = omega (arith, length-drop 8 packet) in
-    let l : length (take 16 rest) ≡ 16 = length-take-le 16 rest long in
-    let g : at + 1 ≡ halfAt p 1 = omega arith in
-    let low : first ≡ halfOf (take 16 rest) 0 = u ∙ ap leValue (sym (part-of 16 8 0 rest (omega arith) long)) in
-    let high : last ≡ halfOf (take 16 rest) 1 =
-    v ∙ ap (λ (m : List ℕ). leValue (take 8 m)) (sym (drop-drop 8 8 packet)) ∙ ap leValue (sym (part-of 16 8 8 rest (omega arith) long)) in
-    k ∙ rw (j, i, e, g, f, low, high, size) (sym (one-kept a p (take 16 rest) (omega arith)))
-
--- ---- the area after it
+use Rattle.area_splice.proofs.SplicedAreaLaws.{word-octets}
+use Rattle.area_splice.proofs.KeepLaws.{none-kept, one-kept}
 
 -- of the table v, the transfer at place p has the runs rs; t keeps the timestamp that it had, and u the new one
 module _ (a b : List ℕ) (v : List Transfer) (p : ℕ) (rs : List Run) (s : List ℕ) (there : p < length v) (low : p < transferPlaces)

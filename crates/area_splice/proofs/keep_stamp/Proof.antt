@@ -5,7 +5,7 @@ use native.Mathlib.Omega.{arith}
 use denote.Ref.{now}
 use Prim.Native.Nat.{_≤_}
 use lib.ListN.{length}
-use Rattle.area_splice.proofs.StampedAreaLaws.{nothing-brought, halves-brought}
+use Rattle.area_splice.proofs.KeepLaws.{nothing-brought, halves-brought}
 use Rattle.area_splice.proofs.keep_stamp.Statement.{statement}
 use Rattle.area_splice.proofs.keep_stamp.Tie as tie
 

@@ -38,6 +38,11 @@ stamp-le s (inr h) = omega (arith, h .0)
 
 -- ---- what is kept after a packet
 
+pub renewed-some : (s old : List ℕ) → stamped s ≡ true → renewed s old ≡ s
+unfolding renewed stamped
+renewed-some [] old e = absurd (let z : _≡_ {A = ℕ} 0 1 = cc in omega arith)
+renewed-some (o ∷ s) old e = refl
+
 pub renewed-none : (s : List ℕ) → renewed s [] ≡ s
 unfolding renewed
 renewed-none [] = refl
@@ -46,11 +51,6 @@ renewed-none (o ∷ s) = refl
 pub none-renewed : (s : List ℕ) → renewed [] s ≡ s
 unfolding renewed
 none-renewed s = refl
-
-pub renewed-some : (s old : List ℕ) → stamped s ≡ true → renewed s old ≡ s
-unfolding renewed stamped
-renewed-some [] old e = absurd (let z : _≡_ {A = ℕ} 0 1 = cc in omega arith)
-renewed-some (o ∷ s) old e = refl
 
 -- one packet after the other
 pub renewed-again : (new s old : List ℕ) → renewed new (renewed s old) ≡ renewed (renewed new s) old

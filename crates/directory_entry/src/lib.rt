@@ -102,7 +102,7 @@ pub fn entry_refusal(e: &[u8], d: usize) -> u64
     if e.len() < 2 {
         return 1;
     }
-    let x = octets::read_two(e, 0);
+    let x = octets_read::read_two(e, 0);
     let f = property_refusal(x);
     if f != 0 {
         return f;
@@ -131,14 +131,14 @@ pub fn entry_fields(e: &[u8], d: usize, at: usize) -> Entry
     requires { ⌜ (entryRefusal d (now e) ≡ 0) × (at < 2 ^ 16) ⌝ }
     ensures { λ r. ⌜ r ≡ entryOf at (now (e .entry)) ⌝ }
 {
-    let properties = octets::read_two(e, 0);
+    let properties = octets_read::read_two(e, 0);
     let k = size_octets(properties);
     let path = 10 + k;
     Entry {
         properties,
         size: header::descriptor(e, 2, k),
-        mtime: octets::read_four(e, 2 + k),
-        ctime: octets::read_four(e, 6 + k),
+        mtime: octets_read::read_four(e, 2 + k),
+        ctime: octets_read::read_four(e, 6 + k),
         path: at + path,
         length: e.len() - path - 1,
     }

@@ -85,8 +85,8 @@ fn piece_in(s: &[u8], index: usize) -> Piece
     let offset_at = 16 * index;
     let length_at = offset_at + 8;
     Piece {
-        offset: octets::read_eight(s, offset_at),
-        length: octets::read_eight(s, length_at),
+        offset: octets_read::read_eight(s, offset_at),
+        length: octets_read::read_eight(s, length_at),
     }
 }
 
@@ -137,7 +137,7 @@ pub fn plan_record(number: u64, body: &[u8], out: &mut [u8]) -> usize
     if body.len() < 8 {
         return put_bad_length(out, 0, number);
     }
-    let largest = octets::read_eight(body, 0);
+    let largest = octets_read::read_eight(body, 0);
     put_plan(out, 0, number, part(body, 8, body.len()), largest)
 }
 
@@ -149,8 +149,8 @@ pub fn check_record(number: u64, body: &[u8], out: &mut [u8]) -> usize
     if body.len() < 16 {
         return put_bad_length(out, 0, number);
     }
-    let largest = octets::read_eight(body, 0);
-    let count = octets::read_eight(body, 8);
+    let largest = octets_read::read_eight(body, 0);
+    let count = octets_read::read_eight(body, 8);
     if 4096 < count {
         return put_bad_length(out, 0, number);
     }

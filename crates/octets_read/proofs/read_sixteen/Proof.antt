@@ -1,10 +1,10 @@
--- `octets::read_sixteen` meets its contract: the upper eight octets are zero where their number is. Assumes nothing.
+-- `octets_read::read_sixteen` meets its contract: the upper eight octets are zero where their number is. Assumes nothing.
 use denote.Ref.{now}
 use Rattle.octets.proofs.UpperLaws.{wide-small, wide-large}
 use borrow.Author.Needs.{needs}
 use native.Mathlib.Omega.{arith}
-use Rattle.octets.proofs.read_sixteen.Statement.{statement}
-use Rattle.octets.proofs.read_sixteen.Tie as tie
+use Rattle.octets_read.proofs.read_sixteen.Statement.{statement}
+use Rattle.octets_read.proofs.read_sixteen.Tie as tie
 
 returns : tie.Need-returns
 returns c = let a = c .before .before .before .args in wide-large (now (a .s)) (a .at) 8 (omega arith) (λ z. omega arith)

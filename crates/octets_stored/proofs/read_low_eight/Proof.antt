@@ -1,13 +1,13 @@
--- `octets::read_low_eight` meets its contract: the last four octets count 2 ^ 32 times the first four. Assumes nothing.
+-- `octets_stored::read_low_eight` meets its contract: the last four octets count 2 ^ 32 times the first four. Assumes nothing.
 use Prim.Native.Nat.{_+_, _^_, _<_}
 use denote.Ref.{now}
 use lib.ListN.{take, drop}
 use Rattle.octets.specs.Numbers.{leValue, Octets}
 use Rattle.octets.proofs.LowFirstLaws.{low-part-lt, low-parts-value}
 use borrow.Author.Needs.{needs}
 use native.Mathlib.Omega.{arith}
-use Rattle.octets.proofs.read_low_eight.Statement.{statement}
-use Rattle.octets.proofs.read_low_eight.Tie as tie
+use Rattle.octets_stored.proofs.read_low_eight.Statement.{statement}
+use Rattle.octets_stored.proofs.read_low_eight.Tie as tie
 
 -- each half fits 32 bits
 halves : (c : tie.After-read-low-four2) → (c .before .read-low-four .result < 2 ^ 32) × (c .read-low-four2 .result < 2 ^ 32)

@@ -1,10 +1,10 @@
--- `octets::read_low_four` meets its contract: each octet counts 256 times the one before it. Assumes nothing.
+-- `octets_stored::read_low_four` meets its contract: each octet counts 256 times the one before it. Assumes nothing.
 use denote.Ref.{now}
 use Rattle.octets.proofs.LowFirstLaws.{low-four-octets}
 use borrow.Author.Needs.{needs}
 use native.Mathlib.Omega.{arith}
-use Rattle.octets.proofs.read_low_four.Statement.{statement}
-use Rattle.octets.proofs.read_low_four.Tie as tie
+use Rattle.octets_stored.proofs.read_low_four.Statement.{statement}
+use Rattle.octets_stored.proofs.read_low_four.Tie as tie
 
 returns : tie.Need-returns
 returns c =

@@ -1,15 +1,15 @@
--- `octets::write_low_eight` meets its contract: the octets that are still to be written, put on the buffer as it is, always give the whole.
+-- `octets_stored::write_low_eight` meets its contract: the octets that are still to be written, put on the buffer as it is, always give the whole.
 -- Assumes nothing.
 use Prim.Native.Nat.{_+_, _-_, _≤_}
 use mathlib.Core.Path.{_≡_, refl, sym, _∙_}
 use native.Mathlib.Omega.{arith}
 use native.Mathlib.Nat.{add-zero}
 use lib.ListN.{length, length-set}
 use Rattle.octets.specs.Numbers.{leDigits}
 use Rattle.octets.specs.Put.{put}
 use Rattle.octets.proofs.LowFirstLaws.{low-write-step, low-write-end}
-use Rattle.octets.proofs.write_low_eight.Statement.{statement}
-use Rattle.octets.proofs.write_low_eight.Tie as tie
+use Rattle.octets_stored.proofs.write_low_eight.Statement.{statement}
+use Rattle.octets_stored.proofs.write_low_eight.Tie as tie
 
 abbrev Inv-loop : tie.InvT-loop
 Inv-loop out₀ at v i₀ rest₀ out i rest =

@@ -1,14 +1,14 @@
--- `octets::read_eight` meets its contract: the first four octets count 2 ^ 32 times the last four. Assumes nothing.
+-- `octets_read::read_eight` meets its contract: the first four octets count 2 ^ 32 times the last four. Assumes nothing.
 use Prim.Native.Nat.{_+_, _^_, _<_}
 use denote.Ref.{now}
 use lib.ListN.{take, drop}
 use Rattle.octets.specs.Numbers.{beValue, Octets}
 use Rattle.octets.proofs.NumberLaws.{part-lt}
 use Rattle.octets.proofs.PartLaws.{two-halves}
 use borrow.Author.Needs.{needs}
 use native.Mathlib.Omega.{arith}
-use Rattle.octets.proofs.read_eight.Statement.{statement}
-use Rattle.octets.proofs.read_eight.Tie as tie
+use Rattle.octets_read.proofs.read_eight.Statement.{statement}
+use Rattle.octets_read.proofs.read_eight.Tie as tie
 
 -- each half fits 32 bits
 halves : (c : tie.After-read-four2) → (c .before .read-four .result < 2 ^ 32) × (c .read-four2 .result < 2 ^ 32)

@@ -1,4 +1,4 @@
--- `octets::move_down` meets its contract: before each turn the buffer is what it was with the first i octets moved.
+-- `octets_stored::move_down` meets its contract: before each turn the buffer is what it was with the first i octets moved.
 -- Assumes nothing.
 use Prim.Native.Nat.{_-_, _≤_}
 use mathlib.Core.Path.{_≡_, refl, _∙_}
@@ -6,10 +6,10 @@ use native.Mathlib.Numerals.{add-one}
 use denote.Ref.{now}
 use lib.ListN.{length, drop, length-set}
 use lib.Seq.{paste, paste-zero}
-use Rattle.octets.proofs.MoveLaws.{down-step, down-end}
+use Rattle.octets_stored.proofs.MoveLaws.{down-step, down-end}
 use native.Mathlib.Omega.{arith}
-use Rattle.octets.proofs.move_down.Statement.{statement}
-use Rattle.octets.proofs.move_down.Tie as tie
+use Rattle.octets_stored.proofs.move_down.Statement.{statement}
+use Rattle.octets_stored.proofs.move_down.Tie as tie
 
 abbrev Inv-loop : tie.InvT-loop
 Inv-loop buf₀ from to n i₀ buf i = (i ≤ n) × (length buf ≡ length buf₀) × (buf ≡ paste buf₀ to (drop from buf₀) i)

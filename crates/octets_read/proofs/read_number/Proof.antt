@@ -1,11 +1,11 @@
--- `octets::read_number` meets its contract: at most eight octets have no upper ones. Assumes nothing.
+-- `octets_read::read_number` meets its contract: at most eight octets have no upper ones. Assumes nothing.
 use mathlib.Core.Path.{_≡_}
 use denote.Ref.{now}
 use Rattle.octets.proofs.NumberLaws.{width-narrow}
 use Rattle.octets.proofs.UpperLaws.{short-number}
 use native.Mathlib.Omega.{arith}
-use Rattle.octets.proofs.read_number.Statement.{statement}
-use Rattle.octets.proofs.read_number.Tie as tie
+use Rattle.octets_read.proofs.read_number.Statement.{statement}
+use Rattle.octets_read.proofs.read_number.Tie as tie
 
 returns : tie.Need-returns
 returns c = let e : c .before .before .before .args .d ≡ 16 = omega arith in rw e (c .read-sixteen .ensures)

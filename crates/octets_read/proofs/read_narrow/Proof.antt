@@ -1,11 +1,11 @@
--- `octets::read_narrow` meets its contract: the width is 8, 4 or 2, and so many octets are read. No call is named, so that a call
+-- `octets_read::read_narrow` meets its contract: the width is 8, 4 or 2, and so many octets are read. No call is named, so that a call
 -- for another width is refused at what it asks or gives. Assumes nothing.
 use mathlib.Core.Path.{_≡_}
 use denote.Ref.{now}
 use Rattle.octets.proofs.NumberLaws.{width-two, of-width}
 use native.Mathlib.Omega.{arith}
-use Rattle.octets.proofs.read_narrow.Statement.{statement}
-use Rattle.octets.proofs.read_narrow.Tie as tie
+use Rattle.octets_read.proofs.read_narrow.Statement.{statement}
+use Rattle.octets_read.proofs.read_narrow.Tie as tie
 
 -- what is neither 8 nor 4 is 2
 two : (c : tie.Else2) → c .before .before .before .args .d ≡ 2

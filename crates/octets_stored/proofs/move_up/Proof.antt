@@ -1,13 +1,13 @@
--- `octets::move_up` meets its contract: before each turn the buffer is what it was with the octets from i on moved.
+-- `octets_stored::move_up` meets its contract: before each turn the buffer is what it was with the octets from i on moved.
 -- Assumes nothing.
 use Prim.Native.Nat.{suc, _-_, _≤_}
 use mathlib.Core.Path.{_≡_, refl, _∙_}
 use denote.Ref.{now}
 use lib.ListN.{length, length-set}
-use Rattle.octets.proofs.MoveLaws.{movedFrom, up-start, up-step, up-end}
+use Rattle.octets_stored.proofs.MoveLaws.{movedFrom, up-start, up-step, up-end}
 use native.Mathlib.Omega.{arith}
-use Rattle.octets.proofs.move_up.Statement.{statement}
-use Rattle.octets.proofs.move_up.Tie as tie
+use Rattle.octets_stored.proofs.move_up.Statement.{statement}
+use Rattle.octets_stored.proofs.move_up.Tie as tie
 
 abbrev Inv-loop : tie.InvT-loop
 Inv-loop buf₀ from to n i₀ buf i = (i ≤ n) × (length buf ≡ length buf₀) × (buf ≡ movedFrom buf₀ from to n i)

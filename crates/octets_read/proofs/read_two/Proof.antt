@@ -1,10 +1,10 @@
--- `octets::read_two` meets its contract: the first octet counts 256 times the second. Assumes nothing.
+-- `octets_read::read_two` meets its contract: the first octet counts 256 times the second. Assumes nothing.
 use denote.Ref.{now}
 use Rattle.octets.proofs.PartLaws.{two-octets}
 use borrow.Author.Needs.{needs}
 use native.Mathlib.Omega.{arith}
-use Rattle.octets.proofs.read_two.Statement.{statement}
-use Rattle.octets.proofs.read_two.Tie as tie
+use Rattle.octets_read.proofs.read_two.Statement.{statement}
+use Rattle.octets_read.proofs.read_two.Tie as tie
 
 returns : tie.Need-returns
 returns c =

@@ -1,10 +1,10 @@
--- `octets::read_four` meets its contract: each octet counts 256 times the next. Assumes nothing.
+-- `octets_read::read_four` meets its contract: each octet counts 256 times the next. Assumes nothing.
 use denote.Ref.{now}
 use Rattle.octets.proofs.PartLaws.{four-octets}
 use borrow.Author.Needs.{needs}
 use native.Mathlib.Omega.{arith}
-use Rattle.octets.proofs.read_four.Statement.{statement}
-use Rattle.octets.proofs.read_four.Tie as tie
+use Rattle.octets_read.proofs.read_four.Statement.{statement}
+use Rattle.octets_read.proofs.read_four.Tie as tie
 
 returns : tie.Need-returns
 returns c =

@@ -15,7 +15,7 @@ use Rattle.runs.specs.Splice.{addsAt}
 use Rattle.runs.proofs.EdgeLaws.{edge-inserted}
 use Rattle.run_rows.specs.Rows.{runsIn, CutTo, CutBelow}
 use Rattle.run_rows.proofs.RowsLaws.{length-runs}
-use Rattle.run_rows.proofs.CutLaws.{absorbed-cut, adds-cut}
+use Rattle.run_cuts.proofs.CutLaws.{absorbed-cut, adds-cut}
 use Rattle.packet_data.specs.declared.Data.{Data}
 use Rattle.transfer.specs.declared.Key.{Key}
 use Rattle.transfer.specs.Transfers.{reached}

@@ -1,10 +1,10 @@
--- `run_rows::joined_start` meets its contract: the first run that is joined starts at run i's word. Assumes nothing.
+-- `run_cuts::joined_start` meets its contract: the first run that is joined starts at run i's word. Assumes nothing.
 use borrow.Author.Needs.{needs}
 use native.Mathlib.Omega.{arith}
 use denote.Ref.{now}
-use Rattle.run_rows.proofs.RowReads.{start-alone, start-joined}
-use Rattle.run_rows.proofs.joined_start.Statement.{statement}
-use Rattle.run_rows.proofs.joined_start.Tie as tie
+use Rattle.run_cuts.proofs.JoinReads.{start-alone, start-joined}
+use Rattle.run_cuts.proofs.joined_start.Statement.{statement}
+use Rattle.run_cuts.proofs.joined_start.Tie as tie
 
 returns : tie.Need-returns
 returns c = let a = c .before .before .args in start-alone (now (a .buf)) (a .rows) (a .i) (a .j) (a .from) (omega arith)

@@ -1,15 +1,15 @@
--- `run_rows::runs_ok` meets its contract. The loop's invariant: judging the runs from run k on, after one that stops at `last`, is
+-- `run_judge::runs_ok` meets its contract. The loop's invariant: judging the runs from run k on, after one that stops at `last`, is
 -- judging them all. Assumes nothing.
 use borrow.Author.Needs.{needs}
 use native.Mathlib.Omega.{arith}
 use denote.Ref.{now}
 use Prim.Native.Nat.{_+_, _-_, _≤_}
 use mathlib.Core.Path.{_≡_}
 use Rattle.run_rows.specs.Rows.{runsFrom}
-use Rattle.run_rows.specs.Judge.{runsTest}
-use Rattle.run_rows.proofs.LoopLaws.{laterTest, runs-none, first-not, first-more, later-touches, later-empty, later-more, later-end}
-use Rattle.run_rows.proofs.runs_ok.Statement.{statement}
-use Rattle.run_rows.proofs.runs_ok.Tie as tie
+use Rattle.run_judge.specs.Judge.{runsTest}
+use Rattle.run_judge.proofs.LoopLaws.{laterTest, runs-none, first-not, first-more, later-touches, later-empty, later-more, later-end}
+use Rattle.run_judge.proofs.runs_ok.Statement.{statement}
+use Rattle.run_judge.proofs.runs_ok.Tie as tie
 
 abbrev Inv-loop : tie.InvT-loop
 Inv-loop buf size s e n last₀ k₀ last k =

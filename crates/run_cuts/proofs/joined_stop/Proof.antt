@@ -1,10 +1,10 @@
--- `run_rows::joined_stop` meets its contract: the last run that is joined stops at the word before run j's. Assumes nothing.
+-- `run_cuts::joined_stop` meets its contract: the last run that is joined stops at the word before run j's. Assumes nothing.
 use borrow.Author.Needs.{needs}
 use native.Mathlib.Omega.{arith}
 use denote.Ref.{now}
-use Rattle.run_rows.proofs.RowReads.{stop-alone, stop-joined}
-use Rattle.run_rows.proofs.joined_stop.Statement.{statement}
-use Rattle.run_rows.proofs.joined_stop.Tie as tie
+use Rattle.run_cuts.proofs.JoinReads.{stop-alone, stop-joined}
+use Rattle.run_cuts.proofs.joined_stop.Statement.{statement}
+use Rattle.run_cuts.proofs.joined_stop.Tie as tie
 
 returns : tie.Need-returns
 returns c = let a = c .before .before .args in stop-alone (now (a .buf)) (a .rows) (a .i) (a .j) (a .to) (omega arith)

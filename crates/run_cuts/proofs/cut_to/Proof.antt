@@ -1,10 +1,10 @@
--- `run_rows::cut_to` meets its contract. The loop's invariant: the place lies from `low` to `top`. Assumes nothing.
+-- `run_cuts::cut_to` meets its contract. The loop's invariant: the place lies from `low` to `top`. Assumes nothing.
 use borrow.Author.Needs.{needs}
 use native.Mathlib.Omega.{arith}
 use Prim.Native.Nat.{_-_}
-use Rattle.run_rows.proofs.CutLaws.{Halves, halves-start, halves-right, halves-left, halves-end}
-use Rattle.run_rows.proofs.cut_to.Statement.{statement}
-use Rattle.run_rows.proofs.cut_to.Tie as tie
+use Rattle.run_cuts.proofs.CutLaws.{Halves, halves-start, halves-right, halves-left, halves-end}
+use Rattle.run_cuts.proofs.cut_to.Statement.{statement}
+use Rattle.run_cuts.proofs.cut_to.Tie as tie
 
 abbrev Inv-loop : tie.InvT-loop
 Inv-loop buf k n b low₀ top₀ low top = Halves buf k n b low top

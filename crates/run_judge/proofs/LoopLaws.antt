@@ -10,8 +10,8 @@ use borrow.Author.Tests.{lt-ltb, le-ltb, le-leb, lt-leb}
 use Rattle.runs.specs.Runs.{Run, run}
 use Rattle.runs.specs.Holes.{edgeFrom}
 use Rattle.words.specs.Words.{wordAt}
 use Rattle.run_rows.specs.Rows.{runsFrom}
-use Rattle.run_rows.specs.Judge.{apartTest, runsTest}
+use Rattle.run_judge.specs.Judge.{apartTest, runsTest}
 
 -- the runs after one that stops at `last`
 unfoldable pub laterTest : ℕ → ℕ → List Run → Bool

@@ -10,7 +10,7 @@ use borrow.Author.Tests.{ltb-true, leb-true, lt-ltb, le-leb}
 use Rattle.runs.specs.Runs.{Run, CanonicalFrom, Canonical, StopsTo}
 use Rattle.runs.specs.Holes.{edgeFrom, edge}
 use Rattle.runs.proofs.EdgeLaws.{edge-grows, edge-stops}
-use Rattle.run_rows.specs.Judge.{apartTest, runsTest}
+use Rattle.run_judge.specs.Judge.{apartTest, runsTest}
 
 pub both-true : (a b : Bool) → cond a b false ≡ true → (a ≡ true) × (b ≡ true)
 both-true true b e = (refl, e)

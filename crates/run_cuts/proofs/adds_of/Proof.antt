@@ -1,10 +1,10 @@
--- `run_rows::adds_of` meets its contract: nothing is new where there is one run, and it has all of the stretch. Assumes nothing.
+-- `run_cuts::adds_of` meets its contract: nothing is new where there is one run, and it has all of the stretch. Assumes nothing.
 use borrow.Author.Needs.{needs}
 use native.Mathlib.Omega.{arith}
 use denote.Ref.{now}
-use Rattle.run_rows.proofs.RowReads.{adds-apart, adds-below, adds-above, adds-within}
-use Rattle.run_rows.proofs.adds_of.Statement.{statement}
-use Rattle.run_rows.proofs.adds_of.Tie as tie
+use Rattle.run_cuts.proofs.JoinReads.{adds-apart, adds-below, adds-above, adds-within}
+use Rattle.run_cuts.proofs.adds_of.Statement.{statement}
+use Rattle.run_cuts.proofs.adds_of.Tie as tie
 
 returns : tie.Need-returns
 returns c = let a = c .before .before .args in adds-apart (now (a .buf)) (a .rows) (a .i) (a .j) (a .from) (a .to) (omega arith)

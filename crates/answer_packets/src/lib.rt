@@ -5,7 +5,7 @@ ghost use Rattle.packet_beacon.specs.WriteBeacon.{beaconWritten, beaconBuffer};
 ghost use Rattle.packet_data.specs.WriteData.{dataWritten, dataBuffer};
 ghost use Rattle.packet_metadata.specs.WriteMetadata.{metadataWritten, metadataBuffer};
 ghost use Rattle.packet_status.specs.Status.{readHole};
-ghost use Rattle.packet_status.specs.WriteFailure.{failureWritten, failureBuffer};
+ghost use Rattle.failure_status.specs.WriteFailure.{failureWritten, failureBuffer};
 ghost use Rattle.answer_packets.specs.PacketAnswers.{noPart, noMetadata, noData, noStatus, noBeacon, stateNumber, beaconPacket, metadataPacket, dataPacket, successPacket, failurePacket, refusedPacket};
 ghost use Rattle.answers.specs.Answers.{holeAnswer, writtenAnswer};
 use answers::HoleAnswer;
@@ -316,7 +316,7 @@ pub fn refused_packet(refusal: Refusal) -> PacketAnswer
 pub fn read_hole(packet: &[u8], index: u64) -> HoleAnswer
     ensures { λ r. ⌜ r ≡ holeAnswer (readHole index (now (packet .entry))) ⌝ }
 {
-    answers::hole_answer(packet_status::read_hole(packet, index))
+    answers::hole_answer(status_fields::read_hole(packet, index))
 }
 
 pub fn write_beacon(flags: u64, free: u64, endpoint: &[u8], out: &mut [u8]) -> WrittenAnswer
@@ -371,5 +371,5 @@ pub fn write_failure(id: u64, status: u64, out: &mut [u8]) -> WrittenAnswer
     ensures { λ r. ⌜ (r ≡ writtenAnswer (failureWritten id status (now (out .entry))))
         × (now (out .exit) ≡ failureBuffer id status (now (out .entry))) ⌝ }
 {
-    answers::written_answer(packet_status::write_failure(out, id, status))
+    answers::written_answer(failure_status::write_failure(out, id, status))
 }

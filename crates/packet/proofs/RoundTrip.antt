@@ -28,8 +28,8 @@ use Rattle.packet_data.specs.WriteData.{dataRefused, dataOctets, dataWritten, d
 use Rattle.packet_data.specs.declared.Data.{Data}
 use Rattle.packet_data.proofs.DataLaws.{data-given}
 use Rattle.packet_data.proofs.RoundTrip as data-trip
-use Rattle.packet_status.specs.WriteFailure.{failureWriteRefusal, failureOctets, failureWritten, failureBuffer}
-use Rattle.packet_status.proofs.RoundTrip as status
+use Rattle.failure_status.specs.WriteFailure.{failureWriteRefusal, failureOctets, failureWritten, failureBuffer}
+use Rattle.failure_status.proofs.RoundTrip as status
 use Rattle.packet.specs.Read.{ofBeacon, ofMetadata, ofStatus, readType, readPacket}
 use Rattle.packet.specs.declared.Read.the-variants as read
 use Rattle.packet.proofs.CaseLaws.{read-typed, data-taken, packet-beacon, packet-metadata, packet-data}

@@ -1,4 +1,4 @@
--- R9: when each refusal is given, for STATUS: 1, 5 and 11 of the reader, none of them for a failure; 21 and 20 of the failure writer.
+-- R9: when each refusal is given, for STATUS: 1, 5 and 11 of the reader, none of them for a failure.
 -- Assumes nothing.
 use Prim.Native.Nat.{ℕ, zero, suc, _+_, _*_, _%_, _^_, _<_, _≤_}
 use mathlib.Core.Path.{_≡_}
@@ -12,7 +12,6 @@ use lib.Dec.{ltb, eqb}
 use borrow.Author.Tests.{ne-eqb}
 use Rattle.refusals.specs.Refusals.{_▹_, refusalOf}
 use Rattle.refusals.specs.declared.Refusal.{Refusal}
-use Rattle.refusals.specs.declared.Written.the-variants as written
 use Rattle.refusals.proofs.TestLaws.{eqb-iff, eqb-not, ltb-iff, ltb-not, not-iff, not-not, test-not, both}
 use Rattle.refusals.proofs.RefusalLaws.{given-here, given-later, after-none, when-given, when-other}
 use Rattle.refusals.proofs.LimitLaws as chains
@@ -25,7 +24,6 @@ use Rattle.hole_list.specs.HoleList.{listWell}
 use Rattle.hole_list.specs.DescriptorList.{descriptorsRefusal}
 use Rattle.packet_status.specs.Status.{progressAt, responseAt, holesAt, progressOf, responseOf, listOctets, listDescriptors, holeList, partialTold, unaskedTold, listRefusal, successRefusal, statusRefusal, acceptedStatus, readStatus}
 use Rattle.packet_status.specs.declared.StatusRead.the-variants.{Refused}
-use Rattle.packet_status.specs.WriteFailure.{failureWriteRefusal, failureWritten}
 use Rattle.hole_list.proofs.DescriptorListLaws.{AllSmall, descriptors-some, descriptors-all, descriptors-none-iff, descriptors-five-iff}
 use Rattle.hole_list.proofs.AcceptedLaws.{ListAccepted, list-well-iff}
 
@@ -183,35 +181,6 @@ module _ (s : List ℕ) where
       (descriptors-all d s (λ m. m ≡ 11 → ⊥) (listDescriptors s) (holesAt w) (whole r) (λ e. omega arith) (λ e. omega arith)))
       (both (descriptors-none-iff d s (listDescriptors s) (holesAt w) (whole r)) list-eleven-iff)))
 
--- ---- a failure STATUS, written
-
-module _ (id status room : ℕ) where
-  -- R9.21
-  abbrev pub FailureExcess : Type 0
-  FailureExcess = (2 ^ 32 ≤ id) ⊎ ((status ≡ 0) ⊎ (255 < status))
-
-  -- 21, before all
-  pub write-twenty-one-iff : (failureWriteRefusal id status room ≡ 21) ↔ FailureExcess
-  unfolding failureWriteRefusal
-  write-twenty-one-iff =
-      Iff·trans (chains.given-again (not (ltb id (2 ^ 32))) 21 _ (λ e. omega arith))
-      (chains.either (chains.not-below-iff id (2 ^ 32))
-      (Iff·trans (chains.given-again (eqb status 0) 21 _ (λ e. omega arith))
-      (chains.either (eqb-iff status 0)
-      (Iff·trans (given-here (ltb 255 status) 21 _ (λ e. omega arith) (when-other (ltb room 8) 20 21 (λ e. omega arith) (λ e. omega arith)))
-      (ltb-iff 255 status)))))
-
-  -- R9.20
-  pub write-twenty-iff : (failureWriteRefusal id status room ≡ 20) ↔ ((id < 2 ^ 32) × ((status ≡ 0 → ⊥) × ((status ≤ 255) × (room < 8))))
-  unfolding failureWriteRefusal
-  write-twenty-iff =
-      Iff·trans (given-later (not (ltb id (2 ^ 32))) 21 20 _ (λ e. omega arith) (λ e. omega arith))
-      (both (Iff·trans (not-not (ltb id (2 ^ 32))) (ltb-iff id (2 ^ 32)))
-      (Iff·trans (given-later (eqb status 0) 21 20 _ (λ e. omega arith) (λ e. omega arith))
-      (both (eqb-not status 0)
-      (Iff·trans (given-later (ltb 255 status) 21 20 _ (λ e. omega arith) (λ e. omega arith))
-      (both (ltb-not 255 status) (Iff·trans (when-given (ltb room 8) 20 (λ e. omega arith)) (ltb-iff room 8)))))))
-
 -- ---- the answers: refused with the number that these laws speak of
 
 accepted-apart : (code : ℕ) (s : List ℕ) (r : Refusal) → acceptedStatus code s ≡ Refused r → ⊥
@@ -222,8 +191,3 @@ pub read-refused-iff : (s : List ℕ) (n : ℕ) → (readStatus s ≡ Refused (r
 unfolding readStatus
 read-refused-iff s n =
     chains.answered-iff Refused (statusRefusal s) n (acceptedStatus (statusOf (wordOf s)) s) (accepted-apart (statusOf (wordOf s)) s) (λ q r e. cc)
-
-pub write-refused-iff : (id status : ℕ) (old : List ℕ) (n : ℕ)
-    → (failureWritten id status old ≡ written.Refused (refusalOf (suc n))) ↔ (failureWriteRefusal id status (length old) ≡ suc n)
-unfolding failureWritten
-write-refused-iff id status old n = chains.written-iff (failureWriteRefusal id status (length old)) n 8

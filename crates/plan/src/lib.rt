@@ -91,7 +91,7 @@ pub fn judge(status: &[u8], largest: u64) -> Judged
     }
     Judged {
         number: 0,
-        holes: packet_status::hole_count(status),
+        holes: status_fields::hole_count(status),
     }
 }
 
@@ -112,7 +112,7 @@ fn count_of_width(status: &[u8], holes: usize, largest: u64, d: usize) -> u64
     let mut count: u64 = 0;
     let mut i: usize = 0;
     while i < holes {
-        let h = packet_status::hole_of_width(status, i, d);
+        let h = status_fields::hole_of_width(status, i, d);
         count = count + pieces_of(h.start, h.end, largest);
         i = i + 1;
     }
@@ -184,7 +184,7 @@ pub fn cursor_at(status: &[u8], count: usize, index: usize) -> Cursor
             count,
         };
     }
-    let h = packet_status::listed_hole(status, index);
+    let h = status_fields::listed_hole(status, index);
     Cursor {
         offset: h.start,
         end: h.end,

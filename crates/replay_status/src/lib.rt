@@ -30,7 +30,7 @@ pub fn put_failure_sent(
     if h.ptype == 0 {
         return at;
     }
-    let w = packet_status::write_failure(lent, header::id(p), code);
+    let w = failure_status::write_failure(lent, header::id(p), code);
     put_sent(out, at, number, w, lent)
 }
 

@@ -16,7 +16,7 @@ use Rattle.directory_entry.specs.Entry.{entryRefusal, entryOf}
 use Rattle.packet_metadata.specs.Checksum.{pairAllowed, pairRefusal}
 use Rattle.packet_metadata.specs.Metadata.{metadataRefusal, metadataOf, readMetadata}
 use Rattle.packet_data.specs.Data.{dataRefusal, dataOf, readData}
-use Rattle.packet_status.specs.WriteFailure.{failureWriteRefusal, failureOctets, failureWritten, failureBuffer}
+use Rattle.failure_status.specs.WriteFailure.{failureWriteRefusal, failureOctets, failureWritten, failureBuffer}
 use Rattle.packet.specs.Read.{readType, readPacket}
 use Rattle.runs.specs.Runs.{run}
 use Rattle.runs.specs.Holes.{edgeFrom, holesFrom, progress, complete}

@@ -5,7 +5,7 @@ ghost use Rattle.packet_beacon.specs.WriteBeacon.{beaconWritten, beaconBuffer};
 ghost use Rattle.packet_data.specs.WriteData.{dataWritten, dataBuffer};
 ghost use Rattle.packet_metadata.specs.WriteMetadata.{metadataWritten, metadataBuffer};
 ghost use Rattle.packet_status.specs.Status.{readHole};
-ghost use Rattle.packet_status.specs.WriteFailure.{failureWritten, failureBuffer};
+ghost use Rattle.failure_status.specs.WriteFailure.{failureWritten, failureBuffer};
 ghost use Rattle.answers.specs.Answers.{holeAnswer, writtenAnswer};
 ghost use Rattle.answer_packets.specs.PacketAnswers.{packetAnswer};
 use answer_packets::PacketAnswer;

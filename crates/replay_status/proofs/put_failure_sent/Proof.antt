@@ -9,7 +9,7 @@ use borrow.Author.Needs.{needs}
 use native.Mathlib.Omega.{arith}
 use Rattle.header.specs.FirstWord.{typeOf}
 use Rattle.header.specs.Start.{wordOf}
-use Rattle.packet_status.specs.WriteFailure.{failureWritten, failureBuffer}
+use Rattle.failure_status.specs.WriteFailure.{failureWritten, failureBuffer}
 use Rattle.text.proofs.AddedLaws.{added-as, added-none}
 use Rattle.replay_answers.specs.AnswerLines.{sentText}
 use Rattle.replay_status.specs.StatusLines.{failureSent}

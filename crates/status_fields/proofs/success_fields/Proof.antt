@@ -1,4 +1,4 @@
--- `packet_status::success_fields` meets its contract: the fields stand where the word says, and within the packet.
+-- `status_fields::success_fields` meets its contract: the fields stand where the word says, and within the packet.
 -- Assumes nothing.
 use Prim.Native.Nat.{_≤_}
 use mathlib.Core.Path.{_≡_, ap, _∙_}
@@ -8,13 +8,13 @@ use Rattle.octets.specs.Numbers.{Width}
 use Rattle.header.specs.FirstWord.{descriptorOctets, timestampOctets}
 use Rattle.header.specs.Start.{wordOf}
 use Rattle.header.proofs.FirstWordLaws.{octets-le, octets-width}
 use Rattle.packet_status.specs.Status.{holesAt, successOf}
 use Rattle.packet_status.proofs.StatusLaws.{success-fine, fields-there}
 use Rattle.octets.proofs.NumberLaws.{width-some}
 use borrow.Author.Needs.{needs}
 use native.Mathlib.Omega.{arith}
-use Rattle.packet_status.proofs.success_fields.Statement.{statement}
-use Rattle.packet_status.proofs.success_fields.Tie as tie
+use Rattle.status_fields.proofs.success_fields.Statement.{statement}
+use Rattle.status_fields.proofs.success_fields.Tie as tie
 
 -- the word of the packet, and the octets that it gives
 known : (c : tie.After-timestamp-octets)

@@ -1,4 +1,4 @@
--- `packet_status::hole_refusal` meets its contract: what the reader refuses stands, and then the code and the index are tested.
+-- `status_fields::hole_refusal` meets its contract: what the reader refuses stands, and then the code and the index are tested.
 -- Assumes nothing.
 use mathlib.Core.Path.{_≡_, sym, ap, _∙_}
 use borrow.Author.Tests.{eq-eqb, ne-eqb, lt-ltb, le-ltb}
@@ -6,13 +6,13 @@ use denote.Ref.{now}
 use Rattle.header.specs.FirstWord.{statusOf}
 use Rattle.header.specs.Start.{wordOf}
 use Rattle.refusals.proofs.RefusalLaws.{stays}
 use Rattle.packet_status.specs.Status.{holeCount, statusRefusal, successOf, holeRefusal}
 use Rattle.packet_status.specs.declared.SuccessStatus.{SuccessStatus}
 use Rattle.packet_status.proofs.StatusLaws.{status-fine}
 use borrow.Author.Needs.{needs}
 use native.Mathlib.Omega.{arith}
-use Rattle.packet_status.proofs.hole_refusal.Statement.{statement}
-use Rattle.packet_status.proofs.hole_refusal.Tie as tie
+use Rattle.status_fields.proofs.hole_refusal.Statement.{statement}
+use Rattle.status_fields.proofs.hole_refusal.Tie as tie
 
 returns : tie.Need-returns
 unfolding holeRefusal

@@ -1,4 +1,4 @@
--- `packet_status::listed_hole` meets its contract: the packet has one of the four widths.
+-- `status_fields::listed_hole` meets its contract: the packet has one of the four widths.
 -- Assumes nothing.
 use mathlib.Core.Path.{_≡_, sym, ap, _∙_}
 use denote.Ref.{now}
@@ -8,9 +8,9 @@ use Rattle.octets.proofs.NumberLaws.{width-wide}
 use Rattle.header.specs.FirstWord.{descriptorOctets}
 use Rattle.header.specs.Start.{wordOf}
 use Rattle.header.proofs.FirstWordLaws.{octets-width}
 use Rattle.packet_status.proofs.StatusLaws.{hole-fine}
-use Rattle.packet_status.proofs.listed_hole.Statement.{statement}
-use Rattle.packet_status.proofs.listed_hole.Tie as tie
+use Rattle.status_fields.proofs.listed_hole.Statement.{statement}
+use Rattle.status_fields.proofs.listed_hole.Tie as tie
 
 -- the packet's width
 width : (c : tie.After-descriptor-octets) → c .descriptor-octets .result ≡ descriptorOctets (wordOf (now (c .before .before .before .args .p)))

@@ -1,4 +1,4 @@
--- `packet_status::hole_count` meets its contract: the list stands within the packet.
+-- `status_fields::hole_count` meets its contract: the list stands within the packet.
 -- Assumes nothing.
 use Prim.Native.Nat.{_≤_}
 use mathlib.Core.Path.{_≡_, ap, _∙_}
@@ -9,12 +9,12 @@ use Rattle.octets.proofs.NumberLaws.{width-some, width-le}
 use Rattle.header.specs.FirstWord.{descriptorOctets, timestampOctets}
 use Rattle.header.specs.Start.{wordOf}
 use Rattle.header.proofs.FirstWordLaws.{octets-width}
 use Rattle.packet_status.specs.Status.{holesAt}
 use Rattle.packet_status.proofs.StatusLaws.{status-fine, success-fine, fields-there}
 use borrow.Author.Needs.{needs}
 use native.Mathlib.Omega.{arith}
-use Rattle.packet_status.proofs.hole_count.Statement.{statement}
-use Rattle.packet_status.proofs.hole_count.Tie as tie
+use Rattle.status_fields.proofs.hole_count.Statement.{statement}
+use Rattle.status_fields.proofs.hole_count.Tie as tie
 
 -- the octets that the word gives, and where the list starts
 known : (c : tie.After-timestamp-octets)

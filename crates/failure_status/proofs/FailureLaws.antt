@@ -13,7 +13,7 @@ use Rattle.octets.proofs.PutLaws.{put-next}
 use Rattle.refusals.specs.Refusals.{when}
 use Rattle.header.specs.FirstWord.{wordFor}
 use Rattle.refusals.proofs.RefusalLaws.{first-none, rest-none, failed}
-use Rattle.packet_status.specs.WriteFailure.{failureWriteRefusal, failureOctets}
+use Rattle.failure_status.specs.WriteFailure.{failureWriteRefusal, failureOctets}
 
 pub record FailureFine (id status room : ℕ) : Type 0 where
   pub id-fits : id < 2 ^ 32

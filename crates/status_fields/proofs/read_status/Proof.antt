@@ -1,17 +1,17 @@
--- `packet_status::read_status` meets its contract: an answer for each of refused, success and failure.
+-- `status_fields::read_status` meets its contract: an answer for each of refused, success and failure.
 -- Assumes nothing.
 use mathlib.Core.Path.{_≡_}
 use denote.Ref.{now}
 use Rattle.header.specs.FirstWord.{statusOf}
 use Rattle.header.specs.Start.{wordOf}
 use Rattle.packet_status.specs.Status.{statusRefusal, failureOf, readStatus}
 use Rattle.packet_status.proofs.StatusLaws.{status-fine, failure-accepted}
 use Rattle.refusals.proofs.RefusalLaws.{answered-refused}
 use Rattle.packet_status.specs.declared.StatusRead.the-variants.{Refused}
 use borrow.Author.Needs.{needs}
 use native.Mathlib.Omega.{arith}
-use Rattle.packet_status.proofs.read_status.Statement.{statement}
-use Rattle.packet_status.proofs.read_status.Tie as tie
+use Rattle.status_fields.proofs.read_status.Statement.{statement}
+use Rattle.status_fields.proofs.read_status.Tie as tie
 
 returns : tie.Need-returns
 unfolding readStatus

@@ -1,14 +1,14 @@
--- `packet_status::read_hole` meets its contract: what is not refused has the hole.
+-- `status_fields::read_hole` meets its contract: what is not refused has the hole.
 -- Assumes nothing.
 use mathlib.Core.Path.{_≡_}
 use denote.Ref.{now}
 use Rattle.packet_status.specs.Status.{holeRefusal, indexedHole, readHole}
 use Rattle.refusals.proofs.RefusalLaws.{answered-refused}
 use Rattle.packet_status.specs.declared.HoleRead.the-variants.{Accepted, Refused}
 use borrow.Author.Needs.{needs}
 use native.Mathlib.Omega.{arith}
-use Rattle.packet_status.proofs.read_hole.Statement.{statement}
-use Rattle.packet_status.proofs.read_hole.Tie as tie
+use Rattle.status_fields.proofs.read_hole.Statement.{statement}
+use Rattle.status_fields.proofs.read_hole.Tie as tie
 
 returns : tie.Need-returns
 unfolding readHole

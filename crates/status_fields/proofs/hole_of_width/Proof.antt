@@ -1,4 +1,4 @@
--- `packet_status::hole_of_width` meets its contract: the hole lies within the packet.
+-- `status_fields::hole_of_width` meets its contract: the hole lies within the packet.
 -- Assumes nothing.
 use Prim.Native.Nat.{_+_, _*_, _≤_}
 use mathlib.Core.Path.{_≡_, ap, _∙_}
@@ -9,12 +9,12 @@ use Rattle.header.specs.FirstWord.{descriptorOctets, timestampOctets}
 use Rattle.header.specs.Start.{wordOf}
 use Rattle.header.specs.Descriptor.{descriptorRefusal}
 use Rattle.header.proofs.FirstWordLaws.{octets-width}
 use Rattle.packet_status.specs.Status.{indexedHole}
 use Rattle.packet_status.proofs.StatusLaws.{hole-fine, hole-fits, hole-none}
 use borrow.Author.Needs.{needs}
 use native.Mathlib.Omega.{arith}
-use Rattle.packet_status.proofs.hole_of_width.Statement.{statement}
-use Rattle.packet_status.proofs.hole_of_width.Tie as tie
+use Rattle.status_fields.proofs.hole_of_width.Statement.{statement}
+use Rattle.status_fields.proofs.hole_of_width.Tie as tie
 
 -- the octets that the word gives, and the place of the hole
 known : (c : tie.After-timestamp-octets)

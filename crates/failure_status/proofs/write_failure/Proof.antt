@@ -1,15 +1,15 @@
--- `packet_status::write_failure` meets its contract: a refusal leaves the buffer, and else the word and the Id are put into it.
+-- `failure_status::write_failure` meets its contract: a refusal leaves the buffer, and else the word and the Id are put into it.
 -- Assumes nothing.
 use mathlib.Core.Path.{_≡_}
 use denote.Ref.{now}
 use lib.ListN.{length}
 use Rattle.refusals.proofs.WritingLaws.{written-refused, buffer-refused}
-use Rattle.packet_status.specs.WriteFailure.{failureWriteRefusal, failureOctets, failureWritten, failureBuffer}
-use Rattle.packet_status.proofs.FailureLaws.{failure-fine, failure-put}
+use Rattle.failure_status.specs.WriteFailure.{failureWriteRefusal, failureOctets, failureWritten, failureBuffer}
+use Rattle.failure_status.proofs.FailureLaws.{failure-fine, failure-put}
 use borrow.Author.Needs.{needs}
 use native.Mathlib.Omega.{arith}
-use Rattle.packet_status.proofs.write_failure.Statement.{statement}
-use Rattle.packet_status.proofs.write_failure.Tie as tie
+use Rattle.failure_status.proofs.write_failure.Statement.{statement}
+use Rattle.failure_status.proofs.write_failure.Tie as tie
 
 returns : tie.Need-returns
 unfolding failureWritten failureBuffer

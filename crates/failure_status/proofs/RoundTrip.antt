@@ -14,11 +14,11 @@ use Rattle.header.specs.FirstWord.{statusOf, wordFor}
 use Rattle.header.specs.Start.{wordOf, idOf, typeRefusal}
 use Rattle.header.proofs.FirstWordLaws.{mark-for, type-for, flags-for}
 use Rattle.header.proofs.StartLaws.{type-known, TypeFine, type-fine, type-none}
 use Rattle.packet_status.specs.Status.{statusRefusal, failureOf, readStatus}
-use Rattle.packet_status.specs.WriteFailure.{failureWriteRefusal, failureOctets, failureBuffer}
+use Rattle.failure_status.specs.WriteFailure.{failureWriteRefusal, failureOctets, failureBuffer}
 use Rattle.packet_status.specs.declared.StatusRead.the-variants.{Failure}
 use Rattle.packet_status.proofs.StatusLaws.{failure-accepted}
-use Rattle.packet_status.proofs.FailureLaws.{FailureFine, failure-fine}
+use Rattle.failure_status.proofs.FailureLaws.{FailureFine, failure-fine}
 
 -- R2.12: what follows the Id of a failure STATUS is ignored
 pub failure-ignores-rest : (s : List ℕ) → typeRefusal 4 s ≡ 0 → (statusOf (wordOf s) ≡ 0 → ⊥) → readStatus s ≡ Failure (failureOf s)

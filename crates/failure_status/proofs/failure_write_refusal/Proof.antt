@@ -1,10 +1,10 @@
--- `packet_status::failure_write_refusal` meets its contract: a return for each test. Assumes nothing.
+-- `failure_status::failure_write_refusal` meets its contract: a return for each test. Assumes nothing.
 use Prim.Native.Nat.{_^_}
 use borrow.Author.Tests.{lt-ltb, le-ltb, eq-eqb, ne-eqb}
-use Rattle.packet_status.specs.WriteFailure.{failureWriteRefusal}
+use Rattle.failure_status.specs.WriteFailure.{failureWriteRefusal}
 use native.Mathlib.Omega.{arith}
-use Rattle.packet_status.proofs.failure_write_refusal.Statement.{statement}
-use Rattle.packet_status.proofs.failure_write_refusal.Tie as tie
+use Rattle.failure_status.proofs.failure_write_refusal.Statement.{statement}
+use Rattle.failure_status.proofs.failure_write_refusal.Tie as tie
 
 returns : tie.Need-returns
 unfolding failureWriteRefusal

@@ -1,7 +1,7 @@
 // What C is answered of a packet that was read, by its case, of one hole of a STATUS, and of BEACON, METADATA, DATA and failure STATUS
 // that are written.
 ghost use mathlib.Core.Path.{_≡_};
-ghost use Rattle.packet_beacon.specs.WriteBeacon.{beaconWritten, beaconBuffer};
+ghost use Rattle.beacon_writer.specs.WriteBeacon.{beaconWritten, beaconBuffer};
 ghost use Rattle.packet_data.specs.WriteData.{dataWritten, dataBuffer};
 ghost use Rattle.packet_metadata.specs.WriteMetadata.{metadataWritten, metadataBuffer};
 ghost use Rattle.packet_status.specs.Status.{readHole};
@@ -11,7 +11,7 @@ ghost use Rattle.answers.specs.Answers.{holeAnswer, writtenAnswer};
 use answers::HoleAnswer;
 use answers::WrittenAnswer;
 use packet_beacon::Beacon;
-use packet_beacon::Willingness;
+use beacon_flags::Willingness;
 use packet_data::Data;
 use packet_metadata::Metadata;
 use packet_status::FailureStatus;
@@ -323,7 +323,7 @@ pub fn write_beacon(flags: u64, free: u64, endpoint: &[u8], out: &mut [u8]) -> W
     ensures { λ r. ⌜ (r ≡ writtenAnswer (beaconWritten flags free (now (endpoint .entry)) (now (out .entry))))
         × (now (out .exit) ≡ beaconBuffer flags free (now (endpoint .entry)) (now (out .entry))) ⌝ }
 {
-    answers::written_answer(packet_beacon::write_beacon(out, flags, free, endpoint))
+    answers::written_answer(beacon_writer::write_beacon(out, flags, free, endpoint))
 }
 
 pub fn write_metadata(

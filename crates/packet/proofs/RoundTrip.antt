@@ -12,12 +12,12 @@ use Rattle.refusals.specs.declared.Written.the-variants.{Size}
 use Rattle.refusals.proofs.RefusalLaws.{first-none}
 use Rattle.refusals.proofs.WritingLaws.{written-size}
 use Rattle.directory_entry.specs.Properties.{pathAt}
-use Rattle.packet_beacon.specs.Flags.{bundlesOf, streamsOf, sendingPair, receivingPair, freeOctets, willingnessOf}
+use Rattle.beacon_flags.specs.Flags.{bundlesOf, streamsOf, sendingPair, receivingPair, freeOctets, willingnessOf}
 use Rattle.packet_beacon.specs.Beacon.{endpointAt, beaconRefusal, beaconOf}
-use Rattle.packet_beacon.specs.WriteBeacon.{beaconRefused, beaconOctets, beaconWritten, beaconBuffer}
+use Rattle.beacon_writer.specs.WriteBeacon.{beaconRefused, beaconOctets, beaconWritten, beaconBuffer}
 use Rattle.packet_beacon.specs.declared.Beacon.{Beacon}
 use Rattle.packet_beacon.proofs.BeaconLaws.{beacon-given}
-use Rattle.packet_beacon.proofs.RoundTrip as beacon-trip
+use Rattle.beacon_writer.proofs.RoundTrip as beacon-trip
 use Rattle.packet_metadata.specs.Metadata.{entryAt, metadataRefusal, metadataOf}
 use Rattle.packet_metadata.specs.WriteMetadata.{metadataSize, metadataWriteRefusal, metadataOctets, metadataWritten, metadataBuffer}
 use Rattle.packet_metadata.specs.declared.Metadata.{Metadata}

@@ -11,7 +11,7 @@ use Rattle.header.specs.Start.{wordOf, typeRefusal}
 use Rattle.header.specs.Descriptor.{descriptorRefusal}
 use Rattle.header.proofs.StartLaws.{TypeFine, type-fine}
 use Rattle.header.proofs.DescriptorLaws.{descriptor-there}
-use Rattle.packet_beacon.specs.Flags.{freeOctets, flagsRefusal}
+use Rattle.beacon_flags.specs.Flags.{freeOctets, flagsRefusal}
 use Rattle.packet_beacon.specs.Beacon.{endpointAt, beaconRefusal, beaconOf, readBeacon}
 use Rattle.packet_beacon.specs.declared.Beacon.{Beacon}
 use Rattle.packet_beacon.specs.declared.BeaconRead.the-variants.{Accepted, Refused}

@@ -4,7 +4,7 @@ ghost use lib.ListN.{length};
 ghost use Rattle.text.specs.Added.{Added};
 ghost use Rattle.replay_beacon.specs.BeaconLine.{stateText, flagsText, statesText, freeText, beaconLine};
 use packet_beacon::Beacon;
-use packet_beacon::Willingness;
+use beacon_flags::Willingness;
 use replay_fields::bits_of;
 use replay_fields::part;
 use replay_fields::put_field;

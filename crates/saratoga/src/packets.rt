@@ -1,7 +1,7 @@
 // Packets: reading any of them, one hole of a STATUS, and writing BEACON, METADATA, DATA and failure STATUS.
 ghost use mathlib.Core.Path.{_≡_};
 ghost use Rattle.packet.specs.Read.{readPacket};
-ghost use Rattle.packet_beacon.specs.WriteBeacon.{beaconWritten, beaconBuffer};
+ghost use Rattle.beacon_writer.specs.WriteBeacon.{beaconWritten, beaconBuffer};
 ghost use Rattle.packet_data.specs.WriteData.{dataWritten, dataBuffer};
 ghost use Rattle.packet_metadata.specs.WriteMetadata.{metadataWritten, metadataBuffer};
 ghost use Rattle.packet_status.specs.Status.{readHole};

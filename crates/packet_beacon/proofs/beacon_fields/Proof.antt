@@ -4,7 +4,7 @@ use mathlib.Core.Path.{_≡_, ap, _∙_}
 use denote.Ref.{now}
 use Rattle.header.specs.FirstWord.{flagsOf, descriptorOctets}
 use Rattle.header.specs.Start.{wordOf}
-use Rattle.packet_beacon.specs.Flags.{bundlesOf, streamsOf, sendingPair, receivingPair, freeOctets, willingnessOf}
+use Rattle.beacon_flags.specs.Flags.{bundlesOf, streamsOf, sendingPair, receivingPair, freeOctets, willingnessOf}
 use Rattle.packet_beacon.specs.Beacon.{endpointAt, beaconOf}
 use Rattle.packet_beacon.proofs.BeaconLaws.{beacon-fine}
 use borrow.Author.Needs.{needs}

@@ -6,7 +6,7 @@ use denote.Ref.{now}
 use Rattle.refusals.proofs.RefusalLaws.{stays}
 use Rattle.header.specs.Start.{wordOf, typeRefusal}
 use Rattle.header.proofs.StartLaws.{type-fine}
-use Rattle.packet_beacon.specs.Flags.{flagsRefusal}
+use Rattle.beacon_flags.specs.Flags.{flagsRefusal}
 use Rattle.packet_beacon.specs.Beacon.{beaconRefusal}
 use borrow.Author.Needs.{needs}
 use native.Mathlib.Omega.{arith}

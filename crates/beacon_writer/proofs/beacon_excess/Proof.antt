@@ -1,15 +1,15 @@
--- `packet_beacon::beacon_excess` meets its contract: a return for each field. Assumes nothing.
+-- `beacon_writer::beacon_excess` meets its contract: a return for each field. Assumes nothing.
 use mathlib.Core.Path.{_≡_, sym, ap, _∙_}
 use mathlib.Core.Bool.{true, false}
 use Prim.Native.Nat.{ℕ, _^_}
 use lib.Dec.{ltb}
 use borrow.Author.Tests.{lt-ltb, le-ltb, not-true, not-false}
-use Rattle.packet_beacon.specs.Flags.{freeOctets}
-use Rattle.packet_beacon.specs.WriteBeacon.{beaconExcess}
+use Rattle.beacon_flags.specs.Flags.{freeOctets}
+use Rattle.beacon_writer.specs.WriteBeacon.{beaconExcess}
 use borrow.Author.Needs.{needs}
 use native.Mathlib.Omega.{arith}
-use Rattle.packet_beacon.proofs.beacon_excess.Statement.{statement}
-use Rattle.packet_beacon.proofs.beacon_excess.Tie as tie
+use Rattle.beacon_writer.proofs.beacon_excess.Statement.{statement}
+use Rattle.beacon_writer.proofs.beacon_excess.Tie as tie
 
 returns : tie.Need-returns
 unfolding beaconExcess

@@ -6,9 +6,9 @@ use mathlib.Core.Bool.{not, cond}
 use lib.Dec.{eqb}
 use Rattle.refusals.specs.Refusals.{_▹_, when}
 use Rattle.header.specs.FirstWord.{bits, descriptorOctets}
-use Rattle.packet_beacon.specs.declared.BeaconFlags.{BeaconFlags}
-use Rattle.packet_beacon.specs.declared.Willingness.{Willingness}
-use Rattle.packet_beacon.specs.declared.Willingness.the-variants.{Cannot, NotNow, Willing}
+use Rattle.beacon_flags.specs.declared.BeaconFlags.{BeaconFlags}
+use Rattle.beacon_flags.specs.declared.Willingness.{Willingness}
+use Rattle.beacon_flags.specs.declared.Willingness.the-variants.{Cannot, NotNow, Willing}
 
 -- R2.13: the widest descriptors, in octets
 abbrev pub largestWidth : ℕ → ℕ

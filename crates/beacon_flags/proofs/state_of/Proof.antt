@@ -1,8 +1,8 @@
--- `packet_beacon::state_of` meets its contract: a return for each state. Assumes nothing.
+-- `beacon_flags::state_of` meets its contract: a return for each state. Assumes nothing.
 use borrow.Author.Tests.{eq-eqb, ne-eqb}
 use native.Mathlib.Omega.{arith}
-use Rattle.packet_beacon.proofs.state_of.Statement.{statement}
-use Rattle.packet_beacon.proofs.state_of.Tie as tie
+use Rattle.beacon_flags.proofs.state_of.Statement.{statement}
+use Rattle.beacon_flags.proofs.state_of.Tie as tie
 
 returns-2 : tie.Need-returns-2
 returns-2 c = let p = c .before .before .args .pair in rw (ne-eqb p 0 (omega arith), eq-eqb p 2 (omega arith))

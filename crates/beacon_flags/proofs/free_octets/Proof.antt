@@ -1,12 +1,12 @@
--- `packet_beacon::free_octets` meets its contract: the octets by the width bits, or none. Assumes nothing.
+-- `beacon_flags::free_octets` meets its contract: the octets by the width bits, or none. Assumes nothing.
 use Prim.Native.Nat.{ℕ, _*_, _^_}
 use mathlib.Core.Path.{ap, _∙_}
 use borrow.Author.Tests.{eq-eqb, ne-eqb}
-use Rattle.packet_beacon.specs.Flags.{freePresent}
+use Rattle.beacon_flags.specs.Flags.{freePresent}
 use borrow.Author.Needs.{needs}
 use native.Mathlib.Omega.{arith}
-use Rattle.packet_beacon.proofs.free_octets.Statement.{statement}
-use Rattle.packet_beacon.proofs.free_octets.Tie as tie
+use Rattle.beacon_flags.proofs.free_octets.Statement.{statement}
+use Rattle.beacon_flags.proofs.free_octets.Tie as tie
 
 returns : tie.Need-returns
 returns c =

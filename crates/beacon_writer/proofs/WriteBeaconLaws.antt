@@ -13,9 +13,9 @@ use Rattle.octets.proofs.PutLaws.{put-next}
 use Rattle.refusals.specs.Refusals.{when}
 use Rattle.refusals.proofs.RefusalLaws.{first-none, rest-none, failed}
 use Rattle.refusals.proofs.WritingLaws.{RoomFine, room-fine}
-use Rattle.packet_beacon.specs.Flags.{freeOctets, flagsRefusal}
+use Rattle.beacon_flags.specs.Flags.{freeOctets, flagsRefusal}
 use Rattle.packet_beacon.specs.Beacon.{endpointAt}
-use Rattle.packet_beacon.specs.WriteBeacon.{beaconExcess, beaconWriteRefusal, BeaconFits}
+use Rattle.beacon_writer.specs.WriteBeacon.{beaconExcess, beaconWriteRefusal, BeaconFits}
 
 pub record Writable (flags free endpoint room : ℕ) : Type 0 where
   pub fine : BeaconFits flags endpoint room

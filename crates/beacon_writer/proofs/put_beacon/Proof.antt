@@ -1,4 +1,4 @@
--- `packet_beacon::put_beacon` meets its contract: the parts stand one after the other.
+-- `beacon_writer::put_beacon` meets its contract: the parts stand one after the other.
 -- Assumes nothing.
 use mathlib.Core.Path.{_≡_, refl}
 use Prim.Native.Nat.{_+_, _≤_}
@@ -7,14 +7,14 @@ use lib.ListN.{length}
 use Rattle.octets.specs.Numbers.{beDigits}
 use Rattle.octets.proofs.NumberLaws.{length-digits}
 use Rattle.header.specs.FirstWord.{wordFor}
-use Rattle.packet_beacon.specs.Flags.{freeOctets}
+use Rattle.beacon_flags.specs.Flags.{freeOctets}
 use Rattle.packet_beacon.specs.Beacon.{endpointAt}
-use Rattle.packet_beacon.specs.WriteBeacon.{beaconOctets}
-use Rattle.packet_beacon.proofs.WriteBeaconLaws.{puts}
+use Rattle.beacon_writer.specs.WriteBeacon.{beaconOctets}
+use Rattle.beacon_writer.proofs.WriteBeaconLaws.{puts}
 use borrow.Author.Needs.{needs}
 use native.Mathlib.Omega.{arith}
-use Rattle.packet_beacon.proofs.put_beacon.Statement.{statement}
-use Rattle.packet_beacon.proofs.put_beacon.Tie as tie
+use Rattle.beacon_writer.proofs.put_beacon.Statement.{statement}
+use Rattle.beacon_writer.proofs.put_beacon.Tie as tie
 
 returns : tie.Need-returns
 unfolding beaconOctets

@@ -10,8 +10,8 @@ use Rattle.refusals.specs.Refusals.{_▹_, when}
 use Rattle.refusals.specs.Writing.{roomRefusal, writtenOf, bufferAfter}
 use Rattle.refusals.specs.declared.Written.{Written}
 use Rattle.header.specs.FirstWord.{wordFor}
-use Rattle.packet_beacon.specs.Flags.{freeOctets, flagsRefusal}
+use Rattle.beacon_flags.specs.Flags.{freeOctets, flagsRefusal}
 use Rattle.packet_beacon.specs.Beacon.{endpointAt}
 
 -- R4.3: 21 for a field over its bits; where no free space is given its field has no bits, and holds 0 alone
 unfoldable pub beaconExcess : ℕ → ℕ → ℕ

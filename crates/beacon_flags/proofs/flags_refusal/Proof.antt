@@ -1,10 +1,10 @@
--- `packet_beacon::flags_refusal` meets its contract: a return for each test. Assumes nothing.
+-- `beacon_flags::flags_refusal` meets its contract: a return for each test. Assumes nothing.
 use borrow.Author.Tests.{eq-eqb, ne-eqb}
-use Rattle.packet_beacon.specs.Flags.{sendingPair, receivingPair, lastOctet, flagsRefusal}
+use Rattle.beacon_flags.specs.Flags.{sendingPair, receivingPair, lastOctet, flagsRefusal}
 use borrow.Author.Needs.{needs}
 use native.Mathlib.Omega.{arith}
-use Rattle.packet_beacon.proofs.flags_refusal.Statement.{statement}
-use Rattle.packet_beacon.proofs.flags_refusal.Tie as tie
+use Rattle.beacon_flags.proofs.flags_refusal.Statement.{statement}
+use Rattle.beacon_flags.proofs.flags_refusal.Tie as tie
 
 returns : tie.Need-returns
 unfolding flagsRefusal

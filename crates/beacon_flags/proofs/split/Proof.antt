@@ -1,11 +1,11 @@
--- `packet_beacon::split` meets its contract: a mask of j ones keeps the remainder by 2 ^ j.
+-- `beacon_flags::split` meets its contract: a mask of j ones keeps the remainder by 2 ^ j.
 -- Assumes nothing.
 use Prim.Native.Nat.{_/_, _^_}
 use mathlib.Core.Path.{_∙_}
 use native.Mathlib.Nat.{div-one}
 use lib.Bits.{and-mask}
-use Rattle.packet_beacon.proofs.split.Statement.{statement}
-use Rattle.packet_beacon.proofs.split.Tie as tie
+use Rattle.beacon_flags.proofs.split.Statement.{statement}
+use Rattle.beacon_flags.proofs.split.Tie as tie
 
 returns : tie.Need-returns
 returns c =

@@ -1,15 +1,15 @@
--- `packet_beacon::write_beacon` meets its contract: a refusal leaves the buffer, and else the packet stands in it.
+-- `beacon_writer::write_beacon` meets its contract: a refusal leaves the buffer, and else the packet stands in it.
 -- Assumes nothing.
 use mathlib.Core.Path.{_≡_}
 use denote.Ref.{now}
 use lib.ListN.{length}
 use Rattle.refusals.proofs.WritingLaws.{written-refused, buffer-refused}
-use Rattle.packet_beacon.specs.WriteBeacon.{beaconRefused, beaconWritten, beaconBuffer}
-use Rattle.packet_beacon.proofs.WriteBeaconLaws.{writable}
+use Rattle.beacon_writer.specs.WriteBeacon.{beaconRefused, beaconWritten, beaconBuffer}
+use Rattle.beacon_writer.proofs.WriteBeaconLaws.{writable}
 use borrow.Author.Needs.{needs}
 use native.Mathlib.Omega.{arith}
-use Rattle.packet_beacon.proofs.write_beacon.Statement.{statement}
-use Rattle.packet_beacon.proofs.write_beacon.Tie as tie
+use Rattle.beacon_writer.proofs.write_beacon.Statement.{statement}
+use Rattle.beacon_writer.proofs.write_beacon.Tie as tie
 
 returns : tie.Need-returns
 unfolding beaconWritten beaconBuffer

@@ -1,17 +1,17 @@
--- `packet_beacon::beacon_write_refusal` meets its contract: 21 stands, and then the flags and the room are judged in this order.
+-- `beacon_writer::beacon_write_refusal` meets its contract: 21 stands, and then the flags and the room are judged in this order.
 -- Assumes nothing.
 use mathlib.Core.Path.{_≡_, sym, ap, _∙_}
 use Prim.Native.Nat.{ℕ, _+_}
 use Rattle.refusals.specs.Writing.{roomRefusal}
 use Rattle.refusals.proofs.RefusalLaws.{stays}
-use Rattle.packet_beacon.specs.Flags.{flagsRefusal}
+use Rattle.beacon_flags.specs.Flags.{flagsRefusal}
 use Rattle.packet_beacon.specs.Beacon.{endpointAt}
-use Rattle.packet_beacon.specs.WriteBeacon.{beaconExcess, beaconWriteRefusal}
-use Rattle.packet_beacon.proofs.FlagLaws.{free-le}
+use Rattle.beacon_writer.specs.WriteBeacon.{beaconExcess, beaconWriteRefusal}
+use Rattle.beacon_flags.proofs.FlagLaws.{free-le}
 use borrow.Author.Needs.{needs}
 use native.Mathlib.Omega.{arith}
-use Rattle.packet_beacon.proofs.beacon_write_refusal.Statement.{statement}
-use Rattle.packet_beacon.proofs.beacon_write_refusal.Tie as tie
+use Rattle.beacon_writer.proofs.beacon_write_refusal.Statement.{statement}
+use Rattle.beacon_writer.proofs.beacon_write_refusal.Tie as tie
 
 returns : tie.Need-returns
 unfolding beaconWriteRefusal

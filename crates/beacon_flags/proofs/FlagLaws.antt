@@ -13,7 +13,7 @@ use Rattle.octets.proofs.NumberLaws.{width-of}
 use Rattle.header.specs.FirstWord.{bits, flagsOf, wordFor}
 use Rattle.header.specs.Descriptor.{descriptorRefusal}
 use Rattle.header.proofs.DescriptorLaws.{descriptor-none}
-use Rattle.packet_beacon.specs.Flags.{sendingPair, receivingPair, freePresent, freeOctets, lastOctet, willingnessOf, pairOf, flagsRefusal}
+use Rattle.beacon_flags.specs.Flags.{sendingPair, receivingPair, freePresent, freeOctets, lastOctet, willingnessOf, pairOf, flagsRefusal}
 
 pub free-le : (w : ℕ) → freeOctets w ≤ 16
 free-le w = go (eqb (freePresent w) 1)

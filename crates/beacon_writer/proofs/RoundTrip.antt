@@ -20,13 +20,13 @@ use Rattle.header.specs.Start.{wordOf}
 use Rattle.header.proofs.DescriptorLaws.{descriptor-none}
 use Rattle.header.proofs.StartLaws.{type-known, type-none}
 use Rattle.header.proofs.FirstWordLaws.{mark-for, type-for, flags-for, octets-for, flags-lt, word-again}
-use Rattle.packet_beacon.specs.Flags.{bundlesOf, streamsOf, sendingPair, receivingPair, freeOctets, willingnessOf}
+use Rattle.beacon_flags.specs.Flags.{bundlesOf, streamsOf, sendingPair, receivingPair, freeOctets, willingnessOf}
 use Rattle.packet_beacon.specs.Beacon.{endpointAt, freeSpace, endpointOf, beaconRefusal, beaconOf, readBeacon}
-use Rattle.packet_beacon.specs.WriteBeacon.{beaconExcess, beaconWriteRefusal, beaconOctets, beaconWritten, beaconBuffer}
+use Rattle.beacon_writer.specs.WriteBeacon.{beaconExcess, beaconWriteRefusal, beaconOctets, beaconWritten, beaconBuffer}
 use Rattle.packet_beacon.specs.declared.BeaconRead.the-variants.{Accepted}
-use Rattle.packet_beacon.proofs.FlagLaws.{free-for, flags-none-for, free-flags, flags-none-flags}
+use Rattle.beacon_flags.proofs.FlagLaws.{free-for, flags-none-for, free-flags, flags-none-flags}
 use Rattle.packet_beacon.proofs.BeaconLaws.{BeaconFine, beacon-fine}
-use Rattle.packet_beacon.proofs.WriteBeaconLaws.{Writable, writable}
+use Rattle.beacon_writer.proofs.WriteBeaconLaws.{Writable, writable}
 
 -- fields that are not refused, in a buffer with room; a free space is handed over as a number of 64 bits
 module _ (f free : ℕ) (e : List ℕ) (room : ℕ) (held : free < 2 ^ 64) (ok : beaconWriteRefusal f free (length e) room ≡ 0) where

@@ -14,11 +14,11 @@ use Rattle.octets.proofs.PutLaws.{put-next}
 use Rattle.refusals.specs.Refusals.{when}
 use Rattle.refusals.proofs.RefusalLaws.{first-none, rest-none, failed}
 use Rattle.header.specs.Descriptor.{descriptorRefusal}
-use Rattle.directory_entry.specs.Properties.{sizeOctets, pathAt, propertyRefusal}
-use Rattle.directory_entry.specs.Path.{zeroAt, pathRefusal}
+use Rattle.entry_parts.specs.Properties.{sizeOctets, pathAt, propertyRefusal}
+use Rattle.entry_parts.specs.Path.{zeroAt, pathRefusal}
 use Rattle.directory_entry.specs.Entry.{propertiesOf, sizeOf, afterTimes, entryRefusal}
 use Rattle.directory_entry.specs.WriteEntry.{entryOctets, entrySize}
-use Rattle.directory_entry.proofs.PathLaws.{PathFine, path-fine}
+use Rattle.entry_parts.proofs.PathLaws.{PathFine, path-fine}
 
 -- the rest of a slice from a place on
 pub rest-part : (s : List ℕ) (at : ℕ) → take (length s - at) (drop at s) ≡ drop at s

@@ -10,11 +10,11 @@ use borrow.Author.Tests.{eq-eqb, ne-eqb, le-ltb}
 use Rattle.refusals.proofs.ReasonLaws.{Reasons, given, one, below, equal, reaches, unequal, _and_, _▸_, again, named, reworded, Alone, sole, _or_, alone}
 use Rattle.header.specs.Descriptor.{descriptorRefusal}
 use Rattle.header.proofs.LimitLaws as header
-use Rattle.directory_entry.specs.Properties.{specialOf, bundleOf, sizeOctets, pathAt, propertyRefusal}
-use Rattle.directory_entry.specs.Path.{zeroAt, pathRefusal, pathWriteRefusal}
+use Rattle.entry_parts.specs.Properties.{specialOf, bundleOf, sizeOctets, pathAt, propertyRefusal}
+use Rattle.entry_parts.specs.Path.{zeroAt, pathRefusal, pathWriteRefusal}
 use Rattle.directory_entry.specs.Entry.{propertiesOf, sizeOf, afterTimes, entryRefusal}
 use Rattle.directory_entry.specs.WriteEntry.{entryExcess, entryWriteRefusal}
-use Rattle.directory_entry.proofs.PathLaws.{PathFine, path-fine}
+use Rattle.entry_parts.proofs.PathLaws.{PathFine, path-fine}
 
 -- ---- the properties
 

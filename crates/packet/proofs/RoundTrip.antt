@@ -11,7 +11,7 @@ use Rattle.header.specs.FirstWord.{descriptorOctets, timestampOctets, wantedOf,
 use Rattle.refusals.specs.declared.Written.the-variants.{Size}
 use Rattle.refusals.proofs.RefusalLaws.{first-none}
 use Rattle.refusals.proofs.WritingLaws.{written-size}
-use Rattle.directory_entry.specs.Properties.{pathAt}
+use Rattle.entry_parts.specs.Properties.{pathAt}
 use Rattle.beacon_flags.specs.Flags.{bundlesOf, streamsOf, sendingPair, receivingPair, freeOctets, willingnessOf}
 use Rattle.packet_beacon.specs.Beacon.{endpointAt, beaconRefusal, beaconOf}
 use Rattle.beacon_writer.specs.WriteBeacon.{beaconRefused, beaconOctets, beaconWritten, beaconBuffer}

@@ -17,7 +17,7 @@ use Rattle.refusals.specs.Writing.{roomRefusal}
 use Rattle.refusals.specs.declared.Written.the-variants.{Size}
 use Rattle.header.proofs.StartLaws.{type-known, type-none}
 use Rattle.header.proofs.FirstWordLaws.{mark-for, type-for, flags-for, octets-for, file-for, octets-flags, file-flags, flags-lt, word-again}
-use Rattle.directory_entry.specs.Properties.{pathAt}
+use Rattle.entry_parts.specs.Properties.{pathAt}
 use Rattle.directory_entry.specs.Entry.{propertiesOf, entryOf}
 use Rattle.directory_entry.specs.WriteEntry.{entryOctets}
 use Rattle.directory_entry.proofs.RoundTrip.{entry-taken, entry-read-written, path-written, pathPart, entry-written-read, entry-fits, entry-writable}

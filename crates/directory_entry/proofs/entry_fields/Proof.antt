@@ -6,10 +6,10 @@ use denote.Ref.{now}
 use lib.ListN.{length}
 use Rattle.octets.specs.Numbers.{Width}
 use Rattle.header.specs.Descriptor.{descriptorRefusal}
-use Rattle.directory_entry.specs.Properties.{sizeOctets}
+use Rattle.entry_parts.specs.Properties.{sizeOctets}
 use Rattle.directory_entry.specs.Entry.{propertiesOf, entryOf}
 use Rattle.directory_entry.proofs.EntryLaws.{entry-fine}
-use Rattle.directory_entry.proofs.PropertyLaws.{size-width, size-le}
+use Rattle.entry_parts.proofs.PropertyLaws.{size-width, size-le}
 use borrow.Author.Needs.{needs}
 use native.Mathlib.Omega.{arith}
 use Rattle.directory_entry.proofs.entry_fields.Statement.{statement}

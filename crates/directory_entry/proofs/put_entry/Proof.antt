@@ -6,7 +6,7 @@ use denote.Ref.{now}
 use lib.ListN.{length}
 use Rattle.octets.specs.Numbers.{beDigits}
 use Rattle.octets.proofs.NumberLaws.{length-digits}
-use Rattle.directory_entry.specs.Properties.{sizeOctets}
+use Rattle.entry_parts.specs.Properties.{sizeOctets}
 use Rattle.directory_entry.specs.WriteEntry.{entryOctets}
 use Rattle.directory_entry.proofs.EntryLaws.{puts}
 use borrow.Author.Needs.{needs}

@@ -1,9 +1,9 @@
--- `directory_entry::size_octets` meets its contract. Assumes nothing.
+-- `entry_parts::size_octets` meets its contract. Assumes nothing.
 use Prim.Native.Nat.{ℕ, _*_, _^_}
 use mathlib.Core.Path.{ap, _∙_}
 use borrow.Author.Needs.{needs}
-use Rattle.directory_entry.proofs.size_octets.Statement.{statement}
-use Rattle.directory_entry.proofs.size_octets.Tie as tie
+use Rattle.entry_parts.proofs.size_octets.Statement.{statement}
+use Rattle.entry_parts.proofs.size_octets.Tie as tie
 
 returns : tie.Need-returns
 returns c = c .octets-of-width .ensures ∙ ap (λ (n : ℕ). 2 * 2 ^ n) (c .before .split-properties .ensures .width-is)

@@ -1,10 +1,10 @@
--- `directory_entry::property_refusal` meets its contract: a return for each test. Assumes nothing.
+-- `entry_parts::property_refusal` meets its contract: a return for each test. Assumes nothing.
 use borrow.Author.Tests.{eq-eqb, ne-eqb}
-use Rattle.directory_entry.specs.Properties.{specialOf, bundleOf, propertyRefusal}
+use Rattle.entry_parts.specs.Properties.{specialOf, bundleOf, propertyRefusal}
 use borrow.Author.Needs.{needs}
 use native.Mathlib.Omega.{arith}
-use Rattle.directory_entry.proofs.property_refusal.Statement.{statement}
-use Rattle.directory_entry.proofs.property_refusal.Tie as tie
+use Rattle.entry_parts.proofs.property_refusal.Statement.{statement}
+use Rattle.entry_parts.proofs.property_refusal.Tie as tie
 
 returns : tie.Need-returns
 unfolding propertyRefusal

@@ -4,7 +4,7 @@ use Prim.Native.Nat.{ℕ, _≤_}
 use native.Mathlib.Omega.{arith}
 use Rattle.octets.specs.Numbers.{Width}
 use Rattle.octets.proofs.NumberLaws.{width-of, width-le}
-use Rattle.directory_entry.specs.Properties.{sizeWidth, sizeOctets}
+use Rattle.entry_parts.specs.Properties.{sizeWidth, sizeOctets}
 
 pub size-width : (x : ℕ) → Width (sizeOctets x)
 size-width x = width-of (sizeWidth x) (omega arith)

@@ -6,7 +6,7 @@ use mathlib.Core.Bool.{not}
 use lib.Dec.{eqb}
 use Rattle.refusals.specs.Refusals.{_▹_, when}
 use Rattle.header.specs.FirstWord.{bits}
-use Rattle.directory_entry.specs.declared.Properties.{Properties}
+use Rattle.entry_parts.specs.declared.Properties.{Properties}
 
 -- R2.8: bits 6 and 7 (special, directory), 8 and 9 (the width of the size) and 10 (bundle)
 abbrev pub specialOf : ℕ → ℕ

@@ -12,7 +12,7 @@ use lib.Dec.{ltb, eqb}
 use borrow.Author.Tests.{ltb-false, eqb-true, eqb-false, not-false, le-ltb, eq-eqb, ne-eqb}
 use Rattle.refusals.specs.Refusals.{when}
 use Rattle.refusals.proofs.RefusalLaws.{first-none, rest-none, failed}
-use Rattle.directory_entry.specs.Path.{zeroAt, pathRefusal, pathWriteRefusal}
+use Rattle.entry_parts.specs.Path.{zeroAt, pathRefusal, pathWriteRefusal}
 
 zero-on : (x : ℕ) (xs : List ℕ) → (x ≡ 0 → ⊥) → zeroAt (x ∷ xs) ≡ suc (zeroAt xs)
 zero-on zero xs h = absurd (h refl)

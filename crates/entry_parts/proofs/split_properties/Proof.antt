@@ -1,9 +1,9 @@
--- `directory_entry::split_properties` meets its contract: a mask of j ones keeps the remainder by 2 ^ j.
+-- `entry_parts::split_properties` meets its contract: a mask of j ones keeps the remainder by 2 ^ j.
 -- Assumes nothing.
 use Prim.Native.Nat.{_/_, _^_}
 use lib.Bits.{and-mask}
-use Rattle.directory_entry.proofs.split_properties.Statement.{statement}
-use Rattle.directory_entry.proofs.split_properties.Tie as tie
+use Rattle.entry_parts.proofs.split_properties.Statement.{statement}
+use Rattle.entry_parts.proofs.split_properties.Tie as tie
 
 returns : tie.Need-returns
 returns c =

@@ -1,13 +1,13 @@
--- `directory_entry::path_refusal` meets its contract: a return for each test. Assumes nothing.
+-- `entry_parts::path_refusal` meets its contract: a return for each test. Assumes nothing.
 use Prim.Native.Nat.{_+_}
 use denote.Ref.{now}
 use lib.ListN.{length}
 use borrow.Author.Tests.{lt-ltb, le-ltb, eq-eqb, ne-eqb}
-use Rattle.directory_entry.specs.Path.{zeroAt, pathRefusal}
+use Rattle.entry_parts.specs.Path.{zeroAt, pathRefusal}
 use borrow.Author.Needs.{needs}
 use native.Mathlib.Omega.{arith}
-use Rattle.directory_entry.proofs.path_refusal.Statement.{statement}
-use Rattle.directory_entry.proofs.path_refusal.Tie as tie
+use Rattle.entry_parts.proofs.path_refusal.Statement.{statement}
+use Rattle.entry_parts.proofs.path_refusal.Tie as tie
 
 returns : tie.Need-returns
 unfolding pathRefusal

@@ -1,12 +1,12 @@
--- `directory_entry::path_write_refusal` meets its contract: a return for each test. Assumes nothing.
+-- `entry_parts::path_write_refusal` meets its contract: a return for each test. Assumes nothing.
 use denote.Ref.{now}
 use lib.ListN.{length}
 use borrow.Author.Tests.{lt-ltb, le-ltb, eq-eqb, ne-eqb}
-use Rattle.directory_entry.specs.Path.{zeroAt, pathWriteRefusal}
+use Rattle.entry_parts.specs.Path.{zeroAt, pathWriteRefusal}
 use borrow.Author.Needs.{needs}
 use native.Mathlib.Omega.{arith}
-use Rattle.directory_entry.proofs.path_write_refusal.Statement.{statement}
-use Rattle.directory_entry.proofs.path_write_refusal.Tie as tie
+use Rattle.entry_parts.proofs.path_write_refusal.Statement.{statement}
+use Rattle.entry_parts.proofs.path_write_refusal.Tie as tie
 
 returns : tie.Need-returns
 unfolding pathWriteRefusal

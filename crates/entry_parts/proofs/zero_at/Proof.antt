@@ -1,15 +1,15 @@
--- `directory_entry::zero_at` meets its contract: no zero octet stands before i, so the search goes on from i.
+-- `entry_parts::zero_at` meets its contract: no zero octet stands before i, so the search goes on from i.
 -- Assumes nothing.
 use Prim.Native.Nat.{_+_, _-_, _≤_}
 use mathlib.Core.Path.{_≡_, sym, _∙_}
 use native.Mathlib.Nat.{zero-add}
 use denote.Ref.{now}
 use lib.ListN.{length, drop}
-use Rattle.directory_entry.specs.Path.{zeroAt}
-use Rattle.directory_entry.proofs.PathLaws.{zero-step, zero-here, zero-end}
+use Rattle.entry_parts.specs.Path.{zeroAt}
+use Rattle.entry_parts.proofs.PathLaws.{zero-step, zero-here, zero-end}
 use native.Mathlib.Omega.{arith}
-use Rattle.directory_entry.proofs.zero_at.Statement.{statement}
-use Rattle.directory_entry.proofs.zero_at.Tie as tie
+use Rattle.entry_parts.proofs.zero_at.Statement.{statement}
+use Rattle.entry_parts.proofs.zero_at.Tie as tie
 
 abbrev Inv-loop : tie.InvT-loop
 Inv-loop r i₀ i = (i ≤ length r) × (zeroAt r ≡ i + zeroAt (drop i r))

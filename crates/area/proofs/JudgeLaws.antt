@@ -11,9 +11,9 @@ use lib.ListN.{length}
 use lib.Dec.{ltb, leb, eqb}
 use borrow.Author.Tests.{ltb-true, leb-true, eqb-true, lt-ltb, le-leb}
 use Rattle.octets.specs.Numbers.{Octets}
-use Rattle.run_rows.specs.Judge.{runsTest}
+use Rattle.run_judge.specs.Judge.{runsTest}
 use Rattle.words.specs.Words.{wordAt}
-use Rattle.run_rows.proofs.JudgeLaws.{both-true, runs-passed, runs-passes}
+use Rattle.run_judge.proofs.JudgeLaws.{both-true, runs-passed, runs-passes}
 use Rattle.timestamp.specs.Timestamps.{Stamp}
 use Rattle.transfer.specs.Transfers.{Transfer, TransferFine, lengthTest}
 use Rattle.transfer.proofs.LengthLaws.{length-passed, length-passes}

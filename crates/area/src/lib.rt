@@ -146,7 +146,7 @@ fn transfer_ok(area: &[u8], i: usize) -> bool
         if RUNS < rows.count {
             return false;
         }
-        if run_rows::runs_ok(area, rows, size) {
+        if run_judge::runs_ok(area, rows, size) {
             return head(area, i, STAMPED) <= 1;
         }
         return false;

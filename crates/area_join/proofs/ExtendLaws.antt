@@ -16,7 +16,7 @@ use Rattle.words.specs.Words.{wordAt}
 use Rattle.run_rows.specs.Rows.{runsIn, RowsFit, CutTo, CutBelow}
 use Rattle.run_rows.specs.declared.Rows.{Rows}
 use Rattle.run_rows.proofs.RowsLaws.{length-runs}
-use Rattle.run_rows.proofs.CutLaws.{insert-cut, absorbed-cut, adds-cut}
+use Rattle.run_cuts.proofs.CutLaws.{insert-cut, absorbed-cut, adds-cut}
 use Rattle.timestamp.specs.Timestamps.{Stamp}
 use Rattle.transfer.specs.declared.Key.{Key}
 use Rattle.transfer.specs.declared.Reached.{Reached}

@@ -48,8 +48,8 @@ pub fn cut(area: &[u8], t: Target) -> Cuts
     }
     let rows = area::rows_at(area, t.place);
     let count = rows.count;
-    let j = run_rows::cut_to(area, rows.starts, count, t.to);
-    let i = run_rows::cut_below(area, rows.stops, j, t.from);
+    let j = run_cuts::cut_to(area, rows.starts, count, t.to);
+    let i = run_cuts::cut_below(area, rows.stops, j, t.from);
     if area::RUNS < i + 1 + (count - j) {
         return uncut(16);
     }
@@ -92,12 +92,12 @@ pub fn join(area: &[u8], t: Target, c: Cuts) -> Joined
     ensures { λ r. ⌜ Joins (now (area .entry)) t c r ⌝ }
 {
     let rows = area::rows_at(area, t.place);
-    let lo = run_rows::joined_start(area, rows, c.i, c.j, t.from);
-    let hi = run_rows::joined_stop(area, rows, c.i, c.j, t.to);
+    let lo = run_cuts::joined_start(area, rows, c.i, c.j, t.from);
+    let hi = run_cuts::joined_stop(area, rows, c.i, c.j, t.to);
     let edge = edge_with(area, rows, c.j, hi);
     let progress = progress_with(area, rows, c.i, lo, hi);
     let complete = t.length <= progress;
-    let adds = run_rows::adds_of(area, rows, c.i, c.j, t.from, t.to);
+    let adds = run_cuts::adds_of(area, rows, c.i, c.j, t.from, t.to);
     Joined {
         lo,
         hi,

@@ -25,8 +25,8 @@ pub fn keep_stamp(area: &mut [u8], place: usize, packet: &[u8], n: usize)
     if n == 0 {
         return;
     }
-    let first = octets::read_low_eight(packet, 8);
-    let last = octets::read_low_eight(packet, 16);
+    let first = octets_stored::read_low_eight(packet, 8);
+    let last = octets_stored::read_low_eight(packet, 16);
     words::put_word(area, area::head_at(place, area::STAMPED), 1);
     let at = area::stamp_at(place);
     words::put_word(area, at, first);

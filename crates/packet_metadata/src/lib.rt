@@ -153,7 +153,7 @@ fn metadata_size(flags: u64, properties: u64, path: usize) -> usize
     requires { ⌜ path < 2 ^ 63 ⌝ }
     ensures { λ r. ⌜ r ≡ metadataSize flags properties path ⌝ }
 {
-    8 + checksum_octets(flags) + (10 + directory_entry::size_octets(properties) + path + 1)
+    8 + checksum_octets(flags) + (10 + entry_parts::size_octets(properties) + path + 1)
 }
 
 // The refusal of fields to be written into `room` octets; 0 for none.

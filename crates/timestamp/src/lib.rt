@@ -27,8 +27,8 @@ pub fn read_stamp(s: &[u8], at: usize, stamped: bool) -> Kept
     }
     Kept {
         stamped: true,
-        high: octets::read_eight(s, at),
-        low: octets::read_eight(s, at + 8),
+        high: octets_read::read_eight(s, at),
+        low: octets_read::read_eight(s, at + 8),
     }
 }
 

@@ -1,5 +1,4 @@
--- `hole_list::holes_well` meets its contract: the first hole is judged here, those after it by `holes_after`.
--- Assumes nothing.
+-- `hole_list::holes_well` meets its contract: the first hole is judged here, those after it by `holes_after`. Assumes nothing.
 use Prim.Native.Nat.{_+_, _*_, _-_, _≤_}
 use mathlib.Core.Path.{_≡_, sym, _∙_}
 use mathlib.Core.Bool.{true, false}
@@ -31,8 +30,7 @@ pairs : (c : tie.Else1)
     (descriptorRefusal (a .d) (a .at) (now (a .s)) ≡ 0) × (descriptorRefusal (a .d) (a .at + a .d) (now (a .s)) ≡ 0)
     × (descriptorsRefusal (a .d) (2 * (a .n - 1)) (a .at + 2 * a .d) (now (a .s)) ≡ 0)
 pairs c =
-    let start = c .before .before in
-    let a = start .args in
+    let start = c .before .before in let a = start .args in
     pair-none (a .d) (now (a .s)) (a .n) (a .at) (omega arith) (start .pre .2)
 
 -- the judgement, with the first hole

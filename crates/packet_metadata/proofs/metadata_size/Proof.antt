@@ -1,5 +1,5 @@
 -- `packet_metadata::metadata_size` meets its contract. Assumes nothing.
-use Rattle.directory_entry.proofs.PropertyLaws.{size-le}
+use Rattle.entry_parts.proofs.PropertyLaws.{size-le}
 use borrow.Author.Needs.{needs}
 use native.Mathlib.Omega.{arith}
 use Rattle.packet_metadata.proofs.metadata_size.Statement.{statement}

@@ -41,7 +41,7 @@ extern "C" {
 #define SARATOGA_PACKET_OCTETS 65535  /* of the longest packet that is read or written */
 #define SARATOGA_PATH_OCTETS 1023     /* of the longest path, without the closing zero octet */
 #define SARATOGA_METADATA_OCTETS 1118 /* of the longest METADATA that is written */
-#define SARATOGA_STATUS_OCTETS 2088   /* of the longest STATUS that is written: room for any, with 64 holes */
+#define SARATOGA_STATUS_OCTETS 2104   /* of the longest STATUS that is written: a timestamp and 64 holes */
 #define SARATOGA_FAILURE_OCTETS 8     /* of a failure STATUS */
 #define SARATOGA_PAYLOAD_OCTETS 65000 /* of the longest piece that may be planned */
 
@@ -451,10 +451,11 @@ struct saratoga_written saratoga_write_failure(uint64_t id, uint64_t status, uin
 /*
  * Receiving.
  *
- * The transfer table holds what is open: at most 16 Ids, each with a descriptor width, a length and the set of offsets
- * received. A run is a longest unbroken stretch of received offsets; a transfer holds at most 64. The edge is the first
- * offset after the last one received, 0 where there is none. A hole is a longest unbroken stretch of offsets below the
- * edge that were not received. A transfer is complete when every offset below its length was received.
+ * The transfer table holds what is open: at most 16 Ids, each with a descriptor width, a length, the set of offsets
+ * received, and the timestamp that its STATUS carries: the 16 octets of the last accepted DATA that had one (bit 12), or
+ * none before the first. A run is a longest unbroken stretch of received offsets; a transfer holds at most 64. The edge is
+ * the first offset after the last one received, 0 where there is none. A hole is a longest unbroken stretch of offsets below
+ * the edge that were not received. A transfer is complete when every offset below its length was received.
  *
  * Between calls the program keeps the table in an area of its own, of SARATOGA_AREA_OCTETS octets, as docs/AREA.md lays
  * it out. The program may copy it, save it and take it up again; nothing else holds any state. An area may be longer:
@@ -470,7 +471,7 @@ struct saratoga_written saratoga_write_failure(uint64_t id, uint64_t status, uin
  */
 
 /* Octets of an area. */
-#define SARATOGA_AREA_OCTETS 16904
+#define SARATOGA_AREA_OCTETS 17288
 
 /* A call with no result but that it was accepted. */
 struct saratoga_done {
@@ -493,7 +494,8 @@ struct saratoga_opened {
  * recordings accepted since the transfer was opened, the numbers add up to how many these are, less the runs that it has.
  *
  * Where an accepted packet has `adds` 0, every octet of it came before, in one packet or in several: the set of received octets
- * stays as it is, and so does every octet of the area. Its payload need not be written to disk again.
+ * stays as it is, and so does every octet of the area but those of the timestamp, which a packet that has one renews. Its
+ * payload need not be written to disk again.
  */
 struct saratoga_recorded {
     uint64_t number, code;
@@ -513,6 +515,7 @@ struct saratoga_listed {
     uint64_t complete; /* 1 where every octet was received, else 0 */
     uint64_t runs;     /* how many, at most 64 */
     uint64_t received; /* how many octets of the file were received */
+    uint64_t stamped;  /* 1 where a timestamp is kept, which its STATUS carries, else 0 */
 };
 
 /*
@@ -524,9 +527,9 @@ struct saratoga_done saratoga_fresh(uint8_t *area, size_t area_len);
 
 /*
  * Opens the transfer of a METADATA packet: its Id, with the packet's own descriptor width and the size as the length,
- * and nothing received. A length of 0 is complete at once. Where the Id is open with the same width and length, nothing
- * changes: `already_open` is 1, and edge and completeness are those of the transfer as it stands. Path, times and
- * checksum are not kept and not compared.
+ * nothing received, and no timestamp. A length of 0 is complete at once. Where the Id is open with the same width and
+ * length, nothing changes: `already_open` is 1, and edge and completeness are those of the transfer as it stands. Path,
+ * times and checksum are not kept and not compared.
  *
  * Order of refusals: 22, the reader's for METADATA with 4 for any other type (2, 1, 3, 4, 6, 7, 1, 6, 1, 5, 1, 1 or 8,
  * 9: see saratoga_read), 18, 17.
@@ -535,7 +538,8 @@ struct saratoga_opened saratoga_open(uint8_t *area, size_t area_len, const uint8
 
 /*
  * Records a DATA packet: adds the offsets of its payload to those received. A repeat adds nothing and is accepted, with
- * `adds` 0. Write the payload to disk first (see above).
+ * `adds` 0. Where the packet has a timestamp (bit 12), a repeat too, the transfer keeps it from now on, whatever it kept before;
+ * 16 zero octets are one as well. Write the payload to disk first (see above).
  *
  * Order of refusals: 22, the reader's for DATA with 4 for any other type (2, 1, 3, 4, 6, 1, 5, 10: see saratoga_read),
  * 12, 13 (64 and 128 bits are two widths), 14, 15, 16.
@@ -552,7 +556,8 @@ struct saratoga_recorded saratoga_try_record(const uint8_t *area, size_t area_le
                                              size_t packet_len);
 
 /*
- * Closes a transfer: its Id is no longer open, and what was received is forgotten. Its place can be used again.
+ * Closes a transfer: its Id is no longer open, and what was received is forgotten, the timestamp too. Its place can be
+ * used again.
  *
  * Order of refusals: 22, 12 (also for any id over 32 bits).
  */
@@ -562,15 +567,16 @@ struct saratoga_done saratoga_close(uint8_t *area, size_t area_len, uint64_t id)
  * Writes a success STATUS of an open transfer into `out`; octets after it stay. The area is only read. Progress is the
  * lowest offset not received, In-Response-To the edge or, where the transfer is complete, its length less one (0 where the
  * length is 0). The first `skip` holes are left out, then as many are written as `out` has room for, lowest first. Bit 14
- * is set where a hole was skipped or did not fit, bit 15 where `unasked` is not 0 or the transfer is complete. With
- * descriptors of d octets (2, 4, 8 or 16) and h holes written, the size is 8 + 2 d + 2 d h, so SARATOGA_STATUS_OCTETS are
- * always enough.
+ * is set where a hole was skipped or did not fit, bit 15 where `unasked` is not 0 or the transfer is complete. Where the
+ * transfer keeps a timestamp, bit 12 is set and its 16 octets stand right after the Id. With descriptors of d octets (2, 4, 8
+ * or 16) and h holes written, the size is 8 + 2 d + 2 d h, or 8 + 16 + 2 d + 2 d h with a timestamp, so
+ * SARATOGA_STATUS_OCTETS are always enough.
  *
  * Set `unasked` to 0 where the STATUS answers DATA that asked for it (SARATOGA_FLAG_STATUS_WANTED), and to 1 where it goes
  * out of itself: after METADATA, by a timer, or on completion.
  *
  * Order of refusals: 22, 12 (also for any id over 32 bits), 19 (`skip` is neither 0 nor below the number of holes),
- * 20 (no room for the fields before the holes or, where there are holes, for one of them).
+ * 20 (no room for the fields before the holes, the timestamp among them, or, where there are holes, for one of them).
  */
 struct saratoga_written saratoga_write_status(const uint8_t *area, size_t area_len, uint64_t id, uint64_t skip,
                                               uint64_t unasked, uint8_t *out, size_t out_len);
@@ -603,9 +609,9 @@ struct saratoga_hole saratoga_transfer_hole(const uint8_t *area, size_t area_len
  *
  * A second receiver, made to be followed by eye: one transfer of at most SARATOGA_BITMAP_LONGEST octets, with one mark for
  * each. Mark n is bit n of an area of SARATOGA_BITMAP_OCTETS octets, `marks[n / 8] & 0x80 >> n % 8`, and is set once
- * octet n was received (docs/AREA.md). The Id, the width and the length travel in a struct by value: opening hands it out,
- * the program passes it to each call with the same marks, and an accepted recording hands it back. A refusal hands back zeros,
- * so that a program keeps the struct that it has:
+ * octet n was received (docs/AREA.md). The Id, the width, the length and the timestamp travel in a struct by value: opening
+ * hands it out, the program passes it to each call with the same marks, and an accepted recording hands it back, with the
+ * packet's timestamp where it has one. A refusal hands back zeros, so that a program keeps the struct that it has:
  *
  *     if (recorded.number == 0)
  *         transfer = recorded.transfer;
@@ -616,18 +622,21 @@ struct saratoga_hole saratoga_transfer_hole(const uint8_t *area, size_t area_len
  *
  * Every function refuses with 20 before all else where the area is shorter than SARATOGA_BITMAP_OCTETS. Recording and STATUS
  * judge marks and struct next, and refuse with 22 where the width is not 2, 4, 8 or 16, the length is above what the width
- * or the marks can hold, a mark at or above the length is set, or the marks have more than 64 runs.
+ * or the marks can hold, a mark at or above the length is set, or the marks have more than 64 runs. Any timestamp is taken.
  */
 
 /* Octets of the marks, and of the longest transfer. */
 #define SARATOGA_BITMAP_OCTETS 8192
 #define SARATOGA_BITMAP_LONGEST 65535
 
-/* The transfer that marks belong to. */
+/* The transfer that marks belong to. What is handed back has `stamped` 0 or 1, and zero halves where no timestamp is kept. */
 struct saratoga_bitmap {
     uint64_t id;
-    uint64_t width;  /* octets of a descriptor: 2, 4, 8 or 16 */
-    uint64_t length; /* of the file, in octets */
+    uint64_t width;      /* octets of a descriptor: 2, 4, 8 or 16 */
+    uint64_t length;     /* of the file, in octets */
+    uint64_t stamped;    /* whether a timestamp is kept: no for 0, yes for any other number */
+    uint64_t stamp_high; /* its first eight octets as a number, the highest first; not looked at where none is kept */
+    uint64_t stamp_low;  /* its last eight, the same way */
 };
 
 /* An opened transfer. */
@@ -649,7 +658,8 @@ struct saratoga_bitmap_recorded {
 };
 
 /*
- * Opens the transfer of a METADATA packet, and always starts anew: every mark is cleared, whatever was marked before.
+ * Opens the transfer of a METADATA packet, and always starts anew: every mark is cleared, whatever was marked before, and
+ * no timestamp is kept.
  * Senders repeat METADATA, and a repeat starts anew too: compare its Id, width and size with the transfer at hand first.
  *
  * Order of refusals: 20, the reader's for METADATA with 4 for any other type (see saratoga_open), 9 (size above
@@ -659,8 +669,9 @@ struct saratoga_bitmap_opened saratoga_bitmap_open(uint8_t *marks, size_t marks_
                                                    size_t packet_len);
 
 /*
- * Records a DATA packet: sets the marks of its payload's offsets. A repeat sets none and is accepted, with `adds` 0. Write the
- * payload to disk first (see above).
+ * Records a DATA packet: sets the marks of its payload's offsets. A repeat sets none and is accepted, with `adds` 0. The struct
+ * that is handed back keeps the packet's timestamp where it has one, else that of the struct that was passed. Write the payload
+ * to disk first (see above).
  *
  * Order of refusals: 20, 22, the reader's for DATA with 4 for any other type (see saratoga_record), 12 (another Id), 13, 14,
  * 15, 16.

@@ -30,10 +30,10 @@ pub fn try_record(area: &[u8], packet: &[u8]) -> Recorded
     let unread = area_locate::unread(held, packet);
     let d = area_locate::brought(unread, packet);
     let t = area_locate::locate(area, unread, d);
-    let c = area_join::cut(area, t);
-    if c.number != 0 {
-        return Recorded::Refused(refusals::refuse(c.number));
+    let found = area_join::cut(area, t);
+    if found.number != 0 {
+        return Recorded::Refused(refusals::refuse(found.number));
     }
-    let s = area_join::join(area, t, c);
-    Recorded::Accepted(area_join::receipt(c, s))
+    let s = area_join::join(area, t, found);
+    Recorded::Accepted(area_join::receipt(found, s))
 }

@@ -6,7 +6,7 @@ ghost use lib.ListN.{length};
 ghost use Rattle.words.specs.Words.{wordAt};
 ghost use Rattle.run_rows.specs.Rows.{runsIn, RowsFit};
 ghost use Rattle.transfer.specs.Transfers.{reached};
-ghost use Rattle.area.specs.Layout.{transferPlaces, headWords, areaOctets, headAt, runAt};
+ghost use Rattle.area.specs.Layout.{transferPlaces, headWords, areaOctets, headAt, runAt, halfAt};
 ghost use Rattle.area.specs.Places.{keyAt, rowsAt, transferAt, transfersFrom, readTable, placeIn};
 ghost use Rattle.area.specs.Judge.{transferTest, fineTest, judged};
 use run_rows::Rows;
@@ -34,7 +34,7 @@ pub const STAMPED: usize = 4;
 // The words of a timestamp.
 pub const STAMP_WORDS: usize = 2;
 
-// Where the heads begin, the starts of all runs, and their stops, in words of 8 octets; and the octets of the layout.
+// Where the heads begin, the starts of all runs, their stops, and the timestamps, in words of 8 octets; and the octets of the layout.
 const HEADS_AT: usize = 1;
 
 const STARTS_AT: usize = HEADS_AT + TRANSFERS * HEAD_WORDS;
@@ -72,6 +72,14 @@ pub fn stops_at(i: usize) -> usize
     ensures { λ r. ⌜ r ≡ runAt 1 i 0 ⌝ }
 {
     STOPS_AT + i * RUNS
+}
+
+// The word where the timestamp at place i begins.
+pub fn stamp_at(i: usize) -> usize
+    requires { ⌜ i < transferPlaces ⌝ }
+    ensures { λ r. ⌜ r ≡ halfAt i 0 ⌝ }
+{
+    STAMPS_AT + i * STAMP_WORDS
 }
 
 // A field of the head at place i.

@@ -34,7 +34,7 @@ pub const STAMPED: usize = 4;
 // The words of a timestamp.
 pub const STAMP_WORDS: usize = 2;
 
-// Where the heads begin, the starts of all runs, and their stops, in words of 8 octets; and the octets of the layout.
+// Where the heads begin, the starts of all runs, their stops, and the timestamps, in words of 8 octets; and the octets of the layout.
 const HEADS_AT: usize = 1;
 
 const STARTS_AT: usize = HEADS_AT + TRANSFERS * HEAD_WORDS;

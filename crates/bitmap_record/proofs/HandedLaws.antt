@@ -1,18 +1,18 @@
 -- R12.2, R6.14: what recording hands back, by the packet's bit 12 and its octets.
 -- Assumes nothing.
 use Prim.Native.Nat.{ℕ, zero, suc}
-use mathlib.Core.Path.{_≡_, refl, sym, ap, _∙_}
+use mathlib.Core.Path.{_≡_, refl, ap, _∙_}
 use mathlib.Core.Bool.{Bool, true, false, cond}
 use mathlib.Core.List.{List, [], _++_}
 use mathlib.Core.Logic.{inl, inr}
 use native.Mathlib.Omega.{arith}
-use lib.ListN.{length, take, drop, length-append, length-drop, take-append-drop}
+use lib.ListN.{length, take, drop, length-drop, take-append-drop}
 use lib.Seq.{length-take-le}
 use lib.Dec.{eqb}
 use Rattle.octets.specs.Numbers.{beDigits, beValue, Octets}
-use Rattle.octets.proofs.NumberLaws.{length-digits, digits-value, octets-take, octets-drop}
+use Rattle.octets.proofs.NumberLaws.{digits-value, octets-take, octets-drop}
 use Rattle.octets.proofs.OctetLaws.{octets-append, digits-octets}
-use Rattle.timestamp.specs.Timestamps.{Stamp, stamped, renewed, keptOctets}
+use Rattle.timestamp.specs.Timestamps.{Stamp, renewed, keptOctets}
 use Rattle.timestamp.specs.declared.Kept.{Kept}
 use Rattle.timestamp.proofs.StampLaws.{stamped-none, stamped-some, none-stamped, renewed-is}
 use Rattle.timestamp.proofs.KeptLaws.{kept-some, kept-none, kept-sixteen}
@@ -74,25 +74,30 @@ module _ (h : Held) (s packet : List ℕ) where
       go (suc m) f = refl
 
   module _ (e : recordRefusal (h .key) s packet ≡ 0) where
-    handed : recordHeld h s packet ≡ heldAfter h (stampIn packet (dataOf packet))
+    pub held-handed : recordHeld h s packet ≡ heldAfter h (stampIn packet (dataOf packet))
     unfolding recordHeld heldAs
-    handed = rw e
+    held-handed = rw e
 
+    -- the same transfer's
     pub held-key : recordHeld h s packet .key ≡ h .key
     unfolding heldAfter
-    held-key = ap (λ (x : Held). x .key) handed
+    held-key = ap (λ (x : Held). x .key) held-handed
 
-    read : readData packet ≡ data-read.Accepted (dataOf packet)
-    unfolding recordRefusal readData
-    read = rw (first-none (dataRefusal packet) _ (rest-none (stateRefusal (h .key) s) _ e))
+    pub packet-read : dataRefusal packet ≡ 0
+    unfolding recordRefusal
+    packet-read = first-none (dataRefusal packet) _ (rest-none (stateRefusal (h .key) s) _ e)
+
+    accepted : readData packet ≡ data-read.Accepted (dataOf packet)
+    unfolding readData
+    accepted = rw packet-read
 
     -- R6.14: the packet's octets 8 to 23 where bit 12 is set, and else what was kept
     pub held-stamp : Octets packet
         → keptOctets (recordHeld h s packet .kept) ≡ cond (eqb (bits 32 (wordOf packet) 12 12) 1) (take 16 (drop 8 packet)) (keptOctets (h .kept))
     held-stamp o =
-        ap (λ (x : Held). keptOctets (x .kept)) handed
-        ∙ after-octets h (stampIn packet (dataOf packet)) (stamp-known packet (dataOf packet) o read)
-        ∙ renewed-by packet (dataOf packet) (keptOctets (h .kept)) read
+        ap (λ (x : Held). keptOctets (x .kept)) held-handed
+        ∙ after-octets h (stampIn packet (dataOf packet)) (stamp-known packet (dataOf packet) o accepted)
+        ∙ renewed-by packet (dataOf packet) (keptOctets (h .kept)) accepted
 
   -- where none is kept both halves are 0, whatever they were
   pub held-halves : recordHeld h s packet .kept .stamped ≡ false → (recordHeld h s packet .kept .high ≡ 0) × (recordHeld h s packet .kept .low ≡ 0)

@@ -1,21 +1,19 @@
--- R12.2, R6.14: the record that recording hands back.
+-- The record that recording hands back, as the code makes it.
 -- Assumes nothing.
 use Prim.Native.Nat.{ℕ, zero, suc, _+_, _*_, _^_, _<_, _≤_}
 use mathlib.Core.Path.{_≡_, refl, sym, ap, _∙_}
-use mathlib.Core.Bool.{Bool, true, false, cond, not}
-use mathlib.Core.List.{List, [], _++_}
-use mathlib.Core.Logic.{_⊎_, inl, inr}
+use mathlib.Core.Bool.{true, false, not}
+use mathlib.Core.List.{List}
 use native.Mathlib.Omega.{arith}
 use lib.ListN.{length, take, drop}
 use lib.Dec.{eqb}
-use Rattle.octets.specs.Numbers.{beDigits, beValue, Octets}
+use Rattle.octets.specs.Numbers.{beValue}
 use Rattle.octets.proofs.NumberLaws.{value-digits}
-use Rattle.timestamp.specs.Timestamps.{Stamp, stamped, renewed, keptOctets, stampFrom}
+use Rattle.timestamp.specs.Timestamps.{renewed, keptOctets, stampFrom}
 use Rattle.timestamp.specs.declared.Kept.{Kept}
 use Rattle.timestamp.proofs.StampLaws.{none-stamped, none-renewed, renewed-some}
 use Rattle.timestamp.proofs.KeptLaws.{kept-some, kept-none, kept-stamped}
 use Rattle.refusals.specs.declared.Refusal.{Refusal}
-use Rattle.refusals.proofs.RefusalLaws.{first-none, rest-none}
 use Rattle.header.specs.FirstWord.{bits}
 use Rattle.header.specs.Start.{wordOf}
 use Rattle.packet_data.specs.Data.{payloadAt, dataRefusal, dataOf}
@@ -24,10 +22,11 @@ use Rattle.packet_data.proofs.DataLaws.{data-fine}
 use Rattle.transfer.specs.Record.{stampIn}
 use Rattle.transfer.specs.declared.Receipt.{Receipt}
 use Rattle.table.specs.declared.Recorded.the-variants.{Accepted, Refused}
-use Rattle.bitmap.specs.State.{stateRefusal}
 use Rattle.bitmap.specs.declared.Held.{Held}
 use Rattle.bitmap_record.specs.Record.{recordRefusal, recordAs, recordMarks}
-use Rattle.bitmap_record.specs.Held.{keptFrom, heldAfter, noHeld, heldAs, recordHeld}
+use Rattle.bitmap_record.specs.Held.{keptFrom, heldAfter, noHeld, recordHeld}
+use Rattle.bitmap_record.proofs.HandedLaws.{packet-read, held-zeros, held-handed}
+use Rattle.bitmap_record.proofs.ToldLaws.{record-answers}
 
 kept-eq : (j k : Kept) → j .stamped ≡ k .stamped → j .high ≡ k .high → j .low ≡ k .low → j ≡ k
 kept-eq j k p q r = λ i. record { stamped = p i; high = q i; low = r i }
@@ -60,27 +59,27 @@ module _ (new old : Kept) where
 
 -- ---- the timestamp that a packet brings
 
-module _ (s : List ℕ) (read : dataRefusal s ≡ 0) where
-  two : (b : ℕ) → b < 2 → take (16 * b) (drop 8 s) ≡ stampFrom (not (eqb (16 * b) 0)) 8 s
-  unfolding stampFrom
-  two zero h = refl
-  two (suc zero) h = refl
-  two (suc (suc b)) h = absurd (omega arith)
+sixteen-or-none : (s : List ℕ) (b : ℕ) → b < 2 → take (16 * b) (drop 8 s) ≡ stampFrom (not (eqb (16 * b) 0)) 8 s
+unfolding stampFrom
+sixteen-or-none s zero h = refl
+sixteen-or-none s (suc zero) h = refl
+sixteen-or-none s (suc (suc b)) h = absurd (omega arith)
 
+room-for : (s : List ℕ) (b : ℕ) → 16 * b + 8 ≤ length s → not (eqb (16 * b) 0) ≡ true → 8 + 16 ≤ length s
+room-for s zero h e = absurd (let z : _≡_ {A = ℕ} 0 1 = cc in omega arith)
+room-for s (suc b) h e = omega arith
+
+module _ (s : List ℕ) (read : dataRefusal s ≡ 0) where
   brought : stampIn s (dataOf s) ≡ stampFrom (not (eqb (dataOf s .timestamp) 0)) 8 s
   unfolding stampIn dataOf
-  brought = two (bits 32 (wordOf s) 12 12) (omega arith)
-
-  room-for : (b : ℕ) → 16 * b + 8 ≤ length s → not (eqb (16 * b) 0) ≡ true → 8 + 16 ≤ length s
-  room-for zero h e = absurd (let z : _≡_ {A = ℕ} 0 1 = cc in omega arith)
-  room-for (suc b) h e = omega arith
+  brought = sixteen-or-none s (bits 32 (wordOf s) 12 12) (omega arith)
 
   -- where it has one there are 16 octets
   pub stamp-room : (d : Data) → d ≡ dataOf s → not (eqb (d .timestamp) 0) ≡ true → 8 + 16 ≤ length s
   unfolding dataOf
   stamp-room d is e =
       let h : payloadAt (wordOf s) < length s = data-fine s read .more in
-      room-for (bits 32 (wordOf s) 12 12) (omega arith) (ap (λ (x : Data). not (eqb (x .timestamp) 0)) (sym is) ∙ e)
+      room-for s (bits 32 (wordOf s) 12 12) (omega arith) (ap (λ (x : Data). not (eqb (x .timestamp) 0)) (sym is) ∙ e)
 
   pub held-kept : (h : Held) (d : Data) → d ≡ dataOf s → (new kept : Kept) → keptOctets new ≡ stampFrom (not (eqb (d .timestamp) 0)) 8 s
       → kept ≡ keptFrom (renewed (keptOctets new) (keptOctets (h .kept))) → record { key = h .key; kept = kept } ≡ heldAfter h (stampIn s (dataOf s))
@@ -97,23 +96,17 @@ module _ (h : Held) (s packet : List ℕ) where
   accepted-as zero x e = refl
   accepted-as (suc n) x e = absurd (let z : _≡_ {A = ℕ} 0 1 = cc in omega arith)
 
-  refused-as : (n : ℕ) (r : Refusal) (stamp : List ℕ) → recordAs n (h .key) s (dataOf packet) .answer ≡ Refused r → heldAs n h stamp ≡ noHeld
-  unfolding recordAs heldAs
-  refused-as zero r stamp e = absurd (let z : _≡_ {A = ℕ} 0 1 = cc in omega arith)
-  refused-as (suc n) r stamp e = refl
+  module _ (x : Receipt) (e : recordMarks (h .key) s packet .answer ≡ Accepted x) where
+    accepted-none : recordRefusal (h .key) s packet ≡ 0
+    unfolding recordMarks
+    accepted-none = accepted-as (recordRefusal (h .key) s packet) x e
 
-  accepted-none : (x : Receipt) → recordMarks (h .key) s packet .answer ≡ Accepted x → recordRefusal (h .key) s packet ≡ 0
-  unfolding recordMarks
-  accepted-none x e = accepted-as (recordRefusal (h .key) s packet) x e
+    pub accepted-read : dataRefusal packet ≡ 0
+    accepted-read = packet-read h s packet accepted-none
 
-  pub accepted-read : (x : Receipt) → recordMarks (h .key) s packet .answer ≡ Accepted x → dataRefusal packet ≡ 0
-  unfolding recordRefusal
-  accepted-read x e = first-none (dataRefusal packet) _ (rest-none (stateRefusal (h .key) s) _ (accepted-none x e))
-
-  pub held-accepted : (x : Receipt) → recordMarks (h .key) s packet .answer ≡ Accepted x → recordHeld h s packet ≡ heldAfter h (stampIn packet (dataOf packet))
-  unfolding recordHeld heldAs
-  held-accepted x e = rw (accepted-none x e)
+    pub held-accepted : recordHeld h s packet ≡ heldAfter h (stampIn packet (dataOf packet))
+    held-accepted = held-handed h s packet accepted-none
 
   pub held-refused : (r : Refusal) → recordMarks (h .key) s packet .answer ≡ Refused r → recordHeld h s packet ≡ noHeld
-  unfolding recordMarks recordHeld
-  held-refused r e = refused-as (recordRefusal (h .key) s packet) r (stampIn packet (dataOf packet)) e
+  held-refused r e =
+      held-zeros h s packet (λ z. let told = record-answers (h .key) s packet z in let y : _≡_ {A = ℕ} 0 1 = cc in omega arith)

@@ -4,12 +4,11 @@
 use Prim.Native.Nat.{ℕ, zero, suc, _≤_}
 use mathlib.Core.Path.{_≡_, refl, sym, ap, ap₂, _∙_}
 use mathlib.Core.List.{List, [], _∷_}
-use mathlib.Core.Option.{Option, some}
+use mathlib.Core.Option.{some}
 use lib.ListN.{length, take}
 use Rattle.timestamp.specs.declared.Kept.{Kept}
 use Rattle.timestamp.proofs.KeptLaws.{kept-none}
 use Rattle.octets.specs.Numbers.{Octets}
-use Rattle.runs.specs.Runs.{Run}
 use Rattle.transfer.specs.declared.Key.{Key}
 use Rattle.transfer.specs.Transfers.{Transfer, reached}
 use Rattle.table.specs.Tables.{keys, find}
@@ -18,7 +17,7 @@ use Rattle.table.specs.WriteStatus.{writtenFor, bufferFor, statusWritten, statu
 use Rattle.table.specs.declared.Recorded.{Recorded}
 use Rattle.table.proofs.FineLaws.{fine-found}
 use Rattle.area.specs.Judge.{tableOf}
-use Rattle.area.specs.Operations.{OnArea, openArea, recordArea, areaStatusWritten, areaStatusBuffer}
+use Rattle.area.specs.Operations.{OnArea, openArea, areaStatusWritten, areaStatusBuffer}
 use Rattle.area.proofs.JudgeLaws.{held-valid}
 use Rattle.area.proofs.OperationLaws.{record-held, record-leaves, from-held}
 use Rattle.marks.specs.Marks.{cleared}

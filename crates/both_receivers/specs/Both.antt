@@ -63,6 +63,7 @@ module _ {A : Type 0} (recorded : A → List ℕ → Recorded × A) where
   after x [] = x
   after x (p ∷ ps) = after (recorded x p .1) ps
 
+-- each of them is octets
 abbrev pub AllOctets : List (List ℕ) → Type 0
 AllOctets [] = Unit
 AllOctets (p ∷ ps) = Octets p × AllOctets ps

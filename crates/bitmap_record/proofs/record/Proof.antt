@@ -1,6 +1,6 @@
 -- `bitmap_record::record` meets its contract: the record is handed back where the packet was accepted, and zeros where it was not.
 -- Assumes nothing.
-use mathlib.Core.Path.{_≡_, sym, _∙_}
+use mathlib.Core.Path.{sym, _∙_}
 use borrow.Author.Needs.{needs}
 use denote.Ref.{now}
 use Rattle.bitmap_record.proofs.HeldLaws.{accepted-read, held-accepted, held-refused}

@@ -24,7 +24,9 @@ use Rattle.transfer_status.specs.WriteStatus.{holesSent, partialSent, fieldsSen
 use Rattle.table.specs.Tables.{keys, find, runsOf, stampOf}
 use Rattle.area.specs.Judge.{tableOf}
 use Rattle.area.specs.Operations.{areaStatusWritten, areaStatusBuffer}
+use Rattle.timestamp.specs.Timestamps.{keptOctets}
 use Rattle.marks.specs.MarkedRuns.{markedRuns}
+use Rattle.bitmap.specs.declared.Held.{Held}
 use Rattle.bitmap_status.specs.WriteStatus.{marksWritten, marksBuffer}
 
 -- ---- the STATUS of a transfer with this key that received rs and keeps the timestamp s, written into `room` octets after the first k
@@ -64,5 +66,5 @@ AreasReadBack = (a : List ℕ) (id k : ℕ) (unasked : Bool) (buffer : List ℕ)
 -- ---- on marks, with the record that goes with them
 
 abbrev pub MarksReadBack : Type 0
-MarksReadBack = (key : Key) (s : List ℕ) (k : ℕ) (unasked : Bool) (buffer : List ℕ) (n : ℕ) → marksWritten key s k unasked buffer ≡ written.Size n
-    → ReadsAs key (markedRuns s) k unasked (length buffer) (take n (marksBuffer key s k unasked buffer))
+MarksReadBack = (h : Held) (s : List ℕ) (k : ℕ) (unasked : Bool) (buffer : List ℕ) (n : ℕ) → marksWritten h s k unasked buffer ≡ written.Size n
+    → ReadsAs (h .key) (markedRuns s) (keptOctets (h .kept)) k unasked (length buffer) (take n (marksBuffer h s k unasked buffer))

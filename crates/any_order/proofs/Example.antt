@@ -25,7 +25,7 @@ use Rattle.runs.specs.Runs.{run, insert, absorbed, adds}
 use Rattle.runs.specs.Holes.{edgeFrom, holesFrom, progress, complete}
 use Rattle.timestamp.specs.Timestamps.{stamped, renewed}
 use Rattle.success_status.specs.SuccessStatus.{widthBits, statusFlags, frontOctets, statusOctets}
-use Rattle.transfer.specs.Transfers.{Transfer}
+use Rattle.transfer.specs.Transfers.{Transfer, transferOf}
 use Rattle.transfer.specs.Record.{stampIn, keyRefusal, extended, absorbedBy, addsBy, runsRefusal}
 use Rattle.transfer_status.specs.WriteStatus.{skipsTooMany, leastRoom, sizeRefusal, holeRoom, holesSent, partialSent, lastOffset, responseSent, statusPacket, transferWritten, transferBuffer}
 use Rattle.table.specs.Tables.{keys, find, runsOf, stampOf, add, setRuns}
@@ -106,8 +106,8 @@ sorted =
 -- with 16 octets n as the timestamp of Id 7, and none for Id 3
 abbrev ends : ℕ → List Transfer
 ends n =
-    record { key = record { id = 3; width = 2; length = 50 }; runs = run 40 50 ∷ []; stamp = [] }
-    ∷ record { key = record { id = 7; width = 2; length = 30 }; runs = run 0 10 ∷ run 20 30 ∷ []; stamp = replicate 16 n }
+    transferOf (record { id = 3; width = 2; length = 50 }) (run 40 50 ∷ []) []
+    ∷ transferOf (record { id = 7; width = 2; length = 30 }) (run 0 10 ∷ run 20 30 ∷ []) (replicate 16 n)
     ∷ []
 
 takes : taken callTable [] calls ≡ accepted

@@ -12,8 +12,7 @@ use lib.Dec.{ltb}
 use borrow.Author.Tests.{ltb-true, ltb-false, lt-ltb, le-ltb, ne-eqb, eq-eqb}
 use Rattle.runs.specs.Runs.{Run}
 use Rattle.transfer.specs.declared.Key.{Key}
-use Rattle.timestamp.specs.Timestamps.{renewed}
-use Rattle.transfer.specs.Transfers.{Transfer, empty}
+use Rattle.transfer.specs.Transfers.{Transfer, empty, withReceived}
 use Rattle.table.specs.Tables.{FineFrom, keys, find, runsOf, stampOf, add, setRuns, remove}
 use Rattle.table.proofs.TableLaws.{find-head, find-tail, runs-head, runs-tail, stamp-head, stamp-tail}
 use Rattle.table.proofs.FineLaws.{fine-none}
@@ -65,7 +64,7 @@ module _ (id : ℕ) where
   set-at rs s none-left h e = absurd (omega arith)
   set-at rs s (here {x} {t} l) h e = rw (eq-eqb (x .key .id) id e)
   set-at rs s (later {x} {t} {p} l r) h e =
-      ap (λ (b : Bool). cond b (record { key = x .key; runs = rs; stamp = renewed s (x .stamp) } ∷ t) (x ∷ setRuns id rs s t)) (ne-eqb (x .key .id) id (λ q. omega arith))
+      ap (λ (b : Bool). cond b (withReceived x rs s ∷ t) (x ∷ setRuns id rs s t)) (ne-eqb (x .key .id) id (λ q. omega arith))
       ∙ ap (λ (u : List Transfer). x ∷ u) (set-at rs s r (omega arith) e)
 
   pub remove-at : {t : List Transfer} {p : ℕ} → Placed id t p → p < length t → nth t p .key .id ≡ id → remove id t ≡ removeAt p t

@@ -8,7 +8,7 @@ use mathlib.Core.Bool.{Bool, cond}
 use native.Mathlib.Omega.{arith}
 use native.Mathlib.Nat.{add-zero, zero-add}
 use native.Mathlib.Decide.{ℕ-discrete}
-use lib.ListN.{length, getD, take, drop, length-drop, take-append-drop, List·getD-eq-default}
+use lib.ListN.{length, getD, drop, length-drop, take-append-drop, List·getD-eq-default}
 use lib.Seq.{ext-getD, take-all, drop-at}
 use borrow.Author.Tests.{lt-ltb, le-ltb, eq-eqb, ne-eqb}
 use Rattle.octets.specs.Numbers.{Octets, leDigits}
@@ -21,7 +21,7 @@ use Rattle.run_rows.specs.Rows.{runsIn, RowsFit}
 use Rattle.run_rows.specs.declared.Rows.{Rows}
 use Rattle.run_rows.proofs.RowsLaws.{length-runs, run-at}
 use Rattle.timestamp.specs.Timestamps.{Stamp}
-use Rattle.transfer.specs.Transfers.{Transfer}
+use Rattle.transfer.specs.Transfers.{Transfer, transferOf}
 use Rattle.area.specs.Layout.{transferPlaces, runPlaces, headWords, stampWords, headsAt, startsAt, stampsAt, areaWords, areaOctets, headAt, runAt, halfAt, countField, stampedField}
 use Rattle.area.specs.Places.{rowsAt, transferAt, transfersFrom, readTable, unused, nth, field, sideOf, runNumber, stampBy, stampAt, stampCode, halfOf, Holds, HoldsHalves}
 use Rattle.area.specs.Stored.{headOr, runOr, halfOr, wordOr}
@@ -308,7 +308,7 @@ module _ (a : List ℕ) (t : List Transfer) (h : Holds a t) (s : HoldsHalves a t
       let m : stampAt a i ≡ nth t i .stamp =
       by-halves (nth t i .stamp) (wordAt a (headAt i stampedField)) (wordAt a (halfAt i 0)) (wordAt a (halfAt i 1)) (fine i p)
       (h .heads i stampedField p (omega arith)) (λ c. (s i 0 (omega arith) p c, s i 1 (omega arith) p c)) in
-      λ w. record { key = record { id = x w; width = y w; length = z w }; runs = r w; stamp = m w }
+      λ w. transferOf (record { id = x w; width = y w; length = z w }) (r w) (m w)
 
   pub holds-read : readTable a ≡ t
   holds-read =

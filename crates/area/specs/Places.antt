@@ -12,8 +12,7 @@ use Rattle.words.specs.Words.{wordAt}
 use Rattle.run_rows.specs.Rows.{runsIn}
 use Rattle.run_rows.specs.declared.Rows.{Rows}
 use Rattle.transfer.specs.declared.Key.{Key}
-use Rattle.timestamp.specs.Timestamps.{renewed}
-use Rattle.transfer.specs.Transfers.{Transfer}
+use Rattle.transfer.specs.Transfers.{Transfer, transferOf, withReceived}
 use Rattle.area.specs.Layout.{idField, widthField, lengthField, countField, stampedField, headWords, stampWords, headAt, runAt, halfAt}
 use Rattle.area.specs.declared.Place.{Place}
 
@@ -40,7 +39,7 @@ abbrev pub stampAt : List ℕ → ℕ → List ℕ
 stampAt a i = stampBy (wordAt a (headAt i stampedField)) (wordAt a (halfAt i 0)) (wordAt a (halfAt i 1))
 
 abbrev pub transferAt : List ℕ → ℕ → Transfer
-transferAt a i = record { key = keyAt a i; runs = runsIn a (rowsAt a i); stamp = stampAt a i }
+transferAt a i = transferOf (keyAt a i) (runsIn a (rowsAt a i)) (stampAt a i)
 
 -- n transfers from place i on
 unfoldable pub transfersFrom : List ℕ → ℕ → ℕ → List Transfer
@@ -54,7 +53,7 @@ readTable a = transfersFrom a 0 (wordAt a 0)
 
 -- what stands past a table's end
 abbrev pub unused : Transfer
-unused = record { key = record { id = 0; width = 0; length = 0 }; runs = []; stamp = [] }
+unused = transferOf (record { id = 0; width = 0; length = 0 }) [] []
 
 abbrev pub nth : List Transfer → ℕ → Transfer
 nth t i = getD t i unused
@@ -120,7 +119,7 @@ pub record KeptAt (id : ℕ) (t : List Transfer) (p : ℕ) : Type 0 where
 
 -- other runs for the transfer there, and the timestamp s where the packet brings one
 abbrev pub withRuns : List Transfer → ℕ → List Run → List ℕ → List Transfer
-withRuns t p rs s = set t p (record { key = nth t p .key; runs = rs; stamp = renewed s (nth t p .stamp) })
+withRuns t p rs s = set t p (withReceived (nth t p) rs s)
 
 -- a transfer put in, and one taken out
 unfoldable pub insertAt : ℕ → Transfer → List Transfer → List Transfer

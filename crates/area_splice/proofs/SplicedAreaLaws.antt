@@ -17,9 +17,8 @@ use Rattle.runs.specs.Runs.{Run, nthRun}
 use Rattle.runs.proofs.CompareLaws.{same-or}
 use Rattle.words.specs.Words.{wordAt, putWord, splicedRow}
 use Rattle.words.proofs.RowLaws.{splice-length, splice-after, put-length, put-at, put-other, put-after}
-use Rattle.timestamp.specs.Timestamps.{renewed}
 use Rattle.timestamp.proofs.StampLaws.{none-renewed}
-use Rattle.transfer.specs.Transfers.{Transfer}
+use Rattle.transfer.specs.Transfers.{Transfer, withReceived}
 use Rattle.area.specs.Layout.{transferPlaces, runPlaces, headWords, stampWords, countField, areaOctets, headAt, runAt, halfAt}
 use Rattle.area.specs.Places.{unused, nth, field, sideOf, runNumber, stampCode, Holds, HoldsHalves, withRuns}
 use Rattle.area.specs.Stored.{wordOr}
@@ -59,7 +58,7 @@ module _ (a : List ℕ) (t : List Transfer) (p i j : ℕ) (x : Run) (long : area
   new = spliced rs i j x
 
   abbrev changed : Transfer
-  changed = record { key = nth t p .key; runs = new; stamp = renewed [] (nth t p .stamp) }
+  changed = withReceived (nth t p) new []
 
   abbrev grown : List Transfer
   grown = withRuns t p new []

@@ -16,9 +16,9 @@ use Rattle.runs.specs.Runs.{Run, nthRun}
 use Rattle.runs.proofs.CompareLaws.{same-or}
 use Rattle.words.specs.Words.{wordAt, putWord}
 use Rattle.words.proofs.RowLaws.{put-length, put-at, put-other, put-after}
-use Rattle.timestamp.specs.Timestamps.{Stamp, renewed}
+use Rattle.timestamp.specs.Timestamps.{Stamp}
 use Rattle.timestamp.proofs.StampLaws.{stamped-some, renewed-some}
-use Rattle.transfer.specs.Transfers.{Transfer}
+use Rattle.transfer.specs.Transfers.{Transfer, withReceived}
 use Rattle.area.specs.Layout.{transferPlaces, runPlaces, headWords, stampWords, stampedField, areaOctets, headAt, runAt, halfAt}
 use Rattle.area.specs.Places.{unused, nth, field, sideOf, stampCode, halfOf, withRuns}
 use Rattle.area.specs.Stored.{headOr, runOr, wordOr}
@@ -32,10 +32,10 @@ use Rattle.area_splice.proofs.KeepLaws.{none-kept, one-kept}
 module _ (a b : List ℕ) (v : List Transfer) (p : ℕ) (rs : List Run) (s : List ℕ) (there : p < length v) (low : p < transferPlaces)
     (h : Stores a b (withRuns v p rs [])) where
   abbrev old : Transfer
-  old = record { key = nth v p .key; runs = rs; stamp = renewed [] (nth v p .stamp) }
+  old = withReceived (nth v p) rs []
 
   abbrev changed : Transfer
-  changed = record { key = nth v p .key; runs = rs; stamp = renewed s (nth v p .stamp) }
+  changed = withReceived (nth v p) rs s
 
   abbrev t : List Transfer
   t = withRuns v p rs []

@@ -11,7 +11,7 @@ use Rattle.runs.proofs.CompareLaws.{le-or-lt}
 use Rattle.runs.proofs.CompleteLaws.{complete-iff}
 use Rattle.runs.proofs.ReceivedLaws.{received-counts, received-complete}
 use Rattle.transfer.specs.declared.Key.{Key}
-use Rattle.transfer.specs.Transfers.{Transfer, TransferFine}
+use Rattle.transfer.specs.Transfers.{Transfer, TransferFine, transferOf}
 use Rattle.table.specs.Tables.{keys, find, runsOf, stampOf}
 use Rattle.table.proofs.FindLaws.{found-fine}
 use Rattle.area.specs.Places.{nth}
@@ -55,6 +55,6 @@ module _ (a : List ℕ) (t : List Transfer) (held : tableOf a ≡ some t) (l : L
       go : (o : Option Key) → find id (keys t) ≡ o → foundFor o (runsOf t id) (stampOf t id) ≡ Open l → Counts (runsOf t id) l
       go none f z = absurd (let y : _≡_ {A = ℕ} 0 1 = cc in omega arith)
       go (some k) f z =
-          let x : Transfer = record { key = k; runs = runsOf t id; stamp = stampOf t id } in
+          let x : Transfer = transferOf k (runsOf t id) (stampOf t id) in
           let is : listingOf x ≡ l = cc in
           rw (← is) (listing-counts x (found-fine t (held-valid a t held) id k f .fine))

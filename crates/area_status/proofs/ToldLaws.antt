@@ -11,7 +11,7 @@ use Rattle.timestamp.specs.Timestamps.{stamped}
 use Rattle.refusals.specs.Refusals.{refusalOf}
 use Rattle.runs.proofs.CompareLaws.{le-or-lt}
 use Rattle.transfer.specs.declared.Key.{Key}
-use Rattle.transfer.specs.Transfers.{Transfer, reached}
+use Rattle.transfer.specs.Transfers.{Transfer, reached, transferOf}
 use Rattle.transfer.proofs.ReachedLaws.{reached-tells}
 use Rattle.table.specs.Tables.{FineFrom, keys, find, runsOf, stampOf}
 use Rattle.table.proofs.TableLaws.{find-head, find-tail, runs-head, runs-tail, stamp-head, stamp-tail, find-id}
@@ -47,7 +47,7 @@ module _ (a : List ℕ) (l : Listing) where
       by-key : (t : List Transfer) → tableOf a ≡ some t → (o : Option Key) → find id (keys t) ≡ o → foundFor o (runsOf t id) (stampOf t id) ≡ Open l → Stands a id l
       by-key t h none f z = absurd (let y : _≡_ {A = ℕ} 0 1 = cc in omega arith)
       by-key t h (some k) f z =
-          let x : Transfer = record { key = k; runs = runsOf t id; stamp = stampOf t id } in
+          let x : Transfer = transferOf k (runsOf t id) (stampOf t id) in
           let is : listingOf x ≡ l = cc in
           let counts : Counts (runsOf t id) (listingOf x) = rw is (found-counts a t h l id e) in
           let tells = reached-tells k (runsOf t id) (runs-canonical id t (held-valid a t h)) in

@@ -12,7 +12,7 @@ use Rattle.runs.specs.Holes.{hole, holes}
 use Rattle.packet_status.specs.declared.HoleRead.{HoleRead}
 use Rattle.packet_status.specs.declared.HoleRead.the-variants as hole-read
 use Rattle.transfer.specs.declared.Key.{Key}
-use Rattle.transfer.specs.Transfers.{Transfer}
+use Rattle.transfer.specs.Transfers.{Transfer, transferOf}
 use Rattle.table.specs.Tables.{keys, find, runsOf, stampOf}
 use Rattle.area.specs.Operations.{fromTable}
 use Rattle.area_status.specs.Listing.{listingOf}
@@ -24,7 +24,7 @@ use Rattle.area_status.specs.declared.Listed.the-variants as listed
 -- R6.11: 12 where the Id is not open; else the transfer with the Id's key, its received offsets and its timestamp
 unfoldable pub foundFor : Option Key → List Run → List ℕ → Listed
 foundFor none rs s = listed.Refused (refusalOf 12)
-foundFor (some k) rs s = listed.Open (listingOf (record { key = k; runs = rs; stamp = s }))
+foundFor (some k) rs s = listed.Open (listingOf (transferOf k rs s))
 
 unfoldable pub foundIn : List Transfer → ℕ → Listed
 foundIn t id = foundFor (find id (keys t)) (runsOf t id) (stampOf t id)

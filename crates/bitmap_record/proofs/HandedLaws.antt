@@ -2,20 +2,14 @@
 -- Assumes nothing.
 use Prim.Native.Nat.{ℕ, zero, suc}
 use mathlib.Core.Path.{_≡_, refl, ap, _∙_}
-use mathlib.Core.Bool.{Bool, true, false, cond}
-use mathlib.Core.List.{List, [], _++_}
-use mathlib.Core.Logic.{inl, inr}
-use native.Mathlib.Omega.{arith}
-use lib.ListN.{length, take, drop, length-drop, take-append-drop}
-use lib.Seq.{length-take-le}
+use mathlib.Core.Bool.{false, cond}
+use mathlib.Core.List.{List}
+use lib.ListN.{take, drop}
 use lib.Dec.{eqb}
-use Rattle.octets.specs.Numbers.{beDigits, beValue, Octets}
-use Rattle.octets.proofs.NumberLaws.{digits-value, octets-take, octets-drop}
-use Rattle.octets.proofs.OctetLaws.{octets-append, digits-octets}
+use Rattle.octets.specs.Numbers.{Octets}
 use Rattle.timestamp.specs.Timestamps.{Stamp, renewed, keptOctets}
-use Rattle.timestamp.specs.declared.Kept.{Kept}
-use Rattle.timestamp.proofs.StampLaws.{stamped-none, stamped-some, none-stamped, renewed-is}
-use Rattle.timestamp.proofs.KeptLaws.{kept-some, kept-none, kept-sixteen}
+use Rattle.timestamp.proofs.StampLaws.{renewed-is}
+use Rattle.timestamp.proofs.KeptLaws.{octets-from, from-none, kept-is}
 use Rattle.refusals.proofs.RefusalLaws.{first-none, rest-none}
 use Rattle.header.specs.FirstWord.{bits}
 use Rattle.header.specs.Start.{wordOf}
@@ -26,36 +20,7 @@ use Rattle.transfer.proofs.StampLaws.{stamp-known, renewed-by}
 use Rattle.bitmap.specs.State.{stateRefusal}
 use Rattle.bitmap.specs.declared.Held.{Held}
 use Rattle.bitmap_record.specs.Record.{recordRefusal}
-use Rattle.bitmap_record.specs.Held.{keptFrom, heldAfter, noHeld, heldAs, recordHeld}
-
--- ---- a timestamp as two numbers
-
-half : (s : List ℕ) → length s ≡ 8 → Octets s → beDigits 8 (beValue s) ≡ s
-half s e o = rw e at (digits-value s o)
-
-both : {a b x y : List ℕ} → a ≡ x → b ≡ y → a ++ b ≡ x ++ y
-both p q = cc
-
--- they are the same octets again
-pub octets-from : (s : List ℕ) → Stamp s → keptOctets (keptFrom s) ≡ s
-unfolding keptFrom
-octets-from s (inl e) = rw e (kept-none (keptFrom []) none-stamped)
-octets-from s (inr (e, o)) =
-    kept-some (keptFrom s) (stamped-some s (omega arith))
-    ∙ both (half (take 8 s) (length-take-le 8 s (omega arith)) (octets-take 8 s o)) (half (drop 8 s) (omega (arith, length-drop 8 s)) (octets-drop 8 s o))
-    ∙ take-append-drop 8 s
-
-pub kept-is : (k : Kept) → Stamp (keptOctets k)
-kept-is k = go (k .stamped) refl
-  where
-    go : (b : Bool) → k .stamped ≡ b → Stamp (keptOctets k)
-    go true e = inr (kept-sixteen k e, rw (kept-some k e) (octets-append (beDigits 8 (k .high)) (beDigits 8 (k .low)) (digits-octets 8 (k .high)) (digits-octets 8 (k .low))))
-    go false e = inl (kept-none k e)
-
--- where none is kept, both are 0
-from-none : (s : List ℕ) → keptFrom s .stamped ≡ false → (keptFrom s .high ≡ 0) × (keptFrom s .low ≡ 0)
-unfolding keptFrom
-from-none s e = rw (stamped-none s e) (refl, refl)
+use Rattle.bitmap_record.specs.Held.{heldAfter, noHeld, heldAs, recordHeld}
 
 pub after-octets : (h : Held) (s : List ℕ) → Stamp s → keptOctets (heldAfter h s .kept) ≡ renewed s (keptOctets (h .kept))
 unfolding heldAfter

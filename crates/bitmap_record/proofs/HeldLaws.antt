@@ -9,7 +9,7 @@ use lib.ListN.{length, take, drop}
 use lib.Dec.{eqb}
 use Rattle.octets.specs.Numbers.{beValue}
 use Rattle.octets.proofs.NumberLaws.{value-digits}
-use Rattle.timestamp.specs.Timestamps.{renewed, keptOctets, stampFrom}
+use Rattle.timestamp.specs.Timestamps.{renewed, keptOctets, stampFrom, keptFrom}
 use Rattle.timestamp.specs.declared.Kept.{Kept}
 use Rattle.timestamp.proofs.StampLaws.{none-stamped, none-renewed, renewed-some}
 use Rattle.timestamp.proofs.KeptLaws.{kept-some, kept-none, kept-stamped}
@@ -24,7 +24,7 @@ use Rattle.transfer.specs.declared.Receipt.{Receipt}
 use Rattle.table.specs.declared.Recorded.the-variants.{Accepted, Refused}
 use Rattle.bitmap.specs.declared.Held.{Held}
 use Rattle.bitmap_record.specs.Record.{recordRefusal, recordAs, recordMarks}
-use Rattle.bitmap_record.specs.Held.{keptFrom, heldAfter, noHeld, recordHeld}
+use Rattle.bitmap_record.specs.Held.{heldAfter, noHeld, recordHeld}
 use Rattle.bitmap_record.proofs.HandedLaws.{packet-read, held-zeros, held-handed}
 use Rattle.bitmap_record.proofs.ToldLaws.{record-answers}
 

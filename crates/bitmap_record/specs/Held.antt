@@ -2,19 +2,12 @@
 -- Assumes nothing.
 use Prim.Native.Nat.{ℕ, zero, suc}
 use mathlib.Core.List.{List}
-use lib.ListN.{take, drop}
-use Rattle.octets.specs.Numbers.{beValue}
-use Rattle.timestamp.specs.Timestamps.{stamped, renewed, keptOctets}
-use Rattle.timestamp.specs.declared.Kept.{Kept}
+use Rattle.timestamp.specs.Timestamps.{renewed, keptOctets, keptFrom}
 use Rattle.packet_data.specs.Data.{dataOf}
 use Rattle.transfer.specs.Record.{stampIn}
 use Rattle.bitmap.specs.State.{unstamped}
 use Rattle.bitmap.specs.declared.Held.{Held}
 use Rattle.bitmap_record.specs.Record.{recordRefusal}
-
--- the octets of a timestamp as two numbers, each of eight octets; both are 0 where there is none
-unfoldable pub keptFrom : List ℕ → Kept
-keptFrom s = record { stamped = stamped s; high = beValue (take 8 s); low = beValue (drop 8 s) }
 
 -- R6.14: after a packet that brings the timestamp s. Of a record that keeps none the halves are not looked at
 unfoldable pub heldAfter : Held → List ℕ → Held

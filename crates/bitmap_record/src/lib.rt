@@ -2,7 +2,7 @@
 ghost use mathlib.Core.Path.{_≡_};
 ghost use Prim.Native.Nat.{_≤_, _<_, max};
 ghost use lib.ListN.{length};
-ghost use Rattle.timestamp.specs.Timestamps.{renewed, keptOctets};
+ghost use Rattle.timestamp.specs.Timestamps.{renewed, keptOctets, keptFrom};
 ghost use Rattle.packet_data.specs.Data.{dataRefusal, dataOf};
 ghost use Rattle.transfer.specs.Record.{stopOf, stampIn, extended, runsRefusal};
 ghost use Rattle.marks.specs.Marks.{markOctets};
@@ -10,7 +10,7 @@ ghost use Rattle.marks.specs.MarkedRuns.{markedRuns};
 ghost use Rattle.bitmap.specs.State.{longest};
 ghost use Rattle.bitmap.specs.Judged.{RunsStand};
 ghost use Rattle.bitmap_record.specs.Record.{dataRefused, recordAs, recordMarks};
-ghost use Rattle.bitmap_record.specs.Held.{keptFrom, heldAfter, noHeld, recordHeld};
+ghost use Rattle.bitmap_record.specs.Held.{heldAfter, noHeld, recordHeld};
 use bitmap::Held;
 use packet_data::Data;
 use table::Recorded;

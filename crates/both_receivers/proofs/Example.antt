@@ -30,7 +30,7 @@ use Rattle.hole_list.specs.Pairs.{pairs}
 use Rattle.success_status.specs.SuccessStatus.{widthBits, statusFlags, frontOctets, statusOctets}
 use Rattle.transfer.specs.declared.Key.{Key}
 use Rattle.transfer.specs.declared.Reached.{Reached}
-use Rattle.transfer.specs.Transfers.{Transfer, reached}
+use Rattle.transfer.specs.Transfers.{Transfer, reached, transferOf}
 use Rattle.transfer.specs.Record.{stampIn, keyRefusal, extended, absorbedBy, addsBy, runsRefusal}
 use Rattle.transfer_status.specs.WriteStatus.{skipsTooMany, leastRoom, sizeRefusal, holeRoom, holesSent, partialSent, responseSent, statusPacket, transferBuffer}
 use Rattle.table.specs.WriteStatus.{bufferFor, statusBuffer}
@@ -92,7 +92,7 @@ id-of (data-read.Refused r) = 0
 -- ---- Id 3 is open, with octets received, and Id 7 is opened
 
 abbrev open3 : Transfer
-open3 = record { key = record { id = 3; width = 2; length = 50 }; runs = run 40 50 ∷ []; stamp = [] }
+open3 = transferOf (record { id = 3; width = 2; length = 50 }) (run 40 50 ∷ []) []
 
 abbrev key7 : Key
 key7 = record { id = 7; width = 2; length = 30 }
@@ -126,7 +126,7 @@ module _ (a : List ℕ) (held : tableOf a ≡ some (open3 ∷ [])) (s : List ℕ
   left = openArea a opening .area
 
   abbrev both-open : List Transfer
-  both-open = open3 ∷ record { key = key7; runs = []; stamp = [] } ∷ []
+  both-open = open3 ∷ transferOf key7 [] [] ∷ []
 
   left-holds : tableOf left ≡ some both-open
   unfolding startRefusal typeRefusal fileRefusal descriptorRefusal upperZero propertyRefusal pathRefusal entryRefusal entryOf pairAllowed pairRefusal metadataRefusal metadataOf readMetadata keys find add judgeFound judgeOpen openAs openKey openRead openPacket
@@ -165,7 +165,7 @@ module _ (a : List ℕ) (held : tableOf a ≡ some (open3 ∷ [])) (s : List ℕ
   second = after onMarks (record { held = unstamped key7; marks = marks }) (take 2 packets)
 
   abbrev ended : List Transfer
-  ended = open3 ∷ record { key = key7; runs = run 20 30 ∷ []; stamp = beDigits 16 5 } ∷ []
+  ended = open3 ∷ transferOf key7 (run 20 30 ∷ []) (beDigits 16 5) ∷ []
 
   first-recorded : recordPacket both-open (fields (stamped16 7 5 20 10)) .table ≡ ended
   unfolding startRefusal typeRefusal fileRefusal descriptorRefusal upperZero dataRefusal dataOf readData stampIn renewed insert keys find runsOf setRuns keyRefusal runsRefusal extended dataJudged recordRefusal grown recordAs recordData recordRead recordPacket

@@ -23,7 +23,7 @@ use Rattle.packet_data.specs.declared.Data.{Data}
 use Rattle.packet_data.specs.declared.DataRead.{DataRead}
 use Rattle.packet_data.specs.declared.DataRead.the-variants as data-read
 use Rattle.transfer.specs.declared.Key.{Key}
-use Rattle.transfer.specs.Transfers.{Transfer}
+use Rattle.transfer.specs.Transfers.{Transfer, transferOf}
 use Rattle.transfer.specs.Record.{stampIn}
 use Rattle.table.specs.Tables.{keys, find, add}
 use Rattle.table.specs.Open.{judgeFound, judgeOpen, openAs, openKey, openRead, openPacket}
@@ -38,7 +38,7 @@ abbrev key : Key
 key = record { id = 7; width = 2; length = 0 }
 
 abbrev table : List Transfer
-table = record { key = key; runs = []; stamp = [] } ∷ []
+table = transferOf key [] [] ∷ []
 
 empty-is : emptyFile ≡ table
 unfolding emptyFile startRefusal typeRefusal fileRefusal descriptorRefusal upperZero propertyRefusal pathRefusal entryRefusal entryOf pairAllowed pairRefusal metadataRefusal metadataOf readMetadata keys find add judgeFound judgeOpen openAs openKey openRead openPacket

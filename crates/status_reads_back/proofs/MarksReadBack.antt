@@ -12,12 +12,12 @@ use Rattle.refusals.proofs.WritingLaws.{written-size}
 use Rattle.runs.proofs.CanonicalLaws.{stops-iff}
 use Rattle.runs.proofs.EdgeLaws.{edge-above}
 use Rattle.transfer.specs.declared.Key.{Key}
-use Rattle.transfer.specs.Transfers.{TransferFine}
+use Rattle.transfer.specs.Transfers.{TransferFine, transferOf}
 use Rattle.transfer.proofs.LengthLaws.{length-passed}
 use Rattle.marks.specs.MarkedRuns.{markedRuns}
 use Rattle.marks.proofs.MarkLaws.{marked-canonical}
 use Rattle.timestamp.specs.Timestamps.{keptOctets}
-use Rattle.bitmap_record.proofs.HandedLaws.{kept-is}
+use Rattle.timestamp.proofs.KeptLaws.{kept-is}
 use Rattle.bitmap.specs.State.{stateRefusal}
 use Rattle.bitmap.specs.declared.Held.{Held}
 use Rattle.bitmap_status.specs.WriteStatus.{idRefusal, statusRefusal, marksWritten}
@@ -26,7 +26,7 @@ use Rattle.bitmap_status.proofs.StatusLaws.{status-of}
 use Rattle.status_reads_back.specs.ReadsBack.{MarksReadBack}
 use Rattle.status_reads_back.proofs.TransferReads.{buffer-reads}
 
-marks-fine : (h : Held) (s : List ℕ) → stateRefusal (h .key) s ≡ 0 → h .key .id < 2 ^ 32 → TransferFine (record { key = h .key; runs = markedRuns s; stamp = keptOctets (h .kept) })
+marks-fine : (h : Held) (s : List ℕ) → stateRefusal (h .key) s ≡ 0 → h .key .id < 2 ^ 32 → TransferFine (transferOf (h .key) (markedRuns s) (keptOctets (h .kept)))
 marks-fine h s e low =
     let k = h .key in
     let f = state-known k s e in

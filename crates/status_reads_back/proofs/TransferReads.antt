@@ -15,7 +15,7 @@ use Rattle.packet_status.specs.declared.HoleRead.the-variants as hole-read
 use Rattle.packet.specs.Read.{ofStatus, readType}
 use Rattle.packet.proofs.CaseLaws.{read-typed}
 use Rattle.transfer.specs.declared.Key.{Key}
-use Rattle.transfer.specs.Transfers.{Transfer, TransferFine}
+use Rattle.transfer.specs.Transfers.{Transfer, TransferFine, transferOf}
 use Rattle.transfer_status.specs.WriteStatus.{sizeRefusal, statusPacket, transferRefused, transferWritten, transferBuffer}
 use Rattle.transfer_status.proofs.StatusSize.{status-fits, holes-sent-at}
 use Rattle.transfer_status.proofs.StatusReads.{status-typed, status-read, status-stamp-read, status-holes-read, status-hole-read, status-hole-past}
@@ -37,11 +37,11 @@ module _ (x : Transfer) (fine : TransferFine x) (k : ℕ) (unasked : Bool) (room
         no-more = λ i h. status-hole-past x k unasked room fine allowed i h;
       }
 
-pub buffer-reads : (key : Key) (rs : List Run) (s : List ℕ) → TransferFine (record { key = key; runs = rs; stamp = s }) → (k : ℕ) (unasked : Bool) (old : List ℕ) (n : ℕ)
+pub buffer-reads : (key : Key) (rs : List Run) (s : List ℕ) → TransferFine (transferOf key rs s) → (k : ℕ) (unasked : Bool) (old : List ℕ) (n : ℕ)
     → transferWritten key rs s k unasked old ≡ written.Size n
     → ReadsAs key rs s k unasked (length old) (take n (transferBuffer key rs s k unasked old))
 unfolding transferWritten transferBuffer
 buffer-reads key rs s fine k unasked old n e =
     let p = statusPacket key rs s k unasked (length old) in
     let w = written-size (transferRefused key rs s k unasked old) (length p) n e in
-    rw (w .0, take-put n p old (w .1)) (packet-reads (record { key = key; runs = rs; stamp = s }) fine k unasked (length old) (w .0))
+    rw (w .0, take-put n p old (w .1)) (packet-reads (transferOf key rs s) fine k unasked (length old) (w .0))

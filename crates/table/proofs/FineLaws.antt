@@ -12,7 +12,7 @@ use Rattle.runs.specs.Runs.{Run, Member, Canonical}
 use Rattle.runs.proofs.CanonicalLaws.{canonical-unique}
 use Rattle.transfer.specs.declared.Key.{Key}
 use Rattle.timestamp.specs.Timestamps.{renewed}
-use Rattle.transfer.specs.Transfers.{Transfer, TransferFine, empty}
+use Rattle.transfer.specs.Transfers.{Transfer, TransferFine, empty, transferOf}
 use Rattle.table.specs.Tables.{FineFrom, Valid, keys, find, runsOf, stampOf, add, setRuns, remove}
 use Rattle.table.proofs.TableLaws.{find-head, find-tail, find-cases, runs-head, runs-tail, runs-none, stamp-head, stamp-tail, stamp-none, add-cases, set-cases, remove-cases}
 
@@ -35,11 +35,11 @@ fine-least m i (x ∷ t) k h e =
 
 -- an open transfer is fine
 pub fine-found : (m i : ℕ) (t : List Transfer) (k : Key) → FineFrom m t → find i (keys t) ≡ some k
-    → TransferFine (record { key = k; runs = runsOf t i; stamp = stampOf t i })
+    → TransferFine (transferOf k (runsOf t i) (stampOf t i))
 unfolding keys find
 fine-found m i [] k h e = absurd (let z : _≡_ {A = ℕ} 0 1 = cc in omega arith)
 fine-found m i (x ∷ t) k h e =
-    find-cases (λ (o : Option Key). o ≡ some k → TransferFine (record { key = k; runs = runsOf (x ∷ t) i; stamp = stampOf (x ∷ t) i })) i (x .key) (keys t)
+    find-cases (λ (o : Option Key). o ≡ some k → TransferFine (transferOf k (runsOf (x ∷ t) i) (stampOf (x ∷ t) i))) i (x .key) (keys t)
     (λ q z. let y : x .key ≡ k = cc in rw (runs-head i x t q, stamp-head i x t q, ← y) (h .1))
     (λ q z. rw (runs-tail i x t q, stamp-tail i x t q) (fine-found (suc (x .key .id)) i t k (h .2) z)) e
 
@@ -57,7 +57,7 @@ fine-add m k (x ∷ t) h p e f =
     e
 
 pub fine-set : (m i : ℕ) (rs : List Run) (s : List ℕ) (t : List Transfer) (k : Key) → FineFrom m t → find i (keys t) ≡ some k
-    → TransferFine (record { key = k; runs = rs; stamp = renewed s (stampOf t i) }) → FineFrom m (setRuns i rs s t)
+    → TransferFine (transferOf k rs (renewed s (stampOf t i))) → FineFrom m (setRuns i rs s t)
 unfolding keys setRuns
 fine-set m i rs s [] k h e f = tt
 fine-set m i rs s (x ∷ t) k h e f =
@@ -86,7 +86,7 @@ find-remove-same m i (x ∷ t) h =
 -- ---- R6.2: only the map counts, and not where a transfer is kept
 
 transfer-eq : (x y : Transfer) → x .key ≡ y .key → x .runs ≡ y .runs → x .stamp ≡ y .stamp → x ≡ y
-transfer-eq x y p q r = λ i. record { key = p i; runs = q i; stamp = r i }
+transfer-eq x y p q r = λ i. transferOf (p i) (q i) (r i)
 
 unique-from : (m n : ℕ) (t u : List Transfer) → FineFrom m t → FineFrom n u
     → ((i : ℕ) → find i (keys t) ≡ find i (keys u)) → ((i : ℕ) → runsOf t i ≡ runsOf u i)

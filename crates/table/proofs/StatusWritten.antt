@@ -22,7 +22,7 @@ use Rattle.packet_status.specs.declared.StatusRead.the-variants.{Success}
 use Rattle.runs.specs.Runs.{Run}
 use Rattle.runs.specs.Holes.{holes}
 use Rattle.transfer.specs.declared.Key.{Key}
-use Rattle.transfer.specs.Transfers.{Transfer}
+use Rattle.transfer.specs.Transfers.{Transfer, transferOf}
 use Rattle.table.specs.Tables.{Valid, keys, find, runsOf, stampOf}
 use Rattle.table.specs.WriteStatus.{writtenFor, bufferFor, statusWritten, statusBuffer}
 use Rattle.success_status.specs.SuccessStatus.{statusSize, fieldsRead}
@@ -92,10 +92,10 @@ module _ (t : List Transfer) (v : Valid t) (id k : ℕ) (unasked : Bool) (old : 
   pub status-buffer-read : readStatus (take size (statusBuffer t id k unasked old)) ≡ fieldsWith id
   status-buffer-read =
       ap readStatus status-buffer-packet
-      ∙ status-read (record { key = key; runs = rs; stamp = s }) k unasked (length old) (known .fine) allowed ∙ ap fieldsWith (known .id-is)
+      ∙ status-read (transferOf key rs s) k unasked (length old) (known .fine) allowed ∙ ap fieldsWith (known .id-is)
 
   pub status-buffer-holes : holeList (take size (statusBuffer t id k unasked old)) ≡ sent
-  status-buffer-holes = ap holeList status-buffer-packet ∙ status-holes-read (record { key = key; runs = rs; stamp = s }) k unasked (length old) (known .fine)
+  status-buffer-holes = ap holeList status-buffer-packet ∙ status-holes-read (transferOf key rs s) k unasked (length old) (known .fine)
 
 -- where it is refused, the answer is the refusal, and the buffer keeps what it held: 12 where the Id is not open, 19 and 20 where it is
 module _ (t : List Transfer) (id k : ℕ) (unasked : Bool) (old : List ℕ) where

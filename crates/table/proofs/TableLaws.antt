@@ -13,7 +13,7 @@ use borrow.Author.Tests.{eq-eqb, ne-eqb, eqb-true, eqb-false, ltb-true, ltb-fals
 use Rattle.runs.specs.Runs.{Run}
 use Rattle.transfer.specs.declared.Key.{Key}
 use Rattle.timestamp.specs.Timestamps.{renewed}
-use Rattle.transfer.specs.Transfers.{Transfer, empty}
+use Rattle.transfer.specs.Transfers.{Transfer, empty, withReceived}
 use Rattle.table.specs.Tables.{keys, find, runsOf, stampOf, add, setRuns, remove}
 
 -- a test's two values
@@ -74,11 +74,11 @@ add-cases P k x t f g =
     by-test P (ltb (k .id) (x .key .id)) (empty k ∷ x ∷ t) (x ∷ add k t) (λ b. f (ltb-true _ _ b)) (λ b. g (ltb-false _ _ b))
 
 pub set-cases : (P : List Transfer → Type 0) (i : ℕ) (rs : List Run) (s : List ℕ) (x : Transfer) (t : List Transfer)
-    → (x .key .id ≡ i → P (record { key = x .key; runs = rs; stamp = renewed s (x .stamp) } ∷ t)) → ((x .key .id ≡ i → ⊥) → P (x ∷ setRuns i rs s t))
+    → (x .key .id ≡ i → P (withReceived x rs s ∷ t)) → ((x .key .id ≡ i → ⊥) → P (x ∷ setRuns i rs s t))
     → P (setRuns i rs s (x ∷ t))
 unfolding setRuns
 set-cases P i rs s x t f g =
-    by-test P (eqb (x .key .id) i) (record { key = x .key; runs = rs; stamp = renewed s (x .stamp) } ∷ t) (x ∷ setRuns i rs s t) (λ b. f (eqb-true _ _ b))
+    by-test P (eqb (x .key .id) i) (withReceived x rs s ∷ t) (x ∷ setRuns i rs s t) (λ b. f (eqb-true _ _ b))
     (λ b. g (eqb-false _ _ b))
 
 pub remove-cases : (P : List Transfer → Type 0) (i : ℕ) (x : Transfer) (t : List Transfer)
@@ -165,7 +165,7 @@ unfolding keys setRuns find
 runs-set-same i rs s [] k e = absurd (let z : _≡_ {A = ℕ} 0 1 = cc in omega arith)
 runs-set-same i rs s (x ∷ t) k e =
     set-cases (λ (u : List Transfer). runsOf u i ≡ rs) i rs s x t
-    (λ q. runs-head i (record { key = x .key; runs = rs; stamp = renewed s (x .stamp) }) t q)
+    (λ q. runs-head i (withReceived x rs s) t q)
     (λ q. runs-tail i x (setRuns i rs s t) q ∙ runs-set-same i rs s t k (sym (find-tail i (x .key) (keys t) q) ∙ e))
 
 pub runs-set-other : (i j : ℕ) (rs : List Run) (s : List ℕ) (t : List Transfer) → (i ≡ j → ⊥) → runsOf (setRuns i rs s t) j ≡ runsOf t j
@@ -173,7 +173,7 @@ unfolding setRuns
 runs-set-other i j rs s [] n = refl
 runs-set-other i j rs s (x ∷ t) n =
     set-cases (λ (u : List Transfer). runsOf u j ≡ runsOf (x ∷ t) j) i rs s x t
-    (λ q. let f : x .key .id ≡ j → ⊥ = λ p. n (sym q ∙ p) in runs-tail j (record { key = x .key; runs = rs; stamp = renewed s (x .stamp) }) t f ∙ sym (runs-tail j x t f))
+    (λ q. let f : x .key .id ≡ j → ⊥ = λ p. n (sym q ∙ p) in runs-tail j (withReceived x rs s) t f ∙ sym (runs-tail j x t f))
     (λ q. runs-cong j x (setRuns i rs s t) t (runs-set-other i j rs s t n))
 
 pub runs-remove-other : (i j : ℕ) (t : List Transfer) → (i ≡ j → ⊥) → runsOf (remove i t) j ≡ runsOf t j
@@ -223,7 +223,7 @@ unfolding keys setRuns find
 stamp-set-same i rs s [] k e = absurd (let z : _≡_ {A = ℕ} 0 1 = cc in omega arith)
 stamp-set-same i rs s (x ∷ t) k e =
     set-cases (λ (u : List Transfer). stampOf u i ≡ renewed s (stampOf (x ∷ t) i)) i rs s x t
-    (λ q. stamp-head i (record { key = x .key; runs = rs; stamp = renewed s (x .stamp) }) t q ∙ ap (renewed s) (sym (stamp-head i x t q)))
+    (λ q. stamp-head i (withReceived x rs s) t q ∙ ap (renewed s) (sym (stamp-head i x t q)))
     (λ q.
     stamp-tail i x (setRuns i rs s t) q
     ∙ stamp-set-same i rs s t k (sym (find-tail i (x .key) (keys t) q) ∙ e) ∙ ap (renewed s) (sym (stamp-tail i x t q)))
@@ -233,7 +233,7 @@ unfolding setRuns
 stamp-set-other i j rs s [] n = refl
 stamp-set-other i j rs s (x ∷ t) n =
     set-cases (λ (u : List Transfer). stampOf u j ≡ stampOf (x ∷ t) j) i rs s x t
-    (λ q. let f : x .key .id ≡ j → ⊥ = λ p. n (sym q ∙ p) in stamp-tail j (record { key = x .key; runs = rs; stamp = renewed s (x .stamp) }) t f ∙ sym (stamp-tail j x t f))
+    (λ q. let f : x .key .id ≡ j → ⊥ = λ p. n (sym q ∙ p) in stamp-tail j (withReceived x rs s) t f ∙ sym (stamp-tail j x t f))
     (λ q. stamp-cong j x (setRuns i rs s t) t (stamp-set-other i j rs s t n))
 
 pub stamp-remove-other : (i j : ℕ) (t : List Transfer) → (i ≡ j → ⊥) → stampOf (remove i t) j ≡ stampOf t j

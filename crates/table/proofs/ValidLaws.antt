@@ -14,7 +14,7 @@ use Rattle.transfer.proofs.ExtendLaws.{extended-fine}
 use Rattle.transfer.proofs.StampLaws.{stamp-known}
 use Rattle.transfer.specs.declared.Key.{Key}
 use Rattle.timestamp.specs.Timestamps.{Stamp, renewed}
-use Rattle.transfer.specs.Transfers.{Transfer, TransferFine, empty, keyOf}
+use Rattle.transfer.specs.Transfers.{Transfer, TransferFine, empty, keyOf, transferOf}
 use Rattle.table.specs.Tables.{Valid, keys, find, runsOf, stampOf}
 use Rattle.table.specs.Open.{openPacket}
 use Rattle.table.specs.Record.{grown, recordPacket}
@@ -57,7 +57,7 @@ open-valid t packet o v =
     })
 
 grown-fine : (t : List Transfer) (d : Data) (s : List ℕ) (k : Key) → Valid t → find (d .id) (keys t) ≡ some k → 0 < d .length → stopOf d ≤ k .length
-    → length (grown t d) ≤ 64 → Stamp s → TransferFine (record { key = k; runs = grown t d; stamp = renewed s (stampOf t (d .id)) })
+    → length (grown t d) ≤ 64 → Stamp s → TransferFine (transferOf k (grown t d) (renewed s (stampOf t (d .id))))
 unfolding grown
 grown-fine t d s k v f payload stop few new =
     extended-fine k (runsOf t (d .id)) (stampOf t (d .id)) s d (fine-found 0 (d .id) t k (v .fine) f) payload stop few new

@@ -8,8 +8,7 @@ use lib.ListN.{length}
 use lib.Dec.{ltb, eqb}
 use Rattle.runs.specs.Runs.{Run}
 use Rattle.transfer.specs.declared.Key.{Key}
-use Rattle.timestamp.specs.Timestamps.{renewed}
-use Rattle.transfer.specs.Transfers.{Transfer, TransferFine, empty}
+use Rattle.transfer.specs.Transfers.{Transfer, TransferFine, empty, withReceived}
 
 -- the Ids rise, and the first is at least k
 abbrev pub FineFrom : ℕ → List Transfer → Type 0
@@ -50,7 +49,7 @@ unfoldable pub setRuns : ℕ → List Run → List ℕ → List Transfer → Lis
 setRuns i rs s [] = []
 setRuns i rs s (x ∷ t) =
     let later = x ∷ setRuns i rs s t in
-    cond (eqb (x .key .id) i) (record { key = x .key; runs = rs; stamp = renewed s (x .stamp) } ∷ t) later
+    cond (eqb (x .key .id) i) (withReceived x rs s ∷ t) later
 
 -- without an Id
 unfoldable pub remove : ℕ → List Transfer → List Transfer

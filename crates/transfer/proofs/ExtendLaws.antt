@@ -20,7 +20,7 @@ use Rattle.runs.proofs.CountLaws.{insert-count}
 use Rattle.runs.proofs.RepeatLaws.{insert-known, absorbed-known}
 use Rattle.runs.proofs.AddsLaws.{adds-none, adds-same}
 use Rattle.transfer.specs.declared.Key.{Key}
-use Rattle.transfer.specs.Transfers.{TransferFine}
+use Rattle.transfer.specs.Transfers.{TransferFine, transferOf}
 use Rattle.transfer.specs.Record.{stopOf, keyRefusal, extended, absorbedBy, addsBy, runsRefusal}
 
 -- R6.6: recording adds the offsets of the payload
@@ -73,8 +73,8 @@ pub few-runs : (rs : List Run) → length rs ≤ 64 → runsRefusal rs ≡ 0
 unfolding runsRefusal
 few-runs rs h = rw (le-ltb 64 (length rs) h)
 
-pub extended-fine : (k : Key) (rs : List Run) (s new : List ℕ) (d : Data) → TransferFine (record { key = k; runs = rs; stamp = s }) → 0 < d .length
-    → stopOf d ≤ k .length → length (extended rs d) ≤ 64 → Stamp new → TransferFine (record { key = k; runs = extended rs d; stamp = renewed new s })
+pub extended-fine : (k : Key) (rs : List Run) (s new : List ℕ) (d : Data) → TransferFine (transferOf k rs s) → 0 < d .length
+    → stopOf d ≤ k .length → length (extended rs d) ≤ 64 → Stamp new → TransferFine (transferOf k (extended rs d) (renewed new s))
 unfolding extended
 extended-fine k rs s new d x payload stop few brought =
     record {

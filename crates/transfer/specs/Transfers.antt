@@ -8,7 +8,7 @@ use mathlib.Core.Logic.{_↔_}
 use lib.ListN.{length}
 use lib.Dec.{ltb, eqb}
 use Rattle.octets.specs.Numbers.{Width}
-use Rattle.timestamp.specs.Timestamps.{Stamp}
+use Rattle.timestamp.specs.Timestamps.{Stamp, renewed}
 use Rattle.packet_metadata.specs.declared.Metadata.{Metadata}
 use Rattle.runs.specs.Runs.{Run, Member, Canonical, StopsTo}
 use Rattle.runs.specs.Holes.{edge, complete}
@@ -31,9 +31,17 @@ pub record Transfer : Type 0 where
   pub runs : List Run
   pub stamp : List ℕ
 
+-- the one place where a transfer is made of its parts
+abbrev pub transferOf : Key → List Run → List ℕ → Transfer
+transferOf k rs s = record { key = k; runs = rs; stamp = s }
+
 -- R6.4: nothing is received, and no timestamp is kept
 abbrev pub empty : Key → Transfer
-empty k = record { key = k; runs = []; stamp = [] }
+empty k = transferOf k [] []
+
+-- R6.6, R6.14: the transfer with other runs, and with the timestamp s where a packet brings one
+abbrev pub withReceived : Transfer → List Run → List ℕ → Transfer
+withReceived x rs s = transferOf (x .key) rs (renewed s (x .stamp))
 
 -- R6.1: L fits the width and is below 2^64, whatever the width is; all received offsets are below L, in at most 64 runs
 pub record TransferFine (x : Transfer) : Type 0 where

@@ -26,7 +26,7 @@ use Rattle.marks.specs.Marks.{markOctets, markCount, marked, withMarks}
 use Rattle.marks.specs.MarkedRuns.{markedRuns}
 use Rattle.marks.specs.Walk.{runRows, FirstWith}
 use Rattle.marks.proofs.MarkLaws.{marked-canonical, runs-inserted}
-use Rattle.marks.proofs.FoundLaws.{progress-found}
+use Rattle.marked_runs.proofs.FoundLaws.{progress-found}
 use Rattle.bitmap.specs.State.{longest}
 use Rattle.bitmap.specs.Judged.{RunsStand}
 use Rattle.bitmap_record.specs.Record.{recordAs}

@@ -47,7 +47,7 @@ fn extend(key: Key, marks: &mut [u8], rows: &[u8], n: usize, d: Data) -> Recorde
     }
     marks::set_marks(marks, from as usize, to as usize);
     let edge = greater(run_rows::edge_of(rows, at), to);
-    let complete = key.length <= marks::first(marks, 0, false) as u64;
+    let complete = key.length <= marked_runs::first(marks, 0, false) as u64;
     let reached = Reached { edge, complete };
     let absorbed = (j - i) as u64;
     let adds = run_cuts::adds_of(rows, at, i, j, from, to);

@@ -36,9 +36,9 @@ fn put_pieces(
     let mut next = at;
     let mut i: u64 = 0;
     while i < count {
-        let p = plan::piece_at(cursor, largest);
+        let p = planner::piece_at(cursor, largest);
         next = put_in_list(out, next, i, b"+", p.offset, p.length);
-        cursor = plan::next_cursor(status, cursor, largest);
+        cursor = planner::next_cursor(status, cursor, largest);
         i += 1;
     }
     next
@@ -56,7 +56,7 @@ fn put_planned(
     requires { ⌜ (at ≤ length (now out)) × (planRefusal largest recordsLent (now status) ≡ 0) × (p ≡ planFor largest (now status)) ⌝ }
     ensures { λ r. ⌜ Added (now (out .entry)) at (planLine number largest (now (status .entry))) (now (out .exit)) r ⌝ }
 {
-    let first = plan::cursor_at(status, p.holes, 0);
+    let first = planner::cursor_at(status, p.holes, 0);
     let a = text::put_decimal(out, at, number);
     let b = put_field(out, a, b" plan count=", p.count);
     let c = text::put_text(out, b, b" pieces=");
@@ -69,7 +69,7 @@ fn put_plan(out: &mut [u8], at: usize, number: u64, status: &[u8], largest: u64)
     requires { ⌜ at ≤ length (now out) ⌝ }
     ensures { λ r. ⌜ Added (now (out .entry)) at (planLine number largest (now (status .entry))) (now (out .exit)) r ⌝ }
 {
-    let p = plan::plan_within(status, largest, 4096);
+    let p = planner::plan_within(status, largest, 4096);
     if p.number != 0 {
         let x = refusals::refuse(p.number);
         return replay_lines::put_refused(out, at, number, x);

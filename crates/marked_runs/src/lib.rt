@@ -63,7 +63,7 @@ fn skip_octets(marks: &[u8], from: usize, wanted: bool) -> usize
     k
 }
 
-// The first offset from `from` on whose mark is as wanted, and marks::MARKS where there is none. Whole octets are passed over at once.
+// The first offset from `from` on whose mark is as wanted, and MARKS where there is none. Whole octets are passed over at once.
 pub fn first(marks: &[u8], from: usize, wanted: bool) -> usize
     requires { ⌜ (markOctets ≤ length (now marks)) × (from ≤ markCount) ⌝ }
     ensures { λ r. ⌜ FirstWith (marked (now (marks .entry))) wanted from markCount r ⌝ }

@@ -1,4 +1,4 @@
--- `replay_plan::check_record` meets its contract: `bad length`, or the check of the pieces for the packet after them.
+-- `replay_check::check_record` meets its contract: `bad length`, or the check of the pieces for the packet after them.
 -- Assumes nothing.
 use Prim.Native.Nat.{ℕ, _+_, _*_}
 use mathlib.Core.Path.{_≡_, ap, ap₂, _∙_}
@@ -10,11 +10,11 @@ use lib.Seq.{take-all}
 use borrow.Author.Tests.{lt-ltb, le-ltb}
 use borrow.Author.Needs.{needs}
 use Rattle.text.proofs.AddedLaws.{added-as}
 use Rattle.replay_plan.specs.PlanLines.{piecesIn, checkLine}
 use Rattle.replay_lines.specs.Body.{numberAt}
 use Rattle.replay_plan.specs.PlanRecords.{checkLines}
-use Rattle.replay_plan.proofs.check_record.Statement.{statement}
-use Rattle.replay_plan.proofs.check_record.Tie as tie
+use Rattle.replay_check.proofs.check_record.Statement.{statement}
+use Rattle.replay_check.proofs.check_record.Tie as tie
 
 returns : tie.Need-returns
 unfolding checkLines

@@ -1,7 +1,7 @@
--- `replay_plan::piece_in` meets its contract. Assumes nothing.
+-- `replay_check::piece_in` meets its contract. Assumes nothing.
 use native.Mathlib.Omega.{arith}
-use Rattle.replay_plan.proofs.piece_in.Statement.{statement}
-use Rattle.replay_plan.proofs.piece_in.Tie as tie
+use Rattle.replay_check.proofs.piece_in.Statement.{statement}
+use Rattle.replay_check.proofs.piece_in.Tie as tie
 
 returns : tie.Need-returns
 returns c = rw (c .before .read-eight .ensures, c .read-eight2 .ensures)

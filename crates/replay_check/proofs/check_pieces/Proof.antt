@@ -1,4 +1,4 @@
--- `replay_plan::check_pieces` meets its contract: before each turn the first i pieces are checked.
+-- `replay_check::check_pieces` meets its contract: before each turn the first i pieces are checked.
 -- Assumes nothing.
 use Prim.Native.Nat.{_-_, _≤_}
 use mathlib.Core.Path.{_≡_, refl, sym, ap, ap₂, _∙_}
@@ -11,9 +11,9 @@ use Rattle.plan_check.specs.Checking.{checkStep, checkAll}
 use Rattle.plan.specs.declared.Piece.{Piece}
 use Rattle.plan_check.specs.declared.Check.{Check}
 use Rattle.plan_check.proofs.CheckLaws.{all-more, count-all}
 use Rattle.replay_plan.specs.PlanLines.{pieceIn, piecesIn}
-use Rattle.replay_plan.proofs.check_pieces.Statement.{statement}
-use Rattle.replay_plan.proofs.check_pieces.Tie as tie
+use Rattle.replay_check.proofs.check_pieces.Statement.{statement}
+use Rattle.replay_check.proofs.check_pieces.Tie as tie
 
 abbrev Inv-loop : tie.InvT-loop
 Inv-loop status m s n k₀ i₀ k i = (i ≤ n) × (k ≡ checkAll (holeList status) m k₀ (piecesIn s i))

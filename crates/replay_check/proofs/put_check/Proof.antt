@@ -1,4 +1,4 @@
--- `replay_plan::put_check` meets its contract: the refusal, or whether the pieces pass.
+-- `replay_check::put_check` meets its contract: the refusal, or whether the pieces pass.
 -- Assumes nothing.
 use Prim.Native.Nat.{ℕ}
 use mathlib.Core.Path.{_≡_, refl, sym, ap, _∙_}
@@ -16,10 +16,10 @@ use Rattle.text.proofs.AddedLaws.{_then_, added-as}
 use Rattle.replay_fields.specs.Fields.{field, flagOf}
 use Rattle.replay_lines.specs.Lines.{refusedLine}
 use Rattle.replay_fields.specs.LineWords.{w-check}
 use Rattle.replay_plan.specs.PlanLines.{piecesIn, checkPasses, checkedText, checkLine}
 use Rattle.replay_plan.proofs.LineLaws.{checked-number, checked-refused}
-use Rattle.replay_plan.proofs.put_check.Statement.{statement}
-use Rattle.replay_plan.proofs.put_check.Tie as tie
+use Rattle.replay_check.proofs.put_check.Statement.{statement}
+use Rattle.replay_check.proofs.put_check.Tie as tie
 
 check-pieces-requires : tie.Need-check-pieces-requires
 check-pieces-requires c κs =

@@ -1,10 +1,10 @@
--- `replay::tell` is safe: the lines that are written lie within their buffer.
+-- `replay_loop::tell` is safe: the lines that are written lie within their buffer.
 -- Assumes nothing.
 use mathlib.Core.Path.{sym}
 use lib.Seq.{length-take-le}
 use borrow.Author.Needs.{needs}
-use Rattle.replay.proofs.tell.Statement.{statement}
-use Rattle.replay.proofs.tell.Tie as tie
+use Rattle.replay_loop.proofs.tell.Statement.{statement}
+use Rattle.replay_loop.proofs.tell.Tie as tie
 
 slice-aggregate-write-all : tie.Need-slice-aggregate-write-all
 slice-aggregate-write-all c =

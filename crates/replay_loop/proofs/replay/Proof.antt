@@ -1,11 +1,11 @@
--- `replay::replay` is safe and ends: the records are counted. The buffers keep their lengths.
+-- `replay_loop::replay` is safe and ends: the records are counted. The buffers keep their lengths.
 -- Assumes nothing.
 use Prim.Native.Nat.{_-_}
 use mathlib.Core.Path.{_≡_, refl, _∙_}
 use native.Mathlib.Omega.{arith}
 use lib.ListN.{length}
-use Rattle.replay.proofs.replay.Statement.{statement}
-use Rattle.replay.proofs.replay.Tie as tie
+use Rattle.replay_loop.proofs.replay.Statement.{statement}
+use Rattle.replay_loop.proofs.replay.Tie as tie
 
 abbrev Inv-loop : tie.InvT-loop
 Inv-loop fd area₀ body₀ lent₀ out₀ number₀ area body lent out number =

@@ -1,4 +1,4 @@
--- `replay::step` is safe: the part of the body that is lent lies within its buffer.
+-- `replay_loop::step` is safe: the part of the body that is lent lies within its buffer.
 -- Assumes nothing.
 use Prim.Native.Nat.{_≤_}
 use mathlib.Core.Path.{sym, ap}
@@ -7,8 +7,8 @@ use lib.ListN.{length}
 use lib.Seq.{length-take-le}
 use borrow.Author.Needs.{needs}
 use Rattle.replay_input.specs.Input.{keptOf}
-use Rattle.replay.proofs.step.Statement.{statement}
-use Rattle.replay.proofs.step.Tie as tie
+use Rattle.replay_loop.proofs.step.Statement.{statement}
+use Rattle.replay_loop.proofs.step.Tie as tie
 
 -- what was kept of the body stands in its buffer
 kept : (c : tie.After-kind) → c .kind .given .0 .1 .0 ≤ length (c .before .before .before .before .next .last .1 .0)

@@ -38,8 +38,7 @@ all-none f b n = record { rise = omega arith; all = λ m p q. absurd (omega arit
 
 pub all-join : (f : ℕ → Bool) (b : Bool) (n m r : ℕ) → AllAre f b n m → AllAre f b m r → AllAre f b n r
 all-join f b n m r x y =
-    let i = x .rise in
-    let j = y .rise in
+    let i = x .rise in let j = y .rise in
     record { rise = omega arith; all = λ k p q. ⊎-elim (λ (u : m ≤ k). y .all k u q) (λ (u : k < m). x .all k p u) (le-or-lt m k) }
 
 pub all-one : (f : ℕ → Bool) (b : Bool) (n : ℕ) → f n ≡ b → AllAre f b n (n + 1)

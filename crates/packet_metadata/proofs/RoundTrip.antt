@@ -163,8 +163,7 @@ module _ (s : List ℕ) (o : Octets s) (ok : metadataRefusal s ≡ 0) where
   pub metadata-written-read : metadataOctets (m .flags) (m .id) checksumPart (m .entry .properties) (m .entry .size) (m .entry .mtime) (m .entry .ctime) pathOctets ≡ s
   unfolding metadataOctets metadataOf
   metadata-written-read =
-      let t = known .start in
-      let l = t .long in
+      let t = known .start in let l = t .long in
       join s (beDigits 4 (wordFor 2 (flagsOf w))) (beDigits 4 (idOf s)) _ (checksumOctets w)
       (ap (beDigits 4) (word-again w 2 (part-lt s 0 4 o (omega arith)) (t .start .mark) (t .ptype)) ∙ part-digits s 0 4 o (omega arith))
       (part-digits s 4 4 o (omega arith))

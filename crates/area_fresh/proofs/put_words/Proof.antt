@@ -19,16 +19,14 @@ abbrev μ-loop : tie.MeasureT-loop
 
 loop-again : tie.Need-loop-again Inv-loop μ-loop
 loop-again c =
-    let p = c .before .before in
-    let l = p .before .before .before .before .loop in
+    let p = c .before .before in let l = p .before .before .before .before .loop in
     let s = p .before .before .before .before .before .before .before in
     let fits = p .before .before .before .before .before .shared-slice-known .given (l .i) .fits in
     (omega arith, words-more (now (s .args .area)) _ _ (s .args .k) (now (s .args .ws)) (l .i) _ (l .inv .1) (omega arith) refl fits (p .put-word .ensures))
 
 returns : tie.Need-returns Inv-loop μ-loop
 returns c =
-    let l = c .before .loop in
-    let s = c .before .before .before .before in
+    let l = c .before .loop in let s = c .before .before .before .before in
     let e : l .i ≡ length (now (s .args .ws)) = omega (arith, l .inv .0) in
     subst (λ n. WordsPut (now (s .args .area)) (l .area) (s .args .k) (now (s .args .ws)) n) e (l .inv .1)
 

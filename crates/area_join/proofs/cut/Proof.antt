@@ -42,10 +42,7 @@ cuts c = (c .cut-below .ensures .inside, c .before .cut-to .ensures .inside, row
 
 returns-2 : tie.Need-returns-2
 returns-2 c =
-    let q = c .before .before in
-    let r = q .before .before in
-    let e = r .before in
-    let s = e .before .before .before in
+    let q = c .before .before in let r = q .before .before in let e = r .before in let s = e .before .before .before in
     let a = now (s .args .area) in
     let t = s .args .t in
     cut-refused _ (omega arith) 16 (c .uncut2 .ensures) (λ z. omega arith)
@@ -54,8 +51,7 @@ returns-2 c =
 
 returns-3 : tie.Need-returns-3
 returns-3 c =
-    let q = c .before in
-    let r = q .before .before in
+    let q = c .before in let r = q .before .before in
     let k = rows r in
     cut-found _ (omega arith) refl
     (record {

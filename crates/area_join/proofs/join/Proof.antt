@@ -47,23 +47,15 @@ edge-with-requires c κs = rows (c .before .before) .fit
 -- the runs before the joined one are there
 inside : (c : tie.After-rows-at) → let s = c .before .before in s .args .c .i ≤ length (runsIn (now (s .args .area)) (c .rows-at .result))
 inside c =
-    let s = c .before .before in
-    let w = c .rows-at .result in
+    let s = c .before .before in let w = c .rows-at .result in
     omega (arith, length-runs (now (s .args .area)) (w .starts) (w .stops) (w .count), lower c .inside, upper c .inside)
 
 returns : tie.Need-returns
 returns c =
-    let v = c .before .before in
-    let g = v .before in
-    let h = g .before in
-    let l = h .before in
-    let r = l .before in
+    let v = c .before .before in let g = v .before in let h = g .before in let l = h .before in let r = l .before in
     let s = r .before .before in
     let a = now (s .args .area) in
-    let t = s .args .t in
-    let k = s .args .c in
-    let f = s .pre .0 in
-    let p = s .pre .1 in
+    let t = s .args .t in let k = s .args .c in let f = s .pre .0 in let p = s .pre .1 in
     let told : _≡_ {A = Reached} (record { edge = g .edge-with .result; complete = leb (t .length) (v .progress-with .result) }) _ =
     ap (λ (n : ℕ). record { edge = g .edge-with .result; complete = leb n (v .progress-with .result) }) (f .length-is)
     ∙ reached-with (keyAt a (t .place)) (runsIn a (r .rows-at .result)) (k .i) (k .j) (l .joined-start .result) (h .joined-stop .result) (g .edge-with .result)

@@ -32,9 +32,7 @@ held c = c .before .before .pre (omega arith) .0
 
 returns-2 : tie.Need-returns-2
 returns-2 c =
-    let f = c .before .before .before in
-    let e = f .before in
-    let s = e .before .before in
+    let f = c .before .before .before in let e = f .before in let s = e .before .before in
     located-refused _ (omega arith) 12 (c .nowhere2 .ensures) (λ z. omega arith)
     (fields-missing (now (s .args .area)) (held e) (s .args .d) (f .find-place .result) (f .find-place .ensures) (not-true _ (c .before .if2 .taken)) (octets (e .before)))
 
@@ -44,22 +42,17 @@ open-known : (c : tie.Else2)
     let s = f .before .before .before in
     KeptAt (s .args .d .id) (readTable (now (s .args .area))) (f .find-place .result .at)
 open-known c =
-    let f = c .before .before in
-    let s = f .before .before .before in
+    let f = c .before .before in let s = f .before .before .before in
     place-open (s .args .d .id) (readTable (now (s .args .area))) (f .find-place .result) (f .find-place .ensures) (not-false _ (c .if2 .left))
 
 key-at-requires : tie.Need-key-at-requires
 key-at-requires c κs =
-    let e = c .before .before .before in
-    let s = e .before .before in
+    let e = c .before .before .before in let s = e .before .before in
     kept-known (now (s .args .area)) (s .args .d .id) _ (open-known c) (held e)
 
 returns-3 : tie.Need-returns-3
 returns-3 c =
-    let r = c .before .before in
-    let k = r .before in
-    let f = k .before .before .before in
-    let e = f .before in
+    let r = c .before .before in let k = r .before in let f = k .before .before .before in let e = f .before in
     let s = e .before .before in
     located-refused _ (omega arith) (r .key-refusal .result) (c .nowhere3 .ensures) (omega arith)
     (fields-refused (now (s .args .area)) (held e) (s .args .d) (f .find-place .result) (f .find-place .ensures) (open-known (k .before)) (k .key-at .result) (k .key-at .ensures)
@@ -67,20 +60,14 @@ returns-3 c =
 
 add-to : tie.Need-add-to
 add-to c =
-    let r = c .before in
-    let k = r .before in
-    let d = k .before .before .before .before .before .before .args .d in
+    let r = c .before in let k = r .before in let d = k .before .before .before .before .before .before .args .d in
     let stop = key-stop (k .key-at .result) d (sym (r .key-refusal .ensures) ∙ c .if3 .left) in
     omega arith
 
 returns-4 : tie.Need-returns-4
 returns-4 c =
-    let r = c .before in
-    let k = r .before in
-    let f = k .before .before .before in
-    let e = f .before in
-    let s = e .before .before in
-    let d = s .args .d in
+    let r = c .before in let k = r .before in let f = k .before .before .before in let e = f .before in
+    let s = e .before .before in let d = s .args .d in
     let a = now (s .args .area) in
     let p = f .find-place .result .at in
     located-found _ (omega arith) refl

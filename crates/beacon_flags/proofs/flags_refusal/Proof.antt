@@ -19,15 +19,13 @@ returns-2 c =
 returns-3 : tie.Need-returns-3
 unfolding flagsRefusal
 returns-3 c =
-    let start = c .before .before .before .before .before .before .before in
-    let w = start .args .w in
+    let start = c .before .before .before .before .before .before .before in let w = start .args .w in
     rw (ne-eqb (sendingPair w) 1 (omega arith), ne-eqb (receivingPair w) 1 (omega arith), ne-eqb (lastOctet w) 0 (omega arith))
 
 returns-4 : tie.Need-returns-4
 unfolding flagsRefusal
 returns-4 c =
-    let start = c .before .before .before .before .before .before .before in
-    let w = start .args .w in
+    let start = c .before .before .before .before .before .before .before in let w = start .args .w in
     rw (ne-eqb (sendingPair w) 1 (omega arith), ne-eqb (receivingPair w) 1 (omega arith), eq-eqb (lastOctet w) 0 (omega arith))
 
 pub flags-refusal-spec : {M : Type 1} → statement M

@@ -10,8 +10,7 @@ use Rattle.beacon_flags.proofs.free_octets.Tie as tie
 
 returns : tie.Need-returns
 returns c =
-    let split-place = c .before .before .before in
-    let w = split-place .before .args .w in
+    let split-place = c .before .before .before in let w = split-place .before .args .w in
     rw (eq-eqb (freePresent w) 1 (omega arith)) (c .octets-of-width .ensures ∙ ap (λ (n : ℕ). 2 * 2 ^ n) (split-place .split .ensures .width-is))
 
 returns-2 : tie.Need-returns-2

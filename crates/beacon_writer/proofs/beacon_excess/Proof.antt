@@ -24,16 +24,14 @@ free-fits c =
 returns-2 : tie.Need-returns-2
 unfolding beaconExcess
 returns-2 c =
-    let if1-place = c .before .before .before in
-    let a = if1-place .before .args in
+    let if1-place = c .before .before .before in let a = if1-place .before .args in
     let v : ltb (a .free) (256 ^ freeOctets (a .flags)) ≡ false = sym (free-fits (c .before)) ∙ not-true _ (c .if2 .taken) in
     rw (lt-ltb (a .flags) (2 ^ 24) (if1-place .if1 .left), v)
 
 returns-3 : tie.Need-returns-3
 unfolding beaconExcess
 returns-3 c =
-    let if1-place = c .before .before .before in
-    let a = if1-place .before .args in
+    let if1-place = c .before .before .before in let a = if1-place .before .args in
     let v : ltb (a .free) (256 ^ freeOctets (a .flags)) ≡ true = sym (free-fits (c .before)) ∙ not-false _ (c .if2 .left) in
     rw (lt-ltb (a .flags) (2 ^ 24) (if1-place .if1 .left), v)
 

@@ -27,11 +27,8 @@ add-room-refusal c =
 returns-2 : tie.Need-returns-2
 unfolding beaconWriteRefusal
 returns-2 c =
-    let room-place = c .before in
-    let endpoint-place = room-place .before in
-    let flags-place = endpoint-place .before in
-    let start = flags-place .before .before .before in
-    let a = start .args in
+    let room-place = c .before in let endpoint-place = room-place .before in let flags-place = endpoint-place .before in
+    let start = flags-place .before .before .before in let a = start .args in
     let z : beaconExcess (a .flags) (a .free) ≡ 0 = omega arith in
     let d : room-place .room-refusal .result ≡ roomRefusal (endpointAt (a .flags) + a .endpoint) (a .room) =
     room-place .room-refusal .ensures ∙ ap (λ (n : ℕ). roomRefusal (n + a .endpoint) (a .room)) (endpoint-place .endpoint-at .ensures) in

@@ -23,11 +23,8 @@ returns c =
     let write-number2-place = copy-into-place .before .before .before .before in
     let free-octets-place = write-number2-place .before in
     let write-number-place = free-octets-place .before .before .before .before in
-    let join-place = write-number-place .before in
-    let endpoint-place = join-place .before .before in
-    let start = endpoint-place .before .before .before in
-    let a = start .args in
-    let f = a .flags in
+    let join-place = write-number-place .before in let endpoint-place = join-place .before .before in
+    let start = endpoint-place .before .before .before in let a = start .args in let f = a .flags in
     let e = now (a .endpoint) in
     let h : endpointAt f + length e ≤ length (now (a .out)) = start .pre .fits in
     let l : length (beDigits (freeOctets f) (a .free)) ≡ freeOctets f = length-digits (freeOctets f) (a .free) in (

@@ -15,8 +15,7 @@ returns : tie.Need-returns
 unfolding beaconWritten beaconBuffer
 returns c =
     let beacon-write-refusal-place = c .before .before in
-    let start = beacon-write-refusal-place .before .before .before in
-    let a = start .args in
+    let start = beacon-write-refusal-place .before .before .before in let a = start .args in
     let n = beaconRefused (a .flags) (a .free) (now (a .endpoint)) (now (a .out)) in
     let e : beacon-write-refusal-place .beacon-write-refusal .result ≡ n = beacon-write-refusal-place .beacon-write-refusal .ensures in (
       rw (c .refuse .ensures, e) (written-refused n _ (omega arith)),
@@ -25,16 +24,14 @@ returns c =
 
 put-beacon-requires : tie.Need-put-beacon-requires
 put-beacon-requires c κs =
-    let start = c .before .before .before .before .before in
-    let a = start .args in
+    let start = c .before .before .before .before .before in let a = start .args in
     writable (a .flags) (a .free) (length (now (a .endpoint))) (length (now (a .out))) (omega arith) .fine
 
 returns-2 : tie.Need-returns-2
 unfolding beaconWritten beaconBuffer
 returns-2 c =
     let put-beacon-place = c .before .before in
-    let start = put-beacon-place .before .before .before .before .before .before in
-    let a = start .args in
+    let start = put-beacon-place .before .before .before .before .before .before in let a = start .args in
     let n = beaconRefused (a .flags) (a .free) (now (a .endpoint)) (now (a .out)) in
     let z : n ≡ 0 = omega arith in (
       rw (z, put-beacon-place .put-beacon .ensures .0),

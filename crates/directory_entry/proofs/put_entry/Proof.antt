@@ -24,8 +24,7 @@ returns c =
     let write-number2-place = write-number3-place .before .before .before .before in
     let write-number-place = write-number2-place .before .before .before .before in
     let size-octets-place = write-number-place .before .before in
-    let start = size-octets-place .before .before .before in
-    let a = start .args in
+    let start = size-octets-place .before .before .before in let a = start .args in
     let k = sizeOctets (a .properties) in
     let p = now (a .path) in
     let l : length (beDigits k (a .size)) ≡ k = length-digits k (a .size) in

@@ -34,8 +34,7 @@ unfolding failureWritten failureBuffer
 returns-2 c =
     let write-number2-place = c .before .before in
     let write-number-place = write-number2-place .before .before .before .before in
-    let join-place = write-number-place .before in
-    let start = join-place .before .before .before .before .before in
+    let join-place = write-number-place .before in let start = join-place .before .before .before .before .before in
     let a = start .args in
     let z : failureWriteRefusal (a .id) (a .status) (length (now (a .out))) ≡ 0 = omega arith in
     (rw z, rw (z, write-number2-place .write-number2 .ensures, write-number-place .write-number .ensures, join-place .join .ensures) (failure-put (a .id) (a .status) (now (a .out)) (failure-fine _ _ _ z .fits)))

@@ -20,8 +20,7 @@ sixteen c = width-wide (c .before .before .before .before .pre .0) (λ e. omega 
 
 returns-4 : tie.Need-returns-4
 returns-4 c =
-    let start = c .before .before .before .before .before in
-    let a = start .args in
+    let start = c .before .before .before .before .before in let a = start .args in
     let s = now (a .s) in
     let e : a .d ≡ 16 = sixteen (c .before) in
     let p : descriptorRefusal 16 (a .at) s ≡ 0 = rw e at (start .pre .1) in

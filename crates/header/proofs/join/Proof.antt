@@ -9,8 +9,7 @@ use Rattle.header.proofs.join.Tie as tie
 
 returns : tie.Need-returns
 returns c =
-    let t = c .args .ptype in
-    let f = c .args .flags in
+    let t = c .args .ptype in let f = c .args .flags in
     let e : 2 ^ 30 + t * 2 ^ 24 % 2 ^ 64 ≡ (64 + t) * 2 ^ 24 = omega arith in
     ap (λ (n : ℕ). bitOr n f) (or-shifted 1 30 (t * 2 ^ 24 % 2 ^ 64) (omega arith) ∙ e)
     ∙ or-shifted (64 + t) 24 f (omega arith)

@@ -36,8 +36,7 @@ pairs : (c : tie.In-loop Inv-loop μ-loop)
     (descriptorRefusal (a .d) (l .at) (now (a .s)) ≡ 0) × (descriptorRefusal (a .d) (l .at + a .d) (now (a .s)) ≡ 0)
     × (descriptorsRefusal (a .d) (2 * (l .left - 1)) (l .at + 2 * a .d) (now (a .s)) ≡ 0)
 pairs c =
-    let a = c .before .before .before .args in
-    let l = c .before .loop in
+    let a = c .before .before .before .args in let l = c .before .loop in
     pair-none (a .d) (now (a .s)) (l .left) (l .at) (omega arith) (l .inv .1)
 
 -- the judgement, with the first of the holes that are left
@@ -47,8 +46,7 @@ first : (c : tie.After-hole-at Inv-loop μ-loop)
     holesAfter (a .prev) (a .top) (holesOf (a .d) (a .n) (a .from) (now (a .s)))
     ≡ holesAfter (l .last) (a .top) (c .hole-at .result ∷ holesOf (a .d) (l .left - 1) (l .at + 2 * a .d) (now (a .s)))
 first c =
-    let a = c .before .before .before .before .args in
-    let l = c .before .before .loop in
+    let a = c .before .before .before .before .args in let l = c .before .before .loop in
     l .inv .2 ∙ rw (holes-step (a .d) (l .left) (l .at) (now (a .s)) (omega arith), c .hole-at .ensures)
 
 returns : tie.Need-returns Inv-loop μ-loop
@@ -58,10 +56,8 @@ returns c =
 
 returns-2 : tie.Need-returns-2 Inv-loop μ-loop
 returns-2 c =
-    let before-place = c .before .before .before in
-    let hole-at-place = before-place .before in
-    let loop-place = hole-at-place .before .before in
-    let h = hole-at-place .hole-at .result in
+    let before-place = c .before .before .before in let hole-at-place = before-place .before in
+    let loop-place = hole-at-place .before .before in let h = hole-at-place .hole-at .result in
     sym (first (before-place .before) ∙ rw (lt-ltb (loop-place .loop .last) (h .start) (omega arith), le-ltb (h .start) (h .end) (omega arith)))
 
 returns-3 : tie.Need-returns-3 Inv-loop μ-loop

@@ -31,8 +31,7 @@ pairs : (c : tie.Else1)
     (descriptorRefusal (a .d) (a .at) (now (a .s)) ≡ 0) × (descriptorRefusal (a .d) (a .at + a .d) (now (a .s)) ≡ 0)
     × (descriptorsRefusal (a .d) (2 * (a .n - 1)) (a .at + 2 * a .d) (now (a .s)) ≡ 0)
 pairs c =
-    let start = c .before .before in
-    let a = start .args in
+    let start = c .before .before in let a = start .args in
     pair-none (a .d) (now (a .s)) (a .n) (a .at) (omega arith) (start .pre .2)
 
 -- the judgement, with the first hole

@@ -12,8 +12,7 @@ use Rattle.hole_list.proofs.put_hole.Tie as tie
 
 returns : tie.Need-returns
 returns c =
-    let a = c .before .before .before .before .before .before .before .before .before .args in
-    let d = a .width in
+    let a = c .before .before .before .before .before .before .before .before .before .args in let d = a .width in
     rw (c .before .before .write-number2 .ensures, c .before .before .before .before .before .before .write-number .ensures)
     (put-next (a .at) (a .at + d) (beDigits d (a .h .start)) (beDigits d (a .h .end)) (now (a .out))
     (omega (arith, length-digits d (a .h .start))) (omega (arith, length-digits d (a .h .end))))

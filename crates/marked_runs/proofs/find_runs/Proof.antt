@@ -30,17 +30,13 @@ loop-holds c =
 
 returns : tie.Need-returns Inv-loop μ-loop
 returns c =
-    let l = c .before .before .loop in
-    let i = l .inv in
+    let l = c .before .before .loop in let i = l .inv in
     walk-breaks _ (l .rows) (l .n) (l .start) (omega arith) (omega arith) (i .3 (omega arith)) (i .4)
 
 loop-again : tie.Need-loop-again Inv-loop μ-loop
 loop-again c =
-    let second = c .before .before .before in
-    let first = second .before .before .before .before in
-    let stop = first .before .before in
-    let turn = stop .before .before .before in
-    let l = turn .loop in
+    let second = c .before .before .before in let first = second .before .before .before .before in
+    let stop = first .before .before in let turn = stop .before .before .before in let l = turn .loop in
     let i = l .inv in
     let g = c .first3 .ensures in (
       second .put-word2 .kept .0 ∙ first .put-word .kept .0 ∙ i .0,

@@ -19,8 +19,7 @@ abbrev μ-loop : tie.MeasureT-loop
 
 returns : tie.Need-returns Inv-loop μ-loop
 returns c =
-    let l = c .before .before .before .loop in
-    let m = c .before .is-marked in
+    let l = c .before .before .before .loop in let m = c .before .is-marked in
     record { passed = l .inv .0; within = l .inv .1; found = λ h. sym (m .ensures) ∙ equal (m .result) _ (c .if1 .taken) }
 
 -- the mark is not as wanted
@@ -30,8 +29,7 @@ not-wanted c = let m = c .before .is-marked in sym (m .ensures) ∙ not-equal (m
 
 loop-again : tie.Need-loop-again Inv-loop μ-loop
 loop-again c =
-    let e = c .before .before in
-    let l = e .before .before .before in
+    let e = c .before .before in let l = e .before .before .before in
     let a = l .before .before .args in (
       marks-skipped (now (a .marks)) (a .wanted) (a .from) (l .loop .n) (c .skip-octets .result) (not-wanted e) (omega arith) (l .loop .inv .0) (c .skip-octets .ensures .0),
       omega (arith, c .skip-octets .ensures .1),
@@ -39,9 +37,7 @@ loop-again c =
 
 loop-again-2 : tie.Need-loop-again-2 Inv-loop μ-loop
 loop-again-2 c =
-    let e = c .before in
-    let l = e .before .before .before in
-    let a = l .before .before .args in
+    let e = c .before in let l = e .before .before .before in let a = l .before .before .args in
     (mark-passed (now (a .marks)) (a .wanted) (a .from) (l .loop .n) (not-wanted e) (l .loop .inv .0), omega arith)
 
 pub first-spec : {M : Type 1} → statement M

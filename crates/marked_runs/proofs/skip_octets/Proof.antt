@@ -26,8 +26,7 @@ is-blank c = omega (arith, c .before .before .before .before .blank-octet .ensur
 
 loop-again : tie.Need-loop-again Inv-loop μ-loop
 loop-again c =
-    let e = c .before .before in
-    let l = e .before .before .before in
+    let e = c .before .before in let l = e .before .before .before in
     let a = l .before .before .before .args in (
       octets-skipped (now (a .marks)) (a .wanted) (a .from) (l .loop .k) (c .skip-words .result) (is-blank e) (omega arith) (l .loop .inv .0) (c .skip-words .ensures .0),
       omega (arith, c .skip-words .ensures .1),
@@ -35,9 +34,7 @@ loop-again c =
 
 loop-again-2 : tie.Need-loop-again-2 Inv-loop μ-loop
 loop-again-2 c =
-    let e = c .before in
-    let l = e .before .before .before in
-    let a = l .before .before .before .args in
+    let e = c .before in let l = e .before .before .before in let a = l .before .before .before .args in
     (octets-passed (now (a .marks)) (a .wanted) (a .from) (l .loop .k) (is-blank e) (l .loop .inv .0), omega arith)
 
 pub skip-octets-spec : {M : Type 1} → statement M

@@ -19,8 +19,7 @@ abbrev μ-loop : tie.MeasureT-loop
 
 loop-again : tie.Need-loop-again Inv-loop μ-loop
 loop-again c =
-    let l = c .before .before .before in
-    let b = l .before in
+    let l = c .before .before .before in let b = l .before in
     let a = b .before .before .args in (
       words-step (now (a .marks)) (a .wanted) (a .from) (l .loop .k) (λ i. b .before .shared-slice-known .given i .fits) (omega arith)
           (omega (arith, c .before .word .ensures, b .blank-word .ensures)) (l .loop .inv .0),

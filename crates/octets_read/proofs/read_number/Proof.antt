@@ -12,8 +12,7 @@ returns c = let e : c .before .before .before .args .d ≡ 16 = omega arith in r
 
 returns-2 : tie.Need-returns-2
 returns-2 c =
-    let p = c .before .before .before in
-    let a = p .args in
+    let p = c .before .before .before in let a = p .args in
     rw (c .read-narrow .ensures) (short-number (now (a .s)) (a .at) (a .d) (width-narrow (p .pre .0) (λ e. omega arith)) (p .pre .1))
 
 pub read-number-spec : {M : Type 1} → statement M

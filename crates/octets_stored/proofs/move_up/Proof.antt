@@ -17,8 +17,7 @@ abbrev μ-loop : tie.MeasureT-loop
 
 loop-again : tie.Need-loop-again Inv-loop μ-loop
 loop-again c =
-    let a = c .before .before .before .args in
-    let l = c .before .before .loop in
+    let a = c .before .before .before .args in let l = c .before .before .loop in
     let e : l .i ≡ suc (l .i - 1) = omega arith in (
       omega arith,
       length-set (l .buf) _ _ ∙ l .inv .1,

@@ -29,8 +29,7 @@ loop-again c =
 
 returns : tie.Need-returns Inv-loop μ-loop
 returns c =
-    let l = c .before .loop in
-    let a = c .before .before .args in
+    let l = c .before .loop in let a = c .before .before .args in
     let e : l .i ≡ 8 = omega arith in
     sym (low-write-end (l .out) (a .at) (l .rest)) ∙ (rw e at (l .inv .2))
 

@@ -15,8 +15,7 @@ use Rattle.packet_beacon.proofs.beacon_fields.Tie as tie
 sub-t12 : tie.Need-sub-t12
 sub-t12 c =
     let endpoint-place = c .before .before .before .before .before in
-    let word-place = endpoint-place .before .before .before in
-    let start = word-place .before .before in
+    let word-place = endpoint-place .before .before .before in let start = word-place .before .before in
     let s = now (start .args .p) in
     let e : endpoint-place .endpoint-at .result ≡ endpointAt (wordOf s) = endpoint-place .endpoint-at .ensures ∙ ap endpointAt (word-place .word .ensures) in
     omega (arith, beacon-fine s (start .pre) .there)
@@ -24,14 +23,10 @@ sub-t12 c =
 returns : tie.Need-returns
 unfolding beaconOf
 returns c =
-    let free-octets-place = c .before in
-    let receive-place = free-octets-place .before in
-    let send-place = receive-place .before in
-    let largest-place = send-place .before in
-    let endpoint-place = largest-place .before in
-    let flags-place = endpoint-place .before in
-    let head-place = flags-place .before in
-    let word-place = head-place .before in
+    let free-octets-place = c .before in let receive-place = free-octets-place .before in
+    let send-place = receive-place .before in let largest-place = send-place .before in
+    let endpoint-place = largest-place .before in let flags-place = endpoint-place .before in
+    let head-place = flags-place .before in let word-place = head-place .before in
     let start = word-place .before .before in
     let s = now (start .args .p) in
     let w : word-place .word .result ≡ wordOf s = word-place .word .ensures in

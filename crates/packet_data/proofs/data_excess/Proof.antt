@@ -34,8 +34,7 @@ returns-3 c =
 left : (c : tie.After-fits2) → let a = c .before .before .before .before .before .before .args in dataExcess (a .flags) (a .id) (a .timestamp) (a .offset) ≡ when (not (c .fits2 .result)) 21
 unfolding dataExcess
 left c =
-    let if2-place = c .before .before .before .before in
-    let a = if2-place .before .before .args in
+    let if2-place = c .before .before .before .before in let a = if2-place .before .before .args in
     let fits : ltb (a .offset) (256 ^ descriptorOctets (a .flags)) ≡ c .fits2 .result =
     sym (c .fits2 .ensures ∙ ap (λ (d : ℕ). ltb (a .offset) (256 ^ d)) (c .before .descriptor-octets .ensures)) in
     rw (

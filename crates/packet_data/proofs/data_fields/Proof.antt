@@ -15,8 +15,7 @@ use Rattle.packet_data.proofs.data_fields.Tie as tie
 descriptor-requires : tie.Need-descriptor-requires
 descriptor-requires c κs =
     let descriptor-octets-place = c .before .before .before .before in
-    let word-place = descriptor-octets-place .before .before in
-    let start = word-place .before .before in
+    let word-place = descriptor-octets-place .before .before in let start = word-place .before .before in
     let s = now (start .args .p) in
     let f = data-fine s (start .pre) in
     let w : word-place .word .result ≡ wordOf s = word-place .word .ensures in
@@ -27,8 +26,7 @@ descriptor-requires c κs =
 sub-t11 : tie.Need-sub-t11
 sub-t11 c =
     let payload-at-place = c .before .before .before .before in
-    let word-place = payload-at-place .before .before .before in
-    let start = word-place .before .before in
+    let word-place = payload-at-place .before .before .before in let start = word-place .before .before in
     let s = now (start .args .p) in
     let e : payload-at-place .payload-at .result ≡ payloadAt (wordOf s) = payload-at-place .payload-at .ensures ∙ ap payloadAt (word-place .word .ensures) in
     omega (arith, data-fine s (start .pre) .more)
@@ -36,12 +34,9 @@ sub-t11 c =
 returns : tie.Need-returns
 unfolding dataOf
 returns c =
-    let timestamp-octets-place = c .before .before in
-    let id-place = timestamp-octets-place .before in
-    let payload-at-place = id-place .before in
-    let descriptor-octets-place = payload-at-place .before in
-    let split-place = descriptor-octets-place .before in
-    let word-place = split-place .before in
+    let timestamp-octets-place = c .before .before in let id-place = timestamp-octets-place .before in
+    let payload-at-place = id-place .before in let descriptor-octets-place = payload-at-place .before in
+    let split-place = descriptor-octets-place .before in let word-place = split-place .before in
     let start = word-place .before .before in
     let s = now (start .args .p) in
     let w : word-place .word .result ≡ wordOf s = word-place .word .ensures in

@@ -35,16 +35,14 @@ known c = (omega arith, omega arith)
 returns-3 : tie.Need-returns-3
 unfolding dataWriteRefusal
 returns-3 c =
-    let start = c .before .before .before .before .before .before in
-    let a = start .args in
+    let start = c .before .before .before .before .before .before in let a = start .args in
     let k = known (c .before .before) in
     rw (k .0, k .1, lt-ltb (a .timestamp) (timestampOctets (a .flags)) (omega arith))
 
 returns-4 : tie.Need-returns-4
 unfolding dataWriteRefusal
 returns-4 c =
-    let before-place = c .before .before in
-    let start = before-place .before .before .before .before .before in
+    let before-place = c .before .before in let start = before-place .before .before .before .before .before in
     let a = start .args in
     let k = known (before-place .before) in
     rw (k .0, k .1, le-ltb (a .timestamp) (timestampOctets (a .flags)) (omega arith), eq-eqb (a .payload) 0 (c .if4 .taken))
@@ -57,10 +55,8 @@ add-room-refusal c =
 returns-5 : tie.Need-returns-5
 unfolding dataWriteRefusal
 returns-5 c =
-    let if4-place = c .before .before in
-    let before-place = if4-place .before .before in
-    let start = before-place .before .before .before .before .before in
-    let a = start .args in
+    let if4-place = c .before .before in let before-place = if4-place .before .before in
+    let start = before-place .before .before .before .before .before in let a = start .args in
     let k = known (before-place .before) in
     rw (k .0, k .1, le-ltb (a .timestamp) (timestampOctets (a .flags)) (omega arith), ne-eqb (a .payload) 0 (if4-place .if4 .left))
     (c .room-refusal .ensures ∙ ap (λ (n : ℕ). roomRefusal (n + a .payload) (a .room)) (c .before .payload-at .ensures))

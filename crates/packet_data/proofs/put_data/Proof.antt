@@ -25,11 +25,8 @@ returns c =
     let copy-into-place = offset-at-place .before .before .before .before in
     let write-number2-place = copy-into-place .before .before .before .before in
     let write-number-place = write-number2-place .before .before .before .before in
-    let join-place = write-number-place .before in
-    let payload-at-place = join-place .before .before in
-    let start = payload-at-place .before .before .before .before in
-    let a = start .args in
-    let f = a .flags in
+    let join-place = write-number-place .before in let payload-at-place = join-place .before .before in
+    let start = payload-at-place .before .before .before .before in let a = start .args in let f = a .flags in
     let t = now (a .timestamp) in
     let p = now (a .payload) in
     let s : length t ≡ timestampOctets f = start .pre .timestamp-is in

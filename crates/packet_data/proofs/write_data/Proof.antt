@@ -15,8 +15,7 @@ returns : tie.Need-returns
 unfolding dataWritten dataBuffer
 returns c =
     let data-write-refusal-place = c .before .before in
-    let start = data-write-refusal-place .before .before .before .before in
-    let a = start .args in
+    let start = data-write-refusal-place .before .before .before .before in let a = start .args in
     let n = dataRefused (a .flags) (a .id) (now (a .timestamp)) (a .offset) (now (a .payload)) (now (a .out)) in
     let e : data-write-refusal-place .data-write-refusal .result ≡ n = data-write-refusal-place .data-write-refusal .ensures in (
       rw (c .refuse .ensures, e) (written-refused n _ (omega arith)),
@@ -25,16 +24,14 @@ returns c =
 
 put-data-requires : tie.Need-put-data-requires
 put-data-requires c κs =
-    let start = c .before .before .before .before .before .before in
-    let a = start .args in
+    let start = c .before .before .before .before .before .before in let a = start .args in
     writable (a .flags) (a .id) (length (now (a .timestamp))) (a .offset) (length (now (a .payload))) (length (now (a .out))) (omega arith) .fine
 
 returns-2 : tie.Need-returns-2
 unfolding dataWritten dataBuffer
 returns-2 c =
     let put-data-place = c .before .before in
-    let start = put-data-place .before .before .before .before .before .before .before in
-    let a = start .args in
+    let start = put-data-place .before .before .before .before .before .before .before in let a = start .args in
     let n = dataRefused (a .flags) (a .id) (now (a .timestamp)) (a .offset) (now (a .payload)) (now (a .out)) in
     let z : n ≡ 0 = omega arith in (
       rw (z, put-data-place .put-data .ensures .0),

@@ -22,16 +22,14 @@ returns c =
 returns-2 : tie.Need-returns-2
 unfolding metadataWriteRefusal
 returns-2 c =
-    let start = c .before .before .before .before .before .before in
-    let a = start .args in
+    let start = c .before .before .before .before .before .before in let a = start .args in
     let x : metadataExcess (a .flags) (a .id) (length (now (a .checksum))) ≡ 0 = omega arith in
     rw x (c .before .entry-excess .ensures ∙ sym (stays (entryExcess (a .properties) (a .size) (a .mtime) (a .ctime)) _ (omega arith)))
 
 returns-3 : tie.Need-returns-3
 unfolding metadataWriteRefusal
 returns-3 c =
-    let start = c .before .before .before .before .before .before .before .before in
-    let a = start .args in
+    let start = c .before .before .before .before .before .before .before .before in let a = start .args in
     let x : metadataExcess (a .flags) (a .id) (length (now (a .checksum))) ≡ 0 = omega arith in
     let y : entryExcess (a .properties) (a .size) (a .mtime) (a .ctime) ≡ 0 = omega arith in
     rw (x, y) (c .before .checksum-refusal .ensures ∙ sym (stays (checksumRefusal (a .flags) (length (now (a .checksum)))) _ (omega arith)))

@@ -17,12 +17,10 @@ use Rattle.packet_metadata.proofs.put_metadata.Tie as tie
 returns : tie.Need-returns
 unfolding metadataOctets
 returns c =
-    let put-entry-place = c .before .before in
-    let copy-into-place = put-entry-place .before .before .before .before in
+    let put-entry-place = c .before .before in let copy-into-place = put-entry-place .before .before .before .before in
     let write-number2-place = copy-into-place .before .before .before .before in
     let write-number-place = write-number2-place .before .before .before .before in
-    let join-place = write-number-place .before in
-    let start = join-place .before .before .before .before .before in
+    let join-place = write-number-place .before in let start = join-place .before .before .before .before .before in
     let a = start .args in
     let k = now (a .checksum) in
     let p = now (a .path) in

@@ -15,8 +15,7 @@ returns : tie.Need-returns
 unfolding metadataWritten metadataBuffer
 returns c =
     let metadata-write-refusal-place = c .before .before in
-    let start = metadata-write-refusal-place .before .before .before .before in
-    let a = start .args in
+    let start = metadata-write-refusal-place .before .before .before .before in let a = start .args in
     let k = now (a .checksum) in
     let p = now (a .path) in
     let n = metadataWriteRefusal (a .flags) (a .id) k (a .properties) (a .size) (a .mtime) (a .ctime) p (length (now (a .out))) in (
@@ -26,16 +25,14 @@ returns c =
 
 put-metadata-requires : tie.Need-put-metadata-requires
 put-metadata-requires c κs =
-    let start = c .before .before .before .before .before .before in
-    let a = start .args in
+    let start = c .before .before .before .before .before .before in let a = start .args in
     write-fine (a .flags) (a .id) (now (a .checksum)) (a .properties) (a .size) (a .mtime) (a .ctime) (now (a .path)) (length (now (a .out))) (omega arith) .fits
 
 returns-2 : tie.Need-returns-2
 unfolding metadataWritten metadataBuffer
 returns-2 c =
     let put-metadata-place = c .before .before .before in
-    let start = put-metadata-place .before .before .before .before .before .before .before in
-    let a = start .args in
+    let start = put-metadata-place .before .before .before .before .before .before .before in let a = start .args in
     let z : metadataWriteRefusal (a .flags) (a .id) (now (a .checksum)) (a .properties) (a .size) (a .mtime) (a .ctime) (now (a .path)) (length (now (a .out))) ≡ 0 = omega arith in
     (rw (z, c .metadata-size .ensures), rw z (put-metadata-place .put-metadata .ensures))
 

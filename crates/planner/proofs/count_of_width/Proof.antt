@@ -43,8 +43,7 @@ read : (c : tie.After-hole-of-width Inv-loop μ-loop)
 read c =
     let start = c .before .before .before .before in
     let s = now (start .args .status) in
-    let m = start .args .largest in
-    let i = c .before .before .loop .i in
+    let m = start .args .largest in let i = c .before .before .loop .i in
     let e = readable m s (resend-fine m s (start .pre .0)) i (within (c .before)) in
     c .hole-of-width .ensures ∙ sym (listed-hole i s (hole 0 0) (hole-fine i s e .below))
 
@@ -61,9 +60,7 @@ fine c =
 -- with its pieces the sum stays at or below its end
 below : (c : tie.After-pieces-of Inv-loop μ-loop) → c .before .before .before .loop .count + c .pieces-of .result ≤ c .before .hole-of-width .result .end
 below c =
-    let p = c .before in
-    let l = p .before .before .loop in
-    let h = p .hole-of-width .result in
+    let p = c .before in let l = p .before .before .loop in let h = p .hole-of-width .result in
     let m = p .before .before .before .before .args .largest in
     let f = fine p in
     let a : l .count ≤ h .start = rw (read p) (l .inv .2 (omega arith)) in
@@ -71,12 +68,9 @@ below c =
 
 loop-again : tie.Need-loop-again Inv-loop μ-loop
 loop-again c =
-    let p = c .before in
-    let l = p .before .before .loop in
-    let start = p .before .before .before .before in
+    let p = c .before in let l = p .before .before .loop in let start = p .before .before .before .before in
     let s = now (start .args .status) in
-    let m = start .args .largest in
-    let i = l .i in
+    let m = start .args .largest in let i = l .i in
     let one : i + 1 ≡ suc i = omega arith in
     let counted : c .pieces-of .result ≡ pieceCount m (nth (holeList s) i) = c .pieces-of .ensures ∙ ap (λ (h : Hole). pieceCount m h) (read p) in
     let d = length-dropped m (holeList s) i (within (p .before)) in (

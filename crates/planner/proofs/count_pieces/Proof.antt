@@ -34,8 +34,7 @@ returns-3 c = c .count-of-width3 .ensures
 -- no other width is left
 count-of-width-requires-4 : tie.Need-count-of-width-requires-4
 count-of-width-requires-4 c κs =
-    let at = c .before .before .before in
-    let start = at .before .before .before in
+    let at = c .before .before .before in let start = at .before .before .before in
     let w = width at in
     (start .pre .0, start .pre .1, sym (width-wide (octets-width (wordOf (now (start .args .status)))) (λ e. omega arith) (λ e. omega arith) (λ e. omega arith)))
 

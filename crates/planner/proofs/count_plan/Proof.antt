@@ -28,8 +28,7 @@ known c =
 
 returns : tie.Need-returns
 returns c =
-    let judged = c .before .before in
-    let a = judged .before .before .args in
+    let judged = c .before .before in let a = judged .before .before .args in
     let s = now (a .status) in
     let k = known judged in
     ap {B = Plan} (λ (n : ℕ). record { number = n; count = 0; holes = 0 }) (k .0) ∙ planned-refused (resendRefusal (a .largest) s) (a .largest) (holeList s) (omega arith)

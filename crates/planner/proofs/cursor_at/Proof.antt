@@ -20,8 +20,7 @@ returns c = let a = c .before .before .args in rw (le-ltb (a .index) (a .count) 
 returns-2 : tie.Need-returns-2
 unfolding cursorAt
 returns-2 c =
-    let start = c .before .before .before in
-    let a = start .args in
+    let start = c .before .before .before in let a = start .args in
     let s = now (a .status) in
     let l : a .index < a .count = omega arith in
     let e : nth (holeList s) (a .index) ≡ indexedHole (a .index) s =

@@ -12,8 +12,7 @@ use Rattle.planner.proofs.next_cursor.Tie as tie
 
 advance-requires : tie.Need-advance-requires
 advance-requires c κs =
-    let start = c .before .before in
-    let a = start .args in
+    let start = c .before .before in let a = start .args in
     (start .pre .0, omega (arith, min-le-right (a .largest) (a .c .end - a .c .offset)))
 
 returns : tie.Need-returns

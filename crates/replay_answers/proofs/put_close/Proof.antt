@@ -15,20 +15,16 @@ put-refused-requires c κs =
 returns : tie.Need-returns
 unfolding closeText
 returns c =
-    let put-closed-place = c .before .before in
-    let enum-told-place = put-closed-place .before .before in
-    let start = enum-told-place .before .before .before in
-    let a = start .args in
+    let put-closed-place = c .before .before in let enum-told-place = put-closed-place .before .before in
+    let start = enum-told-place .before .before .before in let a = start .args in
     added-as (ap (closeText (a .number) (a .id)) (sym (enum-told-place .enum-told .given .1)))
     (put-closed-place .put-closed .ensures)
 
 returns-2 : tie.Need-returns-2
 unfolding closeText
 returns-2 c =
-    let put-refused-place = c .before .before in
-    let a-place = put-refused-place .before .before .before in
-    let start = a-place .before .before .before in
-    let a = start .args in
+    let put-refused-place = c .before .before in let a-place = put-refused-place .before .before .before in
+    let start = a-place .before .before .before in let a = start .args in
     added-as (ap (closeText (a .number) (a .id)) (sym (a-place .a .given .1)))
     (put-refused-place .put-refused .ensures)
 

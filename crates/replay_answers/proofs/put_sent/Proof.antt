@@ -14,10 +14,8 @@ use Rattle.replay_answers.proofs.put_sent.Tie as tie
 returns : tie.Need-returns
 unfolding sentText
 returns c =
-    let put-packet-place = c .before .before in
-    let part-place = put-packet-place .before in
-    let w-place = part-place .before .before .before .before in
-    let start = w-place .before .before .before .before in
+    let put-packet-place = c .before .before in let part-place = put-packet-place .before in
+    let w-place = part-place .before .before .before .before in let start = w-place .before .before .before .before in
     let a = start .args in
     added-as (ap (λ (x : Written). sentText (a .number) x (now (a .lent))) (sym (w-place .w .given .1)))
     (added-as (ap (octetsLine (a .number) w-send) (part-place .part .ensures)) (put-packet-place .put-packet .ensures))

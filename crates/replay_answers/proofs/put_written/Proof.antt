@@ -19,10 +19,8 @@ put-refused-requires c κs =
 returns : tie.Need-returns
 unfolding statusText
 returns c =
-    let put-packet-place = c .before .before in
-    let part-place = put-packet-place .before in
-    let w-place = part-place .before .before .before .before in
-    let start = w-place .before .before .before .before in
+    let put-packet-place = c .before .before in let part-place = put-packet-place .before in
+    let w-place = part-place .before .before .before .before in let start = w-place .before .before .before .before in
     let a = start .args in
     added-as (ap (λ (x : Written). statusText (a .number) x (now (a .lent))) (sym (w-place .w .given .1)))
     (added-as (ap (octetsLine (a .number) w-written) (part-place .part .ensures)) (put-packet-place .put-packet .ensures))
@@ -30,10 +28,8 @@ returns c =
 returns-2 : tie.Need-returns-2
 unfolding statusText
 returns-2 c =
-    let put-refused-place = c .before .before in
-    let w2-place = put-refused-place .before .before .before in
-    let start = w2-place .before .before .before .before in
-    let a = start .args in
+    let put-refused-place = c .before .before in let w2-place = put-refused-place .before .before .before in
+    let start = w2-place .before .before .before .before in let a = start .args in
     added-as (ap (λ (x : Written). statusText (a .number) x (now (a .lent))) (sym (w2-place .w2 .given .1)))
     (put-refused-place .put-refused .ensures)
 

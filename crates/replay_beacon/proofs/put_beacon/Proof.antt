@@ -12,8 +12,7 @@ use Rattle.replay_beacon.proofs.put_beacon.Tie as tie
 returns : tie.Need-returns
 unfolding beaconLine
 returns c =
-    let push-place = c .before .before in
-    let put-octets-place = push-place .before .before .before .before in
+    let push-place = c .before .before in let put-octets-place = push-place .before .before .before .before in
     let part-place = put-octets-place .before in
     let put-free-place = part-place .before .before .before .before .before in
     let put-states-place = put-free-place .before .before .before .before in

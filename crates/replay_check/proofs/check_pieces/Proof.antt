@@ -27,9 +27,7 @@ loop-holds c = (omega arith, refl)
 
 check-step-requires : tie.Need-check-step-requires Inv-loop μ-loop
 check-step-requires c κs =
-    let turn = c .before in
-    let l = turn .before .loop in
-    let start = turn .before .before .before .before in
+    let turn = c .before in let l = turn .before .loop in let start = turn .before .before .before .before in
     let a = start .args in
     let hs = holeList (now (a .status)) in
     let e : l .k .cursor .count ≡ a .first .cursor .count =
@@ -39,9 +37,7 @@ check-step-requires c κs =
 loop-again : tie.Need-loop-again Inv-loop μ-loop
 unfolding piecesIn
 loop-again c =
-    let piece-place = c .before in
-    let turn = piece-place .before in
-    let l = turn .before .loop in
+    let piece-place = c .before in let turn = piece-place .before in let l = turn .before .loop in
     let a = turn .before .before .before .before .args in
     let hs = holeList (now (a .status)) in
     let s = now (a .s) in (

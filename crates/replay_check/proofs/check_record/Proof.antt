@@ -19,10 +19,8 @@ use Rattle.replay_check.proofs.check_record.Tie as tie
 returns : tie.Need-returns
 unfolding checkLines
 returns c =
-    let put-bad-length-place = c .before .before in
-    let if1-place = put-bad-length-place .before .before in
-    let start = if1-place .before .before .before in
-    let a = start .args in
+    let put-bad-length-place = c .before .before in let if1-place = put-bad-length-place .before .before in
+    let start = if1-place .before .before .before in let a = start .args in
     rw (lt-ltb (length (now (a .body))) 16 (if1-place .if1 .taken)) (put-bad-length-place .put-bad-length .ensures)
 
 -- the number of pieces
@@ -32,12 +30,9 @@ counted c = c .read-eight2 .ensures
 returns-2 : tie.Need-returns-2
 unfolding checkLines
 returns-2 c =
-    let put-bad-length-place = c .before .before in
-    let if2-place = put-bad-length-place .before .before in
-    let count-place = if2-place .before in
-    let if1-place = count-place .before .before in
-    let start = if1-place .before .before .before in
-    let a = start .args in
+    let put-bad-length-place = c .before .before in let if2-place = put-bad-length-place .before .before in
+    let count-place = if2-place .before in let if1-place = count-place .before .before in
+    let start = if1-place .before .before .before in let a = start .args in
     let s = now (a .body) in
     let k = counted count-place in
     rw (le-ltb (length s) 16 (if1-place .if1 .left), lt-ltb 4096 (numberAt 8 8 s) (omega (arith, k, if2-place .if2 .taken)))
@@ -46,12 +41,9 @@ returns-2 c =
 returns-3 : tie.Need-returns-3
 unfolding checkLines
 returns-3 c =
-    let put-bad-length-place = c .before .before in
-    let if3-place = put-bad-length-place .before .before in
-    let if2-place = if3-place .before in
-    let count-place = if2-place .before in
-    let if1-place = count-place .before .before in
-    let start = if1-place .before .before .before in
+    let put-bad-length-place = c .before .before in let if3-place = put-bad-length-place .before .before in
+    let if2-place = if3-place .before in let count-place = if2-place .before in
+    let if1-place = count-place .before .before in let start = if1-place .before .before .before in
     let a = start .args in
     let s = now (a .body) in
     let k = counted count-place in
@@ -72,16 +64,11 @@ put-check-requires c κs =
 returns-4 : tie.Need-returns-4
 unfolding checkLines
 returns-4 c =
-    let put-check-place = c .before .before in
-    let pieces-place = put-check-place .before .before in
-    let packet-place = pieces-place .before in
-    let if3-place = packet-place .before in
-    let if2-place = if3-place .before in
-    let count-place = if2-place .before in
-    let largest-place = count-place .before in
-    let if1-place = largest-place .before in
-    let start = if1-place .before .before .before in
-    let a = start .args in
+    let put-check-place = c .before .before in let pieces-place = put-check-place .before .before in
+    let packet-place = pieces-place .before in let if3-place = packet-place .before in
+    let if2-place = if3-place .before in let count-place = if2-place .before in
+    let largest-place = count-place .before in let if1-place = largest-place .before in
+    let start = if1-place .before .before .before in let a = start .args in
     let s = now (a .body) in
     let n = count-place .read-eight2 .result in
     let k = counted count-place in

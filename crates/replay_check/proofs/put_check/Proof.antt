@@ -23,8 +23,7 @@ use Rattle.replay_check.proofs.put_check.Tie as tie
 
 check-pieces-requires : tie.Need-check-pieces-requires
 check-pieces-requires c κs =
-    let start = c .before .before .before .before in
-    let m = start .args .largest in
+    let start = c .before .before .before .before in let m = start .args .largest in
     let s = now (start .args .status) in
     (start .pre .1, rw (c .check-start .ensures) (start-readable m s (resendRefusal m s) refl))
 
@@ -47,10 +46,8 @@ known c =
 returns : tie.Need-returns
 unfolding checkLine
 returns c =
-    let put-refused-place = c .before .before in
-    let refuse-place = put-refused-place .before .before in
-    let if1-place = refuse-place .before in
-    let check-place = if1-place .before .before in
+    let put-refused-place = c .before .before in let refuse-place = put-refused-place .before .before in
+    let if1-place = refuse-place .before in let check-place = if1-place .before .before in
     let a = check-place .before .before .before .before .before .args in
     let passes = checkPasses (a .largest) (now (a .status)) (piecesIn (now (a .s)) (a .n)) in
     added-as
@@ -62,13 +59,10 @@ returns c =
 returns-2 : tie.Need-returns-2
 unfolding checkLine checkPasses
 returns-2 c =
-    let push-place = c .before .before in
-    let put-field-place = push-place .before .before .before .before in
+    let push-place = c .before .before in let put-field-place = push-place .before .before .before .before in
     let put-decimal-place = put-field-place .before .before .before .before .before in
-    let flag-place = put-decimal-place .before .before in
-    let passed-place = flag-place .before in
-    let if1-place = passed-place .before in
-    let check-place = if1-place .before .before in
+    let flag-place = put-decimal-place .before .before in let passed-place = flag-place .before in
+    let if1-place = passed-place .before in let check-place = if1-place .before .before in
     let a = check-place .before .before .before .before .before .args in
     let s = now (a .status) in
     let m = a .largest in

@@ -15,8 +15,7 @@ returns : tie.Need-returns
 returns c =
     let put-recorded-place = c .before .before .before .before in
     let record-place = put-recorded-place .before .before .before .before .before .before in
-    let start = record-place .before .before .before .before .before .before in
-    let a = start .args in
+    let start = record-place .before .before .before .before .before .before in let a = start .args in
     let o = record-place .«record» .ensures in
     (added-as (ap₂ (λ (x : Recorded) (l : List ℕ). recordedLines (a .number) (now (a .p)) (a .d) x l (now (a .lent))) (o .0) (o .1)) (put-recorded-place .put-recorded .ensures), o .1)
 

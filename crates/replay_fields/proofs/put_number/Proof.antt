@@ -7,8 +7,7 @@ use Rattle.replay_fields.proofs.put_number.Tie as tie
 
 returns : tie.Need-returns
 returns c =
-    let put-number-place = c .before .before in
-    let put-text-place = put-number-place .before .before .before .before in
+    let put-number-place = c .before .before in let put-text-place = put-number-place .before .before .before .before in
     put-text-place .put-text .ensures
     then put-number-place .put-number .ensures
 

@@ -7,8 +7,7 @@ use Rattle.replay_fields.proofs.put_octets.Tie as tie
 
 returns : tie.Need-returns
 returns c =
-    let put-hex-place = c .before .before in
-    let put-text-place = put-hex-place .before .before .before .before in
+    let put-hex-place = c .before .before in let put-text-place = put-hex-place .before .before .before .before in
     put-text-place .put-text .ensures
     then put-hex-place .put-hex .ensures
 

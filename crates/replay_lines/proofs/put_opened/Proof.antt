@@ -17,8 +17,7 @@ put-field-requires-2 c κs =
 returns : tie.Need-returns
 unfolding openedLine
 returns c =
-    let put-text-place = c .before .before in
-    let put-reached-place = put-text-place .before .before .before .before in
+    let put-text-place = c .before .before in let put-reached-place = put-text-place .before .before .before .before in
     let put-field3-place = put-reached-place .before .before .before .before in
     let put-field2-place = put-field3-place .before .before .before .before .before in
     let bits-of-place = put-field2-place .before in

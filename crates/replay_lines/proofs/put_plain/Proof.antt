@@ -9,8 +9,7 @@ use Rattle.replay_lines.proofs.put_plain.Tie as tie
 returns : tie.Need-returns
 unfolding plainLine
 returns c =
-    let put-text-place = c .before .before in
-    let put-decimal-place = put-text-place .before .before .before .before in
+    let put-text-place = c .before .before in let put-decimal-place = put-text-place .before .before .before .before in
     put-decimal-place .put-decimal .ensures
     then put-text-place .put-text .ensures
 

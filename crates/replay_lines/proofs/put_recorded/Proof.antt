@@ -9,8 +9,7 @@ use Rattle.replay_lines.proofs.put_recorded.Tie as tie
 returns : tie.Need-returns
 unfolding recordLine
 returns c =
-    let push-place = c .before .before in
-    let put-field4-place = push-place .before .before .before .before in
+    let push-place = c .before .before in let put-field4-place = push-place .before .before .before .before in
     let put-reached-place = put-field4-place .before .before .before .before .before in
     let put-field3-place = put-reached-place .before .before .before .before in
     let put-field2-place = put-field3-place .before .before .before .before .before in

@@ -9,8 +9,7 @@ use Rattle.replay_lines.proofs.put_unknown.Tie as tie
 returns : tie.Need-returns
 unfolding unknownLine
 returns c =
-    let push-place = c .before .before in
-    let put-number-place = push-place .before .before .before .before in
+    let push-place = c .before .before in let put-number-place = push-place .before .before .before .before in
     let put-decimal-place = put-number-place .before .before .before .before .before in
     put-decimal-place .put-decimal .ensures
     then put-number-place .put-number .ensures

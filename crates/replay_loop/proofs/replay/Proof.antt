@@ -18,15 +18,13 @@ step-requires : tie.Need-step-requires Inv-loop μ-loop
 step-requires c κs =
     let loop-place = c .before .before .before .before .before in
     let start = loop-place .before .before .before .before .before .before .before .before .before in
-    let l = loop-place .loop .inv in
-    let p = start .pre in
+    let l = loop-place .loop .inv in let p = start .pre in
     record { body-fits = rw (l .1) (p .body-fits); lent-fits = rw (l .2) (p .lent-fits); out-holds = rw (l .3) (p .out-holds) }
 
 loop-again : tie.Need-loop-again Inv-loop μ-loop
 loop-again c =
     let step-place = c .before .before .before .before .before .before .before .before .before in
-    let loop-place = step-place .before .before .before .before .before .before in
-    let k = step-place .step .kept in
+    let loop-place = step-place .before .before .before .before .before .before in let k = step-place .step .kept in
     let l = loop-place .loop .inv in
     (k .1 .1 .0 ∙ l .0, k .1 .1 .1 .0 ∙ l .1, k .1 .1 .1 .1 .0 ∙ l .2, k .1 .1 .1 .1 .1 .0 ∙ l .3)
 

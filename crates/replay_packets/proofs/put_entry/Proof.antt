@@ -10,8 +10,7 @@ use Rattle.replay_packets.proofs.put_entry.Tie as tie
 
 returns : tie.Need-returns
 returns c =
-    let put-octets-place = c .before .before in
-    let part-place = put-octets-place .before in
+    let put-octets-place = c .before .before in let part-place = put-octets-place .before in
     let put-field3-place = part-place .before .before .before .before .before in
     let put-field2-place = put-field3-place .before .before .before .before .before in
     let put-field-place = put-field2-place .before .before .before .before .before in

@@ -9,8 +9,7 @@ use Rattle.replay_packets.proofs.put_failure.Tie as tie
 returns : tie.Need-returns
 unfolding failureLine
 returns c =
-    let push-place = c .before .before in
-    let put-number-place = push-place .before .before .before .before in
+    let push-place = c .before .before in let put-number-place = push-place .before .before .before .before in
     let put-field2-place = put-number-place .before .before .before .before .before in
     let put-field-place = put-field2-place .before .before .before .before .before in
     let put-decimal-place = put-field-place .before .before .before .before .before in

@@ -12,8 +12,7 @@ use Rattle.replay_packets.proofs.put_metadata.Tie as tie
 returns : tie.Need-returns
 unfolding metadataLine
 returns c =
-    let push-place = c .before .before in
-    let put-entry-place = push-place .before .before .before .before in
+    let push-place = c .before .before in let put-entry-place = push-place .before .before .before .before in
     let put-octets-place = put-entry-place .before .before .before .before in
     let part-place = put-octets-place .before in
     let put-head-place = part-place .before .before .before .before .before in

@@ -9,11 +9,9 @@ use Rattle.replay_records.proofs.open.Tie as tie
 
 returns : tie.Need-returns
 returns c =
-    let put-open-place = c .before .before in
-    let read-metadata-place = put-open-place .before .before in
+    let put-open-place = c .before .before in let read-metadata-place = put-open-place .before .before in
     let open-place = read-metadata-place .before .before .before in
-    let start = open-place .before .before .before .before .before in
-    let a = start .args in
+    let start = open-place .before .before .before .before .before in let a = start .args in
     let o = open-place .«open» .ensures in
     (added-as (ap₂ (openText (a .number)) (read-metadata-place .read-metadata .ensures) (o .0)) (put-open-place .put-open .ensures), o .1)
 

@@ -13,8 +13,7 @@ unfolding writtenLine
 returns c =
     let put-written-place = c .before .before in
     let write-status-place = put-written-place .before .before .before .before .before in
-    let start = write-status-place .before .before .before .before .before in
-    let a = start .args in
+    let start = write-status-place .before .before .before .before .before in let a = start .args in
     let w = write-status-place .write-status .ensures in
     added-as (ap₂ (statusText (a .number)) (w .0) (w .1)) (put-written-place .put-written .ensures)
 

@@ -27,8 +27,7 @@ loop-holds c =
 loop-again : tie.Need-loop-again Inv-loop μ-loop
 unfolding holesText
 loop-again c =
-    let put-hole-place = c .before .before in
-    let loop-place = put-hole-place .before .before .before in
+    let put-hole-place = c .before .before in let loop-place = put-hole-place .before .before .before in
     (omega arith, rw add-one (loop-place .loop .inv .1 then put-hole-place .put-hole .ensures))
 
 returns : tie.Need-returns Inv-loop μ-loop

@@ -12,8 +12,7 @@ use Rattle.replay_success.proofs.put_success.Tie as tie
 returns : tie.Need-returns
 unfolding successLine
 returns c =
-    let push-place = c .before .before in
-    let put-holes-place = push-place .before .before .before .before in
+    let push-place = c .before .before in let put-holes-place = push-place .before .before .before .before in
     let put-text-place = put-holes-place .before .before .before .before in
     let put-field2-place = put-text-place .before .before .before .before .before in
     let put-field-place = put-field2-place .before .before .before .before .before in

@@ -11,22 +11,17 @@ returns c = let a = c .before .before .args in adds-apart (now (a .buf)) (a .row
 
 returns-2 : tie.Need-returns-2
 returns-2 c =
-    let v = c .before in
-    let a = v .before .before .before .before .args in
+    let v = c .before in let a = v .before .before .before .before .args in
     adds-below (now (a .buf)) (a .rows) (a .i) (a .j) (a .from) (a .to) (omega arith) (omega arith) _ (v .word .ensures) (omega arith)
 
 returns-3 : tie.Need-returns-3
 returns-3 c =
-    let w = c .before in
-    let v = w .before .before .before in
-    let a = v .before .before .before .before .args in
+    let w = c .before in let v = w .before .before .before in let a = v .before .before .before .before .args in
     adds-above (now (a .buf)) (a .rows) (a .i) (a .j) (a .from) (a .to) (omega arith) (omega arith) _ (v .word .ensures) (omega arith) _ (w .word2 .ensures) (omega arith)
 
 returns-4 : tie.Need-returns-4
 returns-4 c =
-    let w = c .before in
-    let v = w .before .before .before in
-    let a = v .before .before .before .before .args in
+    let w = c .before in let v = w .before .before .before in let a = v .before .before .before .before .args in
     adds-within (now (a .buf)) (a .rows) (a .i) (a .j) (a .from) (a .to) (omega arith) (omega arith) _ (v .word .ensures) (omega arith) _ (w .word2 .ensures) (omega arith)
 
 pub adds-of-spec : {M : Type 1} → statement M

@@ -11,14 +11,12 @@ returns c = let a = c .before .before .args in start-alone (now (a .buf)) (a .ro
 
 returns-2 : tie.Need-returns-2
 returns-2 c =
-    let start = c .before .before .before .before .before in
-    let a = start .args in
+    let start = c .before .before .before .before .before in let a = start .args in
     start-joined (now (a .buf)) (a .rows) (a .i) (a .j) _ (omega arith) (omega arith) (a .from) _ (c .before .word .ensures) (omega arith)
 
 returns-3 : tie.Need-returns-3
 returns-3 c =
-    let start = c .before .before .before .before .before in
-    let a = start .args in
+    let start = c .before .before .before .before .before in let a = start .args in
     start-joined (now (a .buf)) (a .rows) (a .i) (a .j) _ (omega arith) (omega arith) (a .from) _ (c .before .word .ensures) (omega arith)
 
 pub joined-start-spec : {M : Type 1} → statement M

@@ -25,15 +25,12 @@ returns c =
 
 returns-2 : tie.Need-returns-2 Inv-loop μ-loop
 returns-2 c =
-    let word-place = c .before .before in
-    let start = word-place .before .before .before in
-    let a = start .args in
+    let word-place = c .before .before in let start = word-place .before .before .before in let a = start .args in
     first-not (now (a .buf)) (a .rows .starts) (a .rows .stops) (a .rows .count) (a .size) _ _ (omega arith) (c .before .word2 .ensures) (word-place .word .ensures) (omega arith)
 
 loop-holds : tie.Need-loop-holds Inv-loop μ-loop
 loop-holds c =
-    let word-place = c .before .before in
-    let start = word-place .before .before .before in
+    let word-place = c .before .before in let start = word-place .before .before .before in
     let a = start .args in (
       omega arith,
       omega arith,
@@ -47,15 +44,13 @@ returns-3 c =
 
 returns-4 : tie.Need-returns-4 Inv-loop μ-loop
 returns-4 c =
-    let word3-place = c .before .before .before in
-    let loop-place = word3-place .before .before in
+    let word3-place = c .before .before .before in let loop-place = word3-place .before .before in
     let l = loop-place .loop in
     later-empty _ _ _ _ _ _ _ _ (l .inv .2) _ (omega arith) (word3-place .word3 .ensures) _ (c .before .word4 .ensures) (omega arith) (omega arith)
 
 loop-again : tie.Need-loop-again Inv-loop μ-loop
 loop-again c =
-    let word3-place = c .before .before .before in
-    let loop-place = word3-place .before .before in
+    let word3-place = c .before .before .before in let loop-place = word3-place .before .before in
     let l = loop-place .loop in (
       omega arith,
       omega arith,

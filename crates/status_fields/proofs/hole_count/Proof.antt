@@ -24,8 +24,7 @@ known : (c : tie.After-timestamp-octets)
     × (holesAt (wordOf s) ≤ length s)
     × Width (c .before .descriptor-octets .result)
 known c =
-    let word-place = c .before .before in
-    let start = word-place .before .before in
+    let word-place = c .before .before in let start = word-place .before .before in
     let s = now (start .args .p) in
     let e : word-place .word .result ≡ wordOf s = word-place .word .ensures in
     let f = success-fine s (status-fine s (start .pre .0) .success (start .pre .1)) in

@@ -28,8 +28,7 @@ returns-3 c = c .hole-of-width3 .ensures
 -- no other width is left
 hole-of-width-requires-4 : tie.Need-hole-of-width-requires-4
 hole-of-width-requires-4 c κs =
-    let at = c .before .before .before in
-    let start = at .before .before .before in
+    let at = c .before .before .before in let start = at .before .before .before in
     let w = width at in
     (start .pre, sym (width-wide (octets-width (wordOf (now (start .args .p)))) (λ e. omega arith) (λ e. omega arith) (λ e. omega arith)))
 

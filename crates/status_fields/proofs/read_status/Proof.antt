@@ -39,8 +39,7 @@ returns-2 c =
 returns-3 : tie.Need-returns-3
 unfolding readStatus failureOf
 returns-3 c =
-    let split-place = c .before .before in
-    let word-place = split-place .before in
+    let split-place = c .before .before in let word-place = split-place .before in
     let start = word-place .before .before .before .before in
     let s = now (start .args .p) in
     let z : statusRefusal s ≡ 0 = omega arith in

@@ -25,8 +25,7 @@ known : (c : tie.After-timestamp-octets)
     × (holesAt (wordOf s) ≤ length s)
     × Width (c .before .descriptor-octets .result)
 known c =
-    let word-place = c .before .before .before in
-    let start = word-place .before .before in
+    let word-place = c .before .before .before in let start = word-place .before .before in
     let s = now (start .args .p) in
     let e : word-place .word .result ≡ wordOf s = word-place .word .ensures in
     let f = success-fine s (start .pre .1) in
@@ -48,8 +47,7 @@ descriptor-requires-2 c κs =
 returns : tie.Need-returns
 unfolding successOf
 returns c =
-    let before-place = c .before .before in
-    let split-place = before-place .before .before .before in
+    let before-place = c .before .before in let split-place = before-place .before .before .before in
     let k = known (before-place .before) in
     rw (before-place .id .ensures, c .before .descriptor .ensures, c .descriptor2 .ensures, split-place .split .ensures .flags-is, k .0, k .1, k .2)
 

@@ -20,8 +20,7 @@ abbrev μ-loop : tie.MeasureT-loop
 
 loop-again : tie.Need-loop-again Inv-loop μ-loop
 loop-again c =
-    let push-place = c .before .before in
-    let loop-place = push-place .before .before .before .before in
+    let push-place = c .before .before in let loop-place = push-place .before .before .before .before in
     let start = loop-place .before .before .before in
     let s = now (start .args .s) in
     let l = loop-place .loop in

@@ -1,5 +1,4 @@
--- Words put one after the other, and an area in which every word of the layout is 0.
--- Assumes nothing.
+-- Words put one after the other, and an area in which every word of the layout is 0. Assumes nothing.
 use Prim.Native.Nat.{ℕ, _+_, _*_, _-_, _^_, _≤_, _<_}
 use mathlib.Core.Path.{_≡_, refl, sym, ap, subst, _∙_}
 use mathlib.Core.List.{List}

@@ -1,5 +1,4 @@
--- A splice of runs that is not made: its edge and its progress are those that `edgeWith` and `progressWith` say.
--- Assumes nothing.
+-- A splice of runs that is not made: its edge and its progress are those that `edgeWith` and `progressWith` say. Assumes nothing.
 use Prim.Native.Nat.{ℕ, zero, suc, _≤_, _<_}
 use mathlib.Core.Path.{_≡_, refl, sym, ap₂, _∙_}
 use mathlib.Core.List.{List, [], _∷_, _++_}

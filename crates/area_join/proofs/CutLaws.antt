@@ -1,5 +1,4 @@
--- What cutting the runs gives, by its three ways: a refusal goes through, one is given, or it goes on.
--- Assumes nothing.
+-- What cutting the runs gives, by its three ways: a refusal goes through, one is given, or it goes on. Assumes nothing.
 use Prim.Native.Nat.{ℕ}
 use mathlib.Core.Path.{_≡_, sym, ap, _∙_}
 use mathlib.Core.List.{List}

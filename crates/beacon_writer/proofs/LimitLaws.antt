@@ -1,5 +1,4 @@
--- R9: when each refusal is given, for BEACON that is written: 21, 26, 2 and 20.
--- Assumes nothing.
+-- R9: when each refusal is given, for BEACON that is written: 21, 26, 2 and 20. Assumes nothing.
 use Prim.Native.Nat.{ℕ, suc, _+_, _^_, _<_, _≤_}
 use mathlib.Core.Path.{_≡_, refl}
 use mathlib.Core.List.{List}

@@ -1,5 +1,4 @@
--- R4.8, R4.9: BEACON reads back as it was written, and writes back as it was read.
--- Assumes nothing.
+-- R4.8, R4.9: BEACON reads back as it was written, and writes back as it was read. Assumes nothing.
 use Prim.Native.Nat.{ℕ, _+_, _-_, _^_, _<_, _≤_}
 use mathlib.Core.Path.{_≡_, refl, sym, ap, _∙_}
 use mathlib.Core.Bool.{true}

@@ -1,5 +1,4 @@
--- What is known of an entry that is not refused, read or to be written.
--- Assumes nothing.
+-- What is known of an entry that is not refused, read or to be written. Assumes nothing.
 use Prim.Native.Nat.{ℕ, _+_, _-_, _^_, _<_, _≤_}
 use mathlib.Core.Path.{_≡_}
 use mathlib.Core.List.{List, _++_, append-assoc}

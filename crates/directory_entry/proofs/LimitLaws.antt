@@ -1,5 +1,4 @@
--- R9: when each refusal is given, for a directory entry: 6, 1, 5, 8 and 9 read; 21, 6, 8 and 9 written.
--- Assumes nothing.
+-- R9: when each refusal is given, for a directory entry: 6, 1, 5, 8 and 9 read; 21, 6, 8 and 9 written. Assumes nothing.
 use Prim.Native.Nat.{ℕ, _+_, _^_, _<_, _≤_}
 use mathlib.Core.Path.{_≡_, refl}
 use mathlib.Core.List.{List}

@@ -1,5 +1,4 @@
--- Reading an entry that was written gives the same fields, and writing an entry that was read the same octets.
--- Assumes nothing.
+-- Reading an entry that was written gives the same fields, and writing an entry that was read the same octets. Assumes nothing.
 use Prim.Native.Nat.{ℕ, _+_, _-_, _^_, _<_}
 use mathlib.Core.Path.{_≡_, refl, sym, ap, _∙_}
 use mathlib.Core.Bool.{not}

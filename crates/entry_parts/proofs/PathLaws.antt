@@ -1,5 +1,4 @@
--- The first zero octet, one octet after the other, and what is known of a path that is not refused.
--- Assumes nothing.
+-- The first zero octet, one octet after the other, and what is known of a path that is not refused. Assumes nothing.
 use Prim.Native.Nat.{ℕ, zero, suc, _+_, _<_, _≤_}
 use mathlib.Core.Path.{_≡_, refl, ap}
 use mathlib.Core.Bool.{_&&_}

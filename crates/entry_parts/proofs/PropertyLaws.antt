@@ -1,5 +1,4 @@
--- The octets of a size, by the properties.
--- Assumes nothing.
+-- The octets of a size, by the properties. Assumes nothing.
 use Prim.Native.Nat.{ℕ, _≤_}
 use native.Mathlib.Omega.{arith}
 use Rattle.octets.specs.Numbers.{Width}

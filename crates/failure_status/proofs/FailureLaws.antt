@@ -1,5 +1,4 @@
--- What is known of a failure STATUS that may be written, and how its octets come into a buffer.
--- Assumes nothing.
+-- What is known of a failure STATUS that may be written, and how its octets come into a buffer. Assumes nothing.
 use Prim.Native.Nat.{ℕ, _^_, _<_, _≤_}
 use mathlib.Core.Path.{_≡_, refl}
 use mathlib.Core.Bool.{not}

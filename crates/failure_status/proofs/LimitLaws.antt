@@ -1,5 +1,4 @@
--- R9: when each refusal is given, for a failure STATUS that is written: 21 and 20.
--- Assumes nothing.
+-- R9: when each refusal is given, for a failure STATUS that is written: 21 and 20. Assumes nothing.
 use Prim.Native.Nat.{ℕ, suc, _^_, _<_, _≤_}
 use mathlib.Core.Path.{_≡_, refl}
 use mathlib.Core.List.{List}

@@ -1,5 +1,4 @@
--- A failure STATUS reads back as it was written, and nothing after its Id matters.
--- Assumes nothing.
+-- A failure STATUS reads back as it was written, and nothing after its Id matters. Assumes nothing.
 use Prim.Native.Nat.{ℕ, _^_, _<_, _≤_}
 use mathlib.Core.Path.{_≡_, refl, sym, ap, _∙_}
 use mathlib.Core.List.{List}

@@ -1,5 +1,4 @@
--- Failure STATUS packets, written, computed.
--- Assumes nothing.
+-- Failure STATUS packets, written, computed. Assumes nothing.
 use mathlib.Core.Path.{_≡_, refl}
 use mathlib.Core.List.{[], _∷_}
 use Rattle.octets.specs.Put.{put}

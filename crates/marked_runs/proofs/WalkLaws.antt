@@ -1,5 +1,4 @@
--- Whole octets and words of marks that are alike, and what each turn of the walk's loops adds.
--- Assumes nothing.
+-- Whole octets and words of marks that are alike, and what each turn of the walk's loops adds. Assumes nothing.
 use Prim.Native.Nat.{ℕ, _+_, _*_, _-_, _/_, _%_, _≤_, _<_}
 use mathlib.Core.Path.{_≡_, refl, sym, ap, _∙_}
 use mathlib.Core.Bool.{Bool, true, false, not, Bool·beq}

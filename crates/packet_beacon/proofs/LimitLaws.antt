@@ -1,5 +1,4 @@
--- R9: when each refusal is given, for BEACON: 26, 1 and 5 of the reader.
--- Assumes nothing.
+-- R9: when each refusal is given, for BEACON: 26, 1 and 5 of the reader. Assumes nothing.
 use Prim.Native.Nat.{ℕ, suc, _<_, _≤_}
 use mathlib.Core.Path.{_≡_, refl}
 use mathlib.Core.List.{List}

@@ -1,5 +1,4 @@
--- R9: when each refusal is given, for STATUS: 1, 5 and 11 of the reader, none of them for a failure.
--- Assumes nothing.
+-- R9: when each refusal is given, for STATUS: 1, 5 and 11 of the reader, none of them for a failure. Assumes nothing.
 use Prim.Native.Nat.{ℕ, zero, suc, _+_, _*_, _%_, _<_, _≤_}
 use mathlib.Core.Path.{_≡_, refl, sym}
 use mathlib.Core.Bool.{Bool, true, false, not}

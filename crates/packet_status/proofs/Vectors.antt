@@ -1,5 +1,4 @@
--- STATUS packets of the recorded passes (R10.7), and others next to them, computed.
--- Assumes nothing.
+-- STATUS packets of the recorded passes (R10.7), and others next to them, computed. Assumes nothing.
 use Prim.Native.Nat.{ℕ}
 use mathlib.Core.Path.{_≡_, refl}
 use mathlib.Core.List.{List, [], _∷_}

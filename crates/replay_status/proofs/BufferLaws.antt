@@ -1,5 +1,4 @@
--- A writer of STATUS leaves a buffer no longer than it was.
--- Assumes nothing.
+-- A writer of STATUS leaves a buffer no longer than it was. Assumes nothing.
 use Prim.Native.Nat.{ℕ, zero, suc, _≤_}
 use mathlib.Core.Path.{_≡_, refl}
 use mathlib.Core.Bool.{Bool}

@@ -1,5 +1,4 @@
--- How long the lines of STATUS are at most, where a buffer of m octets is lent.
--- Assumes nothing.
+-- How long the lines of STATUS are at most, where a buffer of m octets is lent. Assumes nothing.
 use Prim.Native.Nat.{ℕ, _+_, _*_, min}
 use mathlib.Core.Bool.{Bool, true, false, not, cond}
 use mathlib.Core.List.{List, []}

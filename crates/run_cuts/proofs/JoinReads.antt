@@ -1,5 +1,4 @@
--- Where a joined run starts and stops, and whether it brings something new, by the words of the rows.
--- Assumes nothing.
+-- Where a joined run starts and stops, and whether it brings something new, by the words of the rows. Assumes nothing.
 use Prim.Native.Nat.{ℕ, _+_, _-_, _≤_, _<_, min, max}
 use mathlib.Core.Path.{_≡_, ap, _∙_}
 use mathlib.Core.List.{List}

@@ -1,5 +1,4 @@
--- What the tests of runs mean: those pass that are canonical and stop at the length or below.
--- Assumes nothing.
+-- What the tests of runs mean: those pass that are canonical and stop at the length or below. Assumes nothing.
 use Prim.Native.Nat.{ℕ, suc, _≤_}
 use mathlib.Core.Path.{_≡_, refl}
 use mathlib.Core.List.{List, [], _∷_}

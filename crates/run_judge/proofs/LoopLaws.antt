@@ -1,5 +1,4 @@
--- One turn of the loop that judges runs: what is known once some of them are passed, the last of which stops at `last`.
--- Assumes nothing.
+-- One turn of the loop that judges runs: what is known once some of them are passed, the last of which stops at `last`. Assumes nothing.
 use Prim.Native.Nat.{ℕ, suc, _+_, _-_, _≤_, _<_}
 use mathlib.Core.Path.{_≡_, ap}
 use mathlib.Core.List.{List, _∷_}

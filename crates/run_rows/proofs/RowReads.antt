@@ -1,5 +1,4 @@
--- The edge, the progress and the holes of the runs that stand in two rows, by their words.
--- Assumes nothing.
+-- The edge, the progress and the holes of the runs that stand in two rows, by their words. Assumes nothing.
 use Prim.Native.Nat.{ℕ, suc, _+_, _-_, _≤_, _<_}
 use mathlib.Core.Path.{_≡_, sym, ap, ap₂, _∙_}
 use mathlib.Core.List.{List}

@@ -1,5 +1,4 @@
--- `area_fresh::fresh` meets its contract: 20, or every number of the layout 0.
--- Assumes nothing.
+-- `area_fresh::fresh` meets its contract: 20, or every number of the layout 0. Assumes nothing.
 use native.Mathlib.Omega.{arith}
 use borrow.Author.Needs.{needs}
 use mathlib.Core.Path.{sym, ap, _∙_}

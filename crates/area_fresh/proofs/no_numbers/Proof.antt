@@ -1,5 +1,4 @@
--- `area_fresh::no_numbers` meets its contract.
--- Assumes nothing.
+-- `area_fresh::no_numbers` meets its contract. Assumes nothing.
 use mathlib.Core.Path.{refl}
 use Rattle.area_fresh.proofs.no_numbers.Statement.{statement}
 use Rattle.area_fresh.proofs.no_numbers.Tie as tie

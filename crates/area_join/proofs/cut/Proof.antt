@@ -1,5 +1,4 @@
--- `area_join::cut` meets its contract: 16 where the runs would be too many, and else the two places of the splice.
--- Assumes nothing.
+-- `area_join::cut` meets its contract: 16 where the runs would be too many, and else the two places of the splice. Assumes nothing.
 use native.Mathlib.Omega.{arith}
 use borrow.Author.Needs.{needs}
 use denote.Ref.{now}

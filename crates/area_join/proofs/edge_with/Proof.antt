@@ -1,5 +1,4 @@
--- `area_join::edge_with` meets its contract: a run above the new one has the edge, and else the new one.
--- Assumes nothing.
+-- `area_join::edge_with` meets its contract: a run above the new one has the edge, and else the new one. Assumes nothing.
 use borrow.Author.Needs.{needs}
 use native.Mathlib.Omega.{arith}
 use denote.Ref.{now}

@@ -1,5 +1,4 @@
--- `area_join::progress_with` meets its contract: a run below the new one decides, and else the new one.
--- Assumes nothing.
+-- `area_join::progress_with` meets its contract: a run below the new one decides, and else the new one. Assumes nothing.
 use borrow.Author.Needs.{needs}
 use native.Mathlib.Omega.{arith}
 use denote.Ref.{now}

@@ -1,5 +1,4 @@
--- `area_locate::locate` meets its contract: 12, the refusals of the key, and else the place of the Id.
--- Assumes nothing.
+-- `area_locate::locate` meets its contract: 12, the refusals of the key, and else the place of the Id. Assumes nothing.
 use native.Mathlib.Omega.{arith}
 use borrow.Author.Needs.{needs}
 use borrow.Author.Tests.{not-true, not-false}

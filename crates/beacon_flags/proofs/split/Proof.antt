@@ -1,5 +1,4 @@
--- `beacon_flags::split` meets its contract: a mask of j ones keeps the remainder by 2 ^ j.
--- Assumes nothing.
+-- `beacon_flags::split` meets its contract: a mask of j ones keeps the remainder by 2 ^ j. Assumes nothing.
 use Prim.Native.Nat.{_/_, _^_}
 use mathlib.Core.Path.{_∙_}
 use native.Mathlib.Nat.{div-one}

@@ -7,7 +7,6 @@ use borrow.Author.Tests.{lt-ltb, le-ltb, not-true, not-false}
 use Rattle.beacon_flags.specs.Flags.{freeOctets}
 use Rattle.beacon_writer.specs.WriteBeacon.{beaconExcess}
 use borrow.Author.Needs.{needs}
-use native.Mathlib.Omega.{arith}
 use Rattle.beacon_writer.proofs.beacon_excess.Statement.{statement}
 use Rattle.beacon_writer.proofs.beacon_excess.Tie as tie
 

@@ -4,7 +4,6 @@ use mathlib.Core.Path.{_≡_, sym, ap, _∙_}
 use Prim.Native.Nat.{ℕ, _+_}
 use Rattle.refusals.specs.Writing.{roomRefusal}
 use Rattle.refusals.proofs.RefusalLaws.{stays}
-use Rattle.beacon_flags.specs.Flags.{flagsRefusal}
 use Rattle.packet_beacon.specs.Beacon.{endpointAt}
 use Rattle.beacon_writer.specs.WriteBeacon.{beaconExcess, beaconWriteRefusal}
 use Rattle.beacon_flags.proofs.FlagLaws.{free-le}

@@ -1,5 +1,4 @@
--- `beacon_writer::put_beacon` meets its contract: the parts stand one after the other.
--- Assumes nothing.
+-- `beacon_writer::put_beacon` meets its contract: the parts stand one after the other. Assumes nothing.
 use mathlib.Core.Path.{_≡_, refl}
 use Prim.Native.Nat.{_+_, _≤_}
 use denote.Ref.{now}

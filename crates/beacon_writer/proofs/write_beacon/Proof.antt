@@ -1,5 +1,4 @@
--- `beacon_writer::write_beacon` meets its contract: a refusal leaves the buffer, and else the packet stands in it.
--- Assumes nothing.
+-- `beacon_writer::write_beacon` meets its contract: a refusal leaves the buffer, and else the packet stands in it. Assumes nothing.
 use mathlib.Core.Path.{_≡_}
 use denote.Ref.{now}
 use lib.ListN.{length}

@@ -1,5 +1,4 @@
--- `directory_entry::entry_fields` meets its contract: an entry that is not refused is long enough for its fields.
--- Assumes nothing.
+-- `directory_entry::entry_fields` meets its contract: an entry that is not refused is long enough for its fields. Assumes nothing.
 use Prim.Native.Nat.{ℕ, _+_, _<_, _≤_}
 use mathlib.Core.Path.{_≡_, ap, _∙_}
 use denote.Ref.{now}

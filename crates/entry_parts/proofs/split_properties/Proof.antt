@@ -1,5 +1,4 @@
--- `entry_parts::split_properties` meets its contract: a mask of j ones keeps the remainder by 2 ^ j.
--- Assumes nothing.
+-- `entry_parts::split_properties` meets its contract: a mask of j ones keeps the remainder by 2 ^ j. Assumes nothing.
 use Prim.Native.Nat.{_/_, _^_}
 use lib.Bits.{and-mask}
 use Rattle.entry_parts.proofs.split_properties.Statement.{statement}

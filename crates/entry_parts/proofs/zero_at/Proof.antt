@@ -1,5 +1,4 @@
--- `entry_parts::zero_at` meets its contract: no zero octet stands before i, so the search goes on from i.
--- Assumes nothing.
+-- `entry_parts::zero_at` meets its contract: no zero octet stands before i, so the search goes on from i. Assumes nothing.
 use Prim.Native.Nat.{_+_, _-_, _≤_}
 use mathlib.Core.Path.{_≡_, sym, _∙_}
 use native.Mathlib.Nat.{zero-add}

@@ -1,5 +1,4 @@
--- `header::descriptor` meets its contract: each width by itself; of 16 octets the upper ones are zero.
--- Assumes nothing.
+-- `header::descriptor` meets its contract: each width by itself; of 16 octets the upper ones are zero. Assumes nothing.
 use Prim.Native.Nat.{_+_, _≤_}
 use mathlib.Core.Path.{_≡_, sym, _∙_}
 use denote.Ref.{now}

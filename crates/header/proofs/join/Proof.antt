@@ -1,5 +1,4 @@
--- `header::join` meets its contract: the parts of the word share no bit, so an or of them is their sum.
--- Assumes nothing.
+-- `header::join` meets its contract: the parts of the word share no bit, so an or of them is their sum. Assumes nothing.
 use Prim.Native.Nat.{ℕ, _+_, _*_, _%_, _^_}
 use mathlib.Core.Path.{_≡_, ap, _∙_}
 use lib.Bits.{bitOr, or-shifted}

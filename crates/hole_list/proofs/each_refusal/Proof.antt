@@ -1,5 +1,4 @@
--- `hole_list::each_refusal` meets its contract: what is left always gives the refusal of them all.
--- Assumes nothing.
+-- `hole_list::each_refusal` meets its contract: what is left always gives the refusal of them all. Assumes nothing.
 use Prim.Native.Nat.{_+_, _*_, _-_, _≤_}
 use mathlib.Core.Path.{_≡_, refl, sym, _∙_}
 use denote.Ref.{now}

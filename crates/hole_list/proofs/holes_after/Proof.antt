@@ -1,5 +1,4 @@
--- `hole_list::holes_after` meets its contract: what is asked and promised for d is so for the width that d is.
--- Assumes nothing.
+-- `hole_list::holes_after` meets its contract: what is asked and promised for d is so for the width that d is. Assumes nothing.
 use mathlib.Core.Path.{_≡_}
 use native.Mathlib.Omega.{arith}
 use Rattle.octets.proofs.NumberLaws.{width-wide}

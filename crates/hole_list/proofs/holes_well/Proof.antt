@@ -1,5 +1,4 @@
--- `hole_list::holes_well` meets its contract: the first hole is judged here, those after it by `holes_after`.
--- Assumes nothing.
+-- `hole_list::holes_well` meets its contract: the first hole is judged here, those after it by `holes_after`. Assumes nothing.
 use Prim.Native.Nat.{_+_, _*_, _-_, _≤_}
 use mathlib.Core.Path.{_≡_, sym, _∙_}
 use mathlib.Core.Bool.{true, false}

@@ -1,5 +1,4 @@
--- `hole_list::points_to_last` meets its contract: Progress 0 has no octet before it, and no sum is made that could wrap.
--- Assumes nothing.
+-- `hole_list::points_to_last` meets its contract: Progress 0 has no octet before it, and no sum is made that could wrap. Assumes nothing.
 use Prim.Native.Nat.{suc, _-_}
 use mathlib.Core.Path.{_≡_}
 use mathlib.Core.Bool.{true, false}

@@ -1,5 +1,4 @@
--- `hole_list::put_hole` meets its contract: the end stands after the start.
--- Assumes nothing.
+-- `hole_list::put_hole` meets its contract: the end stands after the start. Assumes nothing.
 use Prim.Native.Nat.{_+_}
 use denote.Ref.{now}
 use Rattle.octets.specs.Numbers.{beDigits}

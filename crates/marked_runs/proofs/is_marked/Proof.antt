@@ -1,5 +1,4 @@
--- `marked_runs::is_marked` meets its contract: the mask tells the bit.
--- Assumes nothing.
+-- `marked_runs::is_marked` meets its contract: the mask tells the bit. Assumes nothing.
 use borrow.Author.Needs.{needs}
 use Rattle.marks.proofs.MarkLaws.{mark-read}
 use Rattle.marked_runs.proofs.is_marked.Statement.{statement}

@@ -1,5 +1,4 @@
--- `marked_runs::skip_words` meets its contract: a word that is blank is passed over.
--- Assumes nothing.
+-- `marked_runs::skip_words` meets its contract: a word that is blank is passed over. Assumes nothing.
 use Prim.Native.Nat.{_*_, _-_, _≤_}
 use mathlib.Core.Bool.{not}
 use native.Mathlib.Omega.{arith}

@@ -1,5 +1,4 @@
--- `marks::set_marks` meets its contract: three stretches, one after the other, or one.
--- Assumes nothing.
+-- `marks::set_marks` meets its contract: three stretches, one after the other, or one. Assumes nothing.
 use Prim.Native.Nat.{_+_, _/_}
 use native.Mathlib.Omega.{arith}
 use borrow.Author.Needs.{needs}

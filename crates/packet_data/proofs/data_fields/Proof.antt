@@ -1,5 +1,4 @@
--- `packet_data::data_fields` meets its contract: what a packet that is not refused holds, field by field.
--- Assumes nothing.
+-- `packet_data::data_fields` meets its contract: what a packet that is not refused holds, field by field. Assumes nothing.
 use mathlib.Core.Path.{_≡_, ap, _∙_}
 use denote.Ref.{now}
 use Rattle.header.specs.FirstWord.{flagsOf, descriptorOctets, timestampOctets, wantedOf, eodOf}

@@ -1,5 +1,4 @@
--- `packet_data::data_refusal` meets its contract: each refusal stands where those before it are none.
--- Assumes nothing.
+-- `packet_data::data_refusal` meets its contract: each refusal stands where those before it are none. Assumes nothing.
 use mathlib.Core.Path.{_≡_, sym, ap, _∙_}
 use denote.Ref.{now}
 use lib.ListN.{length}

@@ -1,5 +1,4 @@
--- `packet_data::put_data` meets its contract: the parts stand one after the other.
--- Assumes nothing.
+-- `packet_data::put_data` meets its contract: the parts stand one after the other. Assumes nothing.
 use mathlib.Core.Path.{_≡_, refl}
 use Prim.Native.Nat.{_+_, _≤_}
 use denote.Ref.{now}

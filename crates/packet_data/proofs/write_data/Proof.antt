@@ -1,5 +1,4 @@
--- `packet_data::write_data` meets its contract: a refusal leaves the buffer, and else the packet stands in it.
--- Assumes nothing.
+-- `packet_data::write_data` meets its contract: a refusal leaves the buffer, and else the packet stands in it. Assumes nothing.
 use mathlib.Core.Path.{_≡_}
 use denote.Ref.{now}
 use lib.ListN.{length}

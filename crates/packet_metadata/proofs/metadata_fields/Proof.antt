@@ -1,5 +1,4 @@
--- `packet_metadata::metadata_fields` meets its contract: the entry is read where the checksum ends.
--- Assumes nothing.
+-- `packet_metadata::metadata_fields` meets its contract: the entry is read where the checksum ends. Assumes nothing.
 use Prim.Native.Nat.{ℕ, _+_, _≤_}
 use mathlib.Core.Path.{_≡_, ap, _∙_}
 use denote.Ref.{now}

@@ -1,5 +1,4 @@
--- `packet_metadata::write_metadata` meets its contract: a refusal leaves the buffer, and fields that are not refused fit.
--- Assumes nothing.
+-- `packet_metadata::write_metadata` meets its contract: a refusal leaves the buffer, and fields that are not refused fit. Assumes nothing.
 use mathlib.Core.Path.{_≡_}
 use denote.Ref.{now}
 use lib.ListN.{length}

@@ -1,5 +1,4 @@
--- `packet_status::list_refusal` meets its contract: whole pairs, and the judgement of the hole list.
--- Assumes nothing.
+-- `packet_status::list_refusal` meets its contract: whole pairs, and the judgement of the hole list. Assumes nothing.
 use Prim.Native.Nat.{_+_, _*_, _-_, _/_, _%_, _≤_}
 use mathlib.Core.Bool.{Bool, not, _||_}
 use mathlib.Core.Path.{_≡_, sym, ap, _∙_}

@@ -1,5 +1,4 @@
--- `plan::resend_refusal` meets its contract: the reader's refusal, or what comes after it.
--- Assumes nothing.
+-- `plan::resend_refusal` meets its contract: the reader's refusal, or what comes after it. Assumes nothing.
 use mathlib.Core.Path.{_≡_, sym, ap, _∙_}
 use mathlib.Core.Bool.{not}
 use denote.Ref.{now}

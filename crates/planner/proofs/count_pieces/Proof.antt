@@ -1,5 +1,4 @@
--- `planner::count_pieces` meets its contract: the packet has one of the four widths.
--- Assumes nothing.
+-- `planner::count_pieces` meets its contract: the packet has one of the four widths. Assumes nothing.
 use mathlib.Core.Path.{_≡_, sym, ap, _∙_}
 use denote.Ref.{now}
 use native.Mathlib.Omega.{arith}

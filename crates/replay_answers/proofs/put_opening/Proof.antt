@@ -1,5 +1,4 @@
--- `replay_answers::put_opening` meets its contract: a line for each case.
--- Assumes nothing.
+-- `replay_answers::put_opening` meets its contract: a line for each case. Assumes nothing.
 use mathlib.Core.Path.{sym, ap}
 use Rattle.text.proofs.AddedLaws.{added-as}
 use Rattle.replay_answers.specs.AnswerLines.{openingText}

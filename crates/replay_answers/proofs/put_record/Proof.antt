@@ -1,5 +1,4 @@
--- `replay_answers::put_record` meets its contract: a line for each case.
--- Assumes nothing.
+-- `replay_answers::put_record` meets its contract: a line for each case. Assumes nothing.
 use mathlib.Core.Path.{sym, ap}
 use Rattle.packet_data.specs.declared.DataRead.{DataRead}
 use Rattle.text.proofs.AddedLaws.{added-as}

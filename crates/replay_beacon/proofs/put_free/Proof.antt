@@ -1,5 +1,4 @@
--- `replay_beacon::put_free` meets its contract: one part after the other.
--- Assumes nothing.
+-- `replay_beacon::put_free` meets its contract: one part after the other. Assumes nothing.
 use mathlib.Core.Path.{ap}
 use borrow.Author.Tests.{eq-eqb, ne-eqb}
 use Rattle.text.proofs.AddedLaws.{_then_, added-as}

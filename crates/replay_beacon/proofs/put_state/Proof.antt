@@ -1,5 +1,4 @@
--- `replay_beacon::put_state` meets its contract: a word for each state.
--- Assumes nothing.
+-- `replay_beacon::put_state` meets its contract: a word for each state. Assumes nothing.
 use mathlib.Core.Path.{sym, ap}
 use Rattle.text.proofs.AddedLaws.{added-as}
 use Rattle.replay_beacon.specs.BeaconLine.{stateText}

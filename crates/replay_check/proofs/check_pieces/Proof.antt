@@ -1,5 +1,4 @@
--- `replay_check::check_pieces` meets its contract: before each turn the first i pieces are checked.
--- Assumes nothing.
+-- `replay_check::check_pieces` meets its contract: before each turn the first i pieces are checked. Assumes nothing.
 use Prim.Native.Nat.{_-_, _≤_}
 use mathlib.Core.Path.{_≡_, refl, sym, ap, ap₂, _∙_}
 use mathlib.Core.List.{[], _∷_}

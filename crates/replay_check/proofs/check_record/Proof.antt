@@ -1,5 +1,4 @@
--- `replay_check::check_record` meets its contract: `bad length`, or the check of the pieces for the packet after them.
--- Assumes nothing.
+-- `replay_check::check_record` meets its contract: `bad length`, or the check of the pieces for the packet after them. Assumes nothing.
 use Prim.Native.Nat.{ℕ, _+_, _*_}
 use mathlib.Core.Path.{_≡_, ap, ap₂, _∙_}
 use mathlib.Core.List.{List}

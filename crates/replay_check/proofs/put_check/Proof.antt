@@ -1,5 +1,4 @@
--- `replay_check::put_check` meets its contract: the refusal, or whether the pieces pass.
--- Assumes nothing.
+-- `replay_check::put_check` meets its contract: the refusal, or whether the pieces pass. Assumes nothing.
 use Prim.Native.Nat.{ℕ}
 use mathlib.Core.Path.{_≡_, refl, sym, ap, _∙_}
 use mathlib.Core.Bool.{Bool}

@@ -1,5 +1,4 @@
--- `replay_deliver::deliver` meets its contract: what each type of packet gets.
--- Assumes nothing.
+-- `replay_deliver::deliver` meets its contract: what each type of packet gets. Assumes nothing.
 use mathlib.Core.Path.{refl, sym, _∙_}
 use denote.Ref.{now}
 use borrow.Author.Needs.{needs}

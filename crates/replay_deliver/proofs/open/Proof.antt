@@ -1,5 +1,4 @@
--- `replay_deliver::open` meets its contract: what opening answers and leaves.
--- Assumes nothing.
+-- `replay_deliver::open` meets its contract: what opening answers and leaves. Assumes nothing.
 use mathlib.Core.Path.{ap}
 use denote.Ref.{now}
 use borrow.Author.Needs.{needs}

@@ -1,5 +1,4 @@
--- `replay_deliver::put_opened` meets its contract: one line, then the other.
--- Assumes nothing.
+-- `replay_deliver::put_opened` meets its contract: one line, then the other. Assumes nothing.
 use mathlib.Core.Path.{ap}
 use Prim.Native.Nat.{ℕ}
 use denote.Ref.{now}

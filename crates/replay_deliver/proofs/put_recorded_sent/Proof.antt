@@ -1,5 +1,4 @@
--- `replay_deliver::put_recorded_sent` meets its contract: by the two cases of the answer.
--- Assumes nothing.
+-- `replay_deliver::put_recorded_sent` meets its contract: by the two cases of the answer. Assumes nothing.
 use mathlib.Core.Path.{sym, ap}
 use denote.Ref.{now}
 use borrow.Author.Needs.{needs}

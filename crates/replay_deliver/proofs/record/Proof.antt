@@ -1,5 +1,4 @@
--- `replay_deliver::record` meets its contract: what recording answers and leaves.
--- Assumes nothing.
+-- `replay_deliver::record` meets its contract: what recording answers and leaves. Assumes nothing.
 use mathlib.Core.Path.{ap₂}
 use mathlib.Core.List.{List}
 use Prim.Native.Nat.{ℕ}

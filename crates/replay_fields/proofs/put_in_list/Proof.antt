@@ -1,5 +1,4 @@
--- `replay_fields::put_in_list` meets its contract.
--- Assumes nothing.
+-- `replay_fields::put_in_list` meets its contract. Assumes nothing.
 use borrow.Author.Tests.{eq-eqb, ne-eqb}
 use Rattle.text.proofs.AddedLaws.{_then_}
 use borrow.Author.Needs.{needs}

@@ -1,5 +1,4 @@
--- `replay_lines::put_refused` meets its contract: one part after the other.
--- Assumes nothing.
+-- `replay_lines::put_refused` meets its contract: one part after the other. Assumes nothing.
 use borrow.Author.Needs.{needs}
 use Rattle.text.proofs.AddedLaws.{_then_}
 use Rattle.replay_lines.specs.Lines.{refusedLine}

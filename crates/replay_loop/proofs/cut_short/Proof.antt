@@ -1,5 +1,4 @@
--- `replay_loop::cut_short` is safe.
--- Assumes nothing.
+-- `replay_loop::cut_short` is safe. Assumes nothing.
 use mathlib.Core.Path.{sym}
 use lib.Seq.{length-take-le}
 use borrow.Author.Needs.{needs}

@@ -1,5 +1,4 @@
--- `replay_loop::replay` is safe and ends: the records are counted. The buffers keep their lengths.
--- Assumes nothing.
+-- `replay_loop::replay` is safe and ends: the records are counted. The buffers keep their lengths. Assumes nothing.
 use Prim.Native.Nat.{_-_}
 use mathlib.Core.Path.{_≡_, refl, _∙_}
 use native.Mathlib.Omega.{arith}

@@ -1,5 +1,4 @@
--- `replay_loop::step` is safe: the part of the body that is lent lies within its buffer.
--- Assumes nothing.
+-- `replay_loop::step` is safe: the part of the body that is lent lies within its buffer. Assumes nothing.
 use Prim.Native.Nat.{_≤_}
 use mathlib.Core.Path.{sym, ap}
 use native.Mathlib.Omega.{arith}

@@ -1,5 +1,4 @@
--- `replay_loop::tell` is safe: the lines that are written lie within their buffer.
--- Assumes nothing.
+-- `replay_loop::tell` is safe: the lines that are written lie within their buffer. Assumes nothing.
 use mathlib.Core.Path.{sym}
 use lib.Seq.{length-take-le}
 use borrow.Author.Needs.{needs}

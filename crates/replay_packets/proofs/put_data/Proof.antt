@@ -1,5 +1,4 @@
--- `replay_packets::put_data` meets its contract: one part after the other.
--- Assumes nothing.
+-- `replay_packets::put_data` meets its contract: one part after the other. Assumes nothing.
 use mathlib.Core.Path.{ap}
 use Prim.Native.Nat.{ℕ}
 use mathlib.Core.List.{List}

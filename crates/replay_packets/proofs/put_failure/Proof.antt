@@ -1,5 +1,4 @@
--- `replay_packets::put_failure` meets its contract: one part after the other.
--- Assumes nothing.
+-- `replay_packets::put_failure` meets its contract: one part after the other. Assumes nothing.
 use borrow.Author.Needs.{needs}
 use Rattle.text.proofs.AddedLaws.{_then_}
 use Rattle.replay_packets.specs.PacketLines.{failureLine}

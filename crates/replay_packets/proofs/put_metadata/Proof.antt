@@ -1,5 +1,4 @@
--- `replay_packets::put_metadata` meets its contract: one part after the other.
--- Assumes nothing.
+-- `replay_packets::put_metadata` meets its contract: one part after the other. Assumes nothing.
 use mathlib.Core.Path.{ap}
 use borrow.Author.Needs.{needs}
 use Rattle.text.proofs.AddedLaws.{_then_, added-as}

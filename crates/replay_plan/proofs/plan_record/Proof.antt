@@ -1,5 +1,4 @@
--- `replay_plan::plan_record` meets its contract: `bad length`, or the plan for the packet after the first 8 octets.
--- Assumes nothing.
+-- `replay_plan::plan_record` meets its contract: `bad length`, or the plan for the packet after the first 8 octets. Assumes nothing.
 use Prim.Native.Nat.{ℕ}
 use mathlib.Core.Path.{ap₂, _∙_}
 use mathlib.Core.List.{List}

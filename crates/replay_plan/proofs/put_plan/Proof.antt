@@ -1,5 +1,4 @@
--- `replay_plan::put_plan` meets its contract: the refusal, or the plan.
--- Assumes nothing.
+-- `replay_plan::put_plan` meets its contract: the refusal, or the plan. Assumes nothing.
 use Prim.Native.Nat.{ℕ}
 use mathlib.Core.Path.{_≡_, ap, _∙_}
 use denote.Ref.{now}

@@ -1,5 +1,4 @@
--- `replay_plan::put_planned` meets its contract: one part after the other.
--- Assumes nothing.
+-- `replay_plan::put_planned` meets its contract: one part after the other. Assumes nothing.
 use Prim.Native.Nat.{ℕ}
 use mathlib.Core.Path.{_≡_, refl, sym, ap, _∙_}
 use denote.Ref.{now}

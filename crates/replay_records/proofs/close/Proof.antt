@@ -1,5 +1,4 @@
--- `replay_records::close` meets its contract: `bad length`, or what closing answers and leaves.
--- Assumes nothing.
+-- `replay_records::close` meets its contract: `bad length`, or what closing answers and leaves. Assumes nothing.
 use mathlib.Core.Path.{ap, _∙_}
 use Prim.Native.Nat.{ℕ}
 use native.Mathlib.Omega.{arith}

@@ -1,5 +1,4 @@
--- `replay_records::fresh` meets its contract: `bad length`, or what making fresh answers and leaves.
--- Assumes nothing.
+-- `replay_records::fresh` meets its contract: `bad length`, or what making fresh answers and leaves. Assumes nothing.
 use mathlib.Core.Path.{ap}
 use denote.Ref.{now}
 use lib.ListN.{length}

@@ -1,5 +1,4 @@
--- `replay_records::open` meets its contract: what opening answers and leaves.
--- Assumes nothing.
+-- `replay_records::open` meets its contract: what opening answers and leaves. Assumes nothing.
 use mathlib.Core.Path.{ap₂}
 use borrow.Author.Needs.{needs}
 use Rattle.text.proofs.AddedLaws.{added-as}

@@ -1,5 +1,4 @@
--- `replay_records::read` meets its contract: what the packet is read as.
--- Assumes nothing.
+-- `replay_records::read` meets its contract: what the packet is read as. Assumes nothing.
 use mathlib.Core.Path.{ap}
 use denote.Ref.{now}
 use borrow.Author.Needs.{needs}

@@ -1,5 +1,4 @@
--- `replay_records::record` meets its contract: what recording answers and leaves.
--- Assumes nothing.
+-- `replay_records::record` meets its contract: what recording answers and leaves. Assumes nothing.
 use mathlib.Core.Path.{ap₂}
 use borrow.Author.Needs.{needs}
 use Rattle.text.proofs.AddedLaws.{added-as}

@@ -1,5 +1,4 @@
--- `replay_records::time` meets its contract: `bad length`, or nothing.
--- Assumes nothing.
+-- `replay_records::time` meets its contract: `bad length`, or nothing. Assumes nothing.
 use native.Mathlib.Omega.{arith}
 use denote.Ref.{now}
 use lib.ListN.{length}

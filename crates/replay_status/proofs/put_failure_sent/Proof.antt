@@ -1,5 +1,4 @@
--- `replay_status::put_failure_sent` meets its contract: a code of 0 and a packet with no Id, as a BEACON, get no line.
--- Assumes nothing.
+-- `replay_status::put_failure_sent` meets its contract: a code of 0 and a packet with no Id, as a BEACON, get no line. Assumes nothing.
 use mathlib.Core.Path.{_≡_, ap, ap₂, _∙_}
 use Prim.Native.Nat.{ℕ}
 use denote.Ref.{now}

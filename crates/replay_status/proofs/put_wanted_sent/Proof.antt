@@ -1,5 +1,4 @@
--- `replay_status::put_wanted_sent` meets its contract: no line where no STATUS is wanted.
--- Assumes nothing.
+-- `replay_status::put_wanted_sent` meets its contract: no line where no STATUS is wanted. Assumes nothing.
 use mathlib.Core.Path.{ap₂}
 use native.Mathlib.Omega.{arith}
 use denote.Ref.{now}

@@ -1,5 +1,4 @@
--- `replay_status::status` meets its contract: `bad length`, or the STATUS by the four numbers of the body.
--- Assumes nothing.
+-- `replay_status::status` meets its contract: `bad length`, or the STATUS by the four numbers of the body. Assumes nothing.
 use mathlib.Core.Path.{_≡_, sym, ap, ap₂, _∙_}
 use mathlib.Core.Bool.{not}
 use mathlib.Core.List.{List}

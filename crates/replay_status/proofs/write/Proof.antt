@@ -1,5 +1,4 @@
--- `replay_status::write` meets its contract: what writing STATUS answers and leaves.
--- Assumes nothing.
+-- `replay_status::write` meets its contract: what writing STATUS answers and leaves. Assumes nothing.
 use mathlib.Core.Path.{ap₂}
 use borrow.Author.Needs.{needs}
 use Rattle.text.proofs.AddedLaws.{added-as}

@@ -1,5 +1,4 @@
--- `replay_steps::answer` meets its contract: the lines have room, so none is cut.
--- Assumes nothing.
+-- `replay_steps::answer` meets its contract: the lines have room, so none is cut. Assumes nothing.
 use denote.Ref.{now}
 use borrow.Author.Needs.{needs}
 use Rattle.replay_steps.proofs.RoomLaws.{record-lines-whole}

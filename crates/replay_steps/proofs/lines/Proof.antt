@@ -1,5 +1,4 @@
--- `replay_steps::lines` meets its contract: a return for each kind.
--- Assumes nothing.
+-- `replay_steps::lines` meets its contract: a return for each kind. Assumes nothing.
 use mathlib.Core.Path.{refl}
 use denote.Ref.{now}
 use borrow.Author.Tests.{ne-eqb}

@@ -1,5 +1,4 @@
--- `replay_success::put_hole` meets its contract.
--- Assumes nothing.
+-- `replay_success::put_hole` meets its contract. Assumes nothing.
 use mathlib.Core.Path.{_≡_, ap, _∙_}
 use native.Mathlib.Omega.{arith}
 use denote.Ref.{now}

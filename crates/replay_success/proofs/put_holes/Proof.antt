@@ -1,5 +1,4 @@
--- `replay_success::put_holes` meets its contract: before each turn the first i holes have been put.
--- Assumes nothing.
+-- `replay_success::put_holes` meets its contract: before each turn the first i holes have been put. Assumes nothing.
 use Prim.Native.Nat.{_-_, _≤_}
 use mathlib.Core.Path.{_≡_}
 use native.Mathlib.Numerals.{add-one}

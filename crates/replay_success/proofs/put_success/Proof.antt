@@ -1,5 +1,4 @@
--- `replay_success::put_success` meets its contract: one part after the other.
--- Assumes nothing.
+-- `replay_success::put_success` meets its contract: one part after the other. Assumes nothing.
 use mathlib.Core.Path.{ap}
 use borrow.Author.Needs.{needs}
 use Rattle.text.proofs.AddedLaws.{_then_, added-as}

@@ -1,5 +1,4 @@
--- `status_fields::hole_count` meets its contract: the list stands within the packet.
--- Assumes nothing.
+-- `status_fields::hole_count` meets its contract: the list stands within the packet. Assumes nothing.
 use Prim.Native.Nat.{_≤_}
 use mathlib.Core.Path.{_≡_, ap, _∙_}
 use denote.Ref.{now}

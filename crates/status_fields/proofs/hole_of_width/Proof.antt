@@ -1,5 +1,4 @@
--- `status_fields::hole_of_width` meets its contract: the hole lies within the packet.
--- Assumes nothing.
+-- `status_fields::hole_of_width` meets its contract: the hole lies within the packet. Assumes nothing.
 use Prim.Native.Nat.{_+_, _*_, _≤_}
 use mathlib.Core.Path.{_≡_, ap, _∙_}
 use denote.Ref.{now}

@@ -1,5 +1,4 @@
--- `status_fields::listed_hole` meets its contract: the packet has one of the four widths.
--- Assumes nothing.
+-- `status_fields::listed_hole` meets its contract: the packet has one of the four widths. Assumes nothing.
 use mathlib.Core.Path.{_≡_, sym, ap, _∙_}
 use denote.Ref.{now}
 use native.Mathlib.Omega.{arith}

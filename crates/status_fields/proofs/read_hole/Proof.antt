@@ -1,5 +1,4 @@
--- `status_fields::read_hole` meets its contract: what is not refused has the hole.
--- Assumes nothing.
+-- `status_fields::read_hole` meets its contract: what is not refused has the hole. Assumes nothing.
 use mathlib.Core.Path.{_≡_}
 use denote.Ref.{now}
 use Rattle.packet_status.specs.Status.{holeRefusal, indexedHole, readHole}

@@ -1,5 +1,4 @@
--- `status_fields::read_status` meets its contract: an answer for each of refused, success and failure.
--- Assumes nothing.
+-- `status_fields::read_status` meets its contract: an answer for each of refused, success and failure. Assumes nothing.
 use mathlib.Core.Path.{_≡_}
 use denote.Ref.{now}
 use Rattle.header.specs.FirstWord.{statusOf}

@@ -1,5 +1,4 @@
--- `status_fields::success_fields` meets its contract: the fields stand where the word says, and within the packet.
--- Assumes nothing.
+-- `status_fields::success_fields` meets its contract: the fields stand where the word says, and within the packet. Assumes nothing.
 use Prim.Native.Nat.{_≤_}
 use mathlib.Core.Path.{_≡_, ap, _∙_}
 use denote.Ref.{now}

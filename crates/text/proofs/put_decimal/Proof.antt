@@ -1,5 +1,4 @@
--- `text::put_decimal` meets its contract.
--- Assumes nothing.
+-- `text::put_decimal` meets its contract. Assumes nothing.
 use Prim.Native.Nat.{_-_, _≤_}
 use mathlib.Core.Path.{_∙_}
 use lib.ListN.{length, drop, length-drop}

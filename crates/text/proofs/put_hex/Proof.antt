@@ -1,5 +1,4 @@
--- `text::put_hex` meets its contract: before each turn the digits of the first i octets have been put.
--- Assumes nothing.
+-- `text::put_hex` meets its contract: before each turn the digits of the first i octets have been put. Assumes nothing.
 use Prim.Native.Nat.{_-_, _≤_}
 use native.Mathlib.Omega.{arith}
 use denote.Ref.{now}

@@ -1,5 +1,4 @@
--- `text::put_number` meets its contract.
--- Assumes nothing.
+-- `text::put_number` meets its contract. Assumes nothing.
 use mathlib.Core.Path.{_≡_, sym, ap, _∙_}
 use lib.ListN.{take}
 use lib.Seq.{length-take-le}

@@ -1,5 +1,4 @@
--- `text::put_text` meets its contract: before each turn the first i octets of the word have been put.
--- Assumes nothing.
+-- `text::put_text` meets its contract: before each turn the first i octets of the word have been put. Assumes nothing.
 use Prim.Native.Nat.{_-_, _≤_, _<_}
 use mathlib.Core.Path.{sym}
 use native.Mathlib.Numerals.{add-one}

@@ -75,7 +75,7 @@ fn bitmap_opened_answer(a: Opened) -> BitmapOpenedAnswer
             number: 0,
             code: 0,
             edge: x.reached.edge,
-            complete: answers::one_if(x.reached.complete),
+            complete: refusals::bit_of(x.reached.complete),
             transfer: bitmap_of(x.key),
         },
         Opened::Refused(refusal) => BitmapOpenedAnswer {

@@ -4,8 +4,8 @@
 use Prim.Native.Nat.{ℕ}
 use Rattle.refusals.specs.declared.Refusal.{Refusal}
 use Rattle.packet_beacon.specs.declared.Beacon.{Beacon}
-use Rattle.packet_beacon.specs.declared.Willingness.{Willingness}
-use Rattle.packet_beacon.specs.declared.Willingness.the-variants.{Cannot, NotNow, Willing}
+use Rattle.beacon_flags.specs.declared.Willingness.{Willingness}
+use Rattle.beacon_flags.specs.declared.Willingness.the-variants.{Cannot, NotNow, Willing}
 use Rattle.packet_metadata.specs.declared.Metadata.{Metadata}
 use Rattle.packet_data.specs.declared.Data.{Data}
 use Rattle.packet_status.specs.declared.SuccessStatus.{SuccessStatus}

@@ -1,17 +1,11 @@
-// What C is answered of a packet that was read, by its case, of one hole of a STATUS, and of BEACON, METADATA, DATA and failure STATUS
-// that are written.
+// What C is answered of a packet that was read, by its case, and of one hole of a STATUS.
 ghost use mathlib.Core.Path.{_≡_};
-ghost use Rattle.packet_beacon.specs.WriteBeacon.{beaconWritten, beaconBuffer};
-ghost use Rattle.packet_data.specs.WriteData.{dataWritten, dataBuffer};
-ghost use Rattle.packet_metadata.specs.WriteMetadata.{metadataWritten, metadataBuffer};
 ghost use Rattle.packet_status.specs.Status.{readHole};
-ghost use Rattle.packet_status.specs.WriteFailure.{failureWritten, failureBuffer};
 ghost use Rattle.answer_packets.specs.PacketAnswers.{noPart, noMetadata, noData, noStatus, noBeacon, stateNumber, beaconPacket, metadataPacket, dataPacket, successPacket, failurePacket, refusedPacket};
-ghost use Rattle.answers.specs.Answers.{holeAnswer, writtenAnswer};
+ghost use Rattle.answers.specs.Answers.{holeAnswer};
 use answers::HoleAnswer;
-use answers::WrittenAnswer;
+use beacon_flags::Willingness;
 use packet_beacon::Beacon;
-use packet_beacon::Willingness;
 use packet_data::Data;
 use packet_metadata::Metadata;
 use packet_status::FailureStatus;
@@ -316,60 +310,5 @@ pub fn refused_packet(refusal: Refusal) -> PacketAnswer
 pub fn read_hole(packet: &[u8], index: u64) -> HoleAnswer
     ensures { λ r. ⌜ r ≡ holeAnswer (readHole index (now (packet .entry))) ⌝ }
 {
-    answers::hole_answer(packet_status::read_hole(packet, index))
-}
-
-pub fn write_beacon(flags: u64, free: u64, endpoint: &[u8], out: &mut [u8]) -> WrittenAnswer
-    ensures { λ r. ⌜ (r ≡ writtenAnswer (beaconWritten flags free (now (endpoint .entry)) (now (out .entry))))
-        × (now (out .exit) ≡ beaconBuffer flags free (now (endpoint .entry)) (now (out .entry))) ⌝ }
-{
-    answers::written_answer(packet_beacon::write_beacon(out, flags, free, endpoint))
-}
-
-pub fn write_metadata(
-    flags: u64,
-    id: u64,
-    checksum: &[u8],
-    properties: u64,
-    size: u64,
-    mtime: u64,
-    ctime: u64,
-    path: &[u8],
-    out: &mut [u8],
-) -> WrittenAnswer
-    ensures { λ r. ⌜ (r ≡ writtenAnswer (metadataWritten flags id (now (checksum .entry)) properties size mtime ctime (now (path .entry)) (now (out .entry))))
-        × (now (out .exit) ≡ metadataBuffer flags id (now (checksum .entry)) properties size mtime ctime (now (path .entry)) (now (out .entry))) ⌝ }
-{
-    answers::written_answer(packet_metadata::write_metadata(
-        out,
-        flags,
-        id,
-        checksum,
-        properties,
-        size,
-        mtime,
-        ctime,
-        path,
-    ))
-}
-
-pub fn write_data(
-    flags: u64,
-    id: u64,
-    timestamp: &[u8],
-    offset: u64,
-    payload: &[u8],
-    out: &mut [u8],
-) -> WrittenAnswer
-    ensures { λ r. ⌜ (r ≡ writtenAnswer (dataWritten flags id (now (timestamp .entry)) offset (now (payload .entry)) (now (out .entry))))
-        × (now (out .exit) ≡ dataBuffer flags id (now (timestamp .entry)) offset (now (payload .entry)) (now (out .entry))) ⌝ }
-{
-    answers::written_answer(packet_data::write_data(out, flags, id, timestamp, offset, payload))
-}
-
-pub fn write_failure(id: u64, status: u64, out: &mut [u8]) -> WrittenAnswer
-    ensures { λ r. ⌜ (r ≡ writtenAnswer (failureWritten id status (now (out .entry))))
-        × (now (out .exit) ≡ failureBuffer id status (now (out .entry))) ⌝ }
-{
-    answers::written_answer(packet_status::write_failure(out, id, status))
+    answers::hole_answer(status_fields::read_hole(packet, index))
 }

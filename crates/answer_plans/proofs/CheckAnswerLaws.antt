@@ -1,5 +1,4 @@
--- R11.4, R11.5: what the check answers once all pieces are done.
--- Assumes nothing.
+-- R11.4, R11.5: what the check answers once all pieces are done. Assumes nothing.
 use Prim.Native.Nat.{ℕ, _≤_}
 use mathlib.Core.Path.{_≡_, refl, ap, _∙_}
 use mathlib.Core.Bool.{Bool, true, false}

@@ -1,5 +1,4 @@
--- R11.6, of what C calls: the records that `saratoga_plan` stored pass `saratoga_check_plan`, by the promises of both.
--- Assumes nothing.
+-- R11.6, of what C calls: the records that `saratoga_plan` stored pass `saratoga_check_plan`, by the promises of both. Assumes nothing.
 use Prim.Native.Nat.{ℕ, zero, suc}
 use mathlib.Core.Path.{_≡_, refl, sym, ap, ap₂, subst, _∙_}
 use mathlib.Core.List.{List}

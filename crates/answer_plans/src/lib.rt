@@ -58,20 +58,20 @@ fn checked_answer(k: Check) -> CheckedAnswer
 pub fn plan_count(status: &[u8], largest: u64) -> PlannedAnswer
     ensures { λ r. ⌜ r ≡ plannedAnswer (plannedOf (resendRefusal largest (now (status .entry))) largest (holeList (now (status .entry)))) ⌝ }
 {
-    planned_answer(plan::count_plan(status, largest))
+    planned_answer(planner::count_plan(status, largest))
 }
 
 pub fn plan(status: &[u8], largest: u64, pieces: &mut [Piece]) -> PlannedAnswer
     ensures { λ r. ⌜ (r ≡ plannedAnswer (plannedOf (planRefusal largest (length (now (pieces .entry))) (now (status .entry))) largest (holeList (now (status .entry)))))
         × (now (pieces .exit) ≡ recordsAfter (planRefusal largest (length (now (pieces .entry))) (now (status .entry))) (planOf largest (holeList (now (status .entry)))) (now (pieces .entry))) ⌝ }
 {
-    let p = plan::plan_within(status, largest, pieces.len());
+    let p = planner::plan_within(status, largest, pieces.len());
     let n = p.count as usize;
-    let mut c = plan::cursor_at(status, p.holes, 0);
+    let mut c = planner::cursor_at(status, p.holes, 0);
     let mut i: usize = 0;
     while i < n {
-        pieces[i] = plan::piece_at(c, largest);
-        c = plan::next_cursor(status, c, largest);
+        pieces[i] = planner::piece_at(c, largest);
+        c = planner::next_cursor(status, c, largest);
         i = i + 1;
     }
     planned_answer(p)

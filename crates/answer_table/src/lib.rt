@@ -63,14 +63,14 @@ fn opened_answer(a: Opened) -> OpenedAnswer
             number: 0,
             code: 0,
             edge: x.edge,
-            complete: answers::one_if(x.complete),
+            complete: refusals::bit_of(x.complete),
             already_open: 0,
         },
         Opened::AlreadyOpen(x) => OpenedAnswer {
             number: 0,
             code: 0,
             edge: x.edge,
-            complete: answers::one_if(x.complete),
+            complete: refusals::bit_of(x.complete),
             already_open: 1,
         },
         Opened::Refused(refused) => OpenedAnswer {
@@ -94,7 +94,7 @@ fn listed_answer(a: Listed) -> ListedAnswer
             width: x.width,
             length: x.length,
             edge: x.edge,
-            complete: answers::one_if(x.complete),
+            complete: refusals::bit_of(x.complete),
             runs: x.runs,
             received: x.received,
         },
@@ -115,7 +115,7 @@ fn listed_answer(a: Listed) -> ListedAnswer
 pub fn fresh(area: &mut [u8]) -> DoneAnswer
     ensures { λ r. ⌜ (r ≡ doneAnswer (freshArea (now (area .entry)) .answer)) × (now (area .exit) ≡ freshArea (now (area .entry)) .area) ⌝ }
 {
-    done_answer(area_open::fresh(area))
+    done_answer(area_fresh::fresh(area))
 }
 
 pub fn open(area: &mut [u8], packet: &[u8]) -> OpenedAnswer
@@ -135,7 +135,7 @@ pub fn record(area: &mut [u8], packet: &[u8]) -> RecordedAnswer
 pub fn try_record(area: &[u8], packet: &[u8]) -> RecordedAnswer
     ensures { λ r. ⌜ r ≡ recordedAnswer (recordArea (now (area .entry)) (now (packet .entry)) .answer) ⌝ }
 {
-    answers::recorded_answer(area_record::ahead::try_record(area, packet))
+    answers::recorded_answer(area_record::try_record(area, packet))
 }
 
 pub fn close(area: &mut [u8], id: u64) -> DoneAnswer

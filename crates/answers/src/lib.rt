@@ -1,7 +1,6 @@
 // What C gets of a written packet, of a hole and of a recording: answers that more than one of its functions gives.
 // Every struct has fields of 64 bits alone. `number` is 0 where the call is accepted.
 ghost use mathlib.Core.Path.{_≡_};
-ghost use Rattle.refusals.specs.Tests.{bit};
 ghost use Rattle.answers.specs.Answers.{holeAnswer, writtenAnswer, recordedAnswer};
 use packet_status::HoleRead;
 use refusals::Written;
@@ -33,13 +32,6 @@ pub struct RecordedAnswer {
     pub complete: u64,
     pub absorbed: u64,
     pub adds: u64,
-}
-
-// 1 for yes, 0 for no.
-pub fn one_if(yes: bool) -> u64
-    ensures { λ r. ⌜ r ≡ bit yes ⌝ }
-{
-    if yes { 1 } else { 0 }
 }
 
 // What C gets of a written packet.
@@ -89,7 +81,7 @@ pub fn recorded_answer(a: Recorded) -> RecordedAnswer
             number: 0,
             code: 0,
             edge: x.reached.edge,
-            complete: one_if(x.reached.complete),
+            complete: refusals::bit_of(x.reached.complete),
             absorbed: x.absorbed,
             adds: x.adds,
         },

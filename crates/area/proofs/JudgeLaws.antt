@@ -10,7 +10,7 @@ use lib.ListN.{length}
 use lib.Dec.{ltb, leb}
 use borrow.Author.Tests.{ltb-true, leb-true, lt-ltb, le-leb}
 use Rattle.words.specs.Words.{wordAt}
-use Rattle.run_rows.proofs.JudgeLaws.{both-true, runs-passed, runs-passes}
+use Rattle.run_judge.proofs.JudgeLaws.{both-true, runs-passed, runs-passes}
 use Rattle.transfer.specs.Transfers.{Transfer, TransferFine, lengthTest}
 use Rattle.transfer.proofs.LengthLaws.{length-passed, length-passes}
 use Rattle.table.specs.Tables.{FineFrom, Valid}

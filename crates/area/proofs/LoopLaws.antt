@@ -10,9 +10,9 @@ use lib.Dec.{ltb}
 use borrow.Author.Tests.{ltb-true, lt-ltb, le-ltb, le-leb, lt-leb}
 use Rattle.words.specs.Words.{wordAt}
 use Rattle.run_rows.specs.Rows.{runsFrom}
-use Rattle.run_rows.specs.Judge.{runsTest}
+use Rattle.run_judge.specs.Judge.{runsTest}
 use Rattle.run_rows.proofs.RowsLaws.{length-runs}
-use Rattle.run_rows.proofs.JudgeLaws.{both-true}
+use Rattle.run_judge.proofs.JudgeLaws.{both-true}
 use Rattle.transfer.specs.Transfers.{lengthTest}
 use Rattle.area.specs.Layout.{transferPlaces, runPlaces, areaOctets, idField, widthField, lengthField, countField, headAt, runAt}
 use Rattle.area.specs.Places.{transferAt, transfersFrom}

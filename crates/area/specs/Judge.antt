@@ -8,7 +8,7 @@ use mathlib.Core.Option.{Option, none, some}
 use lib.ListN.{length}
 use lib.Dec.{ltb, leb}
 use Rattle.words.specs.Words.{wordAt}
-use Rattle.run_rows.specs.Judge.{runsTest}
+use Rattle.run_judge.specs.Judge.{runsTest}
 use Rattle.transfer.specs.Transfers.{Transfer, lengthTest}
 use Rattle.area.specs.Layout.{transferPlaces, runPlaces, areaOctets}
 use Rattle.area.specs.Places.{readTable}

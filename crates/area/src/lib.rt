@@ -131,7 +131,7 @@ fn transfer_ok(area: &[u8], i: usize) -> bool
         if RUNS < rows.count {
             return false;
         }
-        return run_rows::runs_ok(area, rows, size);
+        return run_judge::runs_ok(area, rows, size);
     }
     false
 }

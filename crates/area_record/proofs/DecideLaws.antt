@@ -18,11 +18,12 @@ use Rattle.area.specs.Places.{readTable}
 use Rattle.area.specs.Judge.{judged}
 use Rattle.area.specs.Operations.{OnArea, leaves, recordArea}
 use Rattle.area_splice.specs.Splice.{splicedArea}
-use Rattle.area_record.specs.Decide.{unreadAs, refusedBy, Found, given, Located, Places, CutAt, toldBy, Joins}
-use Rattle.area_record.specs.declared.ahead.Target.{Target}
-use Rattle.area_record.specs.declared.ahead.Cuts.{Cuts}
-use Rattle.area_record.specs.declared.ahead.Joined.{Joined}
-use Rattle.area_record.proofs.RecordLaws.{fields-some, record-unheld, record-unread, record-read}
+use Rattle.area_locate.specs.Locate.{unreadAs, refusedBy, Found, given, Located}
+use Rattle.area_join.specs.Join.{Places, CutAt, toldBy, Joins}
+use Rattle.area_locate.specs.declared.Target.{Target}
+use Rattle.area_join.specs.declared.Cuts.{Cuts}
+use Rattle.area_join.specs.declared.Joined.{Joined}
+use Rattle.area_locate.proofs.RecordLaws.{fields-some, record-unheld, record-unread, record-read}
 
 read-fine : (held : Bool) (s : List ℕ) → unreadAs held s ≡ 0 → (held ≡ true) × (dataRefusal s ≡ 0)
 read-fine true s e = (refl, e)
@@ -31,36 +32,6 @@ read-fine false s e = absurd (omega arith)
 -- an answer with its area, part by part
 both : {x : Recorded} {l : List ℕ} {o : OnArea Recorded} → record { answer = x; area = l } ≡ o → (x ≡ o .answer) × (l ≡ o .area)
 both f = (ap (λ (r : OnArea Recorded). r .answer) f, ap (λ (r : OnArea Recorded). r .area) f)
-
--- ---- what a step finds, by its three ways: a refusal goes through, one is given, or it goes on
-
-module _ {a : List ℕ} {u : ℕ} {d : Data} (t : Target) where
-  pub located-through : (u ≡ 0 → ⊥) → t .number ≡ u → Located a u d t
-  located-through z e = record { through = λ y. e; refused = λ y. absurd (z y); found = λ y. absurd (z y) }
-
-  pub located-refused : u ≡ 0 → (n : ℕ) → t .number ≡ n → (n ≡ 0 → ⊥) → refusedBy n a ≡ leaves a (recordData (readTable a) d) → Located a u d t
-  located-refused y n e z f = record {
-    through = λ x. absurd (x y);
-    refused = λ x w. ap (λ (m : ℕ). refusedBy m a) e ∙ f;
-    found = λ x w. absurd (z (sym e ∙ w));
-  }
-
-  pub located-found : u ≡ 0 → t .number ≡ 0 → Found a t → given a t ≡ leaves a (recordData (readTable a) d) → Located a u d t
-  located-found y e f g = record { through = λ x. absurd (x y); refused = λ x w. absurd (w e); found = λ x w. (f, g) }
-
-module _ {a : List ℕ} {t : Target} (c : Cuts) where
-  pub cut-through : (t .number ≡ 0 → ⊥) → c .number ≡ t .number → CutAt a t c
-  cut-through z e = record { through = λ y. e; refused = λ y. absurd (z y); places = λ y. absurd (z y) }
-
-  pub cut-refused : t .number ≡ 0 → (n : ℕ) → c .number ≡ n → (n ≡ 0 → ⊥) → refusedBy n a ≡ given a t → CutAt a t c
-  cut-refused y n e z f = record {
-    through = λ x. absurd (x y);
-    refused = λ x w. ap (λ (m : ℕ). refusedBy m a) e ∙ f;
-    places = λ x w. absurd (z (sym e ∙ w));
-  }
-
-  pub cut-found : t .number ≡ 0 → c .number ≡ 0 → Places a t c → CutAt a t c
-  cut-found y e f = record { through = λ x. absurd (x y); refused = λ x w. absurd (w e); places = λ x w. f }
 
 -- ---- the packet s, recorded in the area a
 

@@ -1,4 +1,1 @@
-pub mod ExtendLaws
-pub mod RecordLaws
-pub mod AheadLaws
 pub mod DecideLaws

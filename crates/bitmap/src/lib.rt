@@ -75,7 +75,7 @@ pub fn judge(key: Key, marks: &[u8], rows: &mut [u8]) -> Judged
             runs: 0,
         };
     }
-    let n = marks::find_runs(marks, rows);
+    let n = marked_runs::find_runs(marks, rows);
     if marks::RUNS < n {
         return Judged {
             number: 22,

@@ -40,17 +40,17 @@ fn extend(key: Key, marks: &mut [u8], rows: &[u8], n: usize, d: Data) -> Recorde
     let from = d.offset;
     let to = from + d.length as u64;
     let at = bitmap::rows_of(n);
-    let j = run_rows::cut_to(rows, at.starts, n, to);
-    let i = run_rows::cut_below(rows, at.stops, j, from);
+    let j = run_cuts::cut_to(rows, at.starts, n, to);
+    let i = run_cuts::cut_below(rows, at.stops, j, from);
     if marks::RUNS < i + 1 + (n - j) {
         return Recorded::Refused(refusals::refuse(16));
     }
     marks::set_marks(marks, from as usize, to as usize);
     let edge = greater(run_rows::edge_of(rows, at), to);
-    let complete = key.length <= marks::first(marks, 0, false) as u64;
+    let complete = key.length <= marked_runs::first(marks, 0, false) as u64;
     let reached = Reached { edge, complete };
     let absorbed = (j - i) as u64;
-    let adds = run_rows::adds_of(rows, at, i, j, from, to);
+    let adds = run_cuts::adds_of(rows, at, i, j, from, to);
     Recorded::Accepted(Receipt {
         reached,
         absorbed,

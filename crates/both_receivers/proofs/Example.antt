@@ -13,8 +13,8 @@ use Rattle.octets.proofs.OctetLaws.{digits-octets}
 use Rattle.refusals.specs.Refusals.{refusalOf}
 use Rattle.header.specs.Start.{startRefusal, typeRefusal, fileRefusal}
 use Rattle.header.specs.Descriptor.{descriptorRefusal}
-use Rattle.directory_entry.specs.Properties.{propertyRefusal}
-use Rattle.directory_entry.specs.Path.{pathRefusal}
+use Rattle.entry_parts.specs.Properties.{propertyRefusal}
+use Rattle.entry_parts.specs.Path.{pathRefusal}
 use Rattle.directory_entry.specs.Entry.{entryRefusal, entryOf}
 use Rattle.packet_metadata.specs.Checksum.{pairAllowed, pairRefusal}
 use Rattle.packet_metadata.specs.Metadata.{metadataRefusal, metadataOf, readMetadata}

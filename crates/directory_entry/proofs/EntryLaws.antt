@@ -1,5 +1,4 @@
--- What is known of an entry that is not refused, read or to be written.
--- Assumes nothing.
+-- What is known of an entry that is not refused, read or to be written. Assumes nothing.
 use Prim.Native.Nat.{ℕ, _+_, _-_, _^_, _<_, _≤_}
 use mathlib.Core.Path.{_≡_}
 use mathlib.Core.List.{List, _++_, append-assoc}
@@ -14,11 +13,11 @@ use Rattle.octets.proofs.PutLaws.{put-next}
 use Rattle.refusals.specs.Refusals.{when}
 use Rattle.refusals.proofs.RefusalLaws.{first-none, rest-none, failed}
 use Rattle.header.specs.Descriptor.{descriptorRefusal}
-use Rattle.directory_entry.specs.Properties.{sizeOctets, pathAt, propertyRefusal}
-use Rattle.directory_entry.specs.Path.{zeroAt, pathRefusal}
+use Rattle.entry_parts.specs.Properties.{sizeOctets, pathAt, propertyRefusal}
+use Rattle.entry_parts.specs.Path.{zeroAt, pathRefusal}
 use Rattle.directory_entry.specs.Entry.{propertiesOf, sizeOf, afterTimes, entryRefusal}
 use Rattle.directory_entry.specs.WriteEntry.{entryOctets, entrySize}
-use Rattle.directory_entry.proofs.PathLaws.{PathFine, path-fine}
+use Rattle.entry_parts.proofs.PathLaws.{PathFine, path-fine}
 
 -- the rest of a slice from a place on
 pub rest-part : (s : List ℕ) (at : ℕ) → take (length s - at) (drop at s) ≡ drop at s

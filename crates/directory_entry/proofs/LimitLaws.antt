@@ -1,5 +1,4 @@
--- R9: when each refusal is given, for a directory entry: 6, 1, 5, 8 and 9 read; 21, 6, 8 and 9 written.
--- Assumes nothing.
+-- R9: when each refusal is given, for a directory entry: 6, 1, 5, 8 and 9 read; 21, 6, 8 and 9 written. Assumes nothing.
 use Prim.Native.Nat.{ℕ, _+_, _^_, _<_, _≤_}
 use mathlib.Core.Path.{_≡_, refl}
 use mathlib.Core.List.{List}
@@ -10,11 +9,11 @@ use borrow.Author.Tests.{eq-eqb, ne-eqb, le-ltb}
 use Rattle.refusals.proofs.ReasonLaws.{Reasons, given, one, below, equal, reaches, unequal, _and_, _▸_, again, named, reworded, Alone, sole, _or_, alone}
 use Rattle.header.specs.Descriptor.{descriptorRefusal}
 use Rattle.header.proofs.LimitLaws as header
-use Rattle.directory_entry.specs.Properties.{specialOf, bundleOf, sizeOctets, pathAt, propertyRefusal}
-use Rattle.directory_entry.specs.Path.{zeroAt, pathRefusal, pathWriteRefusal}
+use Rattle.entry_parts.specs.Properties.{specialOf, bundleOf, sizeOctets, pathAt, propertyRefusal}
+use Rattle.entry_parts.specs.Path.{zeroAt, pathRefusal, pathWriteRefusal}
 use Rattle.directory_entry.specs.Entry.{propertiesOf, sizeOf, afterTimes, entryRefusal}
 use Rattle.directory_entry.specs.WriteEntry.{entryExcess, entryWriteRefusal}
-use Rattle.directory_entry.proofs.PathLaws.{PathFine, path-fine}
+use Rattle.entry_parts.proofs.PathLaws.{PathFine, path-fine}
 
 -- ---- the properties
 

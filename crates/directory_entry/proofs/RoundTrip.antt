@@ -1,5 +1,4 @@
--- Reading an entry that was written gives the same fields, and writing an entry that was read the same octets.
--- Assumes nothing.
+-- Reading an entry that was written gives the same fields, and writing an entry that was read the same octets. Assumes nothing.
 use Prim.Native.Nat.{ℕ, _+_, _-_, _^_, _<_}
 use mathlib.Core.Path.{_≡_, refl, sym, ap, _∙_}
 use mathlib.Core.Bool.{not}
@@ -17,12 +16,12 @@ use Rattle.refusals.specs.Refusals.{when}
 use Rattle.refusals.proofs.RefusalLaws.{first-none, rest-none, failed}
 use Rattle.header.specs.Descriptor.{descriptorAt}
 use Rattle.header.proofs.DescriptorLaws.{descriptor-none}
-use Rattle.directory_entry.specs.Properties.{sizeOctets, pathAt, propertyRefusal}
-use Rattle.directory_entry.specs.Path.{zeroAt, pathWriteRefusal}
+use Rattle.entry_parts.specs.Properties.{sizeOctets, pathAt, propertyRefusal}
+use Rattle.entry_parts.specs.Path.{zeroAt, pathWriteRefusal}
 use Rattle.directory_entry.specs.Entry.{propertiesOf, sizeOf, afterTimes, entryRefusal, entryOf}
 use Rattle.directory_entry.specs.WriteEntry.{entryExcess, entryWriteRefusal, entryOctets, entrySize}
 use Rattle.directory_entry.specs.declared.Entry.{Entry}
-use Rattle.directory_entry.proofs.PathLaws.{closed-again, closed-fine, open-fine}
+use Rattle.entry_parts.proofs.PathLaws.{closed-again, closed-fine, open-fine}
 use Rattle.directory_entry.proofs.EntryLaws.{EntryFine, entry-fine, length-entry}
 
 record ExcessFine (properties size mtime ctime : ℕ) : Type 0 where

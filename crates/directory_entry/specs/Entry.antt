@@ -8,8 +8,8 @@ use lib.Dec.{ltb}
 use Rattle.octets.specs.Numbers.{beValue}
 use Rattle.refusals.specs.Refusals.{_▹_, when}
 use Rattle.header.specs.Descriptor.{descriptorAt, descriptorRefusal}
-use Rattle.directory_entry.specs.Properties.{sizeOctets, pathAt, propertyRefusal}
-use Rattle.directory_entry.specs.Path.{pathRefusal}
+use Rattle.entry_parts.specs.Properties.{sizeOctets, pathAt, propertyRefusal}
+use Rattle.entry_parts.specs.Path.{pathRefusal}
 use Rattle.directory_entry.specs.declared.Entry.{Entry}
 
 abbrev pub propertiesOf : List ℕ → ℕ

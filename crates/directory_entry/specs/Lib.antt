@@ -1,4 +1,2 @@
-pub mod Properties
-pub mod Path
 pub mod Entry
 pub mod WriteEntry

@@ -6,8 +6,8 @@ use mathlib.Core.List.{List, [], _∷_, _++_}
 use lib.Dec.{ltb}
 use Rattle.octets.specs.Numbers.{beDigits}
 use Rattle.refusals.specs.Refusals.{_▹_, when}
-use Rattle.directory_entry.specs.Properties.{sizeOctets, pathAt, propertyRefusal}
-use Rattle.directory_entry.specs.Path.{pathWriteRefusal}
+use Rattle.entry_parts.specs.Properties.{sizeOctets, pathAt, propertyRefusal}
+use Rattle.entry_parts.specs.Path.{pathWriteRefusal}
 
 -- R4.3: 21 for a field over its bits
 unfoldable pub entryExcess : ℕ → ℕ → ℕ → ℕ → ℕ

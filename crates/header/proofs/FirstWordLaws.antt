@@ -1,5 +1,4 @@
--- The fields of a first word, of its flags, and of a word made from flags are the same.
--- Assumes nothing.
+-- The fields of a first word, of its flags, and of a word made from flags are the same. Assumes nothing.
 use Prim.Native.Nat.{ℕ, _*_, _^_, _<_, _≤_}
 use mathlib.Core.Path.{_≡_, ap}
 use native.Mathlib.Omega.{arith}

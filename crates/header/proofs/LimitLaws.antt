@@ -4,15 +4,14 @@ use Prim.Native.Nat.{ℕ, _+_, _<_, _≤_}
 use mathlib.Core.Path.{_≡_, refl}
 use mathlib.Core.Bool.{true, false, not}
 use mathlib.Core.List.{List}
-use mathlib.Core.Logic.{_⊎_, _↔_, Iff·rfl, Iff·trans}
+use mathlib.Core.Logic.{_↔_, Iff·rfl, Iff·trans}
 use native.Mathlib.Omega.{arith}
 use lib.ListN.{length, take, drop}
 use lib.Dec.{ltb, eqb}
 use borrow.Author.Tests.{le-ltb, eq-eqb, ne-eqb}
 use Rattle.octets.specs.Numbers.{upperZero}
-use Rattle.refusals.specs.Refusals.{_▹_}
-use Rattle.refusals.proofs.TestLaws.{not-iff, not-not, both, either}
-use Rattle.refusals.proofs.RefusalLaws.{after-none, when-all, chain-all, link-all, chain-iff}
+use Rattle.refusals.proofs.TestLaws.{not-iff, not-not, both}
+use Rattle.refusals.proofs.RefusalLaws.{when-all, chain-all, link-all}
 use Rattle.refusals.proofs.ReasonLaws.{Test, Reasons, given, one, below, unequal, _▸_, named, reworded}
 use Rattle.header.specs.FirstWord.{markOf, typeOf, kindOf}
 use Rattle.header.specs.Start.{wordOf, startOctets, startRefusal, typeRefusal, fileRefusal}
@@ -104,16 +103,6 @@ module _ (t : ℕ) (s : List ℕ) where
       let P : ℕ → Type 0 = λ m. m ≤ 4 in
       chain-all P (startRefusal s) _ (omega (arith, start-le s)) (when-all P (not (eqb (typeOf (wordOf s)) t)) 4 (omega arith) (omega arith))
 
-  -- a number that comes after these
-  pub after-type : (r n : ℕ) → 4 < n → (typeRefusal t s ▹ r ≡ n) ↔ (TypeFine t s × (r ≡ n))
-  after-type r n h =
-      Iff·trans (after-none (typeRefusal t s) r n (λ e. omega arith) (λ e. omega (arith, type-le)))
-      (both type-none-iff Iff·rfl)
-
-  -- 1 of the start, or of what comes after
-  pub one-or-after : (r : ℕ) → (typeRefusal t s ▹ r ≡ 1) ↔ ((length s < startOctets (wordOf s)) ⊎ (TypeFine t s × (r ≡ 1)))
-  one-or-after r = Iff·trans (chain-iff (typeRefusal t s) r 1 (λ e. omega arith)) (either one-iff (both type-none-iff Iff·rfl))
-
 -- ---- the kind of METADATA and DATA
 
 module _ (w : ℕ) where
@@ -158,12 +147,3 @@ module _ (d at : ℕ) (s : List ℕ) where
   -- it is all there, and its upper octets are zero
   abbrev pub Readable : Type 0
   Readable = (at + d ≤ length s) × (upperZero (take d (drop at s)) ≡ true)
-
-  pub descriptor-none-iff : (descriptorRefusal d at s ≡ 0) ↔ Readable
-  unfolding descriptorRefusal
-  descriptor-none-iff = given descriptor-reasons 0
-
-  -- a number that comes after these
-  pub after-descriptor : (r n : ℕ) → (n ≡ 0 → ⊥) → (1 ≡ n → ⊥) → (5 ≡ n → ⊥) → (descriptorRefusal d at s ▹ r ≡ n) ↔ (Readable × (r ≡ n))
-  after-descriptor r n z a b =
-      Iff·trans (after-none (descriptorRefusal d at s) r n z (descriptor-all (λ m. m ≡ n → ⊥) (λ e. z (omega arith)) a b)) (both descriptor-none-iff Iff·rfl)

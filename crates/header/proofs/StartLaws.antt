@@ -1,5 +1,4 @@
--- What is known of a packet whose first refusals are none.
--- Assumes nothing.
+-- What is known of a packet whose first refusals are none. Assumes nothing.
 use Prim.Native.Nat.{ℕ, _≤_}
 use mathlib.Core.Path.{_≡_}
 use mathlib.Core.Bool.{Bool, true, false, cond}

@@ -56,7 +56,7 @@ pub fn word(p: &[u8]) -> u64
     requires { ⌜ 4 ≤ length (now p) ⌝ }
     ensures { λ r. ⌜ r ≡ wordOf (now (p .entry)) ⌝ }
 {
-    octets::read_four(p, 0)
+    octets_read::read_four(p, 0)
 }
 
 // The Id of a packet.
@@ -64,7 +64,7 @@ pub fn id(p: &[u8]) -> u64
     requires { ⌜ 8 ≤ length (now p) ⌝ }
     ensures { λ r. ⌜ r ≡ idOf (now (p .entry)) ⌝ }
 {
-    octets::read_four(p, 4)
+    octets_read::read_four(p, 4)
 }
 
 // The octets of a descriptor, by the width bits of a word or of the properties.
@@ -99,7 +99,7 @@ pub fn descriptor_refusal(s: &[u8], at: usize, d: usize) -> u64
     if s.len() < at + d {
         return 1;
     }
-    let n = octets::read_number(s, at, d);
+    let n = octets_read::read_number(s, at, d);
     if n.small {
         return 0;
     }
@@ -112,15 +112,15 @@ pub fn descriptor(s: &[u8], at: usize, d: usize) -> u64
     ensures { λ r. ⌜ r ≡ descriptorAt d at (now (s .entry)) ⌝ }
 {
     if d == 2 {
-        return octets::read_two(s, at);
+        return octets_read::read_two(s, at);
     }
     if d == 4 {
-        return octets::read_four(s, at);
+        return octets_read::read_four(s, at);
     }
     if d == 8 {
-        return octets::read_eight(s, at);
+        return octets_read::read_eight(s, at);
     }
-    octets::read_eight(s, at + 8)
+    octets_read::read_eight(s, at + 8)
 }
 
 // Where the first word ends, and where the Id.

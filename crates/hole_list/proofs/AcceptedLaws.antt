@@ -1,5 +1,4 @@
--- R3.6, R3.7: the hole lists that a reader accepts, sentence by sentence: they are the lists that `listWell` accepts.
--- Assumes nothing.
+-- R3.6, R3.7: the hole lists that a reader accepts, sentence by sentence: they are the lists that `listWell` accepts. Assumes nothing.
 use Prim.Native.Nat.{ℕ, zero, suc, _-_, _<_, _≤_}
 use mathlib.Core.Path.{_≡_, refl, sym, _∙_}
 use mathlib.Core.Bool.{Bool, true, false, not, _&&_}

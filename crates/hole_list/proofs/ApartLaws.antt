@@ -1,5 +1,4 @@
--- Holes that stand apart between Progress and the edge, as a receiver has them, are a list that a reader accepts.
--- Assumes nothing.
+-- Holes that stand apart between Progress and the edge, as a receiver has them, are a list that a reader accepts. Assumes nothing.
 use Prim.Native.Nat.{ℕ, suc, _≤_}
 use mathlib.Core.Path.{_≡_, refl}
 use mathlib.Core.Bool.{Bool, true, false}

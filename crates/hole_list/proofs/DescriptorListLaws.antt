@@ -1,5 +1,4 @@
--- Several descriptors, one after the other: none is refused exactly when each of them isn't.
--- Assumes nothing.
+-- Several descriptors, one after the other: none is refused exactly when each of them isn't. Assumes nothing.
 use Prim.Native.Nat.{ℕ, zero, suc, _+_, _*_, _-_, _<_, _≤_}
 use mathlib.Core.Path.{_≡_, refl}
 use mathlib.Core.Bool.{true, not}

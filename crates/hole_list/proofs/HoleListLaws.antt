@@ -1,5 +1,4 @@
--- The hole list of a packet, step by step and by index.
--- Assumes nothing.
+-- The hole list of a packet, step by step and by index. Assumes nothing.
 use Prim.Native.Nat.{ℕ, zero, suc, _+_, _*_, _-_, _<_}
 use mathlib.Core.Path.{_≡_, refl, ap, _∙_}
 use mathlib.Core.List.{List, _∷_}

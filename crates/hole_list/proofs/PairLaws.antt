@@ -1,5 +1,4 @@
--- Pairs put into a buffer one after the other, and how many octets they are.
--- Assumes nothing.
+-- Pairs put into a buffer one after the other, and how many octets they are. Assumes nothing.
 use Prim.Native.Nat.{ℕ, zero, suc, _+_, _*_, _-_, _<_, _≤_}
 use mathlib.Core.Path.{_≡_, sym, ap, _∙_}
 use mathlib.Core.List.{List, [], _∷_, _++_}

@@ -1,5 +1,4 @@
--- A list that was written reads back: no descriptor of it is refused, and its holes are those that were written.
--- Assumes nothing.
+-- A list that was written reads back: no descriptor of it is refused, and its holes are those that were written. Assumes nothing.
 use Prim.Native.Nat.{ℕ, suc, _+_, _*_, _-_, _^_, _<_}
 use mathlib.Core.Path.{_≡_, refl, sym, ap, _∙_}
 use mathlib.Core.List.{List, [], _∷_, _++_, append-assoc}

@@ -1,5 +1,4 @@
--- Bits of an octet, the highest first: read by a mask, set by a mask, and one octet told from another by them.
--- Assumes nothing.
+-- Bits of an octet, the highest first: read by a mask, set by a mask, and one octet told from another by them. Assumes nothing.
 use Prim.Native.Nat.{ℕ, zero, suc, _+_, _*_, _-_, _/_, _%_, _^_, _≤_, _<_}
 use mathlib.Core.Path.{_≡_, refl, sym, _∙_}
 use mathlib.Core.Bool.{Bool, true, false, cond, not}

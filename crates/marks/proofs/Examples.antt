@@ -1,5 +1,4 @@
--- Marks, octet by octet: which bit is which mark, the runs that a walk finds, and what setting does.
--- Assumes nothing.
+-- Marks, octet by octet: which bit is which mark, the runs that a walk finds, and what setting does. Assumes nothing.
 use mathlib.Core.Path.{_≡_, refl}
 use mathlib.Core.Bool.{true, false}
 use mathlib.Core.List.{[], _∷_}

@@ -2,6 +2,4 @@ pub mod BitLaws
 pub mod MarkedRunsLaws
 pub mod MarkLaws
 pub mod LoopLaws
-pub mod WalkLaws
-pub mod FoundLaws
 pub mod Examples

@@ -1,5 +1,4 @@
--- What one turn of each loop that writes does, and its last.
--- Assumes nothing.
+-- What one turn of each loop that writes does, and its last. Assumes nothing.
 use Prim.Native.Nat.{ℕ, suc, _+_, _*_, _-_, _≤_, _<_}
 use mathlib.Core.Path.{_≡_, sym, _∙_}
 use mathlib.Core.List.{List, _∷_}

@@ -1,5 +1,4 @@
--- What setting marks does to every mark, and clearing them; and to the runs: the stretch that was set is inserted.
--- Assumes nothing.
+-- What setting marks does to every mark, and clearing them; and to the runs: the stretch that was set is inserted. Assumes nothing.
 use Prim.Native.Nat.{ℕ, zero, suc, _+_, _*_, _-_, _/_, _%_, _^_, _≤_, _<_}
 use mathlib.Core.Path.{_≡_, refl, sym, _∙_}
 use mathlib.Core.Bool.{true, false, not}

@@ -1,5 +1,4 @@
--- The runs that a walk finds are the canonical list of the offsets that are marked; and what it finds step by step.
--- Assumes nothing.
+-- The runs that a walk finds are the canonical list of the offsets that are marked; and what it finds step by step. Assumes nothing.
 use Prim.Native.Nat.{ℕ, zero, suc, _+_, _-_, _≤_, _<_}
 use mathlib.Core.Path.{_≡_, refl}
 use mathlib.Core.Bool.{Bool, true, false, cond}

@@ -5,4 +5,3 @@ pub mod PartLaws
 pub mod OctetLaws
 pub mod UpperLaws
 pub mod LowFirstLaws
-pub mod MoveLaws

@@ -1,5 +1,4 @@
--- Numbers with the lowest octet first, by the laws of those with the highest first.
--- Assumes nothing.
+-- Numbers with the lowest octet first, by the laws of those with the highest first. Assumes nothing.
 use Prim.Native.Nat.{ℕ, suc, _+_, _*_, _-_, _/_, _%_, _^_, _<_, _≤_}
 use mathlib.Core.Path.{_≡_, sym, ap, _∙_}
 use mathlib.Core.List.{List, [], _∷_, _++_, reverse, reverse-append, reverse-reverse}

@@ -1,5 +1,4 @@
--- Numbers and their octets: the value of digits, the digits of a value, bounds, and one step of the writing loop.
--- Assumes nothing.
+-- Numbers and their octets: the value of digits, the digits of a value, bounds, and one step of the writing loop. Assumes nothing.
 use Prim.Native.Nat.{ℕ, zero, suc, _+_, _*_, _-_, _/_, _%_, _^_, _<_, _≤_}
 use mathlib.Core.Path.{_≡_, refl, sym, ap, _∙_}
 use mathlib.Core.List.{List, [], _∷_, _++_, append-nil}
@@ -10,7 +9,7 @@ use borrow.Author.Tests.{lt-ltb, le-ltb, ne-eqb}
 use lib.Dec.{ltb, eqb}
 use lib.Pow.{pow-add}
 use lib.Arith.{digits-lt, digits-div, digits-mod, lt-one}
-use lib.ListN.{length, getD, take, drop, set, length-drop, take-append-drop}
+use lib.ListN.{length, take, drop, set, length-drop, take-append-drop}
 use lib.Seq.{set-split, drop-at, length-take-le, getD-drop}
 use Rattle.octets.specs.Numbers.{beFrom, beValue, beOnto, beDigits, Octets, Width}
 use Rattle.octets.specs.Numbers.Width.{two, four, eight, sixteen}

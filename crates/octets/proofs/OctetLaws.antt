@@ -1,5 +1,4 @@
--- Lists of octets: one more in front, two joined, one turned round, the digits of a number.
--- Assumes nothing.
+-- Lists of octets: one more in front, two joined, one turned round, the digits of a number. Assumes nothing.
 use Prim.Native.Nat.{ℕ, zero, suc, _/_, _%_, _<_}
 use mathlib.Core.List.{List, [], _∷_, _++_, reverse, reverseAux}
 use native.Mathlib.Omega.{arith}

@@ -1,5 +1,4 @@
--- Numbers of several octets from numbers of fewer.
--- Assumes nothing.
+-- Numbers of several octets from numbers of fewer. Assumes nothing.
 use Prim.Native.Nat.{ℕ, suc, _+_, _*_, _^_, _<_, _≤_}
 use mathlib.Core.Path.{_≡_, refl, _∙_}
 use mathlib.Core.List.{List, [], _∷_, _++_}

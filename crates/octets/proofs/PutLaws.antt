@@ -1,5 +1,4 @@
--- What stands in a buffer after one part, or several one after the other, were put into it.
--- Assumes nothing.
+-- What stands in a buffer after one part, or several one after the other, were put into it. Assumes nothing.
 use Prim.Native.Nat.{ℕ, suc, _+_, _≤_, _<_}
 use mathlib.Core.Path.{_≡_, _∙_}
 use mathlib.Core.List.{List, [], _∷_, _++_, append-assoc}

@@ -1,5 +1,4 @@
--- What a part of a buffer is after other octets were put into it, and two puts as one.
--- Assumes nothing.
+-- What a part of a buffer is after other octets were put into it, and two puts as one. Assumes nothing.
 use Prim.Native.Nat.{ℕ, _+_, _-_, _≤_}
 use mathlib.Core.Path.{_≡_, refl, sym, ap, _∙_}
 use mathlib.Core.List.{List, [], _++_, append-assoc}

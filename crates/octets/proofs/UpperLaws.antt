@@ -1,5 +1,4 @@
--- The upper octets of a number, those above the last eight: they are zero exactly when the number is below 2 ^ 64.
--- Assumes nothing.
+-- The upper octets of a number, those above the last eight: they are zero exactly when the number is below 2 ^ 64. Assumes nothing.
 use Prim.Native.Nat.{ℕ, zero, suc, _+_, _*_, _-_, _^_, _<_, _≤_}
 use mathlib.Core.Path.{_≡_, refl, sym, ap, _∙_}
 use mathlib.Core.Bool.{Bool, true, false, _&&_}
@@ -9,7 +8,7 @@ use native.Mathlib.Nat.{eq-zero-or-pos, pow-le-pow-right, lt-of-lt-of-le, zero-m
 use native.Mathlib.Omega.{arith}
 use borrow.Author.Tests.{eq-eqb, ne-eqb, eqb-true}
 use lib.Dec.{eqb}
-use lib.ListN.{length, getD, take, drop, replicate, length-append, length-drop, length-replicate, take-append-drop}
+use lib.ListN.{length, take, drop, replicate, length-append, length-drop, length-replicate, take-append-drop}
 use lib.Seq.{take-take, length-take-le}
 use Rattle.octets.specs.Numbers.{beFrom, beValue, beDigits, Octets, allZero, upperOctets, upperZero, numberIn}
 use Rattle.octets.specs.declared.Number.{Number}

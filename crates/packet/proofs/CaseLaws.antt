@@ -1,5 +1,4 @@
--- Reading any packet gives the case that the reader of its type gives, and each case comes from that reader alone.
--- Assumes nothing.
+-- Reading any packet gives the case that the reader of its type gives, and each case comes from that reader alone. Assumes nothing.
 use Prim.Native.Nat.{ℕ, zero, suc, _<_}
 use mathlib.Core.Path.{_≡_, refl, sym, ap, _∙_}
 use mathlib.Core.Bool.{Bool, true, false, cond}

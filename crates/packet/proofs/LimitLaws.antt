@@ -1,7 +1,6 @@
--- R9: when each refusal is given, for a packet of any type: 4 of plain reading.
--- Assumes nothing.
+-- R9: when each refusal is given, for a packet of any type: 4 of plain reading. Assumes nothing.
 use Prim.Native.Nat.{ℕ, zero, suc}
-use mathlib.Core.Path.{_≡_, refl, sym, ap, _∙_}
+use mathlib.Core.Path.{_≡_, refl, ap}
 use mathlib.Core.Bool.{Bool, true, false, cond}
 use mathlib.Core.List.{List}
 use mathlib.Core.Logic.{_↔_}

@@ -1,5 +1,4 @@
--- What reading any packet answers, where its start is refused and where it isn't.
--- Assumes nothing.
+-- What reading any packet answers, where its start is refused and where it isn't. Assumes nothing.
 use Prim.Native.Nat.{ℕ}
 use mathlib.Core.Path.{_≡_, _∙_}
 use mathlib.Core.List.{List}

@@ -11,13 +11,13 @@ use Rattle.header.specs.FirstWord.{descriptorOctets, timestampOctets, wantedOf,
 use Rattle.refusals.specs.declared.Written.the-variants.{Size}
 use Rattle.refusals.proofs.RefusalLaws.{first-none}
 use Rattle.refusals.proofs.WritingLaws.{written-size}
-use Rattle.directory_entry.specs.Properties.{pathAt}
-use Rattle.packet_beacon.specs.Flags.{bundlesOf, streamsOf, sendingPair, receivingPair, freeOctets, willingnessOf}
+use Rattle.entry_parts.specs.Properties.{pathAt}
+use Rattle.beacon_flags.specs.Flags.{bundlesOf, streamsOf, sendingPair, receivingPair, freeOctets, willingnessOf}
 use Rattle.packet_beacon.specs.Beacon.{endpointAt, beaconRefusal, beaconOf}
-use Rattle.packet_beacon.specs.WriteBeacon.{beaconRefused, beaconOctets, beaconWritten, beaconBuffer}
+use Rattle.beacon_writer.specs.WriteBeacon.{beaconRefused, beaconOctets, beaconWritten, beaconBuffer}
 use Rattle.packet_beacon.specs.declared.Beacon.{Beacon}
 use Rattle.packet_beacon.proofs.BeaconLaws.{beacon-given}
-use Rattle.packet_beacon.proofs.RoundTrip as beacon-trip
+use Rattle.beacon_writer.proofs.RoundTrip as beacon-trip
 use Rattle.packet_metadata.specs.Metadata.{entryAt, metadataRefusal, metadataOf}
 use Rattle.packet_metadata.specs.WriteMetadata.{metadataSize, metadataWriteRefusal, metadataOctets, metadataWritten, metadataBuffer}
 use Rattle.packet_metadata.specs.declared.Metadata.{Metadata}
@@ -28,8 +28,8 @@ use Rattle.packet_data.specs.WriteData.{dataRefused, dataOctets, dataWritten, d
 use Rattle.packet_data.specs.declared.Data.{Data}
 use Rattle.packet_data.proofs.DataLaws.{data-given}
 use Rattle.packet_data.proofs.RoundTrip as data-trip
-use Rattle.packet_status.specs.WriteFailure.{failureWriteRefusal, failureOctets, failureWritten, failureBuffer}
-use Rattle.packet_status.proofs.RoundTrip as status
+use Rattle.failure_status.specs.WriteFailure.{failureWriteRefusal, failureOctets, failureWritten, failureBuffer}
+use Rattle.failure_status.proofs.RoundTrip as status
 use Rattle.packet.specs.Read.{ofBeacon, ofMetadata, ofStatus, readType, readPacket}
 use Rattle.packet.specs.declared.Read.the-variants as read
 use Rattle.packet.proofs.CaseLaws.{read-typed, data-taken, packet-beacon, packet-metadata, packet-data}

@@ -75,7 +75,7 @@ pub fn read_packet(p: &[u8]) -> Read
         return of_data(packet_data::read_data(p));
     }
     if h.ptype == 4 {
-        return of_status(packet_status::read_status(p));
+        return of_status(status_fields::read_status(p));
     }
     if h.ptype == 0 {
         return of_beacon(packet_beacon::read_beacon(p));

@@ -1,5 +1,4 @@
--- What is known of a BEACON that is not refused.
--- Assumes nothing.
+-- What is known of a BEACON that is not refused. Assumes nothing.
 use Prim.Native.Nat.{ℕ, zero, suc, _≤_}
 use mathlib.Core.Path.{_≡_, refl}
 use mathlib.Core.List.{List}
@@ -11,7 +10,7 @@ use Rattle.header.specs.Start.{wordOf, typeRefusal}
 use Rattle.header.specs.Descriptor.{descriptorRefusal}
 use Rattle.header.proofs.StartLaws.{TypeFine, type-fine}
 use Rattle.header.proofs.DescriptorLaws.{descriptor-there}
-use Rattle.packet_beacon.specs.Flags.{freeOctets, flagsRefusal}
+use Rattle.beacon_flags.specs.Flags.{freeOctets, flagsRefusal}
 use Rattle.packet_beacon.specs.Beacon.{endpointAt, beaconRefusal, beaconOf, readBeacon}
 use Rattle.packet_beacon.specs.declared.Beacon.{Beacon}
 use Rattle.packet_beacon.specs.declared.BeaconRead.the-variants.{Accepted, Refused}

@@ -1,5 +1,2 @@
-pub mod FlagLaws
 pub mod BeaconLaws
-pub mod WriteBeaconLaws
-pub mod RoundTrip
 pub mod LimitLaws

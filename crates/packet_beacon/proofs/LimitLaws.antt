@@ -1,23 +1,19 @@
--- R9: when each refusal is given, for BEACON: 26, 1 and 5 of the reader; 21, 26, 2 and 20 of the writer.
--- Assumes nothing.
-use Prim.Native.Nat.{ℕ, suc, _+_, _^_, _<_, _≤_}
+-- R9: when each refusal is given, for BEACON: 26, 1 and 5 of the reader. Assumes nothing.
+use Prim.Native.Nat.{ℕ, suc, _<_, _≤_}
 use mathlib.Core.Path.{_≡_, refl}
 use mathlib.Core.List.{List}
 use mathlib.Core.Logic.{_⊎_, _↔_}
 use native.Mathlib.Omega.{arith}
 use lib.ListN.{length}
 use Rattle.refusals.specs.Refusals.{_▹_, refusalOf}
-use Rattle.refusals.specs.Writing.{roomRefusal}
-use Rattle.refusals.specs.declared.Written.the-variants as written
 use Rattle.refusals.proofs.LimitLaws as chains
-use Rattle.refusals.proofs.ReasonLaws.{Reasons, given, equal, reaches, unequal, _▸_, named, Alone, sole, _or_, alone, of-start}
+use Rattle.refusals.proofs.ReasonLaws.{Reasons, given, equal, unequal, _▸_, named, Alone, sole, _or_, alone, of-start}
 use Rattle.header.specs.Start.{wordOf, startOctets, typeRefusal}
 use Rattle.header.specs.Descriptor.{descriptorRefusal}
 use Rattle.header.proofs.StartLaws.{TypeFine}
 use Rattle.header.proofs.LimitLaws as header
-use Rattle.packet_beacon.specs.Flags.{sendingPair, receivingPair, lastOctet, freeOctets, flagsRefusal}
+use Rattle.beacon_flags.specs.Flags.{sendingPair, receivingPair, lastOctet, freeOctets, flagsRefusal}
 use Rattle.packet_beacon.specs.Beacon.{endpointAt, beaconRefusal, beaconOf, readBeacon}
-use Rattle.packet_beacon.specs.WriteBeacon.{beaconExcess, beaconWriteRefusal, beaconRefused, beaconWritten}
 use Rattle.packet_beacon.specs.declared.BeaconRead.the-variants.{Accepted, Refused}
 
 -- ---- the flags
@@ -27,7 +23,7 @@ module _ (w : ℕ) where
   abbrev pub FlagsWrong : Type 0
   FlagsWrong = (sendingPair w ≡ 1) ⊎ ((receivingPair w ≡ 1) ⊎ (lastOctet w ≡ 0 → ⊥))
 
-  abbrev flags-wrong : Alone 26
+  abbrev pub flags-wrong : Alone 26
   flags-wrong = sole (equal (sendingPair w) 1) or sole (equal (receivingPair w) 1) or sole (unequal (lastOctet w) 0)
 
   pub flags-iff : (flagsRefusal w ≡ 26) ↔ FlagsWrong
@@ -71,55 +67,9 @@ module _ (s : List ℕ) where
   pub one-iff : (beaconRefusal s ≡ 1) ↔ ((length s < startOctets w) ⊎ (TypeFine 0 s × ((FlagsWrong w → ⊥) × (length s < endpointAt w))))
   one-iff = given reasons 1
 
--- ---- written: lengths of endpoint and buffer
-
-module _ (flags free : ℕ) where
-  -- R9.21
-  abbrev pub Excess : Type 0
-  Excess = (2 ^ 24 ≤ flags) ⊎ (256 ^ freeOctets flags ≤ free)
-
-  abbrev excess : Alone 21
-  excess = sole (reaches flags (2 ^ 24)) or sole (reaches free (256 ^ freeOctets flags))
-
-  module _ (endpoint room : ℕ) where
-    abbrev size : ℕ
-    size = endpointAt flags + endpoint
-
-    abbrev write-tests : Reasons
-    write-tests = alone excess ▸ alone (flags-wrong flags) ▸ chains.room-reasons size room
-
-    write-is : beaconWriteRefusal flags free endpoint room ≡ write-tests .refusal
-    unfolding beaconWriteRefusal beaconExcess flagsRefusal roomRefusal
-    write-is = refl
-
-    abbrev write-reasons : Reasons
-    write-reasons = named (beaconWriteRefusal flags free endpoint room) write-tests write-is
-
-    -- 21, before all
-    pub write-twenty-one-iff : (beaconWriteRefusal flags free endpoint room ≡ 21) ↔ Excess
-    write-twenty-one-iff = given write-reasons 21
-
-    -- 26, as the reader
-    pub write-twenty-six-iff : (beaconWriteRefusal flags free endpoint room ≡ 26) ↔ ((Excess → ⊥) × FlagsWrong flags)
-    write-twenty-six-iff = given write-reasons 26
-
-    -- R9.2
-    pub write-two-iff : (beaconWriteRefusal flags free endpoint room ≡ 2) ↔ ((Excess → ⊥) × ((FlagsWrong flags → ⊥) × (65535 < size)))
-    write-two-iff = given write-reasons 2
-
-    -- R9.20
-    pub write-twenty-iff : (beaconWriteRefusal flags free endpoint room ≡ 20)
-        ↔ ((Excess → ⊥) × ((FlagsWrong flags → ⊥) × ((size ≤ 65535) × (room < size))))
-    write-twenty-iff = given write-reasons 20
-
 -- ---- the answers: refused with the number that these laws speak of
 
 pub read-refused-iff : (s : List ℕ) (n : ℕ) → (readBeacon s ≡ Refused (refusalOf (suc n))) ↔ (beaconRefusal s ≡ suc n)
 unfolding readBeacon
 read-refused-iff s n =
     chains.answered-iff Refused (beaconRefusal s) n (Accepted (beaconOf s)) (λ r e. let z : _≡_ {A = ℕ} 0 1 = cc in omega arith) (λ q r e. cc)
-
-pub write-refused-iff : (flags free : ℕ) (endpoint old : List ℕ) (n : ℕ)
-    → (beaconWritten flags free endpoint old ≡ written.Refused (refusalOf (suc n))) ↔ (beaconRefused flags free endpoint old ≡ suc n)
-unfolding beaconWritten
-write-refused-iff flags free endpoint old n = chains.written-iff (beaconRefused flags free endpoint old) n (endpointAt flags + length endpoint)

@@ -7,7 +7,7 @@ use Rattle.refusals.specs.Refusals.{_▹_, answered}
 use Rattle.header.specs.FirstWord.{flagsOf}
 use Rattle.header.specs.Start.{wordOf, typeRefusal}
 use Rattle.header.specs.Descriptor.{descriptorAt, descriptorRefusal}
-use Rattle.packet_beacon.specs.Flags.{largestWidth, bundlesOf, streamsOf, sendingPair, receivingPair, freeOctets, willingnessOf, flagsRefusal}
+use Rattle.beacon_flags.specs.Flags.{largestWidth, bundlesOf, streamsOf, sendingPair, receivingPair, freeOctets, willingnessOf, flagsRefusal}
 use Rattle.packet_beacon.specs.declared.Beacon.{Beacon}
 use Rattle.packet_beacon.specs.declared.BeaconRead.{BeaconRead}
 use Rattle.packet_beacon.specs.declared.BeaconRead.the-variants.{Accepted, Refused}

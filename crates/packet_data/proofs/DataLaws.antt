@@ -1,5 +1,4 @@
--- What is known of DATA that is not refused.
--- Assumes nothing.
+-- What is known of DATA that is not refused. Assumes nothing.
 use Prim.Native.Nat.{ℕ, zero, suc, _<_, _≤_}
 use mathlib.Core.Path.{_≡_, refl}
 use mathlib.Core.List.{List, []}

@@ -1,5 +1,4 @@
--- R9: when each refusal is given, for DATA: 6, 1, 5 and 10 of the reader; 21, 6, 1, 10, 2 and 20 of the writer.
--- Assumes nothing.
+-- R9: when each refusal is given, for DATA: 6, 1, 5 and 10 of the reader; 21, 6, 1, 10, 2 and 20 of the writer. Assumes nothing.
 use Prim.Native.Nat.{ℕ, suc, _+_, _^_, _<_, _≤_}
 use mathlib.Core.Path.{_≡_, refl}
 use mathlib.Core.List.{List}

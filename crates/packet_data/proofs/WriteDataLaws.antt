@@ -1,5 +1,4 @@
--- What is known of fields of DATA that are not refused, and the parts of the packet written one after the other.
--- Assumes nothing.
+-- What is known of fields of DATA that are not refused, and the parts of the packet written one after the other. Assumes nothing.
 use Prim.Native.Nat.{ℕ, _+_, _^_, _<_, _≤_}
 use mathlib.Core.Path.{_≡_, _∙_}
 use mathlib.Core.Bool.{not}

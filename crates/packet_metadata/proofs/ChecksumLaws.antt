@@ -1,5 +1,4 @@
--- The checksum's type and length: types from 4 on, and the same fields in a word and in its flags.
--- Assumes nothing.
+-- The checksum's type and length: types from 4 on, and the same fields in a word and in its flags. Assumes nothing.
 use Prim.Native.Nat.{ℕ, zero, suc, _^_, _<_, _≤_}
 use mathlib.Core.Path.{_≡_, refl}
 use mathlib.Core.Bool.{not}

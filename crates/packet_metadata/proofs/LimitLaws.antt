@@ -19,10 +19,10 @@ use Rattle.header.specs.FirstWord.{kindOf, descriptorOctets, sumType, sumWords}
 use Rattle.header.specs.Start.{wordOf, startOctets, typeRefusal, fileRefusal}
 use Rattle.header.proofs.StartLaws.{TypeFine}
 use Rattle.header.proofs.LimitLaws as header
-use Rattle.directory_entry.specs.Properties.{sizeOctets, pathAt}
+use Rattle.entry_parts.specs.Properties.{sizeOctets, pathAt}
 use Rattle.directory_entry.specs.Entry.{propertiesOf, sizeOf, afterTimes}
 use Rattle.directory_entry.specs.WriteEntry.{entryExcess}
-use Rattle.directory_entry.proofs.PathLaws.{PathFine}
+use Rattle.entry_parts.proofs.PathLaws.{PathFine}
 use Rattle.directory_entry.proofs.LimitLaws as entry
 use Rattle.packet_metadata.specs.Checksum.{pairAllowed, pairRefusal, checksumOctets}
 use Rattle.packet_metadata.specs.Metadata.{entryAt, metadataRefusal, metadataOf, readMetadata}

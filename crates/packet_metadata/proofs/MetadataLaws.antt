@@ -1,5 +1,4 @@
--- What is known of METADATA that is not refused, and the answer where it is.
--- Assumes nothing.
+-- What is known of METADATA that is not refused, and the answer where it is. Assumes nothing.
 use Prim.Native.Nat.{ℕ, zero, suc, _≤_}
 use mathlib.Core.Path.{_≡_, refl}
 use mathlib.Core.List.{List}

@@ -1,12 +1,11 @@
--- Reading METADATA that was written gives the same fields, and writing METADATA that was read the same octets.
--- Assumes nothing.
+-- Reading METADATA that was written gives the same fields, and writing METADATA that was read the same octets. Assumes nothing.
 use Prim.Native.Nat.{ℕ, _+_, _^_, _<_, _≤_}
 use mathlib.Core.Path.{_≡_, refl, sym, ap, _∙_}
 use mathlib.Core.List.{List, _++_}
 use native.Mathlib.Omega.{arith}
 use lib.ListN.{length, take, drop, length-drop, take-append-drop}
 use lib.Seq.{take-at, drop-at, drop-drop, length-take-le}
-use borrow.Author.Tests.{lt-ltb, le-ltb, eq-eqb}
+use borrow.Author.Tests.{lt-ltb, le-ltb}
 use Rattle.octets.specs.Numbers.{beDigits, Octets}
 use Rattle.octets.specs.Put.{put}
 use Rattle.octets.proofs.PutLaws.{refold}
@@ -17,7 +16,7 @@ use Rattle.refusals.specs.Writing.{roomRefusal}
 use Rattle.refusals.specs.declared.Written.the-variants.{Size}
 use Rattle.header.proofs.StartLaws.{type-known, type-none}
 use Rattle.header.proofs.FirstWordLaws.{mark-for, type-for, flags-for, octets-for, file-for, octets-flags, file-flags, flags-lt, word-again}
-use Rattle.directory_entry.specs.Properties.{pathAt}
+use Rattle.entry_parts.specs.Properties.{pathAt}
 use Rattle.directory_entry.specs.Entry.{propertiesOf, entryOf}
 use Rattle.directory_entry.specs.WriteEntry.{entryOctets}
 use Rattle.directory_entry.proofs.RoundTrip.{entry-taken, entry-read-written, path-written, pathPart, entry-written-read, entry-fits, entry-writable}
@@ -163,8 +162,7 @@ module _ (s : List ℕ) (o : Octets s) (ok : metadataRefusal s ≡ 0) where
   pub metadata-written-read : metadataOctets (m .flags) (m .id) checksumPart (m .entry .properties) (m .entry .size) (m .entry .mtime) (m .entry .ctime) pathOctets ≡ s
   unfolding metadataOctets metadataOf
   metadata-written-read =
-      let t = known .start in
-      let l = t .long in
+      let t = known .start in let l = t .long in
       join s (beDigits 4 (wordFor 2 (flagsOf w))) (beDigits 4 (idOf s)) _ (checksumOctets w)
       (ap (beDigits 4) (word-again w 2 (part-lt s 0 4 o (omega arith)) (t .start .mark) (t .ptype)) ∙ part-digits s 0 4 o (omega arith))
       (part-digits s 4 4 o (omega arith))

@@ -1,5 +1,4 @@
--- What is known of METADATA fields that are not refused, and four parts put one after the other.
--- Assumes nothing.
+-- What is known of METADATA fields that are not refused, and four parts put one after the other. Assumes nothing.
 use Prim.Native.Nat.{ℕ, _+_, _^_, _<_, _≤_}
 use mathlib.Core.Path.{_≡_}
 use mathlib.Core.Bool.{not}

@@ -1,5 +1,3 @@
 pub mod StatusLaws
-pub mod FailureLaws
-pub mod RoundTrip
 pub mod Vectors
 pub mod LimitLaws

@@ -1,5 +1,4 @@
--- What is known of a STATUS that is not refused, and of its holes.
--- Assumes nothing.
+-- What is known of a STATUS that is not refused, and of its holes. Assumes nothing.
 use Prim.Native.Nat.{ℕ, zero, suc, _+_, _*_, _%_, _<_, _≤_}
 use mathlib.Core.Path.{_≡_, refl}
 use mathlib.Core.Bool.{not}

@@ -1,18 +1,15 @@
--- STATUS packets of the recorded passes (R10.7), and others next to them, computed.
--- Assumes nothing.
+-- STATUS packets of the recorded passes (R10.7), and others next to them, computed. Assumes nothing.
 use Prim.Native.Nat.{ℕ}
 use mathlib.Core.Path.{_≡_, refl}
 use mathlib.Core.List.{List, [], _∷_}
 use lib.ListN.{take}
 use Rattle.octets.specs.Numbers.{upperZero}
-use Rattle.octets.specs.Put.{put}
 use Rattle.refusals.specs.Refusals.{refusalOf}
 use Rattle.header.specs.Start.{startRefusal, typeRefusal}
 use Rattle.header.specs.Descriptor.{descriptorRefusal}
 use Rattle.hole_list.specs.HoleList.{startsWell, holesWell, pointsToLast, listWell}
 use Rattle.hole_list.specs.DescriptorList.{descriptorsRefusal}
 use Rattle.packet_status.specs.Status.{holeList, listRefusal, successRefusal, statusRefusal, successOf, failureOf, readStatus, holeRefusal, indexedHole, readHole}
-use Rattle.packet_status.specs.WriteFailure.{failureWriteRefusal, failureOctets, failureBuffer}
 use Rattle.packet_status.specs.declared.HoleRead.the-variants as hole-read
 use Rattle.packet_status.specs.declared.StatusRead.the-variants.{Success, Failure, Refused}
 
@@ -83,9 +80,3 @@ failed : (readStatus (68 ∷ 192 ∷ 0 ∷ 6 ∷ 0 ∷ 0 ∷ 0 ∷ 7 ∷ 1 ∷ 2
     × (readHole 0 (68 ∷ 192 ∷ 0 ∷ 6 ∷ 0 ∷ 0 ∷ 0 ∷ 7 ∷ 1 ∷ 2 ∷ 3 ∷ []) ≡ hole-read.Refused (refusalOf 11))
 unfolding readStatus statusRefusal typeRefusal startRefusal failureOf readHole holeRefusal
 failed = (refl, refl)
-
--- a failure written into 9 octets, the last of which stays; a code of 0, and too little room
-written : (failureBuffer 7 6 (1 ∷ 1 ∷ 1 ∷ 1 ∷ 1 ∷ 1 ∷ 1 ∷ 1 ∷ 1 ∷ []) ≡ 68 ∷ 0 ∷ 0 ∷ 6 ∷ 0 ∷ 0 ∷ 0 ∷ 7 ∷ 1 ∷ [])
-    × (failureWriteRefusal 7 0 7 ≡ 21) × (failureWriteRefusal 7 6 7 ≡ 20)
-unfolding failureBuffer failureWriteRefusal failureOctets put
-written = (refl, refl, refl)

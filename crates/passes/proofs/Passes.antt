@@ -8,8 +8,8 @@ use Rattle.passes.specs.Passes.{Passes, twoParts, emptyFile, oneAfterOth
 use Rattle.octets.specs.Put.{put}
 use Rattle.header.specs.Descriptor.{descriptorRefusal}
 use Rattle.header.specs.Start.{startRefusal, typeRefusal, fileRefusal}
-use Rattle.directory_entry.specs.Properties.{propertyRefusal}
-use Rattle.directory_entry.specs.Path.{pathRefusal}
+use Rattle.entry_parts.specs.Properties.{propertyRefusal}
+use Rattle.entry_parts.specs.Path.{pathRefusal}
 use Rattle.directory_entry.specs.Entry.{entryRefusal, entryOf}
 use Rattle.packet_metadata.specs.Checksum.{pairAllowed, pairRefusal}
 use Rattle.packet_metadata.specs.Metadata.{metadataRefusal, metadataOf, readMetadata}

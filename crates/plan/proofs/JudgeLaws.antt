@@ -1,5 +1,4 @@
--- What is told of a STATUS that was judged, and of its plan, by the refusal.
--- Assumes nothing.
+-- What is told of a STATUS that was judged, and of its plan, by the refusal. Assumes nothing.
 use Prim.Native.Nat.{ℕ, zero, suc}
 use mathlib.Core.Path.{_≡_, refl}
 use mathlib.Core.Bool.{Bool, true, false, cond}
@@ -12,7 +11,6 @@ use Rattle.refusals.specs.Refusals.{_▹_, when}
 use Rattle.runs.specs.declared.Hole.{Hole}
 use Rattle.plan.specs.Pieces.{planOf}
 use Rattle.plan.specs.Planning.{judgedOf, plannedOf}
-use Rattle.plan.specs.declared.Judged.{Judged}
 
 pub judged-refused : (n holes : ℕ) → (n ≡ 0 → ⊥) → record { number = n; holes = 0 } ≡ judgedOf n holes
 judged-refused zero holes h = absurd (h refl)

@@ -1,5 +1,4 @@
--- The pieces of a hole, one after the other, and how many they are.
--- Assumes nothing.
+-- The pieces of a hole, one after the other, and how many they are. Assumes nothing.
 use Prim.Native.Nat.{ℕ, zero, suc, _+_, _-_, _/_, _≤_, _<_, min}
 use mathlib.Core.Path.{_≡_, refl, sym, ap, _∙_}
 use mathlib.Core.Bool.{Bool, true, false}

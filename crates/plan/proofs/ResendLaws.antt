@@ -1,5 +1,4 @@
--- What is known where neither the STATUS nor the largest payload is refused: the list is one that a reader accepts.
--- Assumes nothing.
+-- What is known where neither the STATUS nor the largest payload is refused: the list is one that a reader accepts. Assumes nothing.
 use Prim.Native.Nat.{ℕ, zero, suc, _≤_, _<_}
 use mathlib.Core.Path.{_≡_, refl}
 use mathlib.Core.Bool.{not}

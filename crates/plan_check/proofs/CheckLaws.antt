@@ -1,5 +1,4 @@
--- A check, one piece more: it reads no more holes than it began with, and its refusal stays.
--- Assumes nothing.
+-- A check, one piece more: it reads no more holes than it began with, and its refusal stays. Assumes nothing.
 use Prim.Native.Nat.{ℕ, zero, suc, _+_, _<_}
 use mathlib.Core.Path.{_≡_, refl, sym, _∙_}
 use mathlib.Core.Bool.{Bool, true, false, cond, _&&_}

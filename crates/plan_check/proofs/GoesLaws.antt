@@ -1,5 +1,4 @@
--- A check, piece by piece, ends as the test that goes once through both lists.
--- Assumes nothing.
+-- A check, piece by piece, ends as the test that goes once through both lists. Assumes nothing.
 use Prim.Native.Nat.{ℕ, _<_}
 use mathlib.Core.Path.{_≡_, refl, sym, ap, _∙_}
 use mathlib.Core.Bool.{Bool, true, false, cond, _&&_}

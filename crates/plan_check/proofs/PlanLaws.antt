@@ -1,5 +1,4 @@
--- The plan of a hole list passes, for every list that a reader accepts and every m.
--- Assumes nothing.
+-- The plan of a hole list passes, for every list that a reader accepts and every m. Assumes nothing.
 use Prim.Native.Nat.{ℕ, zero, suc, _+_, _-_, _≤_, _<_, min}
 use mathlib.Core.Path.{_≡_, refl, sym, ap, _∙_}
 use mathlib.Core.Bool.{Bool, true, false, cond}

@@ -42,7 +42,7 @@ pub fn check_start(status: &[u8], largest: u64) -> Check
     Check {
         number: j.number,
         fine: j.number == 0,
-        cursor: plan::cursor_at(status, j.holes, 0),
+        cursor: planner::cursor_at(status, j.holes, 0),
     }
 }
 
@@ -57,7 +57,7 @@ pub fn check_step(status: &[u8], k: Check, largest: u64, p: Piece) -> Check
             return Check {
                 number: k.number,
                 fine: true,
-                cursor: plan::advance(status, c, p.length),
+                cursor: planner::advance(status, c, p.length),
             };
         }
     }

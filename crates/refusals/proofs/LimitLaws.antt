@@ -2,38 +2,16 @@
 -- Assumes nothing.
 use Prim.Native.Nat.{ℕ, zero, suc, _<_, _≤_}
 use mathlib.Core.Path.{_≡_, refl, sym, ap, _∙_}
-use mathlib.Core.Bool.{Bool, true, false, not, false≢true}
-use mathlib.Core.Logic.{_⊎_, inl, inr, ⊎-elim, _↔_, Iff·trans}
+use mathlib.Core.Logic.{_↔_}
 use native.Mathlib.Omega.{arith}
-use lib.Dec.{ltb, eqb}
-use Rattle.refusals.specs.Refusals.{_▹_, when, refusalOf, answered}
+use Rattle.refusals.specs.Refusals.{_▹_, refusalOf, answered}
 use Rattle.refusals.specs.Writing.{roomRefusal, writtenOf}
 use Rattle.refusals.specs.declared.Refusal.{Refusal}
 use Rattle.refusals.specs.declared.Written.the-variants.{Size, Refused}
-use Rattle.refusals.proofs.TestLaws.{eqb-not, ltb-not, not-iff}
-pub use Rattle.refusals.proofs.TestLaws.{either}
-pub use Rattle.refusals.proofs.RefusalLaws.{when-all, chain-all, link-all, chain-iff, first-only}
+pub use Rattle.refusals.proofs.RefusalLaws.{when-all, chain-all, link-all}
 use Rattle.refusals.proofs.ReasonLaws.{Reasons, given, one, below, _▸_}
 
--- tests that say no
-pub unequal-iff : (a b : ℕ) → (not (eqb a b) ≡ true) ↔ (a ≡ b → ⊥)
-unequal-iff a b = Iff·trans (not-iff (eqb a b)) (eqb-not a b)
-
-pub not-below-iff : (a b : ℕ) → (not (ltb a b) ≡ true) ↔ (b ≤ a)
-not-below-iff a b = Iff·trans (not-iff (ltb a b)) (ltb-not a b)
-
 -- ---- chains
-
--- n's own test comes first, and n is given again
-pub given-again : (t : Bool) (n r : ℕ) → (n ≡ 0 → ⊥) → (when t n ▹ r ≡ n) ↔ ((t ≡ true) ⊎ (r ≡ n))
-given-again true zero r h = absurd (h refl)
-given-again true (suc n) r h = ((λ e. inl refl), (λ e. refl))
-given-again false n r h = ((λ e. inr e), ⊎-elim (λ e. absurd (false≢true e)) (λ e. e))
-
--- a part of a chain that stands under a test
-pub when-iff : (t : Bool) (m n : ℕ) → (n ≡ 0 → ⊥) → (when t m ≡ n) ↔ ((t ≡ true) × (m ≡ n))
-when-iff true m n h = ((λ e. (refl, e)), (λ p. p .1))
-when-iff false m n h = ((λ e. absurd (h (sym e))), (λ p. absurd (false≢true (p .0))))
 
 pub chain-assoc : (l m r : ℕ) → (l ▹ m) ▹ r ≡ l ▹ m ▹ r
 chain-assoc zero m r = refl

@@ -3,7 +3,7 @@
 -- Assumes nothing.
 use Prim.Native.Nat.{ℕ, zero, suc, _<_, _≤_}
 use mathlib.Core.Path.{_≡_, refl, sym, _∙_}
-use mathlib.Core.Bool.{Bool, true, false, not, _&&_, _||_}
+use mathlib.Core.Bool.{Bool, true, false, not, _&&_, _||_, false≢true}
 use mathlib.Core.Logic.{_⊎_, inl, inr, ⊎-elim, _↔_, Iff·rfl, Iff·trans}
 use native.Mathlib.Omega.{arith}
 use lib.Dec.{ltb, leb, eqb}
@@ -109,20 +109,67 @@ then-means never F (because B) = (⊎-elim (λ z. absurd z) (λ p. p), (λ p. in
 then-means (because A) F never = (⊎-elim (λ x. x) (λ p. absurd (p .1)), (λ x. inl x))
 then-means (because A) F (because B) = Iff·rfl
 
-module _ (a b : Reasons) where
-  pub then-none : (a .refusal ▹ b .refusal ≡ 0) ↔ (a .None × b .None)
-  then-none = Iff·trans (chain-none (a .refusal) (b .refusal)) (both (a .none-iff) (b .none-iff))
+-- the second part's reasons may rest on that the first is none
+pub record Later (A : Type 0) : Type 1 where
+  pub refusal : ℕ
+  pub None : Type 0
+  pub why : ℕ → Why
+  pub none-iff : A → (refusal ≡ 0) ↔ None
+  pub given-iff : A → (n : ℕ) → (refusal ≡ suc n) ↔ Means (why (suc n))
 
-  then-parts : (n : ℕ) → (a .refusal ▹ b .refusal ≡ suc n) ↔ (Means (a .why (suc n)) ⊎ (a .None × Means (b .why (suc n))))
-  then-parts n = Iff·trans (chain-iff (a .refusal) (b .refusal) (suc n) (λ e. omega arith)) (either (a .given-iff n) (both (a .none-iff) (b .given-iff n)))
+abbrev pub always : {A : Type 0} → Reasons → Later A
+always b = record { refusal = b .refusal; None = b .None; why = b .why; none-iff = λ x. b .none-iff; given-iff = λ x. b .given-iff }
+
+module _ (a : Reasons) (b : Later (a .None)) where
+  pub then-none : (a .refusal ▹ b .refusal ≡ 0) ↔ (a .None × b .None)
+  then-none =
+      Iff·trans (chain-none (a .refusal) (b .refusal))
+      ((λ p. let x = a .none-iff .0 (p .0) in (x, b .none-iff x .0 (p .1))), (λ p. (a .none-iff .1 (p .0), b .none-iff (p .0) .1 (p .1))))
+
+  pub then-parts : (n : ℕ) → (a .refusal ▹ b .refusal ≡ suc n) ↔ (Means (a .why (suc n)) ⊎ (a .None × Means (b .why (suc n))))
+  then-parts n =
+      Iff·trans (chain-iff (a .refusal) (b .refusal) (suc n) (λ e. omega arith))
+      (either (a .given-iff n)
+      ((λ p. let x = a .none-iff .0 (p .0) in (x, b .given-iff x n .0 (p .1))), (λ p. (a .none-iff .1 (p .0), b .given-iff (p .0) n .1 (p .1)))))
 
   pub then-given : (n : ℕ) → (a .refusal ▹ b .refusal ≡ suc n) ↔ Means (thenWhy (a .why (suc n)) (a .None) (b .why (suc n)))
   then-given n = Iff·trans (then-parts n) (then-means (a .why (suc n)) (a .None) (b .why (suc n)))
 
+abbrev pub followed : (a : Reasons) → Later (a .None) → Reasons
+followed a b =
+    record { refusal = a .refusal ▹ b .refusal; None = a .None × b .None; why = λ n. thenWhy (a .why n) (a .None) (b .why n); none-iff = then-none a b; given-iff = then-given a b }
+
 infixr 20 _▸_
 abbrev pub _▸_ : Reasons → Reasons → Reasons
-a ▸ b =
-    record { refusal = a .refusal ▹ b .refusal; None = a .None × b .None; why = λ n. thenWhy (a .why n) (a .None) (b .why n); none-iff = then-none a b; given-iff = then-given a b }
+a ▸ b = followed a (always b)
+
+-- ---- a part that stands under a test
+
+abbrev pub underWhy : Type 0 → Why → Why
+underWhy Y never = never
+underWhy Y (because A) = because (Y × A)
+
+under-means : (Y : Type 0) (b : Why) → (Y × Means b) ↔ Means (underWhy Y b)
+under-means Y never = ((λ p. p .1), (λ z. absurd z))
+under-means Y (because A) = Iff·rfl
+
+when-iff : (t : Bool) (m n : ℕ) → (n ≡ 0 → ⊥) → (when t m ≡ n) ↔ ((t ≡ true) × (m ≡ n))
+when-iff true m n h = ((λ e. (refl, e)), (λ p. p .1))
+when-iff false m n h = ((λ e. absurd (h (sym e))), (λ p. absurd (false≢true (p .0))))
+
+pub under-given : (t : Test) (a : Reasons) (n : ℕ) → (when (t .holds) (a .refusal) ≡ suc n) ↔ Means (underWhy (t .Yes) (a .why (suc n)))
+under-given t a n =
+    Iff·trans (when-iff (t .holds) (a .refusal) (suc n) (λ e. omega arith)) (Iff·trans (both (t .yes-iff) (a .given-iff n)) (under-means (t .Yes) (a .why (suc n))))
+
+abbrev pub under : Test → Reasons → Reasons
+under t a =
+    record {
+      refusal = when (t .holds) (a .refusal);
+      None = when (t .holds) (a .refusal) ≡ 0;
+      why = λ n. underWhy (t .Yes) (a .why n);
+      none-iff = Iff·rfl;
+      given-iff = under-given t a;
+    }
 
 -- ---- a test whose number comes again: it holds, or the number comes of the rest
 
@@ -143,7 +190,7 @@ module _ (k : ℕ) (t : Test) (b : Reasons) where
   decided false e (suc k) = inr (t .no-iff .0 e)
 
   pub or-given : (n : ℕ) → (when (t .holds) k ▹ b .refusal ≡ suc n) ↔ Means (orWhy (eqb (suc n) k) (t .Yes) (NoneAt k (t .No)) (b .why (suc n)))
-  or-given n = Iff·trans (then-parts (one k t) b n) (or-means (eqb (suc n) k) (t .Yes) (NoneAt k (t .No)) (b .why (suc n)) (decided (t .holds) refl k))
+  or-given n = Iff·trans (then-parts (one k t) (always b) n) (or-means (eqb (suc n) k) (t .Yes) (NoneAt k (t .No)) (b .why (suc n)) (decided (t .holds) refl k))
 
 abbrev pub again : ℕ → Test → Reasons → Reasons
 again k t b =
@@ -151,7 +198,7 @@ again k t b =
       refusal = when (t .holds) k ▹ b .refusal;
       None = NoneAt k (t .No) × b .None;
       why = λ n. orWhy (eqb n k) (t .Yes) (NoneAt k (t .No)) (b .why n);
-      none-iff = then-none (one k t) b;
+      none-iff = then-none (one k t) (always b);
       given-iff = or-given k t b;
     }
 

@@ -44,11 +44,6 @@ given-later true zero n r h g = absurd (h refl)
 given-later true (suc m) n r h g = ((λ e. absurd (g e)), (λ p. absurd (true≢false (p .0))))
 given-later false m n r h g = ((λ e. (refl, e)), (λ p. p .1))
 
--- any chain of other numbers comes first
-pub after-none : (m r n : ℕ) → (n ≡ 0 → ⊥) → (m ≡ n → ⊥) → (m ▹ r ≡ n) ↔ ((m ≡ 0) × (r ≡ n))
-after-none zero r n h g = ((λ e. (refl, e)), (λ p. p .1))
-after-none (suc m) r n h g = ((λ e. absurd (g e)), (λ p. absurd (omega arith)))
-
 -- the last test of a chain
 pub when-given : (t : Bool) (n : ℕ) → (n ≡ 0 → ⊥) → (when t n ≡ n) ↔ (t ≡ true)
 when-given true n h = ((λ e. refl), (λ e. refl))

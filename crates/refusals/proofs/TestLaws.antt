@@ -1,5 +1,4 @@
--- Tests as facts, exactly: what a refusal's test says when it holds, and when it fails.
--- Assumes nothing.
+-- Tests as facts, exactly: what a refusal's test says when it holds, and when it fails. Assumes nothing.
 use Prim.Native.Nat.{ℕ, _<_, _≤_}
 use mathlib.Core.Path.{_≡_, refl}
 use mathlib.Core.Bool.{Bool, true, false, not, _&&_, _||_, true≢false, false≢true}

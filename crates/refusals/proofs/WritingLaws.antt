@@ -1,5 +1,4 @@
--- What a writer's answer and buffer are, where it refuses and where it doesn't.
--- Assumes nothing.
+-- What a writer's answer and buffer are, where it refuses and where it doesn't. Assumes nothing.
 use Prim.Native.Nat.{ℕ, zero, suc, _≤_}
 use mathlib.Core.Path.{_≡_, refl}
 use mathlib.Core.List.{List}

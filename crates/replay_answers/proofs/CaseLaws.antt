@@ -1,5 +1,4 @@
--- What holds of the fields of a packet, by each of its types, and of every refusal, holds of what the packet is read as.
--- Assumes nothing.
+-- What holds of the fields of a packet, by each of its types, and of every refusal, holds of what the packet is read as. Assumes nothing.
 use Prim.Native.Nat.{ℕ, zero, suc}
 use mathlib.Core.Bool.{Bool, true, false, cond}
 use mathlib.Core.List.{List}

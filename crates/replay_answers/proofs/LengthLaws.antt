@@ -1,5 +1,4 @@
--- How long the line of each answer is at most.
--- Assumes nothing.
+-- How long the line of each answer is at most. Assumes nothing.
 use Prim.Native.Nat.{ℕ, _+_, _*_, _≤_}
 use mathlib.Core.List.{List, []}
 use native.Mathlib.Omega.{arith}

@@ -1,5 +1,4 @@
--- How long the line of a BEACON is at most.
--- Assumes nothing.
+-- How long the line of a BEACON is at most. Assumes nothing.
 use Prim.Native.Nat.{ℕ, _+_, _*_}
 use mathlib.Core.Bool.{Bool, true, false, cond}
 use mathlib.Core.List.{List, _++_}
@@ -7,8 +6,8 @@ use native.Mathlib.Omega.{arith}
 use lib.Dec.{eqb}
 use lib.ListN.{length}
 use Rattle.packet_beacon.specs.declared.Beacon.{Beacon}
-use Rattle.packet_beacon.specs.declared.Willingness.{Willingness}
-use Rattle.packet_beacon.specs.declared.Willingness.the-variants.{Cannot, NotNow, Willing}
+use Rattle.beacon_flags.specs.declared.Willingness.{Willingness}
+use Rattle.beacon_flags.specs.declared.Willingness.the-variants.{Cannot, NotNow, Willing}
 use Rattle.text.proofs.LengthLaws.{AtMost, words, _and_, at-most, part-most, decimalMost, decimal-most}
 use Rattle.replay_fields.specs.LineWords.{newline, w-beacon, w-largest, w-bundles, w-streams, w-sending, w-receiving, w-cannot, w-not-now, w-willing, w-free-width, w-free, w-endpoint}
 use Rattle.replay_fields.specs.Fields.{field, bitsOf}

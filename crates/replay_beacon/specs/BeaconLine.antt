@@ -6,8 +6,8 @@ use mathlib.Core.List.{List, _++_}
 use lib.Dec.{eqb}
 use lib.ListN.{take, drop}
 use Rattle.packet_beacon.specs.declared.Beacon.{Beacon}
-use Rattle.packet_beacon.specs.declared.Willingness.{Willingness}
-use Rattle.packet_beacon.specs.declared.Willingness.the-variants.{Cannot, NotNow, Willing}
+use Rattle.beacon_flags.specs.declared.Willingness.{Willingness}
+use Rattle.beacon_flags.specs.declared.Willingness.the-variants.{Cannot, NotNow, Willing}
 use Rattle.text.specs.Decimal.{decimalOf}
 use Rattle.replay_fields.specs.LineWords.{newline, w-beacon, w-largest, w-bundles, w-streams, w-sending, w-receiving, w-cannot, w-not-now, w-willing, w-free-width, w-free, w-endpoint}
 use Rattle.replay_fields.specs.Fields.{field, octetsField, numberField, bitsOf}

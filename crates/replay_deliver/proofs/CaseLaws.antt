@@ -1,5 +1,4 @@
--- What is shown for the case that a packet is read as is shown for the packet.
--- Assumes nothing.
+-- What is shown for the case that a packet is read as is shown for the packet. Assumes nothing.
 use Prim.Native.Nat.{ℕ}
 use mathlib.Core.Path.{_≡_}
 use mathlib.Core.List.{List}

@@ -1,5 +1,4 @@
--- How long the lines of a packet off the link are at most, where a buffer of m octets is lent for STATUS.
--- Assumes nothing.
+-- How long the lines of a packet off the link are at most, where a buffer of m octets is lent for STATUS. Assumes nothing.
 use Prim.Native.Nat.{ℕ, _+_}
 use mathlib.Core.List.{List}
 use Rattle.refusals.specs.declared.Refusal.{Refusal}

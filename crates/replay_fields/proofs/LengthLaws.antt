@@ -1,5 +1,4 @@
--- How long the parts of a line are at most.
--- Assumes nothing.
+-- How long the parts of a line are at most. Assumes nothing.
 use Prim.Native.Nat.{ℕ, _+_, _*_}
 use mathlib.Core.Bool.{Bool, true, false, cond}
 use mathlib.Core.List.{List, _++_}

@@ -1,5 +1,4 @@
--- The length of a body, computed.
--- Assumes nothing.
+-- The length of a body, computed. Assumes nothing.
 use mathlib.Core.Path.{_≡_, refl}
 use mathlib.Core.List.{[], _∷_}
 use Rattle.replay_input.specs.Input.{bodyLength}

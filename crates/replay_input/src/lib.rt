@@ -19,7 +19,7 @@ fn body_length(head: &[u8]) -> u64
     if head.len() < 5 {
         return 0;
     }
-    octets::read_four(head, 1)
+    octets_read::read_four(head, 1)
 }
 
 // Passes over n octets of the input, and says whether they were there.

@@ -1,5 +1,4 @@
--- The definitions compute, to the lines that docs/REPLAY.md shows.
--- Assumes nothing.
+-- The definitions compute, to the lines that docs/REPLAY.md shows. Assumes nothing.
 use Prim.Native.Nat.{ℕ}
 use mathlib.Core.Path.{_≡_, refl}
 use mathlib.Core.List.{List, [], _∷_}

@@ -1,5 +1,4 @@
--- How long the lines of a plan and of a check are at most, and so those of the records `L` and `K`.
--- Assumes nothing.
+-- How long the lines of a plan and of a check are at most, and so those of the records `L` and `K`. Assumes nothing.
 use Prim.Native.Nat.{ℕ, zero, suc, _+_, _*_, _≤_}
 use mathlib.Core.Path.{_≡_, refl}
 use mathlib.Core.Bool.{Bool, true, false, cond}

@@ -1,5 +1,4 @@
--- A line by its refusal; and what `passes=1` says.
--- Assumes nothing.
+-- A line by its refusal; and what `passes=1` says. Assumes nothing.
 use Prim.Native.Nat.{ℕ, zero, suc}
 use mathlib.Core.Path.{_≡_, refl, _∙_}
 use mathlib.Core.Bool.{Bool, true}

@@ -1,5 +1,4 @@
--- How long the lines of the records `F`, `C` and `W` are at most.
--- Assumes nothing.
+-- How long the lines of the records `F`, `C` and `W` are at most. Assumes nothing.
 use Prim.Native.Nat.{ℕ}
 use mathlib.Core.Bool.{Bool, true, false, cond}
 use mathlib.Core.List.{List, []}

@@ -21,7 +21,7 @@ pub fn fresh(area: &mut [u8], number: u64, body: &[u8], out: &mut [u8]) -> usize
     if body.len() != 0 {
         return replay_lines::put_bad_length(out, 0, number);
     }
-    let a = area_open::fresh(area);
+    let a = area_fresh::fresh(area);
     put_fresh(out, 0, number, a)
 }
 
@@ -61,7 +61,7 @@ pub fn close(area: &mut [u8], number: u64, body: &[u8], out: &mut [u8]) -> usize
     if body.len() != 4 {
         return replay_lines::put_bad_length(out, 0, number);
     }
-    let id = octets::read_four(body, 0);
+    let id = octets_read::read_four(body, 0);
     let a = area_close::close(area, id);
     put_close(out, 0, number, id, a)
 }

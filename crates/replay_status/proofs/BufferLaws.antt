@@ -1,5 +1,4 @@
--- A writer of STATUS leaves a buffer no longer than it was.
--- Assumes nothing.
+-- A writer of STATUS leaves a buffer no longer than it was. Assumes nothing.
 use Prim.Native.Nat.{ℕ, zero, suc, _≤_}
 use mathlib.Core.Path.{_≡_, refl}
 use mathlib.Core.Bool.{Bool}
@@ -11,9 +10,9 @@ use lib.ListN.{length}
 use Rattle.octets.proofs.NumberLaws.{width-some}
 use Rattle.octets.proofs.PutLaws.{length-put}
 use Rattle.refusals.specs.Writing.{bufferAfter}
-use Rattle.packet_status.specs.WriteFailure.{failureWriteRefusal, failureOctets, failureBuffer}
-use Rattle.packet_status.proofs.FailureLaws.{failure-fine}
-use Rattle.packet_status.proofs.RoundTrip.{failure-length}
+use Rattle.failure_status.specs.WriteFailure.{failureWriteRefusal, failureOctets, failureBuffer}
+use Rattle.failure_status.proofs.FailureLaws.{failure-fine}
+use Rattle.failure_status.proofs.RoundTrip.{failure-length}
 use Rattle.transfer.specs.declared.Key.{Key}
 use Rattle.transfer.specs.Transfers.{Transfer}
 use Rattle.transfer_status.specs.WriteStatus.{statusPacket, transferRefused, transferBuffer}

@@ -1,5 +1,4 @@
--- How long the lines of STATUS are at most, where a buffer of m octets is lent.
--- Assumes nothing.
+-- How long the lines of STATUS are at most, where a buffer of m octets is lent. Assumes nothing.
 use Prim.Native.Nat.{ℕ, _+_, _*_, min}
 use mathlib.Core.Bool.{Bool, true, false, not, cond}
 use mathlib.Core.List.{List, []}
@@ -9,7 +8,7 @@ use lib.ListN.{length, take, getD}
 use Rattle.header.specs.FirstWord.{typeOf}
 use Rattle.header.specs.Start.{wordOf, idOf}
 use Rattle.packet_data.specs.declared.Data.{Data}
-use Rattle.packet_status.specs.WriteFailure.{failureWritten, failureBuffer}
+use Rattle.failure_status.specs.WriteFailure.{failureWritten, failureBuffer}
 use Rattle.area.specs.Operations.{areaStatusWritten, areaStatusBuffer}
 use Rattle.text.proofs.LengthLaws.{AtMost, words, at-most, part-most}
 use Rattle.replay_fields.specs.LineWords.{w-bad}

@@ -8,7 +8,7 @@ use lib.ListN.{length, take, getD}
 use Rattle.header.specs.FirstWord.{typeOf}
 use Rattle.header.specs.Start.{wordOf, idOf}
 use Rattle.packet_data.specs.declared.Data.{Data}
-use Rattle.packet_status.specs.WriteFailure.{failureWritten, failureBuffer}
+use Rattle.failure_status.specs.WriteFailure.{failureWritten, failureBuffer}
 use Rattle.area.specs.Operations.{areaStatusWritten, areaStatusBuffer}
 use Rattle.replay_lines.specs.Body.{numberAt, badLine}
 use Rattle.replay_answers.specs.AnswerLines.{statusText, sentText}

@@ -30,7 +30,7 @@ pub fn put_failure_sent(
     if h.ptype == 0 {
         return at;
     }
-    let w = packet_status::write_failure(lent, header::id(p), code);
+    let w = failure_status::write_failure(lent, header::id(p), code);
     put_sent(out, at, number, w, lent)
 }
 
@@ -76,9 +76,9 @@ pub fn status(area: &[u8], number: u64, body: &[u8], lent: &mut [u8], out: &mut 
     if body.len() != 17 {
         return replay_lines::put_bad_length(out, 0, number);
     }
-    let id = octets::read_four(body, 0);
-    let skip = octets::read_eight(body, 4);
+    let id = octets_read::read_four(body, 0);
+    let skip = octets_read::read_eight(body, 4);
     let unasked = body[12] != 0;
-    let room = within(octets::read_four(body, 13), lent.len());
+    let room = within(octets_read::read_four(body, 13), lent.len());
     write(area, number, id, skip, unasked, &mut lent[..room], out)
 }

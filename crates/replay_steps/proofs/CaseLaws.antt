@@ -1,5 +1,4 @@
--- What is shown for the kind that a record has is shown for the record.
--- Assumes nothing.
+-- What is shown for the kind that a record has is shown for the record. Assumes nothing.
 use Prim.Native.Nat.{ℕ}
 use mathlib.Core.Path.{_≡_}
 use mathlib.Core.List.{List}

@@ -1,5 +1,4 @@
--- The definitions compute on records, to the lines that docs/REPLAY.md shows.
--- Assumes nothing.
+-- The definitions compute on records, to the lines that docs/REPLAY.md shows. Assumes nothing.
 use Prim.Native.Nat.{ℕ}
 use mathlib.Core.Path.{_≡_, refl}
 use mathlib.Core.List.{List, [], _∷_}
@@ -10,13 +9,13 @@ use Rattle.octets.specs.Put.{put}
 use Rattle.refusals.specs.Refusals.{codeOf}
 use Rattle.header.specs.Start.{startRefusal, typeRefusal, fileRefusal}
 use Rattle.header.specs.Descriptor.{descriptorRefusal}
-use Rattle.directory_entry.specs.Path.{pathRefusal}
-use Rattle.directory_entry.specs.Properties.{propertyRefusal}
+use Rattle.entry_parts.specs.Path.{pathRefusal}
+use Rattle.entry_parts.specs.Properties.{propertyRefusal}
 use Rattle.directory_entry.specs.Entry.{entryRefusal, entryOf}
 use Rattle.packet_metadata.specs.Checksum.{pairAllowed, pairRefusal}
 use Rattle.packet_metadata.specs.Metadata.{metadataRefusal, metadataOf, readMetadata}
 use Rattle.packet_data.specs.Data.{dataRefusal, dataOf, readData}
-use Rattle.packet_status.specs.WriteFailure.{failureWriteRefusal, failureOctets, failureWritten, failureBuffer}
+use Rattle.failure_status.specs.WriteFailure.{failureWriteRefusal, failureOctets, failureWritten, failureBuffer}
 use Rattle.packet.specs.Read.{readType, readPacket}
 use Rattle.runs.specs.Runs.{run}
 use Rattle.runs.specs.Holes.{edgeFrom, holesFrom, progress, complete}

@@ -1,5 +1,4 @@
--- The lines of every record fit the buffer that `replay` puts them into, so that none is cut: docs/REPLAY.md.
--- Assumes nothing.
+-- The lines of every record fit the buffer that `replay` puts them into, so that none is cut: docs/REPLAY.md. Assumes nothing.
 use Prim.Native.Nat.{ℕ, _≤_}
 use mathlib.Core.Path.{_≡_}
 use mathlib.Core.Bool.{Bool, true, false, cond}

@@ -53,7 +53,7 @@ fn lines(
         return replay_plan::plan_record(number, body, out);
     }
     if kind == b'K' {
-        return replay_plan::check_record(number, body, out);
+        return replay_check::check_record(number, body, out);
     }
     replay_lines::put_unknown(out, 0, number, kind as u64)
 }

@@ -1,5 +1,4 @@
--- The holes that a packet lists may be read where they stand, and no other.
--- Assumes nothing.
+-- The holes that a packet lists may be read where they stand, and no other. Assumes nothing.
 use Prim.Native.Nat.{ℕ, zero, suc, _≤_, _<_}
 use mathlib.Core.Path.{_≡_, refl}
 use mathlib.Core.List.{List, []}

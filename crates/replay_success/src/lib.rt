@@ -17,7 +17,7 @@ use replay_packets::put_head;
 fn hole_count(p: &[u8]) -> usize
     ensures { λ r. ⌜ r ≡ holesListed (readStatus (now (p .entry))) ⌝ }
 {
-    match packet_status::read_status(p) {
+    match status_fields::read_status(p) {
         StatusRead::Success(s) => s.count,
         StatusRead::Failure(_) => 0,
         StatusRead::Refused(_) => 0,
@@ -32,7 +32,7 @@ fn put_hole(out: &mut [u8], at: usize, p: &[u8], listed: usize, index: usize) ->
     if listed <= index {
         return at;
     }
-    let h = packet_status::listed_hole(p, index);
+    let h = status_fields::listed_hole(p, index);
     put_in_list(out, at, index as u64, b"-", h.start, h.end)
 }
 

@@ -1,5 +1,2 @@
 pub mod RowsLaws
 pub mod RowReads
-pub mod JudgeLaws
-pub mod LoopLaws
-pub mod CutLaws

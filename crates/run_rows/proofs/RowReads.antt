@@ -1,6 +1,5 @@
--- The edge, the progress and the holes of the runs that stand in two rows, and where a joined run starts and stops, by their words.
--- Assumes nothing.
-use Prim.Native.Nat.{ℕ, suc, _+_, _-_, _≤_, _<_, min, max}
+-- The edge, the progress and the holes of the runs that stand in two rows, by their words. Assumes nothing.
+use Prim.Native.Nat.{ℕ, suc, _+_, _-_, _≤_, _<_}
 use mathlib.Core.Path.{_≡_, sym, ap, ap₂, _∙_}
 use mathlib.Core.List.{List}
 use mathlib.Core.Logic.{⊎-elim}
@@ -10,11 +9,10 @@ use native.Mathlib.Numerals.{add-one}
 use lib.ListN.{length, getD, take}
 use lib.Seq.{take-all}
 use lib.Dec.{leb}
-use borrow.Author.Tests.{eq-eqb, ne-eqb, lt-ltb, le-ltb, lt-leb, le-leb}
+use borrow.Author.Tests.{eq-eqb, ne-eqb}
 use Rattle.runs.specs.Runs.{Run, nthRun, Canonical}
 use Rattle.runs.specs.Holes.{edgeFrom, edge, hole, holesFrom, holes, progress, complete}
 use Rattle.runs.specs.Received.{received}
-use Rattle.runs.specs.Splice.{lowOf, highOf, addsAt}
 use Rattle.runs.proofs.CompareLaws.{le-or-lt}
 use Rattle.runs.proofs.RunPlaces.{edge-is-last-stop, progress-by-first, run-some}
 use Rattle.runs.proofs.ReceivedLaws.{received-next, received-to}
@@ -33,10 +31,10 @@ module _ (a : List ℕ) (r : Rows) where
   size-is : length (runsIn a r) ≡ r .count
   size-is = length-runs a (r .starts) (r .stops) (r .count)
 
-  start-is : (j : ℕ) → j < r .count → wordAt a (r .starts + j) ≡ nthRun (runsIn a r) j .start
+  pub start-is : (j : ℕ) → j < r .count → wordAt a (r .starts + j) ≡ nthRun (runsIn a r) j .start
   start-is j h = start-at a (r .starts) (r .stops) (r .count) j h
 
-  stop-is : (j : ℕ) → j < r .count → wordAt a (r .stops + j) ≡ nthRun (runsIn a r) j .stop
+  pub stop-is : (j : ℕ) → j < r .count → wordAt a (r .stops + j) ≡ nthRun (runsIn a r) j .stop
   stop-is j h = stop-at a (r .starts) (r .stops) (r .count) j h
 
   -- ---- no runs
@@ -128,46 +126,6 @@ module _ (a : List ℕ) (r : Rows) where
     hole-first h z =
         let f : nthRun (runsIn a r) 0 .start ≡ w = first-is in
         rw z (sym (hole-place-first (runsIn a r) (hole 0 0) (omega arith) ∙ ap (λ (m : ℕ). hole 0 m) f))
-
-  -- ---- a joined run
-
-  module _ (i j : ℕ) where
-    pub start-alone : (from : ℕ) → j ≤ i → from ≡ lowOf from (runsIn a r) i j
-    start-alone from h = rw (le-ltb i j h)
-
-    pub stop-alone : (to : ℕ) → j ≤ i → to ≡ highOf to (runsIn a r) i j
-    stop-alone to h = rw (le-ltb i j h)
-
-    module _ (w : ℕ) (some : i < j) (inside : j ≤ r .count) where
-      pub start-joined : (from x : ℕ) → w ≡ wordAt a (r .starts + i) → x ≡ min from w → x ≡ lowOf from (runsIn a r) i j
-      start-joined from x e f = rw (lt-ltb i j some) (f ∙ ap (min from) (e ∙ start-is i (omega arith)))
-
-      pub stop-joined : (to x : ℕ) → w ≡ wordAt a (r .stops + (j - 1)) → x ≡ max to w → x ≡ highOf to (runsIn a r) i j
-      stop-joined to x e f = rw (lt-ltb i j some) (f ∙ ap (max to) (e ∙ stop-is (j - 1) (omega arith)))
-
-  -- ---- whether a stretch brings something new, where it overlaps or touches the runs from i up to j
-
-  module _ (i j from to : ℕ) where
-    pub adds-apart : (j - i ≡ 1 → ⊥) → 1 ≡ addsAt from to (runsIn a r) i j
-    adds-apart z = rw (ne-eqb (j - i) 1 z)
-
-    -- v and w are the words where the one run starts and stops
-    module _ (z : j - i ≡ 1) (inside : j ≤ r .count) (v : ℕ) (is : v ≡ wordAt a (r .starts + i)) where
-      run-start : v ≡ nthRun (runsIn a r) i .start
-      run-start = is ∙ start-is i (omega arith)
-
-      pub adds-below : from < v → 1 ≡ addsAt from to (runsIn a r) i j
-      adds-below l = rw (eq-eqb (j - i) 1 z, ← run-start, lt-leb v from l)
-
-      module _ (l : v ≤ from) (w : ℕ) (stop : w ≡ wordAt a (r .stops + i)) where
-        run-stop : w ≡ nthRun (runsIn a r) i .stop
-        run-stop = stop ∙ stop-is i (omega arith)
-
-        pub adds-above : w < to → 1 ≡ addsAt from to (runsIn a r) i j
-        adds-above h = rw (eq-eqb (j - i) 1 z, ← run-start, le-leb v from l, ← run-stop, lt-leb to w h)
-
-        pub adds-within : to ≤ w → 0 ≡ addsAt from to (runsIn a r) i j
-        adds-within h = rw (eq-eqb (j - i) 1 z, ← run-start, le-leb v from l, ← run-stop, le-leb to w h)
 
   -- ---- how many offsets the first k runs have, and then the next one
 

@@ -1,5 +1,4 @@
--- The runs that stand in two rows, by their places: how many, each of them, and when two pairs of rows hold the same.
--- Assumes nothing.
+-- The runs that stand in two rows, by their places: how many, each of them, and when two pairs of rows hold the same. Assumes nothing.
 use Prim.Native.Nat.{ℕ, zero, suc, _+_, _<_}
 use mathlib.Core.Path.{_≡_, refl, sym, ap, ap₂, _∙_}
 use mathlib.Core.List.{List}

@@ -1,5 +1,4 @@
--- An insertion adds nothing exactly when all its offsets were members, and exactly when the set stays as it is.
--- Assumes nothing.
+-- An insertion adds nothing exactly when all its offsets were members, and exactly when the set stays as it is. Assumes nothing.
 use Prim.Native.Nat.{ℕ, zero, suc, _-_, _≤_, _<_, min, max}
 use mathlib.Core.Path.{_≡_, refl, sym, ap, ap₂, _∙_}
 use mathlib.Core.Bool.{Bool, cond, _&&_}

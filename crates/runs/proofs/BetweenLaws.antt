@@ -1,5 +1,4 @@
--- The two places of a splice, known by their neighbours alone: what stands before each of them and what stands at it.
--- Assumes nothing.
+-- The two places of a splice, known by their neighbours alone: what stands before each of them and what stands at it. Assumes nothing.
 use Prim.Native.Nat.{ℕ, zero, suc, _-_, _≤_, _<_}
 use mathlib.Core.Path.{_≡_, refl, ap, _∙_}
 use mathlib.Core.List.{List, [], _∷_}

@@ -1,5 +1,4 @@
--- A canonical list and its set are the same thing: canonical lists with equal members are equal.
--- Assumes nothing.
+-- A canonical list and its set are the same thing: canonical lists with equal members are equal. Assumes nothing.
 use Prim.Native.Nat.{ℕ, suc, _-_, _≤_, _<_}
 use mathlib.Core.Path.{_≡_, refl, sym}
 use mathlib.Core.Bool.{true, _&&_, or-true}

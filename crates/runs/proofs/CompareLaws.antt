@@ -1,5 +1,4 @@
--- Two numbers compared.
--- Assumes nothing.
+-- Two numbers compared. Assumes nothing.
 use Prim.Native.Nat.{ℕ, _≤_, _<_}
 use mathlib.Core.Path.{_≡_}
 use mathlib.Core.Logic.{_⊎_, inl, inr, ⊎-elim}

@@ -1,5 +1,4 @@
--- A transfer of length L is complete exactly when every offset below L is a member.
--- Assumes nothing.
+-- A transfer of length L is complete exactly when every offset below L is a member. Assumes nothing.
 use Prim.Native.Nat.{ℕ, _≤_, _<_}
 use mathlib.Core.Path.{_≡_, sym, _∙_}
 use mathlib.Core.Bool.{true}

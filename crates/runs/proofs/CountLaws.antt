@@ -1,5 +1,4 @@
--- How many runs an insertion takes up, and how many there are after it.
--- Assumes nothing.
+-- How many runs an insertion takes up, and how many there are after it. Assumes nothing.
 use Prim.Native.Nat.{ℕ, suc, _+_, _≤_, _<_, min, max}
 use mathlib.Core.Path.{_≡_, refl, ap, ap₂}
 use mathlib.Core.Bool.{Bool, cond, _&&_}

@@ -1,5 +1,4 @@
--- The edge is one more than the highest member, and 0 exactly when there is none.
--- Assumes nothing.
+-- The edge is one more than the highest member, and 0 exactly when there is none. Assumes nothing.
 use Prim.Native.Nat.{ℕ, zero, suc, _-_, _≤_, _<_, max}
 use mathlib.Core.Path.{_≡_, refl}
 use mathlib.Core.List.{List, [], _∷_}

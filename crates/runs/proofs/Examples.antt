@@ -1,5 +1,4 @@
--- The definitions compute: small cases of each, those of the recorded passes (R10.7) among them.
--- Assumes nothing.
+-- The definitions compute: small cases of each, those of the recorded passes (R10.7) among them. Assumes nothing.
 use Prim.Native.Nat.{ℕ, zero, suc, _+_, _*_}
 use mathlib.Core.Path.{_≡_, refl}
 use mathlib.Core.Bool.{true, false}

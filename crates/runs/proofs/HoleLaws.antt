@@ -1,5 +1,4 @@
--- The holes are exactly the offsets below the edge that are no members, in longest stretches, rising and apart.
--- Assumes nothing.
+-- The holes are exactly the offsets below the edge that are no members, in longest stretches, rising and apart. Assumes nothing.
 use Prim.Native.Nat.{ℕ, zero, suc, _≤_, _<_}
 use mathlib.Core.Path.{_≡_, ap, _∙_}
 use mathlib.Core.List.{List, [], _∷_, List·Memᴰ, List·Memᴰ·cases-cons, List·Memᴰ·not-nil}

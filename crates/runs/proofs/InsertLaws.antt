@@ -1,5 +1,4 @@
--- `insert` adds exactly its offsets to the set, keeps the canonical form, and keeps the stops at most L.
--- Assumes nothing.
+-- `insert` adds exactly its offsets to the set, keeps the canonical form, and keeps the stops at most L. Assumes nothing.
 use Prim.Native.Nat.{ℕ, suc, _≤_, _<_, min, max}
 use mathlib.Core.Path.{_≡_, ap, ap₂}
 use mathlib.Core.Bool.{Bool, cond}

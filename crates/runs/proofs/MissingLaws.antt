@@ -1,12 +1,11 @@
--- R5.5: the hole list has a stretch exactly when it is a longest unreceived one below the edge.
--- Assumes nothing.
+-- R5.5: the hole list has a stretch exactly when it is a longest unreceived one below the edge. Assumes nothing.
 use Prim.Native.Nat.{ℕ, zero, suc, _-_, _≤_, _<_}
 use mathlib.Core.Path.{_≡_, refl, sym}
 use mathlib.Core.List.{List, [], _∷_, List·Memᴰ, List·Memᴰ·head, List·Memᴰ·tail, List·Memᴰ·cases-cons, List·Memᴰ·not-nil}
 use mathlib.Core.Logic.{inl, inr, ⊎-elim, _↔_}
 use native.Mathlib.Omega.{arith}
 use lib.ListN.{length, getD}
-use Rattle.runs.specs.Runs.{Run, Member, Canonical}
+use Rattle.runs.specs.Runs.{Run, Canonical}
 use Rattle.runs.specs.Holes.{edge, hole, holes, InHole, HolesApart, LongestMissing}
 use Rattle.runs.specs.declared.Hole.{Hole}
 use Rattle.runs.proofs.CompareLaws.{le-or-lt}

@@ -1,5 +1,4 @@
--- The sum of the runs' lengths is the number of members, and the length of the transfer exactly when it is complete.
--- Assumes nothing.
+-- The sum of the runs' lengths is the number of members, and the length of the transfer exactly when it is complete. Assumes nothing.
 use Prim.Native.Nat.{ℕ, zero, suc, _+_, _-_, _≤_, _<_, min}
 use mathlib.Core.Path.{_≡_, refl, sym, ap, _∙_}
 use mathlib.Core.Bool.{Bool, true, false, cond}

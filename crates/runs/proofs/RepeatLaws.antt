@@ -1,5 +1,4 @@
--- The order of insertions and their repeats leave no trace in a canonical list.
--- Assumes nothing.
+-- The order of insertions and their repeats leave no trace in a canonical list. Assumes nothing.
 use Prim.Native.Nat.{ℕ, _≤_, _<_}
 use mathlib.Core.Path.{_≡_, ap}
 use mathlib.Core.List.{List}

@@ -1,5 +1,4 @@
--- R5.2: the runs of a canonical list are these stretches, and no others.
--- Assumes nothing.
+-- R5.2: the runs of a canonical list are these stretches, and no others. Assumes nothing.
 use Prim.Native.Nat.{ℕ, suc, _-_, _≤_, _<_}
 use mathlib.Core.Path.{_≡_, ap}
 use mathlib.Core.List.{List, [], _∷_, List·Memᴰ, List·Memᴰ·head, List·Memᴰ·tail, List·Memᴰ·cases-cons, List·Memᴰ·not-nil}

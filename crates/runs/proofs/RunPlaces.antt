@@ -1,5 +1,4 @@
--- The runs of a canonical list by their places: they rise. The edge and the progress by the last run and the first.
--- Assumes nothing.
+-- The runs of a canonical list by their places: they rise. The edge and the progress by the last run and the first. Assumes nothing.
 use Prim.Native.Nat.{ℕ, zero, suc, _≤_, _<_}
 use mathlib.Core.Path.{_≡_, refl}
 use mathlib.Core.Bool.{cond}

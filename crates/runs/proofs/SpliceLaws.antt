@@ -1,5 +1,4 @@
--- An insertion is a splice: the runs before, one run, the runs after. How many runs it takes up.
--- Assumes nothing.
+-- An insertion is a splice: the runs before, one run, the runs after. How many runs it takes up. Assumes nothing.
 use Prim.Native.Nat.{ℕ, zero, suc, _+_, _-_, _≤_, _<_, min, max}
 use mathlib.Core.Path.{_≡_, refl, sym, ap, ap₂, _∙_}
 use mathlib.Core.Bool.{Bool, cond}

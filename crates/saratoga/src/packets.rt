@@ -1,11 +1,11 @@
 // Packets: reading any of them, one hole of a STATUS, and writing BEACON, METADATA, DATA and failure STATUS.
 ghost use mathlib.Core.Path.{_≡_};
 ghost use Rattle.packet.specs.Read.{readPacket};
-ghost use Rattle.packet_beacon.specs.WriteBeacon.{beaconWritten, beaconBuffer};
+ghost use Rattle.beacon_writer.specs.WriteBeacon.{beaconWritten, beaconBuffer};
 ghost use Rattle.packet_data.specs.WriteData.{dataWritten, dataBuffer};
 ghost use Rattle.packet_metadata.specs.WriteMetadata.{metadataWritten, metadataBuffer};
 ghost use Rattle.packet_status.specs.Status.{readHole};
-ghost use Rattle.packet_status.specs.WriteFailure.{failureWritten, failureBuffer};
+ghost use Rattle.failure_status.specs.WriteFailure.{failureWritten, failureBuffer};
 ghost use Rattle.answers.specs.Answers.{holeAnswer, writtenAnswer};
 ghost use Rattle.answer_packets.specs.PacketAnswers.{packetAnswer};
 use answer_packets::PacketAnswer;
@@ -50,7 +50,7 @@ pub extern "C" fn saratoga_write_beacon(
     ensures { λ r. ⌜ (r ≡ writtenAnswer (beaconWritten flags free (now (endpoint .entry)) (now (out .entry))))
         × (now (out .exit) ≡ beaconBuffer flags free (now (endpoint .entry)) (now (out .entry))) ⌝ }
 {
-    answer_packets::write_beacon(flags, free, endpoint, out)
+    answer_writers::write_beacon(flags, free, endpoint, out)
 }
 
 #[no_mangle]
@@ -68,7 +68,7 @@ pub extern "C" fn saratoga_write_metadata(
     ensures { λ r. ⌜ (r ≡ writtenAnswer (metadataWritten flags id (now (checksum .entry)) properties size mtime ctime (now (path .entry)) (now (out .entry))))
         × (now (out .exit) ≡ metadataBuffer flags id (now (checksum .entry)) properties size mtime ctime (now (path .entry)) (now (out .entry))) ⌝ }
 {
-    answer_packets::write_metadata(
+    answer_writers::write_metadata(
         flags,
         id,
         checksum,
@@ -93,7 +93,7 @@ pub extern "C" fn saratoga_write_data(
     ensures { λ r. ⌜ (r ≡ writtenAnswer (dataWritten flags id (now (timestamp .entry)) offset (now (payload .entry)) (now (out .entry))))
         × (now (out .exit) ≡ dataBuffer flags id (now (timestamp .entry)) offset (now (payload .entry)) (now (out .entry))) ⌝ }
 {
-    answer_packets::write_data(flags, id, timestamp, offset, payload, out)
+    answer_writers::write_data(flags, id, timestamp, offset, payload, out)
 }
 
 #[no_mangle]
@@ -101,5 +101,5 @@ pub extern "C" fn saratoga_write_failure(id: u64, status: u64, out: &mut [u8]) -
     ensures { λ r. ⌜ (r ≡ writtenAnswer (failureWritten id status (now (out .entry))))
         × (now (out .exit) ≡ failureBuffer id status (now (out .entry))) ⌝ }
 {
-    answer_packets::write_failure(id, status, out)
+    answer_writers::write_failure(id, status, out)
 }

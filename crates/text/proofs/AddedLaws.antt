@@ -1,5 +1,4 @@
--- Texts put one after the other are one text, cut once; and what one octet adds.
--- Assumes nothing.
+-- Texts put one after the other are one text, cut once; and what one octet adds. Assumes nothing.
 use Prim.Native.Nat.{ℕ, zero, suc, _+_, _≤_, _<_}
 use mathlib.Core.Path.{_≡_, refl, ap, sym, _∙_}
 use mathlib.Core.List.{List, [], _∷_, _++_, append-assoc, append-nil}

@@ -1,5 +1,4 @@
--- One digit after the other, from the last to the first.
--- Assumes nothing.
+-- One digit after the other, from the last to the first. Assumes nothing.
 use Prim.Native.Nat.{ℕ, zero, suc, _+_, _-_, _/_, _%_, _<_, _≤_}
 use mathlib.Core.Path.{_≡_, refl, sym, _∙_}
 use mathlib.Core.List.{List, [], _∷_}

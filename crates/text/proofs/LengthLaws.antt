@@ -1,5 +1,4 @@
--- How long a text is at most: texts one after the other, the digits of a number in decimal, and octets in hex.
--- Assumes nothing.
+-- How long a text is at most: texts one after the other, the digits of a number in decimal, and octets in hex. Assumes nothing.
 use Prim.Native.Nat.{ℕ, zero, suc, _+_, _-_, _*_, _/_, _%_, _^_, _<_, _≤_}
 use mathlib.Core.Path.{_≡_, refl}
 use mathlib.Core.Bool.{Bool, true, false, cond}

@@ -1,5 +1,4 @@
--- What a line says reads back: no two numbers have the same digits, and no two lists of octets the same hex.
--- Assumes nothing.
+-- What a line says reads back: no two numbers have the same digits, and no two lists of octets the same hex. Assumes nothing.
 use Prim.Native.Nat.{ℕ, zero, suc, _+_, _-_, _*_, _/_, _%_, _^_, _<_}
 use mathlib.Core.Path.{_≡_, refl, _∙_}
 use mathlib.Core.Bool.{Bool, true, false, cond}

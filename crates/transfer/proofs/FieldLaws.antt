@@ -11,7 +11,7 @@ use Rattle.header.specs.FirstWord.{descriptorOctets}
 use Rattle.header.specs.Start.{wordOf}
 use Rattle.header.proofs.FirstWordLaws.{octets-width}
 use Rattle.header.proofs.DescriptorLaws.{descriptor-lt}
-use Rattle.directory_entry.specs.Properties.{sizeOctets}
+use Rattle.entry_parts.specs.Properties.{sizeOctets}
 use Rattle.directory_entry.specs.Entry.{propertiesOf, entryOf}
 use Rattle.directory_entry.proofs.EntryLaws.{entry-fine}
 use Rattle.packet_metadata.specs.Metadata.{entryAt, metadataRefusal, metadataOf, readMetadata}

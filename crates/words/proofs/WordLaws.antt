@@ -1,5 +1,4 @@
--- Octets of words by a rule: how many, each word of them, and that a buffer is known by its words and what is past them.
--- Assumes nothing.
+-- Octets of words by a rule: how many, each word of them, and that a buffer is known by its words and what is past them. Assumes nothing.
 use Prim.Native.Nat.{ℕ, zero, suc, _+_, _*_, _^_, _≤_, _<_}
 use mathlib.Core.Path.{_≡_, refl, sym, ap, ap₂, _∙_}
 use mathlib.Core.List.{List, _++_, append-assoc}

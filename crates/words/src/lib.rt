@@ -9,7 +9,7 @@ pub fn word(buf: &[u8], k: usize) -> u64
     requires { ⌜ k * 8 + 8 ≤ length (now buf) ⌝ }
     ensures { λ r. ⌜ r ≡ wordAt (now (buf .entry)) k ⌝ }
 {
-    octets::read_low_eight(buf, k * 8)
+    octets_stored::read_low_eight(buf, k * 8)
 }
 
 // Word k becomes v.
@@ -17,7 +17,7 @@ pub fn put_word(buf: &mut [u8], k: usize, v: u64)
     requires { ⌜ k * 8 + 8 ≤ length (now buf) ⌝ }
     ensures { λ _. ⌜ now (buf .exit) ≡ putWord k v (now (buf .entry)) ⌝ }
 {
-    octets::write_low_eight(buf, k * 8, v);
+    octets_stored::write_low_eight(buf, k * 8, v);
 }
 
 // Of the n words from word k on, those from the i-th up to the j-th give way to v. Where it is one word, none moves.
@@ -32,11 +32,11 @@ pub fn splice(buf: &mut [u8], k: usize, n: usize, i: usize, j: usize, v: u64)
     }
     if i == j {
         let from = at * 8;
-        octets::move_up(buf, from, from + 8, (n - i) * 8);
+        octets_stored::move_up(buf, from, from + 8, (n - i) * 8);
         put_word(buf, at, v);
         return;
     }
-    octets::move_down(buf, (k + j) * 8, (at + 1) * 8, (n - j) * 8);
+    octets_stored::move_down(buf, (k + j) * 8, (at + 1) * 8, (n - j) * 8);
     put_word(buf, at, v);
 }
 
@@ -46,8 +46,8 @@ pub fn move_words(buf: &mut [u8], from: usize, to: usize, n: usize)
     ensures { λ _. ⌜ now (buf .exit) ≡ movedWords (now (buf .entry)) from to n ⌝ }
 {
     if from < to {
-        octets::move_up(buf, from * 8, to * 8, n * 8);
+        octets_stored::move_up(buf, from * 8, to * 8, n * 8);
         return;
     }
-    octets::move_down(buf, from * 8, to * 8, n * 8);
+    octets_stored::move_down(buf, from * 8, to * 8, n * 8);
 }

@@ -1,5 +1,5 @@
 /*
- * Measures octets::read_number beside two earlier ones and plain C (readers.h), on the same octets in one run, for
+ * Measures octets_read::read_number beside two earlier ones and plain C (readers.h), on the same octets in one run, for
  * host/bench/descriptors/run. First it compares: all must read the same numbers; otherwise it ends with status 1.
  *
  *     descriptors                 compares and measures: case, reader, nanoseconds a call

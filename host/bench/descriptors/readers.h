@@ -1,6 +1,6 @@
 /*
  * Four readers of a descriptor of 2, 4, 8 or 16 octets: the number that they stand for, or 0 where one of the upper eight octets of 16
- * isn't zero. host/bench/descriptors/run makes the first three from octets::read_number.
+ * isn't zero. host/bench/descriptors/run makes the first three from octets_read::read_number.
  */
 #ifndef READERS_H
 #define READERS_H

@@ -6,7 +6,7 @@ use Rattle.answer_marks.proofs.bitmap_opened_answer.Statement.{statemen
 use Rattle.answer_marks.proofs.bitmap_opened_answer.Tie as tie
 
 returns : tie.Need-returns
-returns c = rw (c .before .one-if .ensures, c .bitmap-of .ensures) (ap bitmapOpenedAnswer (sym (c .before .before .before .a .given .1)))
+returns c = rw (c .before .bit-of .ensures, c .bitmap-of .ensures) (ap bitmapOpenedAnswer (sym (c .before .before .before .a .given .1)))
 
 returns-2 : tie.Need-returns-2
 returns-2 c = rw (c .no-bitmap .ensures) (ap bitmapOpenedAnswer (sym (c .before .before .a2 .given .1)))

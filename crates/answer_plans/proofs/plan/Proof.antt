@@ -68,22 +68,22 @@ use Rattle.plan.proofs.Cursor as K
 use Rattle.plan.proofs.Cursor.Laws as K′
 use Rattle.answer_plans.proofs.PlannedAnswer as R′
 use Rattle.answer_plans.proofs.PlannedAnswer.Laws as R″
-use Rattle.plan.proofs.plan_within as within
-use Rattle.plan.proofs.plan_within.Symbol as within-def
-use Rattle.plan.proofs.plan_within.Symbol.{name as #plan·plan-within}
-use Rattle.plan.proofs.plan_within.Met as within-thm
-use Rattle.plan.proofs.cursor_at as cursor-at
-use Rattle.plan.proofs.cursor_at.Symbol as cursor-at-def
-use Rattle.plan.proofs.cursor_at.Symbol.{name as #plan·cursor-at}
-use Rattle.plan.proofs.cursor_at.Met as cursor-at-thm
-use Rattle.plan.proofs.piece_at as piece-at
-use Rattle.plan.proofs.piece_at.Symbol as piece-at-def
-use Rattle.plan.proofs.piece_at.Symbol.{name as #plan·piece-at}
-use Rattle.plan.proofs.piece_at.Met as piece-at-thm
-use Rattle.plan.proofs.next_cursor as next-cursor
-use Rattle.plan.proofs.next_cursor.Symbol as next-cursor-def
-use Rattle.plan.proofs.next_cursor.Symbol.{name as #plan·next-cursor}
-use Rattle.plan.proofs.next_cursor.Met as next-cursor-thm
+use Rattle.planner.proofs.plan_within as within
+use Rattle.planner.proofs.plan_within.Symbol as within-def
+use Rattle.planner.proofs.plan_within.Symbol.{name as #planner·plan-within}
+use Rattle.planner.proofs.plan_within.Met as within-thm
+use Rattle.planner.proofs.cursor_at as cursor-at
+use Rattle.planner.proofs.cursor_at.Symbol as cursor-at-def
+use Rattle.planner.proofs.cursor_at.Symbol.{name as #planner·cursor-at}
+use Rattle.planner.proofs.cursor_at.Met as cursor-at-thm
+use Rattle.planner.proofs.piece_at as piece-at
+use Rattle.planner.proofs.piece_at.Symbol as piece-at-def
+use Rattle.planner.proofs.piece_at.Symbol.{name as #planner·piece-at}
+use Rattle.planner.proofs.piece_at.Met as piece-at-thm
+use Rattle.planner.proofs.next_cursor as next-cursor
+use Rattle.planner.proofs.next_cursor.Symbol as next-cursor-def
+use Rattle.planner.proofs.next_cursor.Symbol.{name as #planner·next-cursor}
+use Rattle.planner.proofs.next_cursor.Met as next-cursor-thm
 use Rattle.answer_plans.proofs.planned_answer as answer
 use Rattle.answer_plans.proofs.planned_answer.Symbol as answer-def
 use Rattle.answer_plans.proofs.planned_answer.Symbol.{name as #answer-plans·planned-answer}
@@ -280,8 +280,8 @@ module _ {M : Type 1} (𝓤 : URA M) (H : Heap 𝓤) (A : Atoms 𝓤) (W : Given
   Nearer-wf : WellFounded Nearer
   Nearer-wf = InvImage·wf (λ (i : Upto). n - i .0) (Nat·lt-wfRel .wf)
 
-  module _ (𝓣 : Tables 𝓤 H) (fm : FmC 𝓤 H (W .laws) (𝓣 .C)) (known-cursor-at : Triple 𝓤 (𝓣 .C #plan·cursor-at) (CursorAt 𝓤 H A mem run)) (known-piece-at : Triple 𝓤 (𝓣 .C #plan·piece-at) (PieceAt 𝓤 H A mem run))
-      (known-next : Triple 𝓤 (𝓣 .C #plan·next-cursor) (NextCursor 𝓤 H A mem run)) (known-answer : Triple 𝓤 (𝓣 .C #answer-plans·planned-answer) (Answer 𝓤 H A mem run))
+  module _ (𝓣 : Tables 𝓤 H) (fm : FmC 𝓤 H (W .laws) (𝓣 .C)) (known-cursor-at : Triple 𝓤 (𝓣 .C #planner·cursor-at) (CursorAt 𝓤 H A mem run)) (known-piece-at : Triple 𝓤 (𝓣 .C #planner·piece-at) (PieceAt 𝓤 H A mem run))
+      (known-next : Triple 𝓤 (𝓣 .C #planner·next-cursor) (NextCursor 𝓤 H A mem run)) (known-answer : Triple 𝓤 (𝓣 .C #answer-plans·planned-answer) (Answer 𝓤 H A mem run))
       (is-p : Is P.the-row p (P′.lowered p ∷ [])) (l₀ l₁ l₂ l₃ l₄ l₅ l₆ l₇ l₈ l₉ l₁₀ l₁₁ l₁₂ : ℕ) where
     abbrev C : Calls 𝓤 H
     C = 𝓣 .C
@@ -401,8 +401,8 @@ module _ {M : Type 1} (𝓤 : URA M) (H : Heap 𝓤) (A : Atoms 𝓤) (W : Given
         none = cursor-none hs m (cursorAt hs (p .holes) 0)
 
   -- the MIR, up to the plan
-  walk : (𝓣 : Tables 𝓤 H) → FmC 𝓤 H (W .laws) (𝓣 .C) → Triple 𝓤 (𝓣 .C #plan·plan-within) (Within 𝓤 H A mem run) → Triple 𝓤 (𝓣 .C #plan·cursor-at) (CursorAt 𝓤 H A mem run)
-      → Triple 𝓤 (𝓣 .C #plan·piece-at) (PieceAt 𝓤 H A mem run) → Triple 𝓤 (𝓣 .C #plan·next-cursor) (NextCursor 𝓤 H A mem run) → Triple 𝓤 (𝓣 .C #answer-plans·planned-answer) (Answer 𝓤 H A mem run)
+  walk : (𝓣 : Tables 𝓤 H) → FmC 𝓤 H (W .laws) (𝓣 .C) → Triple 𝓤 (𝓣 .C #planner·plan-within) (Within 𝓤 H A mem run) → Triple 𝓤 (𝓣 .C #planner·cursor-at) (CursorAt 𝓤 H A mem run)
+      → Triple 𝓤 (𝓣 .C #planner·piece-at) (PieceAt 𝓤 H A mem run) → Triple 𝓤 (𝓣 .C #planner·next-cursor) (NextCursor 𝓤 H A mem run) → Triple 𝓤 (𝓣 .C #answer-plans·planned-answer) (Answer 𝓤 H A mem run)
       → ent 𝓤 (onEntry 𝓤 H A f.signature (κ, (κ′, tt)) (q, (q′, tt)) a vals) (WpFn 𝓤 H (𝓣 .C) (𝓣 .Λ) code.function (w ∷ vint w64 m ∷ v ∷ []) Post)
   walk 𝓣 fm known-within known-cursor-at known-piece-at known-next known-answer =
       qed W ((‵ (flft κ q) ⊛ ‵ (flft κ′ q′) ⊛ ‵ ftrue) ∷ ‵ (owns (ShrSlice (named 0) κ u8 ∷ u64 ∷ MutSlice (named 1) κ′ R ∷ []) a vals) ∷ []) ∵ enter ! (𝓣 .C) (𝓣 .Λ) code.function (w ∷ vint w64 m ∷ v ∷ []) _ $
@@ -419,8 +419,8 @@ module _ {M : Type 1} (𝓤 : URA M) (H : Heap 𝓤) (A : Atoms 𝓤) (W : Given
       begins 𝓣 fm known-cursor-at known-piece-at known-next known-answer (typed-at P.the-type P′.the-laws is-p typed) l₀ l₁ l₂ l₃ l₄ l₅ l₆ l₇ l₈ l₉ l₁₀ l₁₁ l₁₂))))))))))))))
 
 module _ {M : Type 1} (𝓤 : URA M) (H : Heap 𝓤) (A : Atoms 𝓤) (W : Given 𝓤 H A) (mem : Memory → SProp 𝓤) (run : Routine → Fun 𝓤) (𝓣 : Tables 𝓤 H)
-    (known-within : Triple 𝓤 (𝓣 .C #plan·plan-within) (Within 𝓤 H A mem run)) (known-cursor-at : Triple 𝓤 (𝓣 .C #plan·cursor-at) (CursorAt 𝓤 H A mem run)) (known-piece-at : Triple 𝓤 (𝓣 .C #plan·piece-at) (PieceAt 𝓤 H A mem run))
-    (known-next : Triple 𝓤 (𝓣 .C #plan·next-cursor) (NextCursor 𝓤 H A mem run)) (known-answer : Triple 𝓤 (𝓣 .C #answer-plans·planned-answer) (Answer 𝓤 H A mem run)) where
+    (known-within : Triple 𝓤 (𝓣 .C #planner·plan-within) (Within 𝓤 H A mem run)) (known-cursor-at : Triple 𝓤 (𝓣 .C #planner·cursor-at) (CursorAt 𝓤 H A mem run)) (known-piece-at : Triple 𝓤 (𝓣 .C #planner·piece-at) (PieceAt 𝓤 H A mem run))
+    (known-next : Triple 𝓤 (𝓣 .C #planner·next-cursor) (NextCursor 𝓤 H A mem run)) (known-answer : Triple 𝓤 (𝓣 .C #answer-plans·planned-answer) (Answer 𝓤 H A mem run)) where
   walks : Walks 𝓤 H A f.ended stayed (WpFn 𝓤 H (𝓣 .C) (𝓣 .Λ) code.function) (f.clauses 𝓤 H A mem run)
   walks = walked 𝓤 H A f.ended stayed (f.clauses 𝓤 H A mem run) (WpFn 𝓤 H (𝓣 .C) (𝓣 .Λ) code.function)
       (λ κs. (slice-vals, (uint-vals w64, (slice-vals, tt)))) (λ κs. (shr-slice-tells (named 0) (κs .0) u8, (uint-tells w64, (mut-slice-tells (named 1) (κs .1 .0) R, tt))))
@@ -437,8 +437,8 @@ plan-spec 𝓤 H 𝓜 𝓖 𝓡 =
     entered 𝓤 H (tripleOf 𝓤 H (𝓖 .A) f.signature (f.spec 𝓤 H (𝓖 .A) (𝓜 .mem) (𝓡 .run)))
     (tables 𝓤 H 𝓜 𝓡 code.env .C) (tables 𝓤 H 𝓜 𝓡 code.env .Λ) #answer-plans·plan code.function (code.unfolded 𝓤 H 𝓜 𝓡)
     (meets 𝓤 H (𝓖 .A) (givenOf 𝓤 H 𝓜 𝓖) (𝓜 .mem) (𝓡 .run) (tablesOf 𝓤 H 𝓜 (tables 𝓤 H 𝓜 𝓡 code.env))
-    (cited 𝓤 H (Within 𝓤 H (𝓖 .A) (𝓜 .mem) (𝓡 .run)) 𝓜 𝓡 code.env #plan·plan-within within-def.routine code.calls-plan·plan-within (within-thm.met 𝓤 H 𝓜 𝓖 𝓡))
-    (cited 𝓤 H (CursorAt 𝓤 H (𝓖 .A) (𝓜 .mem) (𝓡 .run)) 𝓜 𝓡 code.env #plan·cursor-at cursor-at-def.routine code.calls-plan·cursor-at (cursor-at-thm.met 𝓤 H 𝓜 𝓖 𝓡))
-    (cited 𝓤 H (PieceAt 𝓤 H (𝓖 .A) (𝓜 .mem) (𝓡 .run)) 𝓜 𝓡 code.env #plan·piece-at piece-at-def.routine code.calls-plan·piece-at (piece-at-thm.met 𝓤 H 𝓜 𝓖 𝓡))
-    (cited 𝓤 H (NextCursor 𝓤 H (𝓖 .A) (𝓜 .mem) (𝓡 .run)) 𝓜 𝓡 code.env #plan·next-cursor next-cursor-def.routine code.calls-plan·next-cursor (next-cursor-thm.met 𝓤 H 𝓜 𝓖 𝓡))
+    (cited 𝓤 H (Within 𝓤 H (𝓖 .A) (𝓜 .mem) (𝓡 .run)) 𝓜 𝓡 code.env #planner·plan-within within-def.routine code.calls-planner·plan-within (within-thm.met 𝓤 H 𝓜 𝓖 𝓡))
+    (cited 𝓤 H (CursorAt 𝓤 H (𝓖 .A) (𝓜 .mem) (𝓡 .run)) 𝓜 𝓡 code.env #planner·cursor-at cursor-at-def.routine code.calls-planner·cursor-at (cursor-at-thm.met 𝓤 H 𝓜 𝓖 𝓡))
+    (cited 𝓤 H (PieceAt 𝓤 H (𝓖 .A) (𝓜 .mem) (𝓡 .run)) 𝓜 𝓡 code.env #planner·piece-at piece-at-def.routine code.calls-planner·piece-at (piece-at-thm.met 𝓤 H 𝓜 𝓖 𝓡))
+    (cited 𝓤 H (NextCursor 𝓤 H (𝓖 .A) (𝓜 .mem) (𝓡 .run)) 𝓜 𝓡 code.env #planner·next-cursor next-cursor-def.routine code.calls-planner·next-cursor (next-cursor-thm.met 𝓤 H 𝓜 𝓖 𝓡))
     (cited 𝓤 H (Answer 𝓤 H (𝓖 .A) (𝓜 .mem) (𝓡 .run)) 𝓜 𝓡 code.env #answer-plans·planned-answer answer-def.routine code.calls-answer-plans·planned-answer (answer-thm.met 𝓤 H 𝓜 𝓖 𝓡)))

@@ -6,7 +6,7 @@ use Rattle.answer_table.proofs.listed_answer.Statement.{statement}
 use Rattle.answer_table.proofs.listed_answer.Tie as tie
 
 returns : tie.Need-returns
-returns c = rw (c .one-if .ensures) (ap listedAnswer (sym (c .before .before .a .given .1)))
+returns c = rw (c .bit-of .ensures) (ap listedAnswer (sym (c .before .before .a .given .1)))
 
 returns-2 : tie.Need-returns-2
 returns-2 c = ap listedAnswer (sym (c .before .a2 .given .1))

@@ -6,10 +6,10 @@ use Rattle.answer_table.proofs.opened_answer.Statement.{statement}
 use Rattle.answer_table.proofs.opened_answer.Tie as tie
 
 returns : tie.Need-returns
-returns c = rw (c .one-if .ensures) (ap openedAnswer (sym (c .before .before .a .given .1)))
+returns c = rw (c .bit-of .ensures) (ap openedAnswer (sym (c .before .before .a .given .1)))
 
 returns-2 : tie.Need-returns-2
-returns-2 c = rw (c .one-if2 .ensures) (ap openedAnswer (sym (c .before .before .a2 .given .1)))
+returns-2 c = rw (c .bit-of2 .ensures) (ap openedAnswer (sym (c .before .before .a2 .given .1)))
 
 returns-3 : tie.Need-returns-3
 returns-3 c = ap openedAnswer (sym (c .before .a3 .given .1))

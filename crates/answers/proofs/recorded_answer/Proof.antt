@@ -6,7 +6,7 @@ use Rattle.answers.proofs.recorded_answer.Statement.{statement}
 use Rattle.answers.proofs.recorded_answer.Tie as tie
 
 returns : tie.Need-returns
-returns c = rw (c .one-if .ensures) (ap recordedAnswer (sym (c .before .before .a .given .1)))
+returns c = rw (c .bit-of .ensures) (ap recordedAnswer (sym (c .before .before .a .given .1)))
 
 returns-2 : tie.Need-returns-2
 returns-2 c = ap recordedAnswer (sym (c .before .a2 .given .1))

@@ -7,7 +7,7 @@ use mathlib.Core.Path.{_≡_, ap, _∙_}
 use mathlib.Core.Bool.{Bool}
 use Rattle.table.specs.declared.Recorded.the-variants.{Accepted, Refused}
 use Rattle.area.specs.Judge.{judged}
-use Rattle.area_record.specs.Decide.{unreadAs}
+use Rattle.area_locate.specs.Locate.{unreadAs}
 use Rattle.area_record.proofs.DecideLaws.{passed, locate-asks, cut-asks, join-asks, steps-refused, steps-taken}
 use Rattle.area_record.proofs.record.Statement.{statement}
 use Rattle.area_record.proofs.record.Tie as tie

@@ -10,10 +10,10 @@ use borrow.Author.Tests.{lt-ltb, le-ltb, not-true, not-false}
 use Rattle.refusals.specs.Refusals.{_▹_, when}
 use Rattle.refusals.proofs.RefusalLaws.{stays}
 use Rattle.header.specs.Descriptor.{descriptorAt, descriptorRefusal}
-use Rattle.directory_entry.specs.Properties.{sizeOctets, pathAt, propertyRefusal}
-use Rattle.directory_entry.specs.Path.{pathRefusal}
+use Rattle.entry_parts.specs.Properties.{sizeOctets, pathAt, propertyRefusal}
+use Rattle.entry_parts.specs.Path.{pathRefusal}
 use Rattle.directory_entry.specs.Entry.{propertiesOf, sizeOf, afterTimes, entryRefusal}
-use Rattle.directory_entry.proofs.PropertyLaws.{size-le, size-width}
+use Rattle.entry_parts.proofs.PropertyLaws.{size-le, size-width}
 use Rattle.directory_entry.proofs.EntryLaws.{rest-part}
 use borrow.Author.Needs.{needs}
 use native.Mathlib.Omega.{arith}

@@ -3,8 +3,8 @@ use mathlib.Core.Path.{_≡_, sym, _∙_}
 use denote.Ref.{now}
 use borrow.Author.Tests.{not-true, not-false}
 use Rattle.refusals.proofs.RefusalLaws.{stays}
-use Rattle.directory_entry.specs.Properties.{propertyRefusal}
-use Rattle.directory_entry.specs.Path.{pathWriteRefusal}
+use Rattle.entry_parts.specs.Properties.{propertyRefusal}
+use Rattle.entry_parts.specs.Path.{pathWriteRefusal}
 use Rattle.directory_entry.specs.WriteEntry.{entryWriteRefusal}
 use borrow.Author.Needs.{needs}
 use native.Mathlib.Omega.{arith}

@@ -1,5 +1,4 @@
--- `header::descriptor` meets its contract: each width by itself; of 16 octets the upper ones are zero.
--- Assumes nothing.
+-- `header::descriptor` meets its contract: each width by itself; of 16 octets the upper ones are zero. Assumes nothing.
 use Prim.Native.Nat.{_+_, _≤_}
 use mathlib.Core.Path.{_≡_, sym, _∙_}
 use denote.Ref.{now}
@@ -20,8 +19,7 @@ sixteen c = width-wide (c .before .before .before .before .pre .0) (λ e. omega 
 
 returns-4 : tie.Need-returns-4
 returns-4 c =
-    let start = c .before .before .before .before .before in
-    let a = start .args in
+    let start = c .before .before .before .before .before in let a = start .args in
     let s = now (a .s) in
     let e : a .d ≡ 16 = sixteen (c .before) in
     let p : descriptorRefusal 16 (a .at) s ≡ 0 = rw e at (start .pre .1) in

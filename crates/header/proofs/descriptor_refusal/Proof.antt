@@ -1,5 +1,4 @@
--- `header::descriptor_refusal` meets its contract: the octets are there or not, and then the upper ones are zero or not.
--- Assumes nothing.
+-- `header::descriptor_refusal` meets its contract: the octets are there or not, and then the upper ones are zero or not. Assumes nothing.
 use Prim.Native.Nat.{_+_}
 use mathlib.Core.Path.{_≡_, sym, ap, _∙_}
 use mathlib.Core.Bool.{true, false}

@@ -1,5 +1,4 @@
--- `header::join` meets its contract: the parts of the word share no bit, so an or of them is their sum.
--- Assumes nothing.
+-- `header::join` meets its contract: the parts of the word share no bit, so an or of them is their sum. Assumes nothing.
 use Prim.Native.Nat.{ℕ, _+_, _*_, _%_, _^_}
 use mathlib.Core.Path.{_≡_, ap, _∙_}
 use lib.Bits.{bitOr, or-shifted}
@@ -9,8 +8,7 @@ use Rattle.header.proofs.join.Tie as tie
 
 returns : tie.Need-returns
 returns c =
-    let t = c .args .ptype in
-    let f = c .args .flags in
+    let t = c .args .ptype in let f = c .args .flags in
     let e : 2 ^ 30 + t * 2 ^ 24 % 2 ^ 64 ≡ (64 + t) * 2 ^ 24 = omega arith in
     ap (λ (n : ℕ). bitOr n f) (or-shifted 1 30 (t * 2 ^ 24 % 2 ^ 64) (omega arith) ∙ e)
     ∙ or-shifted (64 + t) 24 f (omega arith)

@@ -1,5 +1,4 @@
--- `header::octets_of_width` meets its contract: nothing is shifted out.
--- Assumes nothing.
+-- `header::octets_of_width` meets its contract: nothing is shifted out. Assumes nothing.
 use Prim.Native.Nat.{_*_, _^_}
 use native.Mathlib.Nat.{mod-eq-of-lt, pow-le-pow-right}
 use borrow.Author.Needs.{needs}

@@ -1,5 +1,4 @@
--- `header::split` meets its contract: a mask of j ones keeps the remainder by 2 ^ j.
--- Assumes nothing.
+-- `header::split` meets its contract: a mask of j ones keeps the remainder by 2 ^ j. Assumes nothing.
 use Prim.Native.Nat.{_/_, _^_}
 use mathlib.Core.Path.{_∙_}
 use native.Mathlib.Nat.{div-one}

@@ -1,5 +1,4 @@
--- `header::type_refusal` meets its contract: what the start refuses stands, and then the type is tested.
--- Assumes nothing.
+-- `header::type_refusal` meets its contract: what the start refuses stands, and then the type is tested. Assumes nothing.
 use mathlib.Core.Path.{_≡_, sym, _∙_}
 use denote.Ref.{now}
 use borrow.Author.Tests.{eq-eqb, ne-eqb}

@@ -9,8 +9,7 @@ use Rattle.hole_list.proofs.descriptors_refusal.Tie as tie
 
 returns : tie.Need-returns
 returns c =
-    let p = c .before .before in
-    let a = p .args in
+    let p = c .before .before in let a = p .args in
     sym (narrow-none (a .d) (now (a .s)) (a .n) (a .from) (p .pre .1) (width-narrow (p .pre .0) (λ e. omega arith)))
 
 returns-2 : tie.Need-returns-2

@@ -1,5 +1,4 @@
--- `hole_list::each_refusal` meets its contract: what is left always gives the refusal of them all.
--- Assumes nothing.
+-- `hole_list::each_refusal` meets its contract: what is left always gives the refusal of them all. Assumes nothing.
 use Prim.Native.Nat.{_+_, _*_, _-_, _≤_}
 use mathlib.Core.Path.{_≡_, refl, sym, _∙_}
 use denote.Ref.{now}
@@ -35,21 +34,18 @@ first : (c : tie.In-loop Inv-loop μ-loop)
     descriptorsRefusal (a .d) (a .n) (a .from) (now (a .s))
     ≡ descriptorRefusal (a .d) (l .at) (now (a .s)) ▹ descriptorsRefusal (a .d) (l .count - 1) (l .at + a .d) (now (a .s))
 first c =
-    let a = c .before .before .before .args in
-    let l = c .before .loop in
+    let a = c .before .before .before .args in let l = c .before .loop in
     l .inv .1 ∙ descriptors-step (a .d) (now (a .s)) (l .count) (l .at) (omega arith)
 
 returns : tie.Need-returns Inv-loop μ-loop
 returns c =
-    let a = c .before .before .before .before .before .args in
-    let l = c .before .before .before .loop in
+    let a = c .before .before .before .before .before .args in let l = c .before .before .before .loop in
     c .before .descriptor-refusal .ensures
     ∙ sym (first (c .before .before) ∙ stays (descriptorRefusal (a .d) (l .at) (now (a .s))) _ (omega arith))
 
 loop-again : tie.Need-loop-again Inv-loop μ-loop
 loop-again c =
-    let a = c .before .before .before .before .before .args in
-    let l = c .before .before .before .loop in
+    let a = c .before .before .before .before .before .args in let l = c .before .before .before .loop in
     let z : descriptorRefusal (a .d) (l .at) (now (a .s)) ≡ 0 = omega arith in
     (room (c .before .before), first (c .before .before) ∙ rw z)
 

@@ -1,5 +1,4 @@
--- `hole_list::put_hole` meets its contract: the end stands after the start.
--- Assumes nothing.
+-- `hole_list::put_hole` meets its contract: the end stands after the start. Assumes nothing.
 use Prim.Native.Nat.{_+_}
 use denote.Ref.{now}
 use Rattle.octets.specs.Numbers.{beDigits}
@@ -12,8 +11,7 @@ use Rattle.hole_list.proofs.put_hole.Tie as tie
 
 returns : tie.Need-returns
 returns c =
-    let a = c .before .before .before .before .before .before .before .before .before .args in
-    let d = a .width in
+    let a = c .before .before .before .before .before .before .before .before .before .args in let d = a .width in
     rw (c .before .before .write-number2 .ensures, c .before .before .before .before .before .before .write-number .ensures)
     (put-next (a .at) (a .at + d) (beDigits d (a .h .start)) (beDigits d (a .h .end)) (now (a .out))
     (omega (arith, length-digits d (a .h .start))) (omega (arith, length-digits d (a .h .end))))

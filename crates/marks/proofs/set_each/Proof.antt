@@ -17,8 +17,7 @@ abbrev μ-loop : tie.MeasureT-loop
 
 loop-again : tie.Need-loop-again Inv-loop μ-loop
 loop-again c =
-    let s = c .before .before in
-    let l = s .before .before .before .loop in
+    let s = c .before .before in let l = s .before .before .before .loop in
     (s .set-mark .kept .0 ∙ l .inv .0, omega arith, marks-step (l .n) _ (l .marks) _ _ (omega arith) (s .set-mark .ensures) (l .inv .2))
 
 pub set-each-spec : {M : Type 1} → statement M

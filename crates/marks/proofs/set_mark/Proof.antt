@@ -1,5 +1,4 @@
--- `marks::set_mark` meets its contract: the mask sets the bit.
--- Assumes nothing.
+-- `marks::set_mark` meets its contract: the mask sets the bit. Assumes nothing.
 use borrow.Author.Needs.{needs}
 use Rattle.marks.proofs.MarkLaws.{mark-written}
 use Rattle.marks.proofs.set_mark.Statement.{statement}

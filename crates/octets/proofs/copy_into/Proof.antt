@@ -1,5 +1,4 @@
--- `octets::copy_into` meets its contract: before each turn, out is what it was with the first j octets of src pasted in.
--- Assumes nothing.
+-- `octets::copy_into` meets its contract: before each turn, out is what it was with the first j octets of src pasted in. Assumes nothing.
 use Prim.Native.Nat.{_-_, _≤_}
 use mathlib.Core.Path.{_≡_, refl, _∙_}
 use native.Mathlib.Numerals.{add-one}

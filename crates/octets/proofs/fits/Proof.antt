@@ -1,5 +1,4 @@
--- `octets::fits` meets its contract: v has at most d octets where nothing is left above its lowest 8 * d bits.
--- Assumes nothing.
+-- `octets::fits` meets its contract: v has at most d octets where nothing is left above its lowest 8 * d bits. Assumes nothing.
 use borrow.Author.Needs.{needs}
 use borrow.Author.Tests.{lt-ltb}
 use native.Mathlib.Nat.{pow-le-pow-right, lt-of-lt-of-le}

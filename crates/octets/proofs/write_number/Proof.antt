@@ -38,8 +38,7 @@ loop-again c =
 returns : tie.Need-returns Inv-loop μ-loop
 unfolding put
 returns c =
-    let l = c .before .loop in
-    let a = c .before .before .args in
+    let l = c .before .loop in let a = c .before .before .args in
     let z : l .k ≡ 0 = omega arith in
     rw length-digits (write-end (l .out) (now (a .out)) _ (a .at) (l .w) (l .inv .2) (rw z at (l .inv .3)))
 

@@ -1,5 +1,4 @@
--- `packet::read_packet` meets its contract: what the start refuses stands, and then the type picks the reader.
--- Assumes nothing.
+-- `packet::read_packet` meets its contract: what the start refuses stands, and then the type picks the reader. Assumes nothing.
 use Prim.Native.Nat.{ℕ}
 use mathlib.Core.Path.{_≡_, refl, sym, ap, _∙_}
 use denote.Ref.{now}

@@ -1,10 +1,9 @@
--- `packet_beacon::beacon_fields` meets its contract: what a packet that is not refused holds, field by field.
--- Assumes nothing.
+-- `packet_beacon::beacon_fields` meets its contract: what a packet that is not refused holds, field by field. Assumes nothing.
 use mathlib.Core.Path.{_≡_, ap, _∙_}
 use denote.Ref.{now}
 use Rattle.header.specs.FirstWord.{flagsOf, descriptorOctets}
 use Rattle.header.specs.Start.{wordOf}
-use Rattle.packet_beacon.specs.Flags.{bundlesOf, streamsOf, sendingPair, receivingPair, freeOctets, willingnessOf}
+use Rattle.beacon_flags.specs.Flags.{bundlesOf, streamsOf, sendingPair, receivingPair, freeOctets, willingnessOf}
 use Rattle.packet_beacon.specs.Beacon.{endpointAt, beaconOf}
 use Rattle.packet_beacon.proofs.BeaconLaws.{beacon-fine}
 use borrow.Author.Needs.{needs}
@@ -15,8 +14,7 @@ use Rattle.packet_beacon.proofs.beacon_fields.Tie as tie
 sub-t12 : tie.Need-sub-t12
 sub-t12 c =
     let endpoint-place = c .before .before .before .before .before in
-    let word-place = endpoint-place .before .before .before in
-    let start = word-place .before .before in
+    let word-place = endpoint-place .before .before .before in let start = word-place .before .before in
     let s = now (start .args .p) in
     let e : endpoint-place .endpoint-at .result ≡ endpointAt (wordOf s) = endpoint-place .endpoint-at .ensures ∙ ap endpointAt (word-place .word .ensures) in
     omega (arith, beacon-fine s (start .pre) .there)
@@ -24,14 +22,10 @@ sub-t12 c =
 returns : tie.Need-returns
 unfolding beaconOf
 returns c =
-    let free-octets-place = c .before in
-    let receive-place = free-octets-place .before in
-    let send-place = receive-place .before in
-    let largest-place = send-place .before in
-    let endpoint-place = largest-place .before in
-    let flags-place = endpoint-place .before in
-    let head-place = flags-place .before in
-    let word-place = head-place .before in
+    let free-octets-place = c .before in let receive-place = free-octets-place .before in
+    let send-place = receive-place .before in let largest-place = send-place .before in
+    let endpoint-place = largest-place .before in let flags-place = endpoint-place .before in
+    let head-place = flags-place .before in let word-place = head-place .before in
     let start = word-place .before .before in
     let s = now (start .args .p) in
     let w : word-place .word .result ≡ wordOf s = word-place .word .ensures in

@@ -6,7 +6,7 @@ use denote.Ref.{now}
 use Rattle.refusals.proofs.RefusalLaws.{stays}
 use Rattle.header.specs.Start.{wordOf, typeRefusal}
 use Rattle.header.proofs.StartLaws.{type-fine}
-use Rattle.packet_beacon.specs.Flags.{flagsRefusal}
+use Rattle.beacon_flags.specs.Flags.{flagsRefusal}
 use Rattle.packet_beacon.specs.Beacon.{beaconRefusal}
 use borrow.Author.Needs.{needs}
 use native.Mathlib.Omega.{arith}
@@ -20,9 +20,7 @@ returns c = let s = now (c .before .before .before .args .p) in c .before .type-
 returns-2 : tie.Need-returns-2
 unfolding beaconRefusal
 returns-2 c =
-    let free-place = c .before in
-    let flags-place = free-place .before in
-    let word-place = flags-place .before in
+    let free-place = c .before in let flags-place = free-place .before in let word-place = flags-place .before in
     let start = word-place .before .before .before .before in
     let s = now (start .args .p) in
     let z : typeRefusal 0 s ≡ 0 = omega arith in

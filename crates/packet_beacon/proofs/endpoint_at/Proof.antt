@@ -1,5 +1,5 @@
 -- `packet_beacon::endpoint_at` meets its contract. Assumes nothing.
-use Rattle.packet_beacon.proofs.FlagLaws.{free-le}
+use Rattle.beacon_flags.proofs.FlagLaws.{free-le}
 use borrow.Author.Needs.{needs}
 use native.Mathlib.Omega.{arith}
 use Rattle.packet_beacon.proofs.endpoint_at.Statement.{statement}

@@ -4,8 +4,8 @@ use Prim.Native.Nat.{ℕ}
 use denote.Ref.{now}
 use Rattle.header.specs.Start.{wordOf}
 use Rattle.header.specs.Descriptor.{descriptorRefusal}
-use Rattle.packet_beacon.specs.Flags.{freeOctets}
-use Rattle.packet_beacon.proofs.FlagLaws.{free-le, free-width, free-none}
+use Rattle.beacon_flags.specs.Flags.{freeOctets}
+use Rattle.beacon_flags.proofs.FlagLaws.{free-le, free-width, free-none}
 use borrow.Author.Needs.{needs}
 use native.Mathlib.Omega.{arith}
 use Rattle.packet_beacon.proofs.free_refusal.Statement.{statement}

@@ -1,5 +1,4 @@
--- `packet_data::data_fields` meets its contract: what a packet that is not refused holds, field by field.
--- Assumes nothing.
+-- `packet_data::data_fields` meets its contract: what a packet that is not refused holds, field by field. Assumes nothing.
 use mathlib.Core.Path.{_≡_, ap, _∙_}
 use denote.Ref.{now}
 use Rattle.header.specs.FirstWord.{flagsOf, descriptorOctets, timestampOctets, wantedOf, eodOf}
@@ -15,8 +14,7 @@ use Rattle.packet_data.proofs.data_fields.Tie as tie
 descriptor-requires : tie.Need-descriptor-requires
 descriptor-requires c κs =
     let descriptor-octets-place = c .before .before .before .before in
-    let word-place = descriptor-octets-place .before .before in
-    let start = word-place .before .before in
+    let word-place = descriptor-octets-place .before .before in let start = word-place .before .before in
     let s = now (start .args .p) in
     let f = data-fine s (start .pre) in
     let w : word-place .word .result ≡ wordOf s = word-place .word .ensures in
@@ -27,8 +25,7 @@ descriptor-requires c κs =
 sub-t11 : tie.Need-sub-t11
 sub-t11 c =
     let payload-at-place = c .before .before .before .before in
-    let word-place = payload-at-place .before .before .before in
-    let start = word-place .before .before in
+    let word-place = payload-at-place .before .before .before in let start = word-place .before .before in
     let s = now (start .args .p) in
     let e : payload-at-place .payload-at .result ≡ payloadAt (wordOf s) = payload-at-place .payload-at .ensures ∙ ap payloadAt (word-place .word .ensures) in
     omega (arith, data-fine s (start .pre) .more)
@@ -36,12 +33,9 @@ sub-t11 c =
 returns : tie.Need-returns
 unfolding dataOf
 returns c =
-    let timestamp-octets-place = c .before .before in
-    let id-place = timestamp-octets-place .before in
-    let payload-at-place = id-place .before in
-    let descriptor-octets-place = payload-at-place .before in
-    let split-place = descriptor-octets-place .before in
-    let word-place = split-place .before in
+    let timestamp-octets-place = c .before .before in let id-place = timestamp-octets-place .before in
+    let payload-at-place = id-place .before in let descriptor-octets-place = payload-at-place .before in
+    let split-place = descriptor-octets-place .before in let word-place = split-place .before in
     let start = word-place .before .before in
     let s = now (start .args .p) in
     let w : word-place .word .result ≡ wordOf s = word-place .word .ensures in

@@ -1,5 +1,4 @@
--- `packet_data::data_refusal` meets its contract: each refusal stands where those before it are none.
--- Assumes nothing.
+-- `packet_data::data_refusal` meets its contract: each refusal stands where those before it are none. Assumes nothing.
 use mathlib.Core.Path.{_≡_, sym, ap, _∙_}
 use denote.Ref.{now}
 use lib.ListN.{length}
@@ -25,8 +24,7 @@ returns c = let s = now (c .before .before .before .args .p) in c .before .type-
 returns-2 : tie.Need-returns-2
 unfolding dataRefusal
 returns-2 c =
-    let word-place = c .before .before in
-    let start = word-place .before .before .before .before in
+    let word-place = c .before .before in let start = word-place .before .before .before .before in
     let s = now (start .args .p) in
     let z : typeRefusal 3 s ≡ 0 = omega arith in
     let f : c .before .file-refusal .result ≡ fileRefusal (wordOf s) = c .before .file-refusal .ensures ∙ ap fileRefusal (word-place .word .ensures) in
@@ -46,10 +44,8 @@ known : (c : tie.After-descriptor-refusal)
     × (c .descriptor-refusal .result ≡ descriptorRefusal (descriptorOctets w) (offsetAt w) s)
     × (c .before .before .before .payload-at .result ≡ payloadAt w)
 known c =
-    let payload-at-place = c .before .before .before in
-    let file-place = payload-at-place .before .before in
-    let word-place = file-place .before in
-    let start = word-place .before .before .before .before in
+    let payload-at-place = c .before .before .before in let file-place = payload-at-place .before .before in
+    let word-place = file-place .before in let start = word-place .before .before .before .before in
     let s = now (start .args .p) in
     let w = word-place .word .ensures in
     let f : file-place .file-refusal .result ≡ fileRefusal (wordOf s) = file-place .file-refusal .ensures ∙ ap fileRefusal w in (

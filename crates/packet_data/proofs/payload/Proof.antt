@@ -1,5 +1,4 @@
--- `packet_data::payload` meets its contract: what stands from the payload's start on, or an empty part.
--- Assumes nothing.
+-- `packet_data::payload` meets its contract: what stands from the payload's start on, or an empty part. Assumes nothing.
 use mathlib.Core.Path.{_≡_, ap, _∙_}
 use Prim.Native.Nat.{_-_, _≤_}
 use denote.Ref.{now}

@@ -1,5 +1,4 @@
--- `packet_metadata::metadata_fields` meets its contract: the entry is read where the checksum ends.
--- Assumes nothing.
+-- `packet_metadata::metadata_fields` meets its contract: the entry is read where the checksum ends. Assumes nothing.
 use Prim.Native.Nat.{ℕ, _+_, _≤_}
 use mathlib.Core.Path.{_≡_, ap, _∙_}
 use denote.Ref.{now}
@@ -21,8 +20,7 @@ known : (c : tie.After-checksum-octets)
     → let s = now (c .before .before .before .before .before .args .p) in
     (c .before .descriptor-octets .result ≡ descriptorOctets (wordOf s)) × (c .checksum-octets .result ≡ checksumOctets (wordOf s)) × (8 + c .checksum-octets .result ≤ length s)
 known c =
-    let word-place = c .before .before .before in
-    let start = word-place .before .before in
+    let word-place = c .before .before .before in let start = word-place .before .before in
     let w = word-place .word .ensures in
     let k : c .checksum-octets .result ≡ checksumOctets (wordOf (now (start .args .p))) = c .checksum-octets .ensures ∙ ap (λ (x : ℕ). checksumOctets x) w in
     (c .before .descriptor-octets .ensures ∙ ap (λ (x : ℕ). descriptorOctets x) w, k, omega (arith, metadata-fine (now (start .args .p)) (start .pre) .room))
@@ -47,8 +45,7 @@ entry c =
 returns : tie.Need-returns
 unfolding metadataOf
 returns c =
-    let split-place = c .before .before .before .before .before in
-    let word-place = split-place .before in
+    let split-place = c .before .before .before .before .before in let word-place = split-place .before in
     let start = word-place .before .before in
     let k = known (c .before .before .before) in
     let f : split-place .split .result .flags ≡ flagsOf (wordOf (now (start .args .p))) = split-place .split .ensures .flags-is ∙ ap (λ (x : ℕ). flagsOf x) (word-place .word .ensures) in

@@ -1,5 +1,4 @@
--- `packet_status::list_refusal` meets its contract: whole pairs, and the judgement of the hole list.
--- Assumes nothing.
+-- `packet_status::list_refusal` meets its contract: whole pairs, and the judgement of the hole list. Assumes nothing.
 use Prim.Native.Nat.{_+_, _*_, _-_, _/_, _%_, _≤_}
 use mathlib.Core.Bool.{Bool, not, _||_}
 use mathlib.Core.Path.{_≡_, sym, ap, _∙_}
@@ -31,8 +30,7 @@ known : (c : tie.After-timestamp-octets)
     × (holesAt (wordOf s) ≤ length s)
     × Width (c .before .descriptor-octets .result)
 known c =
-    let word-place = c .before .before .before in
-    let start = word-place .before .before in
+    let word-place = c .before .before .before in let start = word-place .before .before in
     let s = now (start .args .p) in
     let e : word-place .word .result ≡ wordOf s = word-place .word .ensures in
     let d : c .before .descriptor-octets .result ≡ descriptorOctets (wordOf s) = c .before .descriptor-octets .ensures ∙ ap descriptorOctets e in
@@ -70,18 +68,15 @@ descriptor-requires-2 c κs =
 judged : (c : tie.After-descriptor2)
     → let t = c .before .before .before .before .before in
     let s = now (t .before .before .before .before .before .args .p) in
-    let h = t .before .before .split .result in
-    let d = t .before .descriptor-octets .result in
+    let h = t .before .before .split .result in let d = t .before .descriptor-octets .result in
     let holes = 8 + t .timestamp-octets .result + 2 * d in
     let n = (length s - holes) / (2 * d) in
-    let from = c .before .descriptor .result in
-    let top = c .descriptor2 .result in
+    let from = c .before .descriptor .result in let top = c .descriptor2 .result in
     listRefusal s
     ≡ when (not (pointsToLast (eqb (h .partial) 1) (eqb (h .wanted) 1) n from top || holesWell (eqb (h .partial) 1) from top (holesOf d n holes s))) 11
 unfolding listRefusal listWell holeList
 judged c =
-    let else-place = c .before .before .before .before in
-    let t = else-place .before in
+    let else-place = c .before .before .before .before in let t = else-place .before in
     let s = now (t .before .before .before .before .before .args .p) in
     let split = t .before .before .split .ensures in
     let k = known t in
@@ -101,8 +96,7 @@ judged c =
 last : (c : tie.After-points-to-last)
     → let t = c .before .before .before .before .before .before in
     let s = now (t .before .before .before .before .before .args .p) in
-    let h = t .before .before .split .result in
-    let d = t .before .descriptor-octets .result in
+    let h = t .before .before .split .result in let d = t .before .descriptor-octets .result in
     let n = (length s - (8 + t .timestamp-octets .result + 2 * d)) / (2 * d) in
     pointsToLast (eqb (h .partial) 1) (eqb (h .wanted) 1) n (c .before .before .descriptor .result) (c .before .descriptor2 .result)
     ≡ c .points-to-last .result

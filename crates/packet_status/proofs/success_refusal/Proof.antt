@@ -1,5 +1,4 @@
--- `packet_status::success_refusal` meets its contract: each refusal stands where those before it are none.
--- Assumes nothing.
+-- `packet_status::success_refusal` meets its contract: each refusal stands where those before it are none. Assumes nothing.
 use Prim.Native.Nat.{_+_, _*_, _-_, _≤_}
 use mathlib.Core.Path.{_≡_, sym, ap, _∙_}
 use native.Mathlib.Nat.{div-mul-le-self}

@@ -1,13 +1,12 @@
--- `plan::judge` meets its contract: the refusal, or the number of holes.
--- Assumes nothing.
-use mathlib.Core.Path.{_≡_, sym, ap, _∙_}
+-- `plan::judge` meets its contract: the refusal, or the number of holes. Assumes nothing.
+use mathlib.Core.Path.{_≡_, sym}
 use denote.Ref.{now}
 use native.Mathlib.Omega.{arith}
 use borrow.Author.Needs.{needs}
 use lib.ListN.{length}
 use Rattle.packet_status.specs.Status.{holeList}
 use Rattle.packet_status.proofs.StatusLaws.{length-list}
-use Rattle.plan.specs.Planning.{resendRefusal, judgedOf}
+use Rattle.plan.specs.Planning.{resendRefusal}
 use Rattle.plan.proofs.JudgeLaws.{judged-refused}
 use Rattle.plan.proofs.ResendLaws.{resend-fine}
 use Rattle.plan.proofs.judge.Statement.{statement}

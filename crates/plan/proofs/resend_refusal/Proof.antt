@@ -1,5 +1,4 @@
--- `plan::resend_refusal` meets its contract: the reader's refusal, or what comes after it.
--- Assumes nothing.
+-- `plan::resend_refusal` meets its contract: the reader's refusal, or what comes after it. Assumes nothing.
 use mathlib.Core.Path.{_≡_, sym, ap, _∙_}
 use mathlib.Core.Bool.{not}
 use denote.Ref.{now}
@@ -30,10 +29,8 @@ read c = omega (arith, c .before .status-refusal .ensures)
 returns-2 : tie.Need-returns-2
 unfolding resendRefusal
 returns-2 c =
-    let payload-place = c .before in
-    let failure-place = payload-place .before in
-    let split-place = failure-place .before in
-    let word-place = split-place .before in
+    let payload-place = c .before in let failure-place = payload-place .before in
+    let split-place = failure-place .before in let word-place = split-place .before in
     let s = now (word-place .before .before .before .before .args .status) in
     let code : split-place .split .result .status ≡ statusOf (wordOf s) = split-place .split .ensures .status-is ∙ ap statusOf (word-place .word .ensures) in
     let f : failure-place .failure-refusal .result ≡ when (not (eqb (statusOf (wordOf s)) 0)) 11 = failure-place .failure-refusal .ensures ∙ rw code in

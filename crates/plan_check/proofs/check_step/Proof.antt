@@ -11,16 +11,14 @@ use Rattle.plan_check.proofs.check_step.Tie as tie
 
 advance-requires : tie.Need-advance-requires
 advance-requires c κs =
-    let start = c .before .before .before .before .before in
-    let k = start .args .k .cursor in
+    let start = c .before .before .before .before .before in let k = start .args .k .cursor in
     let e = sym (c .before .piece-fits .ensures) ∙ c .if2 .taken in
     (start .pre, fits-means (start .args .largest) (k .offset) (k .end) (start .args .p) e .ends)
 
 returns : tie.Need-returns
 unfolding checkStep
 returns c =
-    let start = c .before .before .before .before .before .before in
-    let k = start .args .k in
+    let start = c .before .before .before .before .before .before in let k = start .args .k in
     let f : k .fine ≡ true = c .before .before .before .if1 .taken in
     let e : fits (start .args .largest) (k .cursor .offset) (k .cursor .end) (start .args .p) ≡ true = sym (c .before .before .piece-fits .ensures) ∙ c .before .if2 .taken in
     rw (f, e) (ap {B = Check} (λ (x : Cursor). record { number = k .number; fine = true; cursor = x }) (c .advance .ensures))
@@ -28,8 +26,7 @@ returns c =
 returns-2 : tie.Need-returns-2
 unfolding checkStep
 returns-2 c =
-    let start = c .before .before .before .before .before in
-    let k = start .args .k in
+    let start = c .before .before .before .before .before in let k = start .args .k in
     let f : k .fine ≡ true = c .before .before .if1 .taken in
     let e : fits (start .args .largest) (k .cursor .offset) (k .cursor .end) (start .args .p) ≡ false = sym (c .before .piece-fits .ensures) ∙ c .if2 .left in
     rw (f, e)

@@ -1,6 +1,5 @@
 -- `refusals::first` meets its contract: what is not 0 stands. Assumes nothing.
 use mathlib.Core.Path.{_≡_, sym}
-use Rattle.refusals.specs.Refusals.{_▹_}
 use Rattle.refusals.proofs.RefusalLaws.{stays}
 use native.Mathlib.Omega.{arith}
 use Rattle.refusals.proofs.first.Statement.{statement}

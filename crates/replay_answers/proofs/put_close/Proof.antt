@@ -1,5 +1,4 @@
--- `replay_answers::put_close` meets its contract: a line for each case.
--- Assumes nothing.
+-- `replay_answers::put_close` meets its contract: a line for each case. Assumes nothing.
 use mathlib.Core.Path.{sym, ap}
 use Rattle.text.proofs.AddedLaws.{added-as}
 use Rattle.replay_answers.specs.AnswerLines.{closeText}
@@ -15,20 +14,16 @@ put-refused-requires c κs =
 returns : tie.Need-returns
 unfolding closeText
 returns c =
-    let put-closed-place = c .before .before in
-    let enum-told-place = put-closed-place .before .before in
-    let start = enum-told-place .before .before .before in
-    let a = start .args in
+    let put-closed-place = c .before .before in let enum-told-place = put-closed-place .before .before in
+    let start = enum-told-place .before .before .before in let a = start .args in
     added-as (ap (closeText (a .number) (a .id)) (sym (enum-told-place .enum-told .given .1)))
     (put-closed-place .put-closed .ensures)
 
 returns-2 : tie.Need-returns-2
 unfolding closeText
 returns-2 c =
-    let put-refused-place = c .before .before in
-    let a-place = put-refused-place .before .before .before in
-    let start = a-place .before .before .before in
-    let a = start .args in
+    let put-refused-place = c .before .before in let a-place = put-refused-place .before .before .before in
+    let start = a-place .before .before .before in let a = start .args in
     added-as (ap (closeText (a .number) (a .id)) (sym (a-place .a .given .1)))
     (put-refused-place .put-refused .ensures)
 

@@ -1,5 +1,4 @@
--- `replay_answers::put_fresh` meets its contract: a line for each case.
--- Assumes nothing.
+-- `replay_answers::put_fresh` meets its contract: a line for each case. Assumes nothing.
 use mathlib.Core.Path.{sym, ap}
 use Rattle.text.proofs.AddedLaws.{added-as}
 use Rattle.replay_answers.specs.AnswerLines.{freshText}
@@ -20,20 +19,16 @@ put-refused-requires c κs =
 returns : tie.Need-returns
 unfolding freshText
 returns c =
-    let put-plain-place = c .before .before in
-    let enum-told-place = put-plain-place .before .before .before in
-    let start = enum-told-place .before .before .before in
-    let a = start .args in
+    let put-plain-place = c .before .before in let enum-told-place = put-plain-place .before .before .before in
+    let start = enum-told-place .before .before .before in let a = start .args in
     added-as (ap (freshText (a .number)) (sym (enum-told-place .enum-told .given .1)))
     (put-plain-place .put-plain .ensures)
 
 returns-2 : tie.Need-returns-2
 unfolding freshText
 returns-2 c =
-    let put-refused-place = c .before .before in
-    let a-place = put-refused-place .before .before .before in
-    let start = a-place .before .before .before in
-    let a = start .args in
+    let put-refused-place = c .before .before in let a-place = put-refused-place .before .before .before in
+    let start = a-place .before .before .before in let a = start .args in
     added-as (ap (freshText (a .number)) (sym (a-place .a .given .1)))
     (put-refused-place .put-refused .ensures)
 

@@ -1,5 +1,4 @@
--- `replay_answers::put_open` meets its contract: a line for each case.
--- Assumes nothing.
+-- `replay_answers::put_open` meets its contract: a line for each case. Assumes nothing.
 use mathlib.Core.Path.{sym, ap}
 use Rattle.packet_metadata.specs.declared.MetadataRead.{MetadataRead}
 use Rattle.text.proofs.AddedLaws.{added-as}
@@ -21,20 +20,16 @@ put-refused-requires c κs =
 returns : tie.Need-returns
 unfolding openText
 returns c =
-    let put-opening-place = c .before .before in
-    let m-place = put-opening-place .before .before .before in
-    let start = m-place .before .before .before in
-    let a = start .args in
+    let put-opening-place = c .before .before in let m-place = put-opening-place .before .before .before in
+    let start = m-place .before .before .before in let a = start .args in
     added-as (ap (λ (x : MetadataRead). openText (a .number) x (a .a)) (sym (m-place .m .given .1)))
     (put-opening-place .put-opening .ensures)
 
 returns-2 : tie.Need-returns-2
 unfolding openText
 returns-2 c =
-    let put-refused-place = c .before .before in
-    let m2-place = put-refused-place .before .before .before in
-    let start = m2-place .before .before .before in
-    let a = start .args in
+    let put-refused-place = c .before .before in let m2-place = put-refused-place .before .before .before in
+    let start = m2-place .before .before .before in let a = start .args in
     added-as (ap (λ (x : MetadataRead). openText (a .number) x (a .a)) (sym (m2-place .m2 .given .1)))
     (put-refused-place .put-refused .ensures)
 

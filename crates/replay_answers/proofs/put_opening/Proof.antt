@@ -1,5 +1,4 @@
--- `replay_answers::put_opening` meets its contract: a line for each case.
--- Assumes nothing.
+-- `replay_answers::put_opening` meets its contract: a line for each case. Assumes nothing.
 use mathlib.Core.Path.{sym, ap}
 use Rattle.text.proofs.AddedLaws.{added-as}
 use Rattle.replay_answers.specs.AnswerLines.{openingText}
@@ -25,30 +24,24 @@ put-refused-requires c κs =
 returns : tie.Need-returns
 unfolding openingText
 returns c =
-    let put-opened-place = c .before .before in
-    let a-place = put-opened-place .before .before .before .before in
-    let start = a-place .before .before .before in
-    let a = start .args in
+    let put-opened-place = c .before .before in let a-place = put-opened-place .before .before .before .before in
+    let start = a-place .before .before .before in let a = start .args in
     added-as (ap (openingText (a .number) (a .m)) (sym (a-place .a .given .1)))
     (put-opened-place .put-opened .ensures)
 
 returns-2 : tie.Need-returns-2
 unfolding openingText
 returns-2 c =
-    let put-opened2-place = c .before .before in
-    let a2-place = put-opened2-place .before .before .before .before in
-    let start = a2-place .before .before .before in
-    let a = start .args in
+    let put-opened2-place = c .before .before in let a2-place = put-opened2-place .before .before .before .before in
+    let start = a2-place .before .before .before in let a = start .args in
     added-as (ap (openingText (a .number) (a .m)) (sym (a2-place .a2 .given .1)))
     (put-opened2-place .put-opened2 .ensures)
 
 returns-3 : tie.Need-returns-3
 unfolding openingText
 returns-3 c =
-    let put-refused-place = c .before .before in
-    let a3-place = put-refused-place .before .before .before in
-    let start = a3-place .before .before .before in
-    let a = start .args in
+    let put-refused-place = c .before .before in let a3-place = put-refused-place .before .before .before in
+    let start = a3-place .before .before .before in let a = start .args in
     added-as (ap (openingText (a .number) (a .m)) (sym (a3-place .a3 .given .1)))
     (put-refused-place .put-refused .ensures)
 

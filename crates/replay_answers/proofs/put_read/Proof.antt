@@ -1,5 +1,4 @@
--- `replay_answers::put_read` meets its contract: a line for each case.
--- Assumes nothing.
+-- `replay_answers::put_read` meets its contract: a line for each case. Assumes nothing.
 use mathlib.Core.Path.{sym, ap}
 use denote.Ref.{now}
 use Rattle.text.proofs.AddedLaws.{added-as}
@@ -41,60 +40,48 @@ put-refused-requires c κs =
 returns : tie.Need-returns
 unfolding readText
 returns c =
-    let put-beacon-place = c .before .before in
-    let a-place = put-beacon-place .before .before .before in
-    let start = a-place .before .before .before .before in
-    let a = start .args in
+    let put-beacon-place = c .before .before in let a-place = put-beacon-place .before .before .before in
+    let start = a-place .before .before .before .before in let a = start .args in
     added-as (ap (readText (a .number) (now (a .p))) (sym (a-place .a .given .1)))
     (put-beacon-place .put-beacon .ensures)
 
 returns-2 : tie.Need-returns-2
 unfolding readText
 returns-2 c =
-    let put-metadata-place = c .before .before in
-    let a2-place = put-metadata-place .before .before .before in
-    let start = a2-place .before .before .before .before in
-    let a = start .args in
+    let put-metadata-place = c .before .before in let a2-place = put-metadata-place .before .before .before in
+    let start = a2-place .before .before .before .before in let a = start .args in
     added-as (ap (readText (a .number) (now (a .p))) (sym (a2-place .a2 .given .1)))
     (put-metadata-place .put-metadata .ensures)
 
 returns-3 : tie.Need-returns-3
 unfolding readText
 returns-3 c =
-    let put-data-place = c .before .before in
-    let a3-place = put-data-place .before .before .before in
-    let start = a3-place .before .before .before .before in
-    let a = start .args in
+    let put-data-place = c .before .before in let a3-place = put-data-place .before .before .before in
+    let start = a3-place .before .before .before .before in let a = start .args in
     added-as (ap (readText (a .number) (now (a .p))) (sym (a3-place .a3 .given .1)))
     (put-data-place .put-data .ensures)
 
 returns-4 : tie.Need-returns-4
 unfolding readText
 returns-4 c =
-    let put-success-place = c .before .before in
-    let a4-place = put-success-place .before .before .before in
-    let start = a4-place .before .before .before .before in
-    let a = start .args in
+    let put-success-place = c .before .before in let a4-place = put-success-place .before .before .before in
+    let start = a4-place .before .before .before .before in let a = start .args in
     added-as (ap (readText (a .number) (now (a .p))) (sym (a4-place .a4 .given .1)))
     (put-success-place .put-success .ensures)
 
 returns-5 : tie.Need-returns-5
 unfolding readText
 returns-5 c =
-    let put-failure-place = c .before .before in
-    let a5-place = put-failure-place .before .before .before in
-    let start = a5-place .before .before .before .before in
-    let a = start .args in
+    let put-failure-place = c .before .before in let a5-place = put-failure-place .before .before .before in
+    let start = a5-place .before .before .before .before in let a = start .args in
     added-as (ap (readText (a .number) (now (a .p))) (sym (a5-place .a5 .given .1)))
     (put-failure-place .put-failure .ensures)
 
 returns-6 : tie.Need-returns-6
 unfolding readText
 returns-6 c =
-    let put-refused-place = c .before .before in
-    let a6-place = put-refused-place .before .before .before in
-    let start = a6-place .before .before .before .before in
-    let a = start .args in
+    let put-refused-place = c .before .before in let a6-place = put-refused-place .before .before .before in
+    let start = a6-place .before .before .before .before in let a = start .args in
     added-as (ap (readText (a .number) (now (a .p))) (sym (a6-place .a6 .given .1)))
     (put-refused-place .put-refused .ensures)
 

@@ -1,5 +1,4 @@
--- `replay_answers::put_record` meets its contract: a line for each case.
--- Assumes nothing.
+-- `replay_answers::put_record` meets its contract: a line for each case. Assumes nothing.
 use mathlib.Core.Path.{sym, ap}
 use Rattle.packet_data.specs.declared.DataRead.{DataRead}
 use Rattle.text.proofs.AddedLaws.{added-as}
@@ -21,20 +20,16 @@ put-refused-requires c κs =
 returns : tie.Need-returns
 unfolding recordText
 returns c =
-    let put-recording-place = c .before .before in
-    let d-place = put-recording-place .before .before .before in
-    let start = d-place .before .before .before in
-    let a = start .args in
+    let put-recording-place = c .before .before in let d-place = put-recording-place .before .before .before in
+    let start = d-place .before .before .before in let a = start .args in
     added-as (ap (λ (x : DataRead). recordText (a .number) x (a .a)) (sym (d-place .d .given .1)))
     (put-recording-place .put-recording .ensures)
 
 returns-2 : tie.Need-returns-2
 unfolding recordText
 returns-2 c =
-    let put-refused-place = c .before .before in
-    let d2-place = put-refused-place .before .before .before in
-    let start = d2-place .before .before .before in
-    let a = start .args in
+    let put-refused-place = c .before .before in let d2-place = put-refused-place .before .before .before in
+    let start = d2-place .before .before .before in let a = start .args in
     added-as (ap (λ (x : DataRead). recordText (a .number) x (a .a)) (sym (d2-place .d2 .given .1)))
     (put-refused-place .put-refused .ensures)
 

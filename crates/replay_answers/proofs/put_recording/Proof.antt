@@ -1,5 +1,4 @@
--- `replay_answers::put_recording` meets its contract: a line for each case.
--- Assumes nothing.
+-- `replay_answers::put_recording` meets its contract: a line for each case. Assumes nothing.
 use mathlib.Core.Path.{sym, ap}
 use Rattle.text.proofs.AddedLaws.{added-as}
 use Rattle.replay_answers.specs.AnswerLines.{recordingText}
@@ -20,20 +19,16 @@ put-refused-requires c κs =
 returns : tie.Need-returns
 unfolding recordingText
 returns c =
-    let put-recorded-place = c .before .before in
-    let a-place = put-recorded-place .before .before .before in
-    let start = a-place .before .before .before in
-    let a = start .args in
+    let put-recorded-place = c .before .before in let a-place = put-recorded-place .before .before .before in
+    let start = a-place .before .before .before in let a = start .args in
     added-as (ap (recordingText (a .number) (a .d)) (sym (a-place .a .given .1)))
     (put-recorded-place .put-recorded .ensures)
 
 returns-2 : tie.Need-returns-2
 unfolding recordingText
 returns-2 c =
-    let put-refused-place = c .before .before in
-    let a2-place = put-refused-place .before .before .before in
-    let start = a2-place .before .before .before in
-    let a = start .args in
+    let put-refused-place = c .before .before in let a2-place = put-refused-place .before .before .before in
+    let start = a2-place .before .before .before in let a = start .args in
     added-as (ap (recordingText (a .number) (a .d)) (sym (a2-place .a2 .given .1)))
     (put-refused-place .put-refused .ensures)
 

@@ -1,5 +1,4 @@
--- `replay_answers::put_sent` meets its contract: a line for each case.
--- Assumes nothing.
+-- `replay_answers::put_sent` meets its contract: a line for each case. Assumes nothing.
 use mathlib.Core.Path.{sym, ap}
 use denote.Ref.{now}
 use Rattle.refusals.specs.declared.Written.{Written}
@@ -14,10 +13,8 @@ use Rattle.replay_answers.proofs.put_sent.Tie as tie
 returns : tie.Need-returns
 unfolding sentText
 returns c =
-    let put-packet-place = c .before .before in
-    let part-place = put-packet-place .before in
-    let w-place = part-place .before .before .before .before in
-    let start = w-place .before .before .before .before in
+    let put-packet-place = c .before .before in let part-place = put-packet-place .before in
+    let w-place = part-place .before .before .before .before in let start = w-place .before .before .before .before in
     let a = start .args in
     added-as (ap (λ (x : Written). sentText (a .number) x (now (a .lent))) (sym (w-place .w .given .1)))
     (added-as (ap (octetsLine (a .number) w-send) (part-place .part .ensures)) (put-packet-place .put-packet .ensures))

@@ -1,5 +1,4 @@
--- `replay_answers::put_written` meets its contract: a line for each case.
--- Assumes nothing.
+-- `replay_answers::put_written` meets its contract: a line for each case. Assumes nothing.
 use mathlib.Core.Path.{sym, ap}
 use denote.Ref.{now}
 use Rattle.refusals.specs.declared.Written.{Written}
@@ -19,10 +18,8 @@ put-refused-requires c κs =
 returns : tie.Need-returns
 unfolding statusText
 returns c =
-    let put-packet-place = c .before .before in
-    let part-place = put-packet-place .before in
-    let w-place = part-place .before .before .before .before in
-    let start = w-place .before .before .before .before in
+    let put-packet-place = c .before .before in let part-place = put-packet-place .before in
+    let w-place = part-place .before .before .before .before in let start = w-place .before .before .before .before in
     let a = start .args in
     added-as (ap (λ (x : Written). statusText (a .number) x (now (a .lent))) (sym (w-place .w .given .1)))
     (added-as (ap (octetsLine (a .number) w-written) (part-place .part .ensures)) (put-packet-place .put-packet .ensures))
@@ -30,10 +27,8 @@ returns c =
 returns-2 : tie.Need-returns-2
 unfolding statusText
 returns-2 c =
-    let put-refused-place = c .before .before in
-    let w2-place = put-refused-place .before .before .before in
-    let start = w2-place .before .before .before .before in
-    let a = start .args in
+    let put-refused-place = c .before .before in let w2-place = put-refused-place .before .before .before in
+    let start = w2-place .before .before .before .before in let a = start .args in
     added-as (ap (λ (x : Written). statusText (a .number) x (now (a .lent))) (sym (w2-place .w2 .given .1)))
     (put-refused-place .put-refused .ensures)
 

@@ -1,5 +1,4 @@
--- `replay_beacon::put_beacon` meets its contract: one part after the other.
--- Assumes nothing.
+-- `replay_beacon::put_beacon` meets its contract: one part after the other. Assumes nothing.
 use mathlib.Core.Path.{ap}
 use Rattle.text.proofs.AddedLaws.{_then_, added-as}
 use Rattle.replay_fields.specs.Fields.{octetsField}
@@ -12,8 +11,7 @@ use Rattle.replay_beacon.proofs.put_beacon.Tie as tie
 returns : tie.Need-returns
 unfolding beaconLine
 returns c =
-    let push-place = c .before .before in
-    let put-octets-place = push-place .before .before .before .before in
+    let push-place = c .before .before in let put-octets-place = push-place .before .before .before .before in
     let part-place = put-octets-place .before in
     let put-free-place = part-place .before .before .before .before .before in
     let put-states-place = put-free-place .before .before .before .before in

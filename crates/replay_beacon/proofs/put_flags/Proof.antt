@@ -1,5 +1,4 @@
--- `replay_beacon::put_flags` meets its contract: one part after the other.
--- Assumes nothing.
+-- `replay_beacon::put_flags` meets its contract: one part after the other. Assumes nothing.
 use mathlib.Core.Path.{ap}
 use Rattle.text.proofs.AddedLaws.{_then_, added-as}
 use Rattle.replay_fields.specs.Fields.{field}

@@ -1,5 +1,4 @@
--- `replay_beacon::put_states` meets its contract: one part after the other.
--- Assumes nothing.
+-- `replay_beacon::put_states` meets its contract: one part after the other. Assumes nothing.
 use Rattle.text.proofs.AddedLaws.{_then_}
 use borrow.Author.Needs.{needs}
 use Rattle.replay_beacon.proofs.put_states.Statement.{statement}

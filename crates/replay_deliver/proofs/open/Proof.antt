@@ -1,5 +1,4 @@
--- `replay_deliver::open` meets its contract: what opening answers and leaves.
--- Assumes nothing.
+-- `replay_deliver::open` meets its contract: what opening answers and leaves. Assumes nothing.
 use mathlib.Core.Path.{ap}
 use denote.Ref.{now}
 use borrow.Author.Needs.{needs}
@@ -13,8 +12,7 @@ returns : tie.Need-returns
 returns c =
     let put-opened-place = c .before .before .before .before in
     let open-place = put-opened-place .before .before .before .before .before in
-    let start = open-place .before .before .before .before .before .before in
-    let a = start .args in
+    let start = open-place .before .before .before .before .before .before in let a = start .args in
     let o = open-place .«open» .ensures in
     (added-as (ap (λ (x : Opened). openedLines (a .number) (now (a .p)) (a .m) x (now (a .lent))) (o .0)) (put-opened-place .put-opened .ensures), o .1)
 

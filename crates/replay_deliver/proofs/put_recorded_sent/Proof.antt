@@ -1,5 +1,4 @@
--- `replay_deliver::put_recorded_sent` meets its contract: by the two cases of the answer.
--- Assumes nothing.
+-- `replay_deliver::put_recorded_sent` meets its contract: by the two cases of the answer. Assumes nothing.
 use mathlib.Core.Path.{sym, ap}
 use denote.Ref.{now}
 use borrow.Author.Needs.{needs}
@@ -14,8 +13,7 @@ unfolding recordedSent
 returns c =
     let put-wanted-sent-place = c .before .before .before .before in
     let enum-told-place = put-wanted-sent-place .before .before .before in
-    let start = enum-told-place .before .before .before .before .before .before in
-    let a = start .args in
+    let start = enum-told-place .before .before .before .before .before .before in let a = start .args in
     added-as (ap (λ (x : Recorded). recordedSent (a .number) (now (a .p)) (a .d) x (now (a .area)) (now (a .lent))) (sym (enum-told-place .enum-told .given .1))) (put-wanted-sent-place .put-wanted-sent .ensures)
 
 returns-2 : tie.Need-returns-2
@@ -23,8 +21,7 @@ unfolding recordedSent
 returns-2 c =
     let put-failure-sent-place = c .before .before .before .before in
     let a-place = put-failure-sent-place .before .before .before .before in
-    let start = a-place .before .before .before .before .before .before in
-    let a = start .args in
+    let start = a-place .before .before .before .before .before .before in let a = start .args in
     added-as (ap (λ (x : Recorded). recordedSent (a .number) (now (a .p)) (a .d) x (now (a .area)) (now (a .lent))) (sym (a-place .a .given .1))) (put-failure-sent-place .put-failure-sent .ensures)
 
 pub put-recorded-sent-spec : {M : Type 1} → statement M

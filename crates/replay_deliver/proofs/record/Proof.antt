@@ -1,5 +1,4 @@
--- `replay_deliver::record` meets its contract: what recording answers and leaves.
--- Assumes nothing.
+-- `replay_deliver::record` meets its contract: what recording answers and leaves. Assumes nothing.
 use mathlib.Core.Path.{ap₂}
 use mathlib.Core.List.{List}
 use Prim.Native.Nat.{ℕ}
@@ -15,8 +14,7 @@ returns : tie.Need-returns
 returns c =
     let put-recorded-place = c .before .before .before .before in
     let record-place = put-recorded-place .before .before .before .before .before .before in
-    let start = record-place .before .before .before .before .before .before in
-    let a = start .args in
+    let start = record-place .before .before .before .before .before .before in let a = start .args in
     let o = record-place .«record» .ensures in
     (added-as (ap₂ (λ (x : Recorded) (l : List ℕ). recordedLines (a .number) (now (a .p)) (a .d) x l (now (a .lent))) (o .0) (o .1)) (put-recorded-place .put-recorded .ensures), o .1)
 

@@ -1,5 +1,4 @@
--- `replay_fields::bits_of` meets its contract.
--- Assumes nothing.
+-- `replay_fields::bits_of` meets its contract. Assumes nothing.
 use borrow.Author.Tests.{eq-eqb, ne-eqb}
 use Rattle.replay_fields.proofs.bits_of.Statement.{statement}
 use Rattle.replay_fields.proofs.bits_of.Tie as tie

@@ -1,5 +1,4 @@
--- `replay_fields::part` meets its contract.
--- Assumes nothing.
+-- `replay_fields::part` meets its contract. Assumes nothing.
 use Prim.Native.Nat.{_+_, _-_}
 use mathlib.Core.Path.{_≡_, sym, ap, _∙_}
 use mathlib.Core.List.{[]}

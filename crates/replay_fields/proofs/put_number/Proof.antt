@@ -1,5 +1,4 @@
--- `replay_fields::put_number` meets its contract: one part after the other.
--- Assumes nothing.
+-- `replay_fields::put_number` meets its contract: one part after the other. Assumes nothing.
 use borrow.Author.Needs.{needs}
 use Rattle.text.proofs.AddedLaws.{_then_}
 use Rattle.replay_fields.proofs.put_number.Statement.{statement}
@@ -7,8 +6,7 @@ use Rattle.replay_fields.proofs.put_number.Tie as tie
 
 returns : tie.Need-returns
 returns c =
-    let put-number-place = c .before .before in
-    let put-text-place = put-number-place .before .before .before .before in
+    let put-number-place = c .before .before in let put-text-place = put-number-place .before .before .before .before in
     put-text-place .put-text .ensures
     then put-number-place .put-number .ensures
 

@@ -1,5 +1,4 @@
--- `replay_fields::put_octets` meets its contract: one part after the other.
--- Assumes nothing.
+-- `replay_fields::put_octets` meets its contract: one part after the other. Assumes nothing.
 use borrow.Author.Needs.{needs}
 use Rattle.text.proofs.AddedLaws.{_then_}
 use Rattle.replay_fields.proofs.put_octets.Statement.{statement}
@@ -7,8 +6,7 @@ use Rattle.replay_fields.proofs.put_octets.Tie as tie
 
 returns : tie.Need-returns
 returns c =
-    let put-hex-place = c .before .before in
-    let put-text-place = put-hex-place .before .before .before .before in
+    let put-hex-place = c .before .before in let put-text-place = put-hex-place .before .before .before .before in
     put-text-place .put-text .ensures
     then put-hex-place .put-hex .ensures
 

@@ -1,5 +1,4 @@
--- `replay_fields::put_pair` meets its contract: one part after the other.
--- Assumes nothing.
+-- `replay_fields::put_pair` meets its contract: one part after the other. Assumes nothing.
 use borrow.Author.Needs.{needs}
 use Rattle.text.proofs.AddedLaws.{_then_}
 use Rattle.replay_fields.proofs.put_pair.Statement.{statement}

@@ -1,5 +1,4 @@
--- `replay_fields::put_reached` meets its contract: one part after the other.
--- Assumes nothing.
+-- `replay_fields::put_reached` meets its contract: one part after the other. Assumes nothing.
 use borrow.Author.Needs.{needs}
 use mathlib.Core.Path.{ap}
 use Rattle.text.proofs.AddedLaws.{_then_, added-as}
@@ -15,8 +14,7 @@ put-field-requires-2 c κs =
 
 returns : tie.Need-returns
 returns c =
-    let put-field2-place = c .before .before in
-    let flag-of-place = put-field2-place .before in
+    let put-field2-place = c .before .before in let flag-of-place = put-field2-place .before in
     let put-field-place = flag-of-place .before .before .before .before .before in
     put-field-place .put-field .ensures
     then added-as (ap (field w-complete) (flag-of-place .flag-of .ensures)) (put-field2-place .put-field2 .ensures)

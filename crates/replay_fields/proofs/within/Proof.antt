@@ -1,5 +1,4 @@
--- `replay_fields::within` meets its contract.
--- Assumes nothing.
+-- `replay_fields::within` meets its contract. Assumes nothing.
 use native.Mathlib.Omega.{arith}
 use Rattle.replay_fields.proofs.within.Statement.{statement}
 use Rattle.replay_fields.proofs.within.Tie as tie

@@ -1,5 +1,4 @@
--- `replay_input::body_length` meets its contract: the number that the four octets stand for.
--- Assumes nothing.
+-- `replay_input::body_length` meets its contract: the number that the four octets stand for. Assumes nothing.
 use native.Mathlib.Omega.{arith}
 use denote.Ref.{now}
 use lib.ListN.{length}

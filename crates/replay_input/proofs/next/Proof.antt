@@ -1,5 +1,4 @@
--- `replay_input::next` meets its contract: the part of the body that is read lies within its buffer.
--- Assumes nothing.
+-- `replay_input::next` meets its contract: the part of the body that is read lies within its buffer. Assumes nothing.
 use mathlib.Core.Path.{sym}
 use native.Mathlib.Omega.{arith}
 use denote.Ref.{now}

@@ -1,5 +1,4 @@
--- `replay_input::skip` is safe and ends: what is left to pass over falls with each turn.
--- Assumes nothing.
+-- `replay_input::skip` is safe and ends: what is left to pass over falls with each turn. Assumes nothing.
 use native.Mathlib.Omega.{arith}
 use Rattle.replay_input.proofs.skip.Statement.{statement}
 use Rattle.replay_input.proofs.skip.Tie as tie

@@ -1,5 +1,4 @@
--- `replay_input::skip_some` is safe.
--- Assumes nothing.
+-- `replay_input::skip_some` is safe. Assumes nothing.
 use mathlib.Core.Path.{sym}
 use native.Mathlib.Omega.{arith}
 use lib.Seq.{length-take-le}

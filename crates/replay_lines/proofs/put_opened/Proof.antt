@@ -1,5 +1,4 @@
--- `replay_lines::put_opened` meets its contract: one part after the other.
--- Assumes nothing.
+-- `replay_lines::put_opened` meets its contract: one part after the other. Assumes nothing.
 use borrow.Author.Needs.{needs}
 use mathlib.Core.Path.{ap}
 use Rattle.text.proofs.AddedLaws.{_then_, added-as}
@@ -17,8 +16,7 @@ put-field-requires-2 c κs =
 returns : tie.Need-returns
 unfolding openedLine
 returns c =
-    let put-text-place = c .before .before in
-    let put-reached-place = put-text-place .before .before .before .before in
+    let put-text-place = c .before .before in let put-reached-place = put-text-place .before .before .before .before in
     let put-field3-place = put-reached-place .before .before .before .before in
     let put-field2-place = put-field3-place .before .before .before .before .before in
     let bits-of-place = put-field2-place .before in

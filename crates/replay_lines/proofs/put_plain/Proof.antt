@@ -1,5 +1,4 @@
--- `replay_lines::put_plain` meets its contract: one part after the other.
--- Assumes nothing.
+-- `replay_lines::put_plain` meets its contract: one part after the other. Assumes nothing.
 use borrow.Author.Needs.{needs}
 use Rattle.text.proofs.AddedLaws.{_then_}
 use Rattle.replay_lines.specs.Lines.{plainLine}
@@ -9,8 +8,7 @@ use Rattle.replay_lines.proofs.put_plain.Tie as tie
 returns : tie.Need-returns
 unfolding plainLine
 returns c =
-    let put-text-place = c .before .before in
-    let put-decimal-place = put-text-place .before .before .before .before in
+    let put-text-place = c .before .before in let put-decimal-place = put-text-place .before .before .before .before in
     put-decimal-place .put-decimal .ensures
     then put-text-place .put-text .ensures
 

@@ -1,5 +1,4 @@
--- `replay_lines::put_refused` meets its contract: one part after the other.
--- Assumes nothing.
+-- `replay_lines::put_refused` meets its contract: one part after the other. Assumes nothing.
 use borrow.Author.Needs.{needs}
 use Rattle.text.proofs.AddedLaws.{_then_}
 use Rattle.replay_lines.specs.Lines.{refusedLine}
@@ -9,8 +8,7 @@ use Rattle.replay_lines.proofs.put_refused.Tie as tie
 returns : tie.Need-returns
 unfolding refusedLine
 returns c =
-    let push-place = c .before .before in
-    let put-field2-place = push-place .before .before .before .before in
+    let push-place = c .before .before in let put-field2-place = push-place .before .before .before .before in
     let put-field-place = put-field2-place .before .before .before .before .before in
     let put-decimal-place = put-field-place .before .before .before .before .before in
     put-decimal-place .put-decimal .ensures

@@ -1,5 +1,4 @@
--- `replay_packets::put_data` meets its contract: one part after the other.
--- Assumes nothing.
+-- `replay_packets::put_data` meets its contract: one part after the other. Assumes nothing.
 use mathlib.Core.Path.{ap}
 use Prim.Native.Nat.{ℕ}
 use mathlib.Core.List.{List}
@@ -15,8 +14,7 @@ use Rattle.replay_packets.proofs.put_data.Tie as tie
 returns : tie.Need-returns
 unfolding dataLine
 returns c =
-    let push-place = c .before .before in
-    let put-field2-place = push-place .before .before .before .before in
+    let push-place = c .before .before in let put-field2-place = push-place .before .before .before .before in
     let put-field-place = put-field2-place .before .before .before .before .before in
     let put-octets-place = put-field-place .before .before .before .before .before in
     let part-place = put-octets-place .before in

@@ -1,5 +1,4 @@
--- `replay_packets::put_entry` meets its contract: one part after the other.
--- Assumes nothing.
+-- `replay_packets::put_entry` meets its contract: one part after the other. Assumes nothing.
 use mathlib.Core.Path.{ap}
 use borrow.Author.Needs.{needs}
 use Rattle.text.proofs.AddedLaws.{_then_, added-as}
@@ -10,8 +9,7 @@ use Rattle.replay_packets.proofs.put_entry.Tie as tie
 
 returns : tie.Need-returns
 returns c =
-    let put-octets-place = c .before .before in
-    let part-place = put-octets-place .before in
+    let put-octets-place = c .before .before in let part-place = put-octets-place .before in
     let put-field3-place = part-place .before .before .before .before .before in
     let put-field2-place = put-field3-place .before .before .before .before .before in
     let put-field-place = put-field2-place .before .before .before .before .before in

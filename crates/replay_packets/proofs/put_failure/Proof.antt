@@ -1,5 +1,4 @@
--- `replay_packets::put_failure` meets its contract: one part after the other.
--- Assumes nothing.
+-- `replay_packets::put_failure` meets its contract: one part after the other. Assumes nothing.
 use borrow.Author.Needs.{needs}
 use Rattle.text.proofs.AddedLaws.{_then_}
 use Rattle.replay_packets.specs.PacketLines.{failureLine}
@@ -9,8 +8,7 @@ use Rattle.replay_packets.proofs.put_failure.Tie as tie
 returns : tie.Need-returns
 unfolding failureLine
 returns c =
-    let push-place = c .before .before in
-    let put-number-place = push-place .before .before .before .before in
+    let push-place = c .before .before in let put-number-place = push-place .before .before .before .before in
     let put-field2-place = put-number-place .before .before .before .before .before in
     let put-field-place = put-field2-place .before .before .before .before .before in
     let put-decimal-place = put-field-place .before .before .before .before .before in

@@ -1,5 +1,4 @@
--- `replay_packets::put_head` meets its contract: one part after the other.
--- Assumes nothing.
+-- `replay_packets::put_head` meets its contract: one part after the other. Assumes nothing.
 use mathlib.Core.Path.{ap}
 use borrow.Author.Needs.{needs}
 use Rattle.text.proofs.AddedLaws.{_then_, added-as}
@@ -10,8 +9,7 @@ use Rattle.replay_packets.proofs.put_head.Tie as tie
 
 returns : tie.Need-returns
 returns c =
-    let put-field2-place = c .before .before in
-    let bits-of-place = put-field2-place .before in
+    let put-field2-place = c .before .before in let bits-of-place = put-field2-place .before in
     let put-number-place = bits-of-place .before .before .before .before .before in
     let put-field-place = put-number-place .before .before .before .before .before in
     let put-decimal-place = put-field-place .before .before .before .before in

@@ -1,5 +1,4 @@
--- `replay_packets::put_metadata` meets its contract: one part after the other.
--- Assumes nothing.
+-- `replay_packets::put_metadata` meets its contract: one part after the other. Assumes nothing.
 use mathlib.Core.Path.{ap}
 use borrow.Author.Needs.{needs}
 use Rattle.text.proofs.AddedLaws.{_then_, added-as}
@@ -12,8 +11,7 @@ use Rattle.replay_packets.proofs.put_metadata.Tie as tie
 returns : tie.Need-returns
 unfolding metadataLine
 returns c =
-    let push-place = c .before .before in
-    let put-entry-place = push-place .before .before .before .before in
+    let push-place = c .before .before in let put-entry-place = push-place .before .before .before .before in
     let put-octets-place = put-entry-place .before .before .before .before in
     let part-place = put-octets-place .before in
     let put-head-place = part-place .before .before .before .before .before in

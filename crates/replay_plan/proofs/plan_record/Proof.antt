@@ -1,5 +1,4 @@
--- `replay_plan::plan_record` meets its contract: `bad length`, or the plan for the packet after the first 8 octets.
--- Assumes nothing.
+-- `replay_plan::plan_record` meets its contract: `bad length`, or the plan for the packet after the first 8 octets. Assumes nothing.
 use Prim.Native.Nat.{ℕ}
 use mathlib.Core.Path.{ap₂, _∙_}
 use mathlib.Core.List.{List}
@@ -18,21 +17,16 @@ use Rattle.replay_plan.proofs.plan_record.Tie as tie
 returns : tie.Need-returns
 unfolding planLines
 returns c =
-    let put-bad-length-place = c .before .before in
-    let if1-place = put-bad-length-place .before .before in
-    let start = if1-place .before .before .before in
-    let a = start .args in
+    let put-bad-length-place = c .before .before in let if1-place = put-bad-length-place .before .before in
+    let start = if1-place .before .before .before in let a = start .args in
     rw (lt-ltb (length (now (a .body))) 8 (if1-place .if1 .taken)) (put-bad-length-place .put-bad-length .ensures)
 
 returns-2 : tie.Need-returns-2
 unfolding planLines
 returns-2 c =
-    let put-plan-place = c .before .before in
-    let part-place = put-plan-place .before in
-    let read-eight-place = part-place .before .before in
-    let if1-place = read-eight-place .before in
-    let start = if1-place .before .before .before in
-    let a = start .args in
+    let put-plan-place = c .before .before in let part-place = put-plan-place .before in
+    let read-eight-place = part-place .before .before in let if1-place = read-eight-place .before in
+    let start = if1-place .before .before .before in let a = start .args in
     let s = now (a .body) in
     let packet = part-place .part .ensures ∙ take-all (length s) (drop 8 s) (omega (arith, length-drop 8 s)) in
     rw (le-ltb (length s) 8 (if1-place .if1 .left))

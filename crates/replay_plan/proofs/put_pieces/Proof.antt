@@ -31,8 +31,7 @@ abbrev μ-loop : tie.MeasureT-loop
 loop-holds : tie.Need-loop-holds Inv-loop μ-loop
 unfolding piecesText
 loop-holds c =
-    let start = c .before .before in
-    let a = start .args in
+    let start = c .before .before in let a = start .args in
     (omega arith, cursor-none (holeList (now (a .status))) (a .largest) (a .first), added-none (now (a .out)) (a .at) (start .pre .0))
 
 -- the cursor is where the piece i of the plan is made
@@ -42,8 +41,7 @@ planned : (c : tie.In-loop Inv-loop μ-loop)
 planned c =
     let start = c .before .before .before .before in
     let s = now (start .args .status) in
-    let m = start .args .largest in
-    let l = c .before .loop in
+    let m = start .args .largest in let l = c .before .loop in
     let e : l .cursor ≡ cursorAfter (holeList s) m (cursorAt (holeList s) (planFor m s .holes) 0) (l .i) =
     l .inv .1 ∙ ap (λ (x : Cursor). cursorAfter (holeList s) m x (l .i)) (start .pre .2) in
     rw e (planned-at m recordsLent s (planRefusal m recordsLent s) refl (l .i) (omega (arith, start .pre .1)))
@@ -56,10 +54,8 @@ next-cursor-requires c κs =
 loop-again : tie.Need-loop-again Inv-loop μ-loop
 unfolding piecesText
 loop-again c =
-    let put-place = c .before .before .before in
-    let piece-place = put-place .before .before .before in
-    let turn = piece-place .before in
-    let l = turn .before .loop in
+    let put-place = c .before .before .before in let piece-place = put-place .before .before .before in
+    let turn = piece-place .before in let l = turn .before .loop in
     let a = turn .before .before .before .before .args in
     let hs = holeList (now (a .status)) in (
       omega arith,

@@ -1,5 +1,4 @@
--- `replay_plan::put_plan` meets its contract: the refusal, or the plan.
--- Assumes nothing.
+-- `replay_plan::put_plan` meets its contract: the refusal, or the plan. Assumes nothing.
 use Prim.Native.Nat.{ℕ}
 use mathlib.Core.Path.{_≡_, ap, _∙_}
 use denote.Ref.{now}
@@ -30,10 +29,8 @@ number-is c =
 returns : tie.Need-returns
 unfolding planLine
 returns c =
-    let put-refused-place = c .before .before in
-    let refuse-place = put-refused-place .before .before in
-    let if1-place = refuse-place .before in
-    let plan-place = if1-place .before .before in
+    let put-refused-place = c .before .before in let refuse-place = put-refused-place .before .before in
+    let if1-place = refuse-place .before in let plan-place = if1-place .before .before in
     let a = plan-place .before .before .before .args in
     let plan = planOf (a .largest) (holeList (now (a .status))) in
     added-as
@@ -44,8 +41,7 @@ returns c =
 
 put-planned-requires : tie.Need-put-planned-requires
 put-planned-requires c κs =
-    let if1-place = c .before in
-    let plan-place = if1-place .before .before in
+    let if1-place = c .before in let plan-place = if1-place .before .before in
     let n = number-is plan-place in
     (plan-place .before .before .before .pre, omega arith, plan-place .plan-within .ensures)
 

@@ -1,5 +1,4 @@
--- `replay_plan::put_planned` meets its contract: one part after the other.
--- Assumes nothing.
+-- `replay_plan::put_planned` meets its contract: one part after the other. Assumes nothing.
 use Prim.Native.Nat.{ℕ}
 use mathlib.Core.Path.{_≡_, refl, sym, ap, _∙_}
 use denote.Ref.{now}
@@ -19,8 +18,7 @@ use Rattle.replay_plan.proofs.put_planned.Tie as tie
 
 cursor-at-requires : tie.Need-cursor-at-requires
 cursor-at-requires c κs =
-    let start = c .before .before in
-    let m = start .args .largest in
+    let start = c .before .before in let m = start .args .largest in
     let s = now (start .args .status) in
     rw (start .pre .2) (planned-readable m recordsLent s (planRefusal m recordsLent s) refl)
 
@@ -29,8 +27,7 @@ put-pieces-requires c κs =
     let put-text-place = c .before .before .before in
     let put-field-place = put-text-place .before .before .before .before .before in
     let put-decimal-place = put-field-place .before .before .before .before .before in
-    let cursor-place = put-decimal-place .before .before in
-    let start = cursor-place .before .before .before in
+    let cursor-place = put-decimal-place .before .before in let start = cursor-place .before .before .before in
     let s = now (start .args .status) in (
       put-text-place .put-text .ensures .within,
       ap (λ (p : Plan). p .count) (start .pre .2),
@@ -40,15 +37,12 @@ put-pieces-requires c κs =
 returns : tie.Need-returns
 unfolding planLine
 returns c =
-    let push-place = c .before .before in
-    let put-pieces-place = push-place .before .before .before .before in
+    let push-place = c .before .before in let put-pieces-place = push-place .before .before .before .before in
     let put-text-place = put-pieces-place .before .before .before .before in
     let put-field-place = put-text-place .before .before .before .before .before in
     let put-decimal-place = put-field-place .before .before .before .before .before in
-    let cursor-place = put-decimal-place .before .before in
-    let start = cursor-place .before .before .before in
-    let a = start .args in
-    let m = a .largest in
+    let cursor-place = put-decimal-place .before .before in let start = cursor-place .before .before .before in
+    let a = start .args in let m = a .largest in
     let s = now (a .status) in
     let plan = planOf m (holeList s) in
     let counted : a .p .count ≡ length plan = ap (λ (p : Plan). p .count) (start .pre .2) ∙ ap (λ (k : ℕ). plannedOf k m (holeList s) .count) (start .pre .1) in

@@ -1,5 +1,4 @@
--- `replay_records::close` meets its contract: `bad length`, or what closing answers and leaves.
--- Assumes nothing.
+-- `replay_records::close` meets its contract: `bad length`, or what closing answers and leaves. Assumes nothing.
 use mathlib.Core.Path.{ap, _∙_}
 use Prim.Native.Nat.{ℕ}
 use native.Mathlib.Omega.{arith}
@@ -17,22 +16,17 @@ use Rattle.replay_records.proofs.close.Tie as tie
 returns : tie.Need-returns
 unfolding closeLines closeAfter
 returns c =
-    let put-bad-length-place = c .before .before in
-    let if1-place = put-bad-length-place .before .before in
-    let start = if1-place .before .before .before .before in
-    let a = start .args in
+    let put-bad-length-place = c .before .before in let if1-place = put-bad-length-place .before .before in
+    let start = if1-place .before .before .before .before in let a = start .args in
     let z = ne-eqb (length (now (a .body))) 4 (if1-place .if1 .taken) in
     (rw z (put-bad-length-place .put-bad-length .ensures), rw z)
 
 returns-2 : tie.Need-returns-2
 unfolding closeLines closeAfter
 returns-2 c =
-    let put-close-place = c .before .before in
-    let close-place = put-close-place .before .before .before .before in
-    let read-four-place = close-place .before .before in
-    let if1-place = read-four-place .before in
-    let start = if1-place .before .before .before .before in
-    let a = start .args in
+    let put-close-place = c .before .before in let close-place = put-close-place .before .before .before .before in
+    let read-four-place = close-place .before .before in let if1-place = read-four-place .before in
+    let start = if1-place .before .before .before .before in let a = start .args in
     let z = eq-eqb (length (now (a .body))) 4 (if1-place .if1 .left) in
     let i = read-four-place .read-four in
     let o = close-place .close .ensures in (

@@ -1,5 +1,4 @@
--- `replay_records::fresh` meets its contract: `bad length`, or what making fresh answers and leaves.
--- Assumes nothing.
+-- `replay_records::fresh` meets its contract: `bad length`, or what making fresh answers and leaves. Assumes nothing.
 use mathlib.Core.Path.{ap}
 use denote.Ref.{now}
 use lib.ListN.{length}
@@ -14,20 +13,16 @@ use Rattle.replay_records.proofs.fresh.Tie as tie
 returns : tie.Need-returns
 unfolding freshLines freshAfter
 returns c =
-    let put-bad-length-place = c .before .before in
-    let if1-place = put-bad-length-place .before .before in
-    let start = if1-place .before .before .before .before in
-    let a = start .args in
+    let put-bad-length-place = c .before .before in let if1-place = put-bad-length-place .before .before in
+    let start = if1-place .before .before .before .before in let a = start .args in
     let z = ne-eqb (length (now (a .body))) 0 (if1-place .if1 .taken) in
     (rw z (put-bad-length-place .put-bad-length .ensures), rw z)
 
 returns-2 : tie.Need-returns-2
 unfolding freshLines freshAfter
 returns-2 c =
-    let put-fresh-place = c .before .before in
-    let fresh-place = put-fresh-place .before .before .before .before in
-    let if1-place = fresh-place .before .before in
-    let start = if1-place .before .before .before .before in
+    let put-fresh-place = c .before .before in let fresh-place = put-fresh-place .before .before .before .before in
+    let if1-place = fresh-place .before .before in let start = if1-place .before .before .before .before in
     let a = start .args in
     let z = eq-eqb (length (now (a .body))) 0 (if1-place .if1 .left) in
     let o = fresh-place .fresh .ensures in

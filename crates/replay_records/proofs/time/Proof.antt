@@ -1,5 +1,4 @@
--- `replay_records::time` meets its contract: `bad length`, or nothing.
--- Assumes nothing.
+-- `replay_records::time` meets its contract: `bad length`, or nothing. Assumes nothing.
 use native.Mathlib.Omega.{arith}
 use denote.Ref.{now}
 use lib.ListN.{length}
@@ -13,17 +12,14 @@ use Rattle.replay_records.proofs.time.Tie as tie
 returns : tie.Need-returns
 unfolding timeLines
 returns c =
-    let put-bad-length-place = c .before .before in
-    let if1-place = put-bad-length-place .before .before in
-    let start = if1-place .before .before .before in
-    let a = start .args in
+    let put-bad-length-place = c .before .before in let if1-place = put-bad-length-place .before .before in
+    let start = if1-place .before .before .before in let a = start .args in
     rw (ne-eqb (length (now (a .body))) 8 (if1-place .if1 .taken)) (put-bad-length-place .put-bad-length .ensures)
 
 returns-2 : tie.Need-returns-2
 unfolding timeLines
 returns-2 c =
-    let start = c .before .before .before in
-    let a = start .args in
+    let start = c .before .before .before in let a = start .args in
     rw (eq-eqb (length (now (a .body))) 8 (c .if1 .left)) (added-none (now (a .out)) 0 (omega arith))
 
 pub time-spec : {M : Type 1} → statement M

@@ -1,5 +1,4 @@
--- `replay_status::put_failure_sent` meets its contract: a code of 0 and a packet with no Id, as a BEACON, get no line.
--- Assumes nothing.
+-- `replay_status::put_failure_sent` meets its contract: a code of 0 and a packet with no Id, as a BEACON, get no line. Assumes nothing.
 use mathlib.Core.Path.{_≡_, ap, ap₂, _∙_}
 use Prim.Native.Nat.{ℕ}
 use denote.Ref.{now}
@@ -9,7 +8,7 @@ use borrow.Author.Needs.{needs}
 use native.Mathlib.Omega.{arith}
 use Rattle.header.specs.FirstWord.{typeOf}
 use Rattle.header.specs.Start.{wordOf}
-use Rattle.packet_status.specs.WriteFailure.{failureWritten, failureBuffer}
+use Rattle.failure_status.specs.WriteFailure.{failureWritten, failureBuffer}
 use Rattle.text.proofs.AddedLaws.{added-as, added-none}
 use Rattle.replay_answers.specs.AnswerLines.{sentText}
 use Rattle.replay_status.specs.StatusLines.{failureSent}
@@ -25,8 +24,7 @@ returns c =
 returns-2 : tie.Need-returns-2
 unfolding failureSent
 returns-2 c =
-    let start = c .before .before .before .before .before in
-    let a = start .args in
+    let start = c .before .before .before .before .before in let a = start .args in
     rw (ne-eqb (a .code) 0 (c .before .if1 .left), lt-ltb (length (now (a .p))) 8 (c .if2 .taken)) (added-none (now (a .out)) (a .at) (start .pre))
 
 -- the type is at hand
@@ -36,11 +34,8 @@ typed c = c .split .ensures .ptype-is ∙ ap typeOf (c .before .word .ensures)
 returns-3 : tie.Need-returns-3
 unfolding failureSent
 returns-3 c =
-    let split-place = c .before .before in
-    let if2-place = split-place .before .before in
-    let if1-place = if2-place .before in
-    let start = if1-place .before .before .before .before in
-    let a = start .args in
+    let split-place = c .before .before in let if2-place = split-place .before .before in
+    let if1-place = if2-place .before in let start = if1-place .before .before .before .before in let a = start .args in
     let t = typed split-place in
     rw (
       ne-eqb (a .code) 0 (if1-place .if1 .left),
@@ -54,15 +49,11 @@ unfolding failureSent
 returns-4 c =
     let put-sent-place = c .before .before in
     let write-failure-place = put-sent-place .before .before .before .before .before in
-    let id-place = write-failure-place .before in
-    let split-place = id-place .before .before .before .before in
-    let if2-place = split-place .before .before in
-    let if1-place = if2-place .before in
-    let start = if1-place .before .before .before .before in
-    let a = start .args in
+    let id-place = write-failure-place .before in let split-place = id-place .before .before .before .before in
+    let if2-place = split-place .before .before in let if1-place = if2-place .before in
+    let start = if1-place .before .before .before .before in let a = start .args in
     let t = typed split-place in
-    let i = id-place .id .ensures in
-    let w = write-failure-place .write-failure .ensures in
+    let i = id-place .id .ensures in let w = write-failure-place .write-failure .ensures in
     rw (
       ne-eqb (a .code) 0 (if1-place .if1 .left),
       le-ltb (length (now (a .p))) 8 (if2-place .if2 .left),

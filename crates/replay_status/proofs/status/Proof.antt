@@ -1,5 +1,4 @@
--- `replay_status::status` meets its contract: `bad length`, or the STATUS by the four numbers of the body.
--- Assumes nothing.
+-- `replay_status::status` meets its contract: `bad length`, or the STATUS by the four numbers of the body. Assumes nothing.
 use mathlib.Core.Path.{_≡_, sym, ap, ap₂, _∙_}
 use mathlib.Core.Bool.{not}
 use mathlib.Core.List.{List}
@@ -20,10 +19,8 @@ use Rattle.replay_status.proofs.status.Tie as tie
 returns : tie.Need-returns
 unfolding statusLines
 returns c =
-    let put-bad-length-place = c .before .before in
-    let if1-place = put-bad-length-place .before .before in
-    let start = if1-place .before .before .before .before .before in
-    let a = start .args in
+    let put-bad-length-place = c .before .before in let if1-place = put-bad-length-place .before .before in
+    let start = if1-place .before .before .before .before .before in let a = start .args in
     rw (ne-eqb (length (now (a .body))) 17 (if1-place .if1 .taken)) (put-bad-length-place .put-bad-length .ensures)
 
 slice-aggregate-write : tie.Need-slice-aggregate-write
@@ -35,18 +32,12 @@ slice-aggregate-write c =
 returns-2 : tie.Need-returns-2
 unfolding statusLines
 returns-2 c =
-    let write-place = c .before .before .before .before in
-    let within-place = write-place .before .before .before in
-    let read-four2-place = within-place .before in
-    let read-eight-place = read-four2-place .before .before in
-    let read-four-place = read-eight-place .before in
-    let if1-place = read-four-place .before in
-    let start = if1-place .before .before .before .before .before in
-    let a = start .args in
-    let id = read-four-place .read-four in
-    let k = read-eight-place .read-eight in
-    let n = read-four2-place .read-four2 in
-    let room = within-place .within in
+    let write-place = c .before .before .before .before in let within-place = write-place .before .before .before in
+    let read-four2-place = within-place .before in let read-eight-place = read-four2-place .before .before in
+    let read-four-place = read-eight-place .before in let if1-place = read-four-place .before in
+    let start = if1-place .before .before .before .before .before in let a = start .args in
+    let id = read-four-place .read-four in let k = read-eight-place .read-eight in
+    let n = read-four2-place .read-four2 in let room = within-place .within in
     let unasked = not (eqb (getD (now (a .body)) 12 0) 0) in
     let asked : n .result ≡ numberAt 13 4 (now (a .body)) = n .ensures in
     let l = ap (λ (r : ℕ). take r (now (a .lent))) (room .ensures ∙ ap (λ (r : ℕ). min r (length (now (a .lent)))) asked) in

@@ -1,5 +1,4 @@
--- `replay_status::write` meets its contract: what writing STATUS answers and leaves.
--- Assumes nothing.
+-- `replay_status::write` meets its contract: what writing STATUS answers and leaves. Assumes nothing.
 use mathlib.Core.Path.{ap₂}
 use borrow.Author.Needs.{needs}
 use Rattle.text.proofs.AddedLaws.{added-as}
@@ -13,8 +12,7 @@ unfolding writtenLine
 returns c =
     let put-written-place = c .before .before in
     let write-status-place = put-written-place .before .before .before .before .before in
-    let start = write-status-place .before .before .before .before .before in
-    let a = start .args in
+    let start = write-status-place .before .before .before .before .before in let a = start .args in
     let w = write-status-place .write-status .ensures in
     added-as (ap₂ (statusText (a .number)) (w .0) (w .1)) (put-written-place .put-written .ensures)
 

@@ -1,5 +1,4 @@
--- `replay_steps::lines` meets its contract: a return for each kind.
--- Assumes nothing.
+-- `replay_steps::lines` meets its contract: a return for each kind. Assumes nothing.
 use mathlib.Core.Path.{refl}
 use denote.Ref.{now}
 use borrow.Author.Tests.{ne-eqb}
@@ -12,40 +11,32 @@ use Rattle.replay_steps.proofs.lines.Tie as tie
 returns : tie.Need-returns
 unfolding recordLines areaAfter
 returns c =
-    let fresh-place = c .before .before .before .before in
-    let if1-place = fresh-place .before .before .before in
-    let start = if1-place .before .before .before .before .before in
-    let a = start .args in
+    let fresh-place = c .before .before .before .before in let if1-place = fresh-place .before .before .before in
+    let start = if1-place .before .before .before .before .before in let a = start .args in
     of-kind (a .number) (now (a .body)) (now (a .area)) (now (a .lent)) (if1-place .if1 .taken)
     (fresh-place .fresh .ensures)
 
 returns-2 : tie.Need-returns-2
 unfolding recordLines areaAfter
 returns-2 c =
-    let open-place = c .before .before .before .before in
-    let if2-place = open-place .before .before .before in
-    let start = if2-place .before .before .before .before .before .before in
-    let a = start .args in
+    let open-place = c .before .before .before .before in let if2-place = open-place .before .before .before in
+    let start = if2-place .before .before .before .before .before .before in let a = start .args in
     of-kind (a .number) (now (a .body)) (now (a .area)) (now (a .lent)) (if2-place .if2 .taken)
     (open-place .«open» .ensures)
 
 returns-3 : tie.Need-returns-3
 unfolding recordLines areaAfter
 returns-3 c =
-    let record-place = c .before .before .before .before in
-    let if3-place = record-place .before .before .before in
-    let start = if3-place .before .before .before .before .before .before .before in
-    let a = start .args in
+    let record-place = c .before .before .before .before in let if3-place = record-place .before .before .before in
+    let start = if3-place .before .before .before .before .before .before .before in let a = start .args in
     of-kind (a .number) (now (a .body)) (now (a .area)) (now (a .lent)) (if3-place .if3 .taken)
     (record-place .«record» .ensures)
 
 returns-4 : tie.Need-returns-4
 unfolding recordLines areaAfter
 returns-4 c =
-    let read-place = c .before .before in
-    let if4-place = read-place .before .before in
-    let start = if4-place .before .before .before .before .before .before .before .before in
-    let a = start .args in
+    let read-place = c .before .before in let if4-place = read-place .before .before in
+    let start = if4-place .before .before .before .before .before .before .before .before in let a = start .args in
     of-kind (a .number) (now (a .body)) (now (a .area)) (now (a .lent)) (if4-place .if4 .taken)
     (read-place .read .ensures, refl)
 
@@ -62,8 +53,7 @@ returns-5 c =
 returns-6 : tie.Need-returns-6
 unfolding recordLines areaAfter
 returns-6 c =
-    let close-place = c .before .before .before .before in
-    let if6-place = close-place .before .before .before in
+    let close-place = c .before .before .before .before in let if6-place = close-place .before .before .before in
     let start = if6-place .before .before .before .before .before .before .before .before .before .before in
     let a = start .args in
     of-kind (a .number) (now (a .body)) (now (a .area)) (now (a .lent)) (if6-place .if6 .taken)
@@ -82,8 +72,7 @@ returns-7 c =
 returns-8 : tie.Need-returns-8
 unfolding recordLines areaAfter
 returns-8 c =
-    let time-place = c .before .before in
-    let if8-place = time-place .before .before in
+    let time-place = c .before .before in let if8-place = time-place .before .before in
     let start = if8-place .before .before .before .before .before .before .before .before .before .before .before .before in
     let a = start .args in
     of-kind (a .number) (now (a .body)) (now (a .area)) (now (a .lent)) (if8-place .if8 .taken)
@@ -92,8 +81,7 @@ returns-8 c =
 returns-9 : tie.Need-returns-9
 unfolding recordLines areaAfter
 returns-9 c =
-    let plan-record-place = c .before .before in
-    let if9-place = plan-record-place .before .before in
+    let plan-record-place = c .before .before in let if9-place = plan-record-place .before .before in
     let start = if9-place .before .before .before .before .before .before .before .before .before .before .before .before .before in
     let a = start .args in
     of-kind (a .number) (now (a .body)) (now (a .area)) (now (a .lent)) (if9-place .if9 .taken)
@@ -102,8 +90,7 @@ returns-9 c =
 returns-10 : tie.Need-returns-10
 unfolding recordLines areaAfter
 returns-10 c =
-    let check-record-place = c .before .before in
-    let if10-place = check-record-place .before .before in
+    let check-record-place = c .before .before in let if10-place = check-record-place .before .before in
     let start = if10-place .before .before .before .before .before .before .before .before .before .before .before .before .before .before in
     let a = start .args in
     of-kind (a .number) (now (a .body)) (now (a .area)) (now (a .lent)) (if10-place .if10 .taken)
@@ -112,19 +99,11 @@ returns-10 c =
 returns-11 : tie.Need-returns-11
 unfolding recordLines areaAfter
 returns-11 c =
-    let put-unknown-place = c .before .before in
-    let if10-place = put-unknown-place .before .before in
-    let if9-place = if10-place .before in
-    let if8-place = if9-place .before in
-    let if7-place = if8-place .before in
-    let if6-place = if7-place .before in
-    let if5-place = if6-place .before in
-    let if4-place = if5-place .before in
-    let if3-place = if4-place .before in
-    let if2-place = if3-place .before in
-    let if1-place = if2-place .before in
-    let start = if1-place .before .before .before .before .before in
-    let a = start .args in
+    let put-unknown-place = c .before .before in let if10-place = put-unknown-place .before .before in
+    let if9-place = if10-place .before in let if8-place = if9-place .before in let if7-place = if8-place .before in
+    let if6-place = if7-place .before in let if5-place = if6-place .before in let if4-place = if5-place .before in
+    let if3-place = if4-place .before in let if2-place = if3-place .before in let if1-place = if2-place .before in
+    let start = if1-place .before .before .before .before .before in let a = start .args in
     let n1 = ne-eqb (a .kind) 0x46 (if1-place .if1 .left) in
     let n2 = ne-eqb (a .kind) 0x4f (if2-place .if2 .left) in
     let n3 = ne-eqb (a .kind) 0x44 (if3-place .if3 .left) in

@@ -1,5 +1,4 @@
--- `replay_success::hole_count` meets its contract: a return for each case of what was read.
--- Assumes nothing.
+-- `replay_success::hole_count` meets its contract: a return for each case of what was read. Assumes nothing.
 use mathlib.Core.Path.{sym, ap, _∙_}
 use borrow.Author.Needs.{needs}
 use Rattle.replay_success.specs.SuccessLine.{holesListed}

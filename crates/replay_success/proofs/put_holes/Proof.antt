@@ -1,5 +1,4 @@
--- `replay_success::put_holes` meets its contract: before each turn the first i holes have been put.
--- Assumes nothing.
+-- `replay_success::put_holes` meets its contract: before each turn the first i holes have been put. Assumes nothing.
 use Prim.Native.Nat.{_-_, _≤_}
 use mathlib.Core.Path.{_≡_}
 use native.Mathlib.Numerals.{add-one}
@@ -27,8 +26,7 @@ loop-holds c =
 loop-again : tie.Need-loop-again Inv-loop μ-loop
 unfolding holesText
 loop-again c =
-    let put-hole-place = c .before .before in
-    let loop-place = put-hole-place .before .before .before in
+    let put-hole-place = c .before .before in let loop-place = put-hole-place .before .before .before in
     (omega arith, rw add-one (loop-place .loop .inv .1 then put-hole-place .put-hole .ensures))
 
 returns : tie.Need-returns Inv-loop μ-loop

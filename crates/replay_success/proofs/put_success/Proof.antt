@@ -1,5 +1,4 @@
--- `replay_success::put_success` meets its contract: one part after the other.
--- Assumes nothing.
+-- `replay_success::put_success` meets its contract: one part after the other. Assumes nothing.
 use mathlib.Core.Path.{ap}
 use borrow.Author.Needs.{needs}
 use Rattle.text.proofs.AddedLaws.{_then_, added-as}
@@ -12,8 +11,7 @@ use Rattle.replay_success.proofs.put_success.Tie as tie
 returns : tie.Need-returns
 unfolding successLine
 returns c =
-    let push-place = c .before .before in
-    let put-holes-place = push-place .before .before .before .before in
+    let push-place = c .before .before in let put-holes-place = push-place .before .before .before .before in
     let put-text-place = put-holes-place .before .before .before .before in
     let put-field2-place = put-text-place .before .before .before .before .before in
     let put-field-place = put-field2-place .before .before .before .before .before in

@@ -24,22 +24,19 @@ high c =
 
 returns : tie.Need-returns
 returns c =
-    let p = c .before .before .before .before in
-    let s = p .before .before .before in
+    let p = c .before .before .before .before in let s = p .before .before .before in
     hole-low (now (s .args .buf)) (s .args .rows) _ (s .args .j) (p .before .word .ensures) (s .pre .0 .canonical) (s .pre .1) _ _
     (omega arith) (c .before .before .word2 .ensures) (c .word3 .ensures)
 
 returns-2 : tie.Need-returns-2
 returns-2 c =
-    let p = c .before in
-    let s = p .before .before .before in
+    let p = c .before in let s = p .before .before .before in
     hole-first (now (s .args .buf)) (s .args .rows) _ (s .args .j) (p .before .word .ensures) (s .pre .0 .canonical) (s .pre .1) (omega arith)
     (omega arith)
 
 returns-3 : tie.Need-returns-3
 returns-3 c =
-    let p = c .before .before .before .before .before in
-    let s = p .before .before .before in
+    let p = c .before .before .before .before .before in let s = p .before .before .before in
     hole-next (now (s .args .buf)) (s .args .rows) _ (s .args .j) (p .before .word .ensures) (s .pre .0 .canonical) (s .pre .1) _ _
     (omega arith) (omega arith) (c .before .before .word4 .ensures) (c .word5 .ensures)
 

@@ -1,5 +1,4 @@
--- `run_rows::hole_count` meets its contract: one hole fewer than runs where offset 0 is received, and else as many.
--- Assumes nothing.
+-- `run_rows::hole_count` meets its contract: one hole fewer than runs where offset 0 is received, and else as many. Assumes nothing.
 use borrow.Author.Needs.{needs}
 use native.Mathlib.Omega.{arith}
 use denote.Ref.{now}

@@ -11,14 +11,12 @@ returns c = let a = c .before .before .before .args in progress-none (now (a .bu
 
 returns-2 : tie.Need-returns-2
 returns-2 c =
-    let start = c .before .before .before .before .before in
-    let a = start .args in
+    let start = c .before .before .before .before .before in let a = start .args in
     progress-high (now (a .buf)) (a .rows) _ (omega arith) (c .before .word .ensures) (omega arith)
 
 returns-3 : tie.Need-returns-3
 returns-3 c =
-    let word-place = c .before .before in
-    let start = word-place .before .before .before .before in
+    let word-place = c .before .before in let start = word-place .before .before .before .before in
     let a = start .args in
     progress-low (now (a .buf)) (a .rows) _ (omega arith) (word-place .word .ensures) _ (omega arith) (c .word2 .ensures)
 

@@ -24,25 +24,20 @@ loop-holds c = (omega arith, refl)
 -- one turn: the next run rises, and the runs before it have no more offsets than lie below its start
 sub-sum : tie.Need-sub-sum Inv-loop μ-loop
 sub-sum c =
-    let v = c .before .before in
-    let l = v .before .before .before in
-    let s = l .before .before in
+    let v = c .before .before in let l = v .before .before .before in let s = l .before .before in
     let up = run-rises (now (s .args .buf)) (s .args .rows) (s .pre .canonical) (l .loop .k) (omega arith) _ _ (v .word .ensures) (c .word2 .ensures) in
     omega arith
 
 add-sum : tie.Need-add-sum Inv-loop μ-loop
 add-sum c =
-    let v = c .before .before in
-    let l = v .before .before .before in
-    let s = l .before .before in
+    let v = c .before .before in let l = v .before .before .before in let s = l .before .before in
     let low = sum-low (now (s .args .buf)) (s .args .rows) (s .pre .canonical) (l .loop .k) (omega arith) _ _ (v .word .ensures) (c .word2 .ensures) (l .loop .sum) (l .loop .inv .1) in
     let up = sub-sum c in
     omega arith
 
 loop-again : tie.Need-loop-again Inv-loop μ-loop
 loop-again c =
-    let v = c .before .before in
-    let l = v .before .before .before in
+    let v = c .before .before in let l = v .before .before .before in
     let s = l .before .before in (
       omega arith,
       sum-next (now (s .args .buf)) (s .args .rows) (s .pre .canonical) (l .loop .k) (omega arith) _ _ (v .word .ensures) (c .word2 .ensures) (l .loop .sum) (l .loop .inv .1),
@@ -50,8 +45,7 @@ loop-again c =
 
 returns : tie.Need-returns Inv-loop μ-loop
 returns c =
-    let l = c .before in
-    let s = l .before .before in
+    let l = c .before in let s = l .before .before in
     sum-whole (now (s .args .buf)) (s .args .rows) (l .loop .k) (l .loop .sum) (omega arith) (l .loop .inv .1)
 
 pub received-of-spec : {M : Type 1} → statement M

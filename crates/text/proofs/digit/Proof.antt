@@ -1,5 +1,4 @@
--- `text::digit` meets its contract.
--- Assumes nothing.
+-- `text::digit` meets its contract. Assumes nothing.
 use borrow.Author.Needs.{needs}
 use borrow.Author.Tests.{lt-ltb, le-ltb}
 use native.Mathlib.Omega.{arith}

@@ -1,5 +1,4 @@
--- `text::push` meets its contract.
--- Assumes nothing.
+-- `text::push` meets its contract. Assumes nothing.
 use borrow.Author.Needs.{needs}
 use native.Mathlib.Omega.{arith}
 use Rattle.text.proofs.AddedLaws.{added-one, added-full}

@@ -1,5 +1,4 @@
--- `text::put_decimal` meets its contract.
--- Assumes nothing.
+-- `text::put_decimal` meets its contract. Assumes nothing.
 use Prim.Native.Nat.{_-_, _≤_}
 use mathlib.Core.Path.{_∙_}
 use lib.ListN.{length, drop, length-drop}
@@ -14,9 +13,7 @@ returns : tie.Need-returns
 returns c =
     let put-text-place = c .before .before in
     let spell-place = put-text-place .before .before .before .before .before in
-    let start = spell-place .before .before .before in
-    let a = start .args in
-    let s = spell-place .spell in
+    let start = spell-place .before .before .before in let a = start .args in let s = spell-place .spell in
     let n : length (drop (s .result) (s .last .1 .0)) ≤ 20 - s .result = omega (arith, length-drop (s .result) (s .last .1 .0), s .kept .1 .0) in
     added-as (take-all (20 - s .result) (drop (s .result) (s .last .1 .0)) n ∙ s .ensures .1) (put-text-place .put-text .ensures)
 

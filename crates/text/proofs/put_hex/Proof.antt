@@ -1,5 +1,4 @@
--- `text::put_hex` meets its contract: before each turn the digits of the first i octets have been put.
--- Assumes nothing.
+-- `text::put_hex` meets its contract: before each turn the digits of the first i octets have been put. Assumes nothing.
 use Prim.Native.Nat.{_-_, _≤_}
 use native.Mathlib.Omega.{arith}
 use denote.Ref.{now}
@@ -24,12 +23,9 @@ loop-holds c = (omega arith, added-none (now (c .before .before .args .out)) (c 
 
 loop-again : tie.Need-loop-again Inv-loop μ-loop
 loop-again c =
-    let push2-place = c .before .before in
-    let digit2-place = push2-place .before in
-    let push-place = digit2-place .before .before .before .before in
-    let digit-place = push-place .before in
-    let loop-place = digit-place .before .before .before .before in
-    let start = loop-place .before .before .before in
+    let push2-place = c .before .before in let digit2-place = push2-place .before in
+    let push-place = digit2-place .before .before .before .before in let digit-place = push-place .before in
+    let loop-place = digit-place .before .before .before .before in let start = loop-place .before .before .before in
     let s = now (start .args .s) in
     let l = loop-place .loop in
     (omega arith, hex-next s (l .i) _ _ (omega arith) (digit-place .digit .ensures) (digit2-place .digit2 .ensures) (l .inv .1) (push-place .push .ensures) (push2-place .push2 .ensures))

@@ -1,5 +1,4 @@
--- `text::put_text` meets its contract: before each turn the first i octets of the word have been put.
--- Assumes nothing.
+-- `text::put_text` meets its contract: before each turn the first i octets of the word have been put. Assumes nothing.
 use Prim.Native.Nat.{_-_, _≤_, _<_}
 use mathlib.Core.Path.{sym}
 use native.Mathlib.Numerals.{add-one}
@@ -20,8 +19,7 @@ abbrev μ-loop : tie.MeasureT-loop
 
 loop-again : tie.Need-loop-again Inv-loop μ-loop
 loop-again c =
-    let push-place = c .before .before in
-    let loop-place = push-place .before .before .before .before in
+    let push-place = c .before .before in let loop-place = push-place .before .before .before .before in
     let start = loop-place .before .before .before in
     let s = now (start .args .s) in
     let l = loop-place .loop in

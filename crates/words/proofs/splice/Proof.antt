@@ -8,27 +8,22 @@ use Rattle.words.proofs.splice.Tie as tie
 
 returns : tie.Need-returns
 returns c =
-    let put-word-place = c .before .before in
-    let start = put-word-place .before .before .before .before in
+    let put-word-place = c .before .before in let start = put-word-place .before .before .before .before in
     let a = start .args in
     splice-one (now (a .buf)) (a .k) (a .n) (a .i) (a .j) (a .v) (omega arith) (omega arith) (omega arith) (omega arith) _
     (omega arith) (put-word-place .put-word .ensures)
 
 returns-2 : tie.Need-returns-2
 returns-2 c =
-    let put-word2-place = c .before .before in
-    let before-place = put-word2-place .before .before .before in
-    let p = before-place .before in
-    let a = p .before .before .before .before .before .args in
+    let put-word2-place = c .before .before in let before-place = put-word2-place .before .before .before in
+    let p = before-place .before in let a = p .before .before .before .before .before .args in
     splice-up (now (a .buf)) (a .k) (a .n) (a .i) (a .j) (a .v) (omega arith) (omega arith) (omega arith) (omega arith) _ _
     (omega arith) (p .move-up .ensures) (put-word2-place .put-word2 .ensures)
 
 returns-3 : tie.Need-returns-3
 returns-3 c =
-    let put-word3-place = c .before .before in
-    let before-place = put-word3-place .before .before .before in
-    let p = before-place .before in
-    let a = p .before .before .before .before .before .args in
+    let put-word3-place = c .before .before in let before-place = put-word3-place .before .before .before in
+    let p = before-place .before in let a = p .before .before .before .before .before .args in
     splice-moved (now (a .buf)) (a .k) (a .n) (a .i) (a .j) (a .v) (omega arith) (omega arith) (omega arith) (omega arith) _ _
     (p .move-down .ensures) (put-word3-place .put-word3 .ensures)
 

@@ -1,0 +1,3 @@
+pub mod ExtendLaws
+pub mod AheadLaws
+pub mod CutLaws

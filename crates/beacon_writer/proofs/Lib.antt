@@ -1,0 +1,3 @@
+pub mod WriteBeaconLaws
+pub mod RoundTrip
+pub mod LimitLaws

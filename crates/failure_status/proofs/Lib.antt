@@ -1,0 +1,4 @@
+pub mod FailureLaws
+pub mod RoundTrip
+pub mod LimitLaws
+pub mod Vectors

@@ -28,7 +28,7 @@ pub fn write_metadata(
     ensures { λ r. ⌜ (r ≡ writtenAnswer (metadataWritten flags id (now (checksum .entry)) properties size mtime ctime (now (path .entry)) (now (out .entry))))
         × (now (out .exit) ≡ metadataBuffer flags id (now (checksum .entry)) properties size mtime ctime (now (path .entry)) (now (out .entry))) ⌝ }
 {
-    answers::written_answer(packet_metadata::write_metadata(
+    answers::written_answer(metadata_writer::write_metadata(
         out,
         flags,
         id,
@@ -52,7 +52,7 @@ pub fn write_data(
     ensures { λ r. ⌜ (r ≡ writtenAnswer (dataWritten flags id (now (timestamp .entry)) offset (now (payload .entry)) (now (out .entry))))
         × (now (out .exit) ≡ dataBuffer flags id (now (timestamp .entry)) offset (now (payload .entry)) (now (out .entry))) ⌝ }
 {
-    answers::written_answer(packet_data::write_data(out, flags, id, timestamp, offset, payload))
+    answers::written_answer(data_writer::write_data(out, flags, id, timestamp, offset, payload))
 }
 
 pub fn write_failure(id: u64, status: u64, out: &mut [u8]) -> WrittenAnswer

@@ -56,10 +56,10 @@ fn list_refusal(p: &[u8]) -> u64
     let unasked = h.wanted == 1;
     let progress = header::descriptor(p, at, d);
     let top = header::descriptor(p, at + d, d);
-    if hole_list::points_to_last(partial, unasked, count, progress, top) {
+    if holes_judged::points_to_last(partial, unasked, count, progress, top) {
         return 0;
     }
-    if hole_list::holes_well(p, holes, d, count, partial, progress, top) {
+    if holes_judged::holes_well(p, holes, d, count, partial, progress, top) {
         return 0;
     }
     11

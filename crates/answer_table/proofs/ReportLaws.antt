@@ -109,7 +109,7 @@ module _ (a packet : List ℕ) where
       go (opened.AlreadyOpen x) e h = told x (inr e)
       go (opened.Refused r) e h = absurd (false≢true h)
 
-  -- a refused call reports no page complete, no run absorbed, and nothing added
+  -- a refused call reports nothing complete, no run absorbed, and nothing added
   pub record-refused-none : recordAccepted (recordArea a packet .answer) ≡ false
       → (recordedAnswer (recordArea a packet .answer) .complete ≡ 0) × (recordedAnswer (recordArea a packet .answer) .absorbed ≡ 0)
       × (recordedAnswer (recordArea a packet .answer) .adds ≡ 0)

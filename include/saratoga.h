@@ -40,7 +40,7 @@ extern "C" {
 #define SARATOGA_PACKET_OCTETS 65535  /* of the longest packet that is read or written */
 #define SARATOGA_PATH_OCTETS 1023     /* of the longest path, without the closing zero octet */
 #define SARATOGA_METADATA_OCTETS 1118 /* of the longest METADATA that is written */
-#define SARATOGA_STATUS_OCTETS 2088   /* of the longest STATUS that is written: room for any, with 64 holes */
+#define SARATOGA_STATUS_OCTETS 2104   /* of the longest STATUS that is written: a timestamp and 64 holes */
 #define SARATOGA_FAILURE_OCTETS 8     /* of a failure STATUS */
 #define SARATOGA_PAYLOAD_OCTETS 65000 /* of the longest piece that may be planned */
 
@@ -445,8 +445,9 @@ struct saratoga_written saratoga_write_failure(uint64_t id, uint64_t status, uin
 /*
  * Receiving.
  *
- * The transfer table holds what is open: at most 16 Ids, each with a descriptor width, a length and the set of offsets
- * received. A run is an unbroken stretch of received offsets, as long as it can be; a transfer holds at most 64. The edge is the
+ * The transfer table holds what is open: at most 16 Ids, each with a descriptor width, a length, the set of offsets
+ * received, and the timestamp that its STATUS carries: the 16 octets of the last accepted DATA that had one (bit 12), or
+ * none before the first. A run is an unbroken stretch of received offsets, as long as it can be; a transfer holds at most 64. The edge is the
  * first offset above all that was received, 0 where nothing was. A hole is an unbroken stretch of missing offsets below the
  * edge, as long as it can be. A transfer is complete when no offset below its length is missing.
  *
@@ -464,7 +465,7 @@ struct saratoga_written saratoga_write_failure(uint64_t id, uint64_t status, uin
  */
 
 /* Octets of an area. */
-#define SARATOGA_AREA_OCTETS 16904
+#define SARATOGA_AREA_OCTETS 17288
 
 /* A call that answers only whether it was accepted. */
 struct saratoga_done {
@@ -487,7 +488,7 @@ struct saratoga_opened {
  * recordings accepted since the transfer was opened, the runs absorbed are the recordings less the runs now held (R10.6).
  *
  * Where `adds` is 0 in an accepted answer, every octet of the packet came before, in one packet or in several: the set of received
- * octets stays as it is, and so does every octet of the area. The payload need not be written to disk again.
+ * octets stays as it is, and so does every octet of the area except the timestamp, which a packet that has one renews. The payload need not be written to disk again.
  */
 struct saratoga_recorded {
     uint64_t number, code;
@@ -507,6 +508,7 @@ struct saratoga_listed {
     uint64_t complete; /* 1 where every octet was received, else 0 */
     uint64_t runs;     /* how many, at most 64 */
     uint64_t received; /* how many octets of the file were received */
+    uint64_t stamped;  /* 1 where a timestamp is kept, which its STATUS carries, else 0 */
 };
 
 /*
@@ -518,7 +520,7 @@ struct saratoga_done saratoga_fresh(uint8_t *area, size_t area_len);
 
 /*
  * Opens the transfer of a METADATA packet: its Id, with the packet's own descriptor width and the size as the length,
- * and nothing received. An empty file is complete from then on. Where the Id is open with the same width and length, nothing
+ * nothing received and no timestamp. An empty file is complete from then on. Where the Id is open with the same width and length, nothing
  * changes: `already_open` is 1, and edge and completeness are those of the transfer as it is. Path, times and
  * checksum are not kept and not compared.
  *
@@ -528,7 +530,8 @@ struct saratoga_opened saratoga_open(uint8_t *area, size_t area_len, const uint8
 
 /*
  * Records a DATA packet: adds the offsets of its payload to those received. A repeat is accepted, and has
- * `adds` 0. Write the payload to disk first (see above).
+ * `adds` 0. Where the packet has a timestamp (bit 12), the transfer keeps it from now on, whatever it kept before; a repeat
+ * renews it too, and 16 zero octets are one as well. Write the payload to disk first (see above).
  *
  * Order of refusals (R6.6): 22, those of saratoga_read for DATA, with 4 for any other type, 12, 13 (64 and 128 bits are
  * two widths), 14, 15, 16.
@@ -545,7 +548,8 @@ struct saratoga_recorded saratoga_try_record(const uint8_t *area, size_t area_le
                                              size_t packet_len);
 
 /*
- * Closes a transfer: its Id is no longer open, and what was received is forgotten. Its place can be used again.
+ * Closes a transfer: its Id is no longer open, and what was received is forgotten, the timestamp too. Its place can be
+ * used again.
  *
  * Order of refusals (R6.10): 22, 12 (also for any id over 32 bits).
  */
@@ -555,14 +559,15 @@ struct saratoga_done saratoga_close(uint8_t *area, size_t area_len, uint64_t id)
  * Writes a success STATUS of an open transfer into `out`; octets after it stay. The area is only read. Progress is the
  * lowest offset not received, In-Response-To the edge or, where the transfer is complete, its length less one (0 where the
  * length is 0). The first `skip` holes are left out, then as many are written as `out` has room for, lowest first. Bit 14
- * is set where a hole is left out, bit 15 where `unasked` is not 0 or the transfer is complete. A STATUS of h holes has
- * 8 + 2 d + 2 d h octets, where d is 2, 4, 8 or 16, the octets of a descriptor. So SARATOGA_STATUS_OCTETS are always enough.
+ * is set where a hole is left out, bit 15 where `unasked` is not 0 or the transfer is complete. Where the transfer keeps a
+ * timestamp, bit 12 is set and its 16 octets follow the Id. A STATUS of h holes has 8 + 2 d + 2 d h octets, and 16 more with
+ * a timestamp, where d is 2, 4, 8 or 16, the octets of a descriptor. So SARATOGA_STATUS_OCTETS are always enough.
  *
  * Set `unasked` to 0 where the STATUS answers DATA that asked for it (SARATOGA_FLAG_STATUS_WANTED), and to 1 where nobody
  * asked: after METADATA, by a timer, or on completion.
  *
  * Order of refusals (R7.1): 22, 12 (also for any id over 32 bits), 19 (`skip` is neither 0 nor below the number of holes),
- * 20 (no room for the fields before the holes or, where there are holes, for one of them).
+ * 20 (no room for the fields before the holes, the timestamp included, or, where there are holes, for one of them).
  */
 struct saratoga_written saratoga_write_status(const uint8_t *area, size_t area_len, uint64_t id, uint64_t skip,
                                               uint64_t unasked, uint8_t *out, size_t out_len);
@@ -595,8 +600,9 @@ struct saratoga_hole saratoga_transfer_hole(const uint8_t *area, size_t area_len
  *
  * A second receiver, made to be followed by eye: one transfer of at most SARATOGA_BITMAP_LONGEST octets, with one mark for
  * each. Mark n is bit n of an area of SARATOGA_BITMAP_OCTETS octets, `marks[n / 8] & 0x80 >> n % 8`, and is set once
- * octet n was received (docs/AREA.md). The Id, the width and the length are in a struct that is passed by value: opening hands it out,
- * the program passes it to each call with the same marks, and an accepted recording hands it back. A refusal hands back zeros,
+ * octet n was received (docs/AREA.md). The Id, the width, the length and the timestamp are in a struct that is passed by value:
+ * opening hands it out, the program passes it to each call with the same marks, and an accepted recording hands it back, with
+ * the packet's timestamp where it has one. A refusal hands back zeros,
  * so a program keeps the struct it has:
  *
  *     if (recorded.number == 0)
@@ -608,18 +614,21 @@ struct saratoga_hole saratoga_transfer_hole(const uint8_t *area, size_t area_len
  *
  * Every function refuses with 20 before anything else where the area is shorter than SARATOGA_BITMAP_OCTETS. Recording and STATUS
  * then judge marks and struct, and refuse with 22 where the width is not 2, 4, 8 or 16, the length is above what the width
- * or the marks can hold, a mark at or above the length is set, or the marks have more than 64 runs (R12.4).
+ * or the marks can hold, a mark at or above the length is set, or the marks have more than 64 runs (R12.4). Any timestamp is taken.
  */
 
 /* Octets of the marks, and of the longest transfer. */
 #define SARATOGA_BITMAP_OCTETS 8192
 #define SARATOGA_BITMAP_LONGEST 65535
 
-/* The transfer that marks belong to. */
+/* The transfer that marks belong to. What is handed back has `stamped` 0 or 1, and zero halves where no timestamp is kept. */
 struct saratoga_bitmap {
     uint64_t id;
-    uint64_t width;  /* octets of a descriptor: 2, 4, 8 or 16 */
-    uint64_t length; /* of the file, in octets */
+    uint64_t width;      /* octets of a descriptor: 2, 4, 8 or 16 */
+    uint64_t length;     /* of the file, in octets */
+    uint64_t stamped;    /* whether a timestamp is kept: no for 0, yes for any other number */
+    uint64_t stamp_high; /* its first eight octets as a number, the highest first; not looked at where none is kept */
+    uint64_t stamp_low;  /* its last eight, the same way */
 };
 
 /* An opened transfer. */
@@ -641,7 +650,7 @@ struct saratoga_bitmap_recorded {
 };
 
 /*
- * Opens the transfer of a METADATA packet, and clears every mark, whatever was marked before. Senders repeat METADATA, and
+ * Opens the transfer of a METADATA packet, and clears every mark, whatever was marked before; no timestamp is kept. Senders repeat METADATA, and
  * a repeat clears the marks too: compare its Id, width and size with the transfer at hand first.
  *
  * Order of refusals (R12.3): 20, those of saratoga_read for METADATA, with 4 for any other type, 9 (size above
@@ -651,7 +660,8 @@ struct saratoga_bitmap_opened saratoga_bitmap_open(uint8_t *marks, size_t marks_
                                                    size_t packet_len);
 
 /*
- * Records a DATA packet: sets the marks of its payload's offsets. A repeat is accepted, and has `adds` 0. Write the
+ * Records a DATA packet: sets the marks of its payload's offsets. A repeat is accepted, and has `adds` 0. The struct
+ * that is handed back keeps the packet's timestamp where it has one, else that of the struct that was passed. Write the
  * payload to disk first (see above).
  *
  * Order of refusals (R12.5): 20, 22, those of saratoga_read for DATA, with 4 for any other type, 12 (another Id), 13, 14,

@@ -18,7 +18,7 @@
 #include "receivers.h"
 
 enum { AREA = SARATOGA_AREA_OCTETS, PAYLOAD = 1000, ROOM = SARATOGA_STATUS_OCTETS };
-enum { CALLS = 256, PART = 16, REPEATS_MOST = 1001, CASES_MOST = 40, PIECES_MOST = 32000 };
+enum { CALLS = 256, PART = 16, REPEATS_MOST = 1001, CASES_MOST = 48, PIECES_MOST = 32000 };
 enum { MARKS = SARATOGA_BITMAP_OCTETS, MARKED_PAYLOAD = 100 };
 enum receiver { OURS, MEMORY, PLAIN_AREA, MAP, RECEIVERS };
 enum operation { READ, OPEN, RECORD, STATUS, CLOSE, PLAN, CHECK, MARK_RECORD, MARK_STATUS };
@@ -151,7 +151,10 @@ static size_t data_packet(uint8_t *p, uint64_t flags, uint64_t id, uint64_t offs
     size_t width = (size_t)2 << (flags >> 22 & 3), at = flags & SARATOGA_FLAG_TIMESTAMP ? 24 : 8;
     put(p, UINT64_C(0x43000000) | flags, 4);
     put(p + 4, id, 4);
-    memset(p + 8, 0x5A, at - 8);
+    if (at == 24) {
+        put(p + 8, random_number(), 8);
+        put(p + 16, below(8) ? random_number() : 0, 8);
+    }
     put(p + at, offset, width);
     memset(p + at + width, 0xC3, payload);
     return at + width + payload;
@@ -304,13 +307,16 @@ static void compare_marks_open(struct tables *t, struct saratoga_bitmap *transfe
         *transfer = ours.transfer;
 }
 
-static void compare_marks_record(struct tables *t, struct saratoga_bitmap transfer, size_t len, const uint8_t *packet,
+/* Keeps what an accepted recording hands back. */
+static void compare_marks_record(struct tables *t, struct saratoga_bitmap *transfer, size_t len, const uint8_t *packet,
                                  size_t size)
 {
-    struct saratoga_bitmap_recorded ours = saratoga_bitmap_record(transfer, t->our_marks, len, packet, size);
-    struct saratoga_bitmap_recorded plain = marks_record(transfer, t->plain_marks, len, packet, size);
+    struct saratoga_bitmap_recorded ours = saratoga_bitmap_record(*transfer, t->our_marks, len, packet, size);
+    struct saratoga_bitmap_recorded plain = marks_record(*transfer, t->plain_marks, len, packet, size);
     same("record with marks", "B", &ours, &plain, sizeof ours);
     same_marks("record with marks", t, ours.number);
+    if (ours.number == 0)
+        *transfer = ours.transfer;
 }
 
 static void compare_marks_status(struct tables *t, struct saratoga_bitmap transfer, size_t len, uint64_t skip,
@@ -337,19 +343,22 @@ static void put_word(uint8_t *area, size_t word, uint64_t number)
 /* Changes a word: any, or one of the first that may be used. The number open is in the lowest octet of word 0. */
 static void damage(uint8_t *area)
 {
-    size_t open = area[0], place = below(open + 1) % 16, run = 64 * place + 1 + below(20), word = below(2113);
-    switch (below(6)) {
+    size_t open = area[0], place = below(open + 1) % 16, run = 64 * place + 1 + below(20), word = below(2161);
+    switch (below(7)) {
     case 0: /* a run starts where the one before it stops */
-        memcpy(area + 8 * (65 + run), area + 8 * (1089 + run - 1), 8);
+        memcpy(area + 8 * (81 + run), area + 8 * (1105 + run - 1), 8);
         break;
     case 1: /* a transfer has the Id of the one before it, or all of its head */
-        memcpy(area + 8 * (5 + 4 * (place % 15)), area + 8 * (1 + 4 * (place % 15)), below(2) ? 8 : 32);
+        memcpy(area + 8 * (6 + 5 * (place % 15)), area + 8 * (1 + 5 * (place % 15)), below(2) ? 8 : 40);
         break;
     case 2: /* a head */
-        put_word(area, below(5 + 4 * place), below(70));
+        put_word(area, below(6 + 5 * place), below(70));
         break;
     case 3: /* a run */
-        put_word(area, (below(2) ? 65 : 1089) + run - 1, below(2) ? below(30000) : random_number());
+        put_word(area, (below(2) ? 81 : 1105) + run - 1, below(2) ? below(30000) : random_number());
+        break;
+    case 5: /* whether a timestamp is kept */
+        put_word(area, 5 + 5 * place, below(3));
         break;
     case 4:
         put_word(area, word, below(70));
@@ -419,11 +428,11 @@ static size_t random_packet(uint8_t *p, enum operation operation)
     return size;
 }
 
-/* Something is wrong with marks or transfer: a mark more, many more, another width, length or Id. */
+/* Something is wrong with marks or transfer, or may be: a mark more, many more, another width, length, timestamp or Id. */
 static void damage_marks(struct tables *t, struct saratoga_bitmap *transfer)
 {
     size_t at = below(MARKS), i;
-    switch (below(5)) {
+    switch (below(6)) {
     case 0:
         t->our_marks[at] ^= (uint8_t)(1 << below(8));
         break;
@@ -436,6 +445,10 @@ static void damage_marks(struct tables *t, struct saratoga_bitmap *transfer)
         break;
     case 3:
         transfer->length = below(2) ? 65534 + below(4) : random_number();
+        break;
+    case 4:
+        transfer->stamped = below(3) ? below(3) : random_number();
+        transfer->stamp_high = random_number();
         break;
     default:
         transfer->id = random_number() >> below(40);
@@ -454,16 +467,18 @@ static void compare_random_marks(struct tables *t, struct saratoga_bitmap *trans
         return;
     }
     if (below(10) && transfer->width != 0)
-        size = data_packet(packet, width_flags(transfer->width) | (below(20) ? 0 : SARATOGA_FLAG_END_OF_DATA), transfer->id,
-                           below(transfer->length + 2), 1 + below(below(6) ? 40 : 900));
+        size = data_packet(packet,
+                           width_flags(transfer->width) | (below(20) ? 0 : SARATOGA_FLAG_END_OF_DATA) |
+                               (below(4) ? 0 : SARATOGA_FLAG_TIMESTAMP),
+                           transfer->id, below(transfer->length + 2), 1 + below(below(6) ? 40 : 900));
     if (choice < 26) {
-        compare_marks_record(t, *transfer, MARKS, packet, size);
+        compare_marks_record(t, transfer, MARKS, packet, size);
     } else if (choice < 36) {
         compare_marks_status(t, *transfer, MARKS, below(3) ? 0 : below(70), below(2), below(2) ? ROOM : below(ROOM));
     } else {
         memcpy(damaged.our_marks, t->our_marks, MARKS);
         damage_marks(&damaged, &wrong);
-        compare_marks_record(&damaged, wrong, len, packet, size);
+        compare_marks_record(&damaged, &wrong, len, packet, size);
         compare_marks_status(&damaged, wrong, len, below(2) ? 0 : below(70), 0, below(2) ? ROOM : below(ROOM));
     }
 }
@@ -472,7 +487,7 @@ static void compare_random(unsigned long calls)
 {
     static uint8_t packet[66000];
     struct tables *t = allocated(sizeof *t);
-    struct saratoga_bitmap transfer = {0, 0, 0};
+    struct saratoga_bitmap transfer = {0, 0, 0, 0, 0, 0};
     make_tables(t);
     while (compared < calls) {
         size_t choice = below(100), size;
@@ -543,19 +558,25 @@ static uint64_t id_of(size_t transfer)
     return 0x1000 + 0x35 * transfer;
 }
 
-/* Opens transfers of this width, each with `runs` runs of 1,000 octets, the first from `from` on. */
-static void open_with_runs(struct bench_case *c, size_t width, size_t transfers, size_t runs, uint64_t from)
+/* Opens transfers of this width, each with `runs` runs of 1,000 octets, the first from `from` on, with timestamps or without. */
+static void open_with_runs(struct bench_case *c, size_t width, size_t transfers, size_t runs, uint64_t from, int timestamp)
 {
     static uint8_t packet[PAYLOAD + 48];
+    uint64_t flags = width_flags(width) | (timestamp ? SARATOGA_FLAG_TIMESTAMP : 0);
     size_t i, j, size;
     for (i = 0; i < transfers; i++) {
         size = metadata_packet(packet, width_flags(width), id_of(i), (uint64_t)1 << 40, 11);
         compare_open(&c->start, packet, size);
         for (j = 0; j < runs; j++) {
-            size = data_packet(packet, width_flags(width), id_of(i), from + j * SPACING, PAYLOAD);
+            size = data_packet(packet, flags, id_of(i), from + j * SPACING, PAYLOAD);
             compare_record(&c->start, packet, size);
         }
     }
+}
+
+static const char *stamp_name(int timestamp)
+{
+    return timestamp ? ", timestamp" : "";
 }
 
 static void read_case(size_t width, int timestamp)
@@ -563,7 +584,7 @@ static void read_case(size_t width, int timestamp)
     char name[64];
     struct bench_case *c;
     size_t i;
-    snprintf(name, sizeof name, "read DATA, width %d%s", (int)(8 * width), timestamp ? ", timestamp" : "");
+    snprintf(name, sizeof name, "read DATA, width %d%s", (int)(8 * width), stamp_name(timestamp));
     c = new_case(name, READ);
     for (i = 0; i < CALLS; i++)
         data_call(c, width_flags(width) | (timestamp ? SARATOGA_FLAG_TIMESTAMP : 0), id_of(i % 16), 100 * i);
@@ -577,19 +598,20 @@ static const char *wide_name(size_t width)
 
 /*
  * Packets in fours, each four at a transfer and a run drawn at random: one that extends the run, one apart from all runs
- * (a run more), the one between them (a run less), and a repeat. So the number of runs held stays.
+ * (a run more), the one between them (a run less), and a repeat. So the number of runs held stays. Each has a timestamp, or
+ * none has.
  */
-static void record_case(size_t width, size_t transfers, size_t runs)
+static void record_case(size_t width, size_t transfers, size_t runs, int timestamp)
 {
-    uint64_t stops[16][64], stop, flags = width_flags(width);
+    uint64_t stops[16][64], stop, flags = width_flags(width) | (timestamp ? SARATOGA_FLAG_TIMESTAMP : 0);
     char name[64];
     struct bench_case *c;
     size_t i, j;
-    snprintf(name, sizeof name, "record, %d run%s, %d open%s", (int)runs, runs == 1 ? "" : "s", (int)transfers,
-             wide_name(width));
+    snprintf(name, sizeof name, "record, %d run%s, %d open%s%s", (int)runs, runs == 1 ? "" : "s", (int)transfers,
+             wide_name(width), stamp_name(timestamp));
     c = new_case(name, RECORD);
     c->few_runs = transfers == 1 && runs <= 8;
-    open_with_runs(c, width, transfers, runs, 0);
+    open_with_runs(c, width, transfers, runs, 0, timestamp);
     for (i = 0; i < 16; i++)
         for (j = 0; j < 64; j++)
             stops[i][j] = j * SPACING + PAYLOAD;
@@ -605,13 +627,14 @@ static void record_case(size_t width, size_t transfers, size_t runs)
     }
 }
 
-static void status_case(size_t width, size_t transfers, size_t holes)
+static void status_case(size_t width, size_t transfers, size_t holes, int timestamp)
 {
     char name[64];
     struct bench_case *c;
-    snprintf(name, sizeof name, "STATUS, %d holes, %d open%s", (int)holes, (int)transfers, wide_name(width));
+    snprintf(name, sizeof name, "STATUS, %d holes, %d open%s%s", (int)holes, (int)transfers, wide_name(width),
+             stamp_name(timestamp));
     c = new_case(name, STATUS);
-    open_with_runs(c, width, transfers, holes == 0 ? 1 : holes, holes == 0 ? 0 : PAYLOAD);
+    open_with_runs(c, width, transfers, holes == 0 ? 1 : holes, holes == 0 ? 0 : PAYLOAD, timestamp);
     while (c->count < CALLS)
         new_call(c, id_of(below(transfers)));
 }
@@ -620,21 +643,22 @@ static void status_case(size_t width, size_t transfers, size_t holes)
  * The longest file with marks, width 64, with `runs` runs of 100 octets as far apart as can be, none at its start. Recording is
  * of packets in fours, as with the table, of 100 octets each, at one run after the other.
  */
-static void marks_case(enum operation operation, size_t runs)
+static void marks_case(enum operation operation, size_t runs, int timestamp)
 {
     static uint8_t packet[PAYLOAD + 48];
     uint64_t stops[64], spacing = SARATOGA_BITMAP_LONGEST / runs;
+    uint64_t flags = SARATOGA_WIDTH_64 | (timestamp ? SARATOGA_FLAG_TIMESTAMP : 0);
     char name[64];
     struct bench_case *c;
     size_t size, j;
-    snprintf(name, sizeof name, "%s with marks, %d run%s", operation == MARK_RECORD ? "record" : "STATUS", (int)runs,
-             runs == 1 ? "" : "s");
+    snprintf(name, sizeof name, "%s with marks, %d run%s%s", operation == MARK_RECORD ? "record" : "STATUS", (int)runs,
+             runs == 1 ? "" : "s", stamp_name(timestamp));
     c = new_case(name, operation);
     size = metadata_packet(packet, SARATOGA_WIDTH_64, id_of(0), SARATOGA_BITMAP_LONGEST, 11);
     compare_marks_open(&c->start, &c->transfer, packet, size);
     for (j = 0; j < runs; j++) {
-        size = data_packet(packet, SARATOGA_WIDTH_64, id_of(0), 50 + j * spacing, MARKED_PAYLOAD);
-        compare_marks_record(&c->start, c->transfer, MARKS, packet, size);
+        size = data_packet(packet, flags, id_of(0), 50 + j * spacing, MARKED_PAYLOAD);
+        compare_marks_record(&c->start, &c->transfer, MARKS, packet, size);
         stops[j] = 50 + j * spacing + MARKED_PAYLOAD;
     }
     for (j = 0; c->count < CALLS && operation == MARK_RECORD; j = (j + 37) % runs) {
@@ -643,7 +667,7 @@ static void marks_case(enum operation operation, size_t runs)
         for (i = 0; i < 4; i++) {
             uint8_t *data = new_call(c, id_of(0));
             uint64_t offset = stops[j] + fours[i] * MARKED_PAYLOAD;
-            c->calls[c->count - 1].size = data_packet(data, SARATOGA_WIDTH_64, id_of(0), offset, MARKED_PAYLOAD);
+            c->calls[c->count - 1].size = data_packet(data, flags, id_of(0), offset, MARKED_PAYLOAD);
         }
         stops[j] += 3 * MARKED_PAYLOAD;
     }
@@ -663,8 +687,8 @@ static void open_and_close_cases(void)
     struct bench_case *already = new_case("open, already open, 16 open", OPEN);
     struct bench_case *closing = new_case("close, 16 to 1 open", CLOSE);
     size_t i;
-    open_with_runs(already, 8, 16, 8, 0);
-    open_with_runs(closing, 8, 16, 8, 0);
+    open_with_runs(already, 8, 16, 8, 0, 0);
+    open_with_runs(closing, 8, 16, 8, 0, 0);
     for (i = 0; i < 16; i++) {
         open_call(new_ids, id_of(7 * i % 16));
         new_call(closing, id_of(11 * i % 16));
@@ -713,25 +737,30 @@ static void make_cases(void)
     read_case(8, 1);
     read_case(16, 0);
     read_case(16, 1);
-    for (i = 0; i < 6; i++)
-        record_case(8, i < 3 ? 1 : 16, runs[i % 3]);
-    record_case(16, 1, 8);
-    record_case(16, 16, 63);
-    status_case(8, 1, 0);
-    status_case(8, 1, 64);
-    status_case(8, 16, 0);
-    status_case(8, 16, 64);
-    status_case(16, 1, 64);
-    status_case(16, 16, 64);
+    for (i = 0; i < 12; i++)
+        record_case(8, i % 6 < 3 ? 1 : 16, runs[i % 3], i >= 6);
+    record_case(16, 1, 8, 0);
+    record_case(16, 16, 63, 0);
+    status_case(8, 1, 0, 0);
+    status_case(8, 1, 64, 0);
+    status_case(8, 16, 0, 0);
+    status_case(8, 16, 64, 0);
+    status_case(8, 1, 0, 1);
+    status_case(8, 16, 64, 1);
+    status_case(16, 1, 64, 0);
+    status_case(16, 16, 64, 0);
     open_and_close_cases();
     for (i = 0; i < 6; i++)
         plan_case(i < 3 ? PLAN : CHECK, holes[i % 3]);
     for (i = 0; i < 6; i++)
-        marks_case(i < 3 ? MARK_RECORD : MARK_STATUS, runs[i % 3]);
+        marks_case(i < 3 ? MARK_RECORD : MARK_STATUS, runs[i % 3], 0);
+    marks_case(MARK_RECORD, 8, 1);
+    marks_case(MARK_STATUS, 8, 1);
 }
 
 static void compare_case(const struct bench_case *c, struct tables *t)
 {
+    struct saratoga_bitmap transfer = c->transfer;
     size_t i;
     for (i = 0; i < RECEIVERS; i++)
         copy_tables(t, &c->start, i);
@@ -760,7 +789,7 @@ static void compare_case(const struct bench_case *c, struct tables *t)
             compare_check(call->packet, call->size, call->largest, call->pieces, call->piece_count);
             break;
         case MARK_RECORD:
-            compare_marks_record(t, c->transfer, MARKS, call->packet, call->size);
+            compare_marks_record(t, &transfer, MARKS, call->packet, call->size);
             break;
         case MARK_STATUS:
             compare_marks_status(t, c->transfer, MARKS, 0, 0, ROOM);
@@ -957,7 +986,7 @@ static void measure(size_t repeats)
     }
     clock = median(clocks, repeats);
     printf("Nanoseconds a call, medians of %d, and ratios\n", (int)repeats);
-    printf("%-35s %8s %8s %8s %8s %7s %7s %7s\n", "", "ours", "(A)", "(B)", "(C)", "ours/A", "ours/B", "ours/C");
+    printf("%-37s %8s %8s %8s %8s %7s %7s %7s\n", "", "ours", "(A)", "(B)", "(C)", "ours/A", "ours/B", "ours/C");
     for (i = 0; i < case_count; i++) {
         double ratio[RECEIVERS] = {0}, time[RECEIVERS] = {0};
         for (k = 0; k < RECEIVERS; k++) {
@@ -966,7 +995,7 @@ static void measure(size_t repeats)
             time[k] = time_of(i, k, repeats, clock);
             ratio[k] = time[OURS] / time[k];
         }
-        printf("%-35s", cases[i]->name);
+        printf("%-37s", cases[i]->name);
         for (k = 0; k < RECEIVERS; k++)
             print_time(time[k]);
         for (k = MEMORY; k < RECEIVERS; k++)

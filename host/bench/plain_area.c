@@ -2,9 +2,9 @@
 #include "plain_packet.h"
 #include "receivers.h"
 
-/* Where the words of the area stand: heads of four words, and two rows of run places for each transfer. */
-enum { TRANSFERS = 16, RUNS = 64, HEAD = 4, HEADS = 1, STARTS = 65, STOPS = 1089 };
-enum field { ID, WIDTH, LENGTH, COUNT };
+/* Where the words of the area stand: heads of five words, two rows of run places for each transfer, and two words of timestamp. */
+enum { TRANSFERS = 16, RUNS = 64, HEAD = 5, HEADS = 1, STARTS = 81, STOPS = 1105, STAMPS = 2129 };
+enum field { ID, WIDTH, LENGTH, COUNT, STAMPED };
 
 static struct saratoga_opened not_opened(unsigned number)
 {
@@ -52,6 +52,16 @@ static inline void put_head(uint8_t *area, size_t place, enum field field, uint6
     put_word(area, HEADS + HEAD * place + field, number);
 }
 
+static inline const uint8_t *stamp_at(const uint8_t *area, size_t place)
+{
+    return area + 8 * (STAMPS + 2 * place);
+}
+
+static inline void put_stamp(uint8_t *area, size_t place, const uint8_t *octets)
+{
+    memcpy(area + 8 * (STAMPS + 2 * place), octets, 16);
+}
+
 /* Whether the width is 2, 4, 8 or 16, and the length fits it. */
 static int length_allowed(uint64_t width, uint64_t length)
 {
@@ -86,7 +96,7 @@ static int area_allowed(const uint8_t *area, size_t area_len)
         uint64_t id = head(area, i, ID), length = head(area, i, LENGTH), count = head(area, i, COUNT);
         if (id > UINT32_MAX || (i > 0 && id <= last))
             return 0;
-        if (!length_allowed(head(area, i, WIDTH), length) || count > RUNS)
+        if (!length_allowed(head(area, i, WIDTH), length) || count > RUNS || head(area, i, STAMPED) > 1)
             return 0;
         if (!runs_allowed(area, i, count, length))
             return 0;
@@ -162,12 +172,14 @@ static int add_run(uint8_t *area, size_t place, uint64_t from, uint64_t to, uint
     return 1;
 }
 
-/* Copies the runs of the transfer at one place to another: as many as its head says. */
+/* Copies the runs of the transfer at one place to another, as many as its head says, and the timestamp if there is one. */
 static void copy_runs(uint8_t *area, size_t to, size_t from)
 {
     size_t count = head(area, from, COUNT);
     memcpy(area + 8 * (STARTS + RUNS * to), area + 8 * (STARTS + RUNS * from), 8 * count);
     memcpy(area + 8 * (STOPS + RUNS * to), area + 8 * (STOPS + RUNS * from), 8 * count);
+    if (head(area, from, STAMPED))
+        put_stamp(area, to, stamp_at(area, from));
 }
 
 /* Moves the transfers from a place on to one place after it. */
@@ -225,6 +237,7 @@ struct saratoga_opened area_open(uint8_t *area, size_t area_len, const uint8_t *
     put_head(area, place, WIDTH, m.width);
     put_head(area, place, LENGTH, m.size);
     put_head(area, place, COUNT, 0);
+    put_head(area, place, STAMPED, 0);
     put_word(area, 0, open + 1);
     return (struct saratoga_opened){.complete = m.size == 0};
 }
@@ -249,6 +262,10 @@ struct saratoga_recorded area_record(uint8_t *area, size_t area_len, const uint8
         return not_recorded(refused);
     if (!add_run(area, place, d.offset, d.offset + d.payload, &absorbed, &adds))
         return not_recorded(16);
+    if (d.timestamp) {
+        put_head(area, place, STAMPED, 1);
+        put_stamp(area, place, packet + 8);
+    }
     return (struct saratoga_recorded){.edge = edge_at(area, place),
                                       .complete = length <= progress_at(area, place),
                                       .absorbed = absorbed,
@@ -272,7 +289,7 @@ struct saratoga_done area_close(uint8_t *area, size_t area_len, uint64_t id)
 struct saratoga_written area_write_status(const uint8_t *area, size_t area_len, uint64_t id, uint64_t skip,
                                           uint64_t unasked, uint8_t *out, size_t out_len)
 {
-    size_t place, d, count, holes, room, some, j;
+    size_t place, d, count, stamp, holes, room, some, j;
     const uint8_t *starts, *stops;
     uint8_t *at;
     if (!area_allowed(area, area_len))
@@ -282,30 +299,30 @@ struct saratoga_written area_write_status(const uint8_t *area, size_t area_len, 
         return not_written(12);
     d = head(area, place, WIDTH);
     count = head(area, place, COUNT);
+    stamp = head(area, place, STAMPED) ? 16 : 0;
     starts = area + 8 * (STARTS + RUNS * place);
     stops = area + 8 * (STOPS + RUNS * place);
     holes = count == 0 ? 0 : count - (word(starts, 0) == 0);
     if (skip != 0 && skip >= holes)
         return not_written(19);
-    if (out_len < 8 + 2 * d + (holes > 0 ? 2 * d : 0))
+    if (out_len < 8 + stamp + 2 * d + (holes > 0 ? 2 * d : 0))
         return not_written(20);
     some = holes - (size_t)skip;
-    room = (out_len - 8 - 2 * d) / (2 * d);
+    room = (out_len - 8 - stamp - 2 * d) / (2 * d);
     if (room < some)
         some = room;
-    put_status_start(
-        out, status_flags(d, some < holes, unasked != 0 || head(area, place, LENGTH) <= progress_at(area, place)),
-        id);
-    put_number(out + 8, d, progress_at(area, place));
-    put_number(out + 8 + d, d,
-               in_response_to(head(area, place, LENGTH), progress_at(area, place), edge_at(area, place)));
+    at = put_status_start(
+        out, status_flags(d, stamp, some < holes, unasked != 0 || head(area, place, LENGTH) <= progress_at(area, place)),
+        id, stamp_at(area, place));
+    put_number(at, d, progress_at(area, place));
+    put_number(at + d, d, in_response_to(head(area, place, LENGTH), progress_at(area, place), edge_at(area, place)));
     /* Hole j ends where run `next` starts. */
-    at = out + 8 + 2 * d;
+    at += 2 * d;
     for (j = 0; j < some; j++) {
         size_t next = count - holes + (size_t)skip + j;
         put_number(at, d, next == 0 ? 0 : word(stops, next - 1));
         put_number(at + d, d, word(starts, next));
         at += 2 * d;
     }
-    return (struct saratoga_written){.size = 8 + 2 * d + 2 * d * some};
+    return (struct saratoga_written){.size = 8 + stamp + 2 * d + 2 * d * some};
 }

@@ -12,6 +12,8 @@ struct Transfer {
     size_t width;
     uint64_t length;
     std::map<uint64_t, uint64_t> runs;
+    size_t stamp;          // octets of timestamp: 16, or none
+    uint8_t timestamp[16];
 
     uint64_t edge() const { return runs.empty() ? 0 : runs.rbegin()->second; }
     uint64_t progress() const { return runs.empty() || runs.begin()->first != 0 ? 0 : runs.begin()->second; }
@@ -98,7 +100,7 @@ saratoga_opened map_open(map_table *table, const uint8_t *packet, size_t packet_
     }
     if (table->transfers.size() == TRANSFERS)
         return refused_with<saratoga_opened>(17);
-    table->transfers.emplace(m.id, Transfer{m.width, m.size, {}});
+    table->transfers.emplace(m.id, Transfer{m.width, m.size, {}, 0, {}});
     a.complete = m.size == 0;
     return a;
 }
@@ -119,6 +121,10 @@ saratoga_recorded map_record(map_table *table, const uint8_t *packet, size_t pac
         return refused_with<saratoga_recorded>(refused);
     if (!t.add(d.offset, d.offset + d.payload, &a.absorbed, &a.adds))
         return refused_with<saratoga_recorded>(16);
+    if (d.timestamp) {
+        t.stamp = 16;
+        memcpy(t.timestamp, packet + 8, 16);
+    }
     a.edge = t.edge();
     a.complete = t.length <= t.progress();
     return a;
@@ -141,15 +147,16 @@ saratoga_written map_write_status(const map_table *table, uint64_t id, uint64_t 
     size_t d = t.width, holes = t.runs.empty() ? 0 : t.runs.size() - (t.runs.begin()->first == 0);
     if (skip != 0 && skip >= holes)
         return refused_with<saratoga_written>(19);
-    if (out_len < 8 + 2 * d + (holes > 0 ? 2 * d : 0))
+    if (out_len < 8 + t.stamp + 2 * d + (holes > 0 ? 2 * d : 0))
         return refused_with<saratoga_written>(20);
-    size_t some = holes - skip, room = (out_len - 8 - 2 * d) / (2 * d);
+    size_t some = holes - skip, room = (out_len - 8 - t.stamp - 2 * d) / (2 * d);
     if (room < some)
         some = room;
-    put_status_start(out, status_flags(d, some < holes, unasked != 0 || t.length <= t.progress()), id);
-    put_number(out + 8, d, t.progress());
-    put_number(out + 8 + d, d, in_response_to(t.length, t.progress(), t.edge()));
-    uint8_t *at = out + 8 + 2 * d;
+    uint64_t flags = status_flags(d, t.stamp, some < holes, unasked != 0 || t.length <= t.progress());
+    uint8_t *at = put_status_start(out, flags, id, t.timestamp);
+    put_number(at, d, t.progress());
+    put_number(at + d, d, in_response_to(t.length, t.progress(), t.edge()));
+    at += 2 * d;
     uint64_t last = 0;
     size_t index = 0, left = some;
     for (auto &run : t.runs) {
@@ -167,6 +174,6 @@ saratoga_written map_write_status(const map_table *table, uint64_t id, uint64_t 
         last = run.second;
     }
     saratoga_written a = {};
-    a.size = 8 + 2 * d + 2 * d * some;
+    a.size = 8 + t.stamp + 2 * d + 2 * d * some;
     return a;
 }

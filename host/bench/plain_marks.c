@@ -92,6 +92,18 @@ static unsigned judge(struct saratoga_bitmap transfer, const uint8_t *marks, siz
     return !find_runs(marks, runs) || edge_of(runs) > transfer.length ? 22 : 0;
 }
 
+/* The transfer that is handed back: with the packet's timestamp, or the one that it has; else with zeros for it. */
+static struct saratoga_bitmap handed_back(struct saratoga_bitmap transfer, const struct plain_data *d, const uint8_t *packet)
+{
+    struct saratoga_bitmap back = {.id = transfer.id, .width = transfer.width, .length = transfer.length};
+    if (d->timestamp || transfer.stamped) {
+        back.stamped = 1;
+        back.stamp_high = d->timestamp ? number64(packet + 8) : transfer.stamp_high;
+        back.stamp_low = d->timestamp ? number64(packet + 16) : transfer.stamp_low;
+    }
+    return back;
+}
+
 /* Sets the marks from `from` up to, not including, `to`: one by one up to a whole octet, and behind the last one. */
 static void set_marks(uint8_t *marks, size_t from, size_t to)
 {
@@ -114,7 +126,7 @@ struct saratoga_bitmap_opened marks_open(uint8_t *marks, size_t marks_len, const
     if (m.size > LONGEST)
         return not_opened(9);
     memset(marks, 0, OCTETS);
-    return (struct saratoga_bitmap_opened){.complete = m.size == 0, .transfer = {m.id, m.width, m.size}};
+    return (struct saratoga_bitmap_opened){.complete = m.size == 0, .transfer = {.id = m.id, .width = m.width, .length = m.size}};
 }
 
 struct saratoga_bitmap_recorded marks_record(struct saratoga_bitmap transfer, uint8_t *marks, size_t marks_len,
@@ -148,16 +160,16 @@ struct saratoga_bitmap_recorded marks_record(struct saratoga_bitmap transfer, ui
                                              .complete = transfer.length <= first(marks, 0, 0),
                                              .absorbed = after - low,
                                              .adds = low == after || runs.starts[low] > from || runs.stops[low] < to,
-                                             .transfer = transfer};
+                                             .transfer = handed_back(transfer, &d, packet)};
 }
 
 struct saratoga_written marks_status(struct saratoga_bitmap transfer, const uint8_t *marks, size_t marks_len,
                                      uint64_t skip, uint64_t unasked, uint8_t *out, size_t out_len)
 {
     struct runs runs;
-    size_t d = transfer.width, holes, room, some, j;
+    size_t d = transfer.width, stamp = transfer.stamped ? 16 : 0, holes, room, some, j;
     uint64_t progress;
-    uint8_t *at;
+    uint8_t *at, octets[16];
     unsigned refused = judge(transfer, marks, marks_len, &runs);
     if (refused)
         return not_written(refused);
@@ -166,23 +178,26 @@ struct saratoga_written marks_status(struct saratoga_bitmap transfer, const uint
     holes = runs.count == 0 ? 0 : runs.count - (runs.starts[0] == 0);
     if (skip != 0 && skip >= holes)
         return not_written(19);
-    if (out_len < 8 + 2 * d + (holes > 0 ? 2 * d : 0))
+    if (out_len < 8 + stamp + 2 * d + (holes > 0 ? 2 * d : 0))
         return not_written(20);
     some = holes - (size_t)skip;
-    room = (out_len - 8 - 2 * d) / (2 * d);
+    room = (out_len - 8 - stamp - 2 * d) / (2 * d);
     if (room < some)
         some = room;
     progress = progress_of(&runs);
-    put_status_start(out, status_flags(d, some < holes, unasked != 0 || transfer.length <= progress), transfer.id);
-    put_number(out + 8, d, progress);
-    put_number(out + 8 + d, d, in_response_to(transfer.length, progress, edge_of(&runs)));
+    put_number64(octets, transfer.stamp_high);
+    put_number64(octets + 8, transfer.stamp_low);
+    at = put_status_start(out, status_flags(d, stamp, some < holes, unasked != 0 || transfer.length <= progress), transfer.id,
+                          octets);
+    put_number(at, d, progress);
+    put_number(at + d, d, in_response_to(transfer.length, progress, edge_of(&runs)));
     /* Hole j ends where run `next` starts. */
-    at = out + 8 + 2 * d;
+    at += 2 * d;
     for (j = 0; j < some; j++) {
         size_t next = runs.count - holes + (size_t)skip + j;
         put_number(at, d, next == 0 ? 0 : runs.stops[next - 1]);
         put_number(at + d, d, runs.starts[next]);
         at += 2 * d;
     }
-    return (struct saratoga_written){.size = 8 + 2 * d + 2 * d * some};
+    return (struct saratoga_written){.size = 8 + stamp + 2 * d + 2 * d * some};
 }

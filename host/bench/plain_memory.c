@@ -13,6 +13,8 @@ struct run {
 struct transfer {
     uint64_t id, length;
     size_t width, count;
+    size_t stamp; /* octets of timestamp: 16, or none */
+    uint8_t timestamp[16];
     struct run runs[RUNS];
 };
 
@@ -136,6 +138,7 @@ struct saratoga_opened memory_open(struct memory_table *table, const uint8_t *pa
     t->width = m.width;
     t->length = m.size;
     t->count = 0;
+    t->stamp = 0;
     table->count++;
     return (struct saratoga_opened){.complete = m.size == 0};
 }
@@ -158,6 +161,10 @@ struct saratoga_recorded memory_record(struct memory_table *table, const uint8_t
         return not_recorded(refused);
     if (!add_run(t, d.offset, d.offset + d.payload, &absorbed, &adds))
         return not_recorded(16);
+    if (d.timestamp) {
+        t->stamp = 16;
+        memcpy(t->timestamp, packet + 8, 16);
+    }
     return (struct saratoga_recorded){
         .edge = edge_of(t), .complete = t->length <= progress_of(t), .absorbed = absorbed, .adds = adds};
 }
@@ -188,17 +195,18 @@ struct saratoga_written memory_write_status(const struct memory_table *table, ui
     holes = t->count == 0 ? 0 : t->count - (t->runs[0].start == 0);
     if (skip != 0 && skip >= holes)
         return not_written(19);
-    if (out_len < 8 + 2 * d + (holes > 0 ? 2 * d : 0))
+    if (out_len < 8 + t->stamp + 2 * d + (holes > 0 ? 2 * d : 0))
         return not_written(20);
     some = holes - (size_t)skip;
-    room = (out_len - 8 - 2 * d) / (2 * d);
+    room = (out_len - 8 - t->stamp - 2 * d) / (2 * d);
     if (room < some)
         some = room;
-    put_status_start(out, status_flags(d, some < holes, unasked != 0 || t->length <= progress_of(t)), id);
-    put_number(out + 8, d, progress_of(t));
-    put_number(out + 8 + d, d, in_response_to(t->length, progress_of(t), edge_of(t)));
+    at = put_status_start(out, status_flags(d, t->stamp, some < holes, unasked != 0 || t->length <= progress_of(t)), id,
+                          t->timestamp);
+    put_number(at, d, progress_of(t));
+    put_number(at + d, d, in_response_to(t->length, progress_of(t), edge_of(t)));
     /* Hole j ends where run `next` starts. */
-    at = out + 8 + 2 * d;
+    at += 2 * d;
     for (j = 0; j < some; j++) {
         size_t next = t->count - holes + (size_t)skip + j;
         last = next == 0 ? 0 : t->runs[next - 1].stop;
@@ -206,5 +214,5 @@ struct saratoga_written memory_write_status(const struct memory_table *table, ui
         put_number(at + d, d, t->runs[next].start);
         at += 2 * d;
     }
-    return (struct saratoga_written){.size = 8 + 2 * d + 2 * d * some};
+    return (struct saratoga_written){.size = 8 + t->stamp + 2 * d + 2 * d * some};
 }

@@ -277,10 +277,11 @@ static inline unsigned data_misfit(const struct plain_data *d, uint64_t width, u
     return 0;
 }
 
-/* The flags of a success STATUS. */
-static inline uint64_t status_flags(size_t width, int incomplete, int unasked)
+/* The flags of a success STATUS with so many octets of timestamp. */
+static inline uint64_t status_flags(size_t width, size_t timestamp, int incomplete, int unasked)
 {
-    return (width == 2 ? SARATOGA_WIDTH_16 : width == 4 ? SARATOGA_WIDTH_32 : width == 8 ? SARATOGA_WIDTH_64 : SARATOGA_WIDTH_128) |
+    return (timestamp ? SARATOGA_FLAG_TIMESTAMP : 0) |
+           (width == 2 ? SARATOGA_WIDTH_16 : width == 4 ? SARATOGA_WIDTH_32 : width == 8 ? SARATOGA_WIDTH_64 : SARATOGA_WIDTH_128) |
            (incomplete ? SARATOGA_FLAG_INCOMPLETE : 0) | (unasked ? SARATOGA_FLAG_UNASKED : 0);
 }
 
@@ -290,11 +291,15 @@ static inline uint64_t in_response_to(uint64_t length, uint64_t progress, uint64
     return length > progress ? edge : length == 0 ? 0 : length - 1;
 }
 
-/* The first 8 octets of a STATUS. */
-static inline void put_status_start(uint8_t *out, uint64_t flags, uint64_t id)
+/* The first 8 octets of a STATUS, and the timestamp. Gives the place behind them. */
+static inline uint8_t *put_status_start(uint8_t *out, uint64_t flags, uint64_t id, const uint8_t *timestamp)
 {
     put_number(out, 4, UINT64_C(0x44000000) | flags);
     put_number(out + 4, 4, id);
+    if (!(flags & SARATOGA_FLAG_TIMESTAMP))
+        return out + 8;
+    memcpy(out + 8, timestamp, 16);
+    return out + 24;
 }
 
 #endif

@@ -7,13 +7,16 @@
 
 enum { OCTETS = SARATOGA_BITMAP_OCTETS, PAST = 9, LENT = OCTETS + PAST, ROOM = 100, ID = 9 };
 
-static const struct saratoga_bitmap none = {0, 0, 0};
+static const struct saratoga_bitmap none = {0, 0, 0, 0, 0, 0};
 
 static void same_transfer(const char *what, struct saratoga_bitmap got, struct saratoga_bitmap want)
 {
     SAME(id);
     SAME(width);
     SAME(length);
+    SAME(stamped);
+    SAME(stamp_high);
+    SAME(stamp_low);
 }
 
 static void same_opened(const char *what, struct saratoga_bitmap_opened got, struct saratoga_bitmap_opened want)
@@ -72,6 +75,17 @@ static size_t data(uint8_t *packet, uint64_t id, uint64_t width, uint64_t offset
     put(packet + 8, offset, width);
     memset(packet + 8 + width, 0xC3, payload);
     return 8 + width + payload;
+}
+
+/* The same with a timestamp: its first eight octets as a number, and its last. */
+static size_t stamped_data(uint8_t *packet, uint64_t width, uint64_t offset, uint64_t high, uint64_t low)
+{
+    size_t size = data(packet, ID, width, offset, 1, 0);
+    memmove(packet + 24, packet + 8, size - 8);
+    packet[1] |= 0x08;
+    put(packet + 8, high, 8);
+    put(packet + 16, low, 8);
+    return size + 16;
 }
 
 /* Marks. */
@@ -476,7 +490,7 @@ static void beside_the_table(void)
     uint32_t state = 611;
     size_t i, j, size;
     for (i = 0; i < 4; i++) {
-        uint8_t packet[24 + 500], *marks = lend(NULL, LENT);
+        uint8_t packet[40 + 500], *marks = lend(NULL, LENT);
         struct saratoga_bitmap transfer;
         struct saratoga_bitmap_recorded recorded;
         metadata(packet, ID, widths[i], lengths[i]);
@@ -486,17 +500,54 @@ static void beside_the_table(void)
             uint64_t offset = (state = state * 1103515245 + 12345) >> 8;
             size_t payload = 1 + ((state = state * 1103515245 + 12345) >> 16) % (j % 9 == 0 ? 500 : 12);
             size = data(packet, ID + (j % 50 == 49), widths[i], offset % (lengths[i] + 3), payload, j % 20 == 19);
+            if (j % 7 == 6)
+                size = stamped_data(packet, widths[i], offset % (lengths[i] + 3), j % 3 == 0 ? 0 : offset, j % 5 == 0 ? 0 : j);
             recorded = saratoga_bitmap_record(transfer, marks, LENT, packet, size);
             same_recorded("both", recorded, saratoga_record(area, sizeof area, packet, size));
+            if (recorded.number == 0 && j % 7 == 6) {
+                transfer.stamped = 1;
+                transfer.stamp_high = saratoga_number_of(packet + 8, 8);
+                transfer.stamp_low = saratoga_number_of(packet + 16, 8);
+            }
             same_transfer("both", recorded.transfer, recorded.number == 0 ? transfer : none);
-            if (recorded.number == 0)
-                transfer = recorded.transfer;
             if (j % 60 == 59)
                 both_write(transfer, marks, LENT);
         }
         free(marks);
     }
     printf("ctest: marks beside the table\n");
+}
+
+/* A timestamp in the struct: handed back, sent and counted. Any number but 0 is yes; the halves of a no are not looked at. */
+static void timestamps(void)
+{
+    static const uint64_t yes[] = {1, 2, 256, UINT64_C(1) << 32, UINT64_MAX};
+    static const uint64_t high = UINT64_C(0x0102030405060708), low = UINT64_C(0x1112131415161718);
+    static const uint8_t with[28] = {0x44, 0x08, 0, 0,  0,  0,  0,  ID, 1,    2,    3,    4,    5,    6,   7,  8,
+                                     0x11, 0x12, 0x13, 0x14, 0x15, 0x16, 0x17, 0x18, 0,    3,    0,    3};
+    static const uint8_t without[12] = {0x44, 0, 0, 0, 0, 0, 0, ID, 0, 3, 0, 3};
+    struct saratoga_bitmap bare = transfer_of(2, 100), kept = {ID, 2, 100, 1, high, low}, zeros = {ID, 2, 100, 1, 0, 0};
+    uint8_t packet[64], *marks = no_marks();
+    size_t i, size = stamped_data(packet, 2, 1, high, low);
+    mark(marks, 0, 3);
+    same_transfer("a timestamp", saratoga_bitmap_record(bare, marks, LENT, packet, size).transfer, kept);
+    for (i = 0; i < sizeof yes / sizeof *yes; i++) {
+        struct saratoga_bitmap other = {ID, 2, 100, yes[i], high, low};
+        status_as("yes", other, marks, LENT, 0, 0, 28, (struct saratoga_written){.size = 28}, with);
+        status_refused("yes, in 27 octets", other, marks, LENT, 0, 27, SARATOGA_REFUSED_BUFFER, 0);
+        size = data(packet, ID, 2, 2, 1, 0);
+        same_transfer("DATA without one", saratoga_bitmap_record(other, marks, LENT, packet, size).transfer, kept);
+        size = stamped_data(packet, 2, 1, 0, 0);
+        same_transfer("zeros", saratoga_bitmap_record(other, marks, LENT, packet, size).transfer, zeros);
+        size = stamped_data(packet, 2, 100, 0, 0);
+        same_transfer("refused", saratoga_bitmap_record(other, marks, LENT, packet, size).transfer, none);
+    }
+    kept.stamped = 0;
+    status_as("no", kept, marks, LENT, 0, 0, 12, (struct saratoga_written){.size = 12}, without);
+    size = data(packet, ID, 2, 2, 1, 0);
+    same_transfer("no, with halves", saratoga_bitmap_record(kept, marks, LENT, packet, size).transfer, bare);
+    free(marks);
+    printf("ctest: timestamps with marks\n");
 }
 
 int main(void)
@@ -509,5 +560,6 @@ int main(void)
     runs();
     orders();
     beside_the_table();
+    timestamps();
     return report("ctest bitmap");
 }

@@ -45,6 +45,7 @@ static void same_listed(const char *what, struct saratoga_listed got, struct sar
     SAME(complete);
     SAME(runs);
     SAME(received);
+    SAME(stamped);
 }
 
 /* `octets` octets of a number, the highest first. */
@@ -109,29 +110,37 @@ static void open_as(const char *what, uint8_t *area, size_t len, uint64_t id, si
 }
 
 /*
- * DATA with `payload` octets, with end of data or without. What it would be answered is asked before. The area stays where
- * nothing is added, and else the transfer has received more.
+ * DATA with `payload` octets, with this timestamp or without (NULL), with end of data or without. What it would be answered is
+ * asked before. The area stays where nothing is added and no timestamp is taken, and else the transfer has received more.
  */
-static void record_as(const char *what, uint8_t *area, size_t len, uint64_t id, size_t width, uint64_t offset,
-                      size_t payload, int last, struct saratoga_recorded want)
+static void record_with(const char *what, uint8_t *area, size_t len, uint64_t id, size_t width, const uint8_t *stamp,
+                        uint64_t offset, size_t payload, int last, struct saratoga_recorded want)
 {
-    size_t size = 8 + width + payload;
+    size_t fields = stamp != NULL ? 24 : 8, size = fields + width + payload;
     uint8_t *packet = lend(NULL, size), *lent, *before = lend(area, len);
     put(packet, last ? 0x43008000 : 0x43000000, 4);
-    packet[1] = width_bits(width);
+    packet[1] = (uint8_t)(width_bits(width) | (stamp != NULL ? 0x08 : 0));
     put(packet + 4, id, 4);
-    put(packet + 8, offset, width);
+    if (stamp != NULL)
+        memcpy(packet + 8, stamp, 16);
+    put(packet + fields, offset, width);
     lent = lend(packet, size);
     same_recorded(what, saratoga_try_record(area, len, lent, size), want);
     same_recorded(what, saratoga_record(area, len, lent, size), want);
     same_octets(what, lent, packet, size);
-    if (want.adds == 0)
+    if (want.number != 0 || (want.adds == 0 && stamp == NULL))
         same_octets(what, area, before, len);
-    else if (saratoga_find(area, len, id).received <= saratoga_find(before, len, id).received)
+    else if (saratoga_find(area, len, id).received < saratoga_find(before, len, id).received + want.adds)
         fail(what, "received", saratoga_find(area, len, id).received, saratoga_find(before, len, id).received + 1);
     free(packet);
     free(lent);
     free(before);
+}
+
+static void record_as(const char *what, uint8_t *area, size_t len, uint64_t id, size_t width, uint64_t offset,
+                      size_t payload, int last, struct saratoga_recorded want)
+{
+    record_with(what, area, len, id, width, NULL, offset, payload, last, want);
 }
 
 /*
@@ -425,32 +434,49 @@ static void put_words(uint8_t *area, const struct numbered_word *words, size_t c
 
 #define PUT_WORDS(area, words) put_words(area, words, sizeof words / sizeof words[0])
 
+/* The timestamps of the example: that of Id 300, and that which Id 7 gets. */
+static const uint8_t of_300[16] = {0x11, 0x12, 0x13, 0x14, 0x15, 0x16, 0x17, 0x18,
+                                   0x21, 0x22, 0x23, 0x24, 0x25, 0x26, 0x27, 0x28};
+static const uint8_t of_7[16] = {0xAA, 0xAA, 0xAA, 0xAA, 0xAA, 0xAA, 0xAA, 0xAA,
+                                 0xAA, 0xAA, 0xAA, 0xAA, 0xAA, 0xAA, 0xAA, 0xAA};
+
 /* The example of docs/AREA.md. */
 static const struct numbered_word example[] = {{0, 2},                                  /* transfers */
-                                               {1, 7},                                  /* Id, width, length, runs */
+                                               {1, 7},                                  /* Id, width, length, runs, stamped */
                                                {2, 2},
                                                {3, 3000},
                                                {4, 2},
-                                               {5, 300},
-                                               {6, 8},
-                                               {7, UINT64_C(5000000000)},
-                                               {8, 1},
-                                               {65, 0},                                 /* starts */
-                                               {66, 2000},
-                                               {129, UINT64_C(1) << 32},
-                                               {1089, 1000},                            /* stops */
-                                               {1090, 3000},
-                                               {1153, (UINT64_C(1) << 32) + 500}};
+                                               {5, 0},
+                                               {6, 300},
+                                               {7, 8},
+                                               {8, UINT64_C(5000000000)},
+                                               {9, 1},
+                                               {10, 1},
+                                               {81, 0},                                 /* starts */
+                                               {82, 2000},
+                                               {145, UINT64_C(1) << 32},
+                                               {1105, 1000},                            /* stops */
+                                               {1106, 3000},
+                                               {1169, (UINT64_C(1) << 32) + 500},
+                                               {2131, UINT64_C(0x1817161514131211)},    /* timestamp */
+                                               {2132, UINT64_C(0x2827262524232221)}};
 
-/* What changes in it where two runs of Id 7 are joined, and where Id 7 is closed after that. */
-static const struct numbered_word joined[] = {{4, 1}, {1089, 3000}};
+/* What changes in it where two runs of Id 7 are joined by DATA with a timestamp, and where Id 7 is closed after that. */
+static const struct numbered_word joined[] = {{4, 1},
+                                              {5, 1},
+                                              {1105, 3000},
+                                              {2129, UINT64_C(0xAAAAAAAAAAAAAAAA)},
+                                              {2130, UINT64_C(0xAAAAAAAAAAAAAAAA)}};
 static const struct numbered_word closed[] = {{0, 1},
                                               {1, 300},
                                               {2, 8},
                                               {3, UINT64_C(5000000000)},
                                               {4, 1},
-                                              {65, UINT64_C(1) << 32},
-                                              {1089, (UINT64_C(1) << 32) + 500}};
+                                              {5, 1},
+                                              {81, UINT64_C(1) << 32},
+                                              {1105, (UINT64_C(1) << 32) + 500},
+                                              {2129, UINT64_C(0x1817161514131211)},
+                                              {2130, UINT64_C(0x2827262524232221)}};
 
 /* The example, with octets `other` in all words that it doesn't use and past them, and the calls of docs/AREA.md. */
 static void example_with(uint8_t other)
@@ -462,15 +488,15 @@ static void example_with(uint8_t other)
     open_as("Id 300", area, len, 300, 8, UINT64_C(5000000000), (struct saratoga_opened){0, 0, 0, 0, 0});
     open_as("Id 7", area, len, 7, 2, 3000, (struct saratoga_opened){0, 0, 0, 0, 0});
     record_as("Id 7", area, len, 7, 2, 2000, 1000, 1, (struct saratoga_recorded){.edge = 3000, .adds = 1});
-    record_as("Id 300", area, len, 300, 8, UINT64_C(1) << 32, 500, 0,
-              (struct saratoga_recorded){.edge = (UINT64_C(1) << 32) + 500, .adds = 1});
+    record_with("Id 300", area, len, 300, 8, of_300, UINT64_C(1) << 32, 500, 0,
+                (struct saratoga_recorded){.edge = (UINT64_C(1) << 32) + 500, .adds = 1});
     record_as("Id 7 again", area, len, 7, 2, 0, 1000, 0, (struct saratoga_recorded){.edge = 3000, .adds = 1});
     memset(want, other, len);
     PUT_WORDS(want, example);
     same_octets("the example of docs/AREA.md", area, want, len);
 
-    record_as("the octets between", area, len, 7, 2, 1000, 1000, 0,
-              (struct saratoga_recorded){.edge = 3000, .complete = 1, .absorbed = 2, .adds = 1});
+    record_with("the octets between", area, len, 7, 2, of_7, 1000, 1000, 0,
+                (struct saratoga_recorded){.edge = 3000, .complete = 1, .absorbed = 2, .adds = 1});
     PUT_WORDS(want, joined);
     same_octets("the second run's place keeps its numbers", area, want, len);
     close_as("Id 7", area, len, 7, (struct saratoga_done){0, 0});
@@ -482,7 +508,8 @@ static void example_with(uint8_t other)
                                      .length = UINT64_C(5000000000),
                                      .edge = (UINT64_C(1) << 32) + 500,
                                      .runs = 1,
-                                     .received = 500});
+                                     .received = 500,
+                                     .stamped = 1});
     close_as("Id 300", area, len, 300, (struct saratoga_done){0, 0});
     put_word(want, 0, 0);
     same_octets("nothing but the count changes", area, want, len);
@@ -503,8 +530,8 @@ static void unused_kept(const uint8_t *octets, size_t word, uint64_t value)
     list_as(what, area, AREA, 0,
             (struct saratoga_listed){.id = 7, .width = 2, .length = 3000, .edge = 3000, .runs = 2, .received = 2000});
     list_as(what, area, AREA, 2, REFUSED(listed, SARATOGA_REFUSED_NOT_OPEN, 0x06));
-    record_as(what, area, AREA, 7, 2, 1000, 1000, 0,
-              (struct saratoga_recorded){.edge = 3000, .complete = 1, .absorbed = 2, .adds = 1});
+    record_with(what, area, AREA, 7, 2, of_7, 1000, 1000, 0,
+                (struct saratoga_recorded){.edge = 3000, .complete = 1, .absorbed = 2, .adds = 1});
     PUT_WORDS(want, joined);
     same_octets(what, area, want, AREA);
     close_as(what, area, AREA, 7, (struct saratoga_done){0, 0});
@@ -517,7 +544,8 @@ static void unused_kept(const uint8_t *octets, size_t word, uint64_t value)
 /* The example; what is no table, and what is one whatever its unused words hold. */
 static void areas(void)
 {
-    static const size_t unused[] = {9, 10, 11, 12, 61, 64, 67, 128, 130, 192, 193, 1088, 1091, 1152, 1154, 1217, 2112};
+    static const size_t unused[] = {11,   12,   13,   14,   15,   76,   80,   83,   144,  146,  208, 209,
+                                    1104, 1107, 1168, 1170, 1233, 2128, 2129, 2130, 2133, 2134, 2160};
     uint8_t *area = lend(NULL, AREA), *short_area;
     size_t i;
     example_with(0x00);
@@ -535,8 +563,8 @@ static void areas(void)
     word_refused("17 transfers", area, 0, 17);
     word_refused("the highest octet first", area, 0, UINT64_C(2) << 56);
     word_refused("one transfer too many", area, 0, 3);
-    word_refused("equal Ids", area, 5, 7);
-    word_refused("an Id over 32 bits", area, 5, UINT64_C(1) << 32);
+    word_refused("equal Ids", area, 6, 7);
+    word_refused("an Id over 32 bits", area, 6, UINT64_C(1) << 32);
     word_refused("width 3", area, 2, 3);
     word_refused("width 15", area, 2, 15);
     word_refused("width 17", area, 2, 17);
@@ -545,11 +573,15 @@ static void areas(void)
     word_refused("a length below the last stop", area, 3, 2999);
     word_refused("65 runs", area, 4, 65);
     word_refused("one run too many", area, 4, 3);
-    word_refused("an empty run", area, 1089, 0);
-    word_refused("runs that touch", area, 66, 1000);
-    word_refused("runs that overlap", area, 66, 999);
-    word_refused("a run over the length", area, 1090, 3001);
-    word_refused("the last transfer's run turned round", area, 1153, 1);
+    word_refused("an empty run", area, 1105, 0);
+    word_refused("runs that touch", area, 82, 1000);
+    word_refused("runs that overlap", area, 82, 999);
+    word_refused("a run over the length", area, 1106, 3001);
+    word_refused("the last transfer's run turned round", area, 1169, 1);
+    word_refused("2 for whether a timestamp is kept", area, 5, 2);
+    word_refused("2 for the last transfer's", area, 10, 2);
+    word_refused("1 with the highest octet first", area, 10, UINT64_C(1) << 56);
+    word_refused("all bits for whether a timestamp is kept", area, 5, UINT64_MAX);
 
     short_area = lend(area, AREA - 1);
     same_done("too short", saratoga_fresh(short_area, AREA - 1), REFUSED(done, SARATOGA_REFUSED_BUFFER, 0));
@@ -582,6 +614,8 @@ static void unwritten_words(void)
     received(what, area, 100, 100, 2500, 0, 0);
     received(what, area, 0, 1000, 2500, 0, 1);
     received(what, area, 2500, 500, 3000, 0, 1);
+    record_with(what, area, AREA, 9, 2, of_300, 0, 3000, 0,
+                (struct saratoga_recorded){.edge = 3000, .complete = 1, .adds = 1});
     close_as(what, area, AREA, 5, (struct saratoga_done){0, 0});
     same_listed(what, saratoga_transfer(area, AREA, 1),
                 (struct saratoga_listed){.id = 7, .width = 2, .length = 3000, .edge = 3000, .runs = 2, .received = 2000});
@@ -610,7 +644,7 @@ static void width_128(void)
     static const uint8_t whole[40] = {0x44, 0xC1, [7] = 7, [22] = 0x0B, 0xB8, [38] = 0x0B, 0xB7};
     struct saratoga_recorded complete = {.edge = 3000, .complete = 1, .absorbed = 1, .adds = 1};
     uint8_t *area = empty_area(AREA), *want = lend(NULL, AREA), packet[25] = {0x43, 0xC0, [7] = 7, [24] = 'a'};
-    const struct numbered_word words[] = {{0, 1}, {1, 7}, {2, 16}, {3, 3000}, {4, 1}, {65, 2000}, {1089, 3000}};
+    const struct numbered_word words[] = {{0, 1}, {1, 7}, {2, 16}, {3, 3000}, {4, 1}, {5, 0}, {81, 2000}, {1105, 3000}};
     open_as("width 128", area, AREA, 7, 16, 3000, (struct saratoga_opened){0, 0, 0, 0, 0});
     open_as("width 128 again", area, AREA, 7, 16, 3000, (struct saratoga_opened){.already_open = 1});
     open_as("width 64 after 128", area, AREA, 7, 8, 3000, REFUSED(opened, SARATOGA_REFUSED_OPEN_OTHER, 0x09));
@@ -642,7 +676,7 @@ static void width_128(void)
     printf("ctest: width 128\n");
 }
 
-/* The longest STATUS: 64 holes at width 128. */
+/* The longest STATUS: a timestamp and 64 holes at width 128. */
 static void longest_status(void)
 {
     const char *what = "the longest STATUS";
@@ -650,11 +684,13 @@ static void longest_status(void)
     uint64_t run;
     open_as(what, area, AREA, 7, 16, 3000, (struct saratoga_opened){0, 0, 0, 0, 0});
     for (run = 0; run < SARATOGA_RUNS; run++)
-        record_as(what, area, AREA, 7, 16, 2 * run + 1, 1, 0, (struct saratoga_recorded){.edge = 2 * run + 2, .adds = 1});
+        record_with(what, area, AREA, 7, 16, of_300, 2 * run + 1, 1, 0,
+                    (struct saratoga_recorded){.edge = 2 * run + 2, .adds = 1});
     same_written(what, saratoga_write_status(area, AREA, 7, 0, 0, out, SARATOGA_STATUS_OCTETS),
                  (struct saratoga_written){.size = SARATOGA_STATUS_OCTETS});
     if ((saratoga_read(out, SARATOGA_STATUS_OCTETS).flags & SARATOGA_FLAG_INCOMPLETE) != 0)
         fail(what, "bit 14", 1, 0);
+    same_octets(what, out + 8, of_300, 16);
     for (run = 0; run < SARATOGA_RUNS; run++)
         hole_as(what, area, AREA, 7, run, (struct saratoga_hole){.start = 2 * run, .end = 2 * run + 1});
     free(area);
@@ -699,6 +735,70 @@ static void asked_alone(void)
     printf("ctest: asked alone\n");
 }
 
+/* What Id 7 keeps: NULL is none. Its STATUS has it, and so has one in exactly as much room; one octet less is 20. */
+static void keeps(const char *what, const uint8_t *area, const uint8_t *stamp)
+{
+    uint8_t packet[28] = {0x44, stamp != NULL ? 0x08 : 0, [7] = 7};
+    size_t size = stamp != NULL ? 28 : 12;
+    struct saratoga_packet read;
+    if (stamp != NULL)
+        memcpy(packet + 8, stamp, 16);
+    put(packet + size - 4, 20, 2);
+    put(packet + size - 2, 20, 2);
+    status_as(what, area, AREA, 7, 0, 0, size, packet, (struct saratoga_written){.size = size});
+    status_as(what, area, AREA, 7, 0, 0, 99, packet, (struct saratoga_written){.size = size});
+    status_as(what, area, AREA, 7, 0, 0, size - 1, packet, REFUSED(written, SARATOGA_REFUSED_BUFFER, 0));
+    find_as(what, area, AREA, 7,
+            (struct saratoga_listed){
+                .id = 7, .width = 2, .length = 100, .edge = 20, .runs = 1, .received = 20, .stamped = stamp != NULL});
+    read = saratoga_read(packet, size);
+    if (read.number != 0 || read.timestamp_len != (stamp != NULL ? 16 : 0) || read.progress != 20)
+        fail(what, "read back", read.timestamp_len, stamp != NULL ? 16 : 0);
+}
+
+/* The timestamp of the last accepted DATA that had one, before the first none; and what does not touch it. */
+static void timestamps(void)
+{
+    static const uint8_t zeros[16];
+    const struct saratoga_recorded repeat = {.edge = 20, .absorbed = 1};
+    uint8_t *area = empty_area(AREA);
+    open_as("Id 7", area, AREA, 7, 2, 100, (struct saratoga_opened){0, 0, 0, 0, 0});
+    open_as("Id 6", area, AREA, 6, 2, 100, (struct saratoga_opened){0, 0, 0, 0, 0});
+    open_as("Id 9", area, AREA, 9, 2, 100, (struct saratoga_opened){0, 0, 0, 0, 0});
+    received("0 to 19", area, 0, 20, 20, 0, 0);
+    keeps("none before the first", area, NULL);
+    record_with("Id 6", area, AREA, 6, 2, of_7, 0, 1, 0, (struct saratoga_recorded){.edge = 1, .adds = 1});
+    record_with("Id 9", area, AREA, 9, 2, of_7, 0, 1, 0, (struct saratoga_recorded){.edge = 1, .adds = 1});
+    keeps("those of others", area, NULL);
+    record_with("a repeat with one", area, AREA, 7, 2, of_300, 3, 4, 0, repeat);
+    keeps("a repeat with one", area, of_300);
+    repeated("a repeat without one", area, 0, 20, 20, 0);
+    keeps("a repeat without one", area, of_300);
+    record_with("another", area, AREA, 7, 2, of_7, 0, 20, 0, repeat);
+    keeps("another", area, of_7);
+    record_with("zeros", area, AREA, 7, 2, zeros, 0, 20, 0, repeat);
+    keeps("zeros", area, zeros);
+
+    record_with("past the end", area, AREA, 7, 2, of_300, 99, 2, 0, REFUSED(recorded, SARATOGA_REFUSED_PAST_END, 0x09));
+    record_with("an early end", area, AREA, 7, 2, of_300, 30, 2, 1, REFUSED(recorded, SARATOGA_REFUSED_EARLY_END, 0x01));
+    record_with("another width", area, AREA, 7, 4, of_300, 0, 2, 0, REFUSED(recorded, SARATOGA_REFUSED_OTHER_WIDTH, 0x09));
+    open_as("already open", area, AREA, 7, 2, 100, (struct saratoga_opened){.edge = 20, .already_open = 1});
+    open_as("another length", area, AREA, 7, 2, 99, REFUSED(opened, SARATOGA_REFUSED_OPEN_OTHER, 0x09));
+    open_as("one more in front", area, AREA, 5, 2, 100, (struct saratoga_opened){0, 0, 0, 0, 0});
+    close_as("the ones in front", area, AREA, 5, (struct saratoga_done){0, 0});
+    close_as("the ones in front", area, AREA, 6, (struct saratoga_done){0, 0});
+    keeps("refused, already open, moved", area, zeros);
+
+    close_as("Id 7", area, AREA, 7, (struct saratoga_done){0, 0});
+    open_as("Id 7 anew", area, AREA, 7, 2, 100, (struct saratoga_opened){0, 0, 0, 0, 0});
+    received("0 to 19", area, 0, 20, 20, 0, 0);
+    keeps("opened anew", area, NULL);
+    find_as("Id 9 behind it", area, AREA, 9,
+            (struct saratoga_listed){.id = 9, .width = 2, .length = 100, .edge = 1, .runs = 1, .received = 1, .stamped = 1});
+    free(area);
+    printf("ctest: timestamps\n");
+}
+
 int main(void)
 {
     page_with_a_hole();
@@ -712,6 +812,7 @@ int main(void)
     width_128();
     longest_status();
     asked_alone();
+    timestamps();
     unwritten_words();
     return report("ctest receiver");
 }

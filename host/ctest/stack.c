@@ -1,8 +1,8 @@
 /*
  * Prints how many octets of stack each function needs, its answer among them, and ends with status 1 where one but
  * saratoga_fresh needs more than docs/AREA.md allows. A thread with a stack of its own paints all of it below its frame
- * and calls: what lost its paint was used. Each function is called in several ways, with descriptors of each width, and the
- * most is printed.
+ * and calls: what lost its paint was used. Each function is called in several ways, with descriptors of each width, with
+ * timestamps and without, and the most is printed.
  */
 #define _POSIX_C_SOURCE 200809L
 #include <pthread.h>
@@ -23,6 +23,7 @@ static uint8_t packet[SARATOGA_STATUS_OCTETS], out[SARATOGA_STATUS_OCTETS], path
 static const uint8_t checksum[16], timestamp[16], payload[2000];
 static size_t size;
 static int refused; /* whether a call was that fills the table */
+static int stamped; /* whether DATA has a timestamp, and so each transfer */
 
 /* The flags and properties of descriptors of 2 << width_bits octets, and lengths and offsets that they all hold. */
 static uint64_t width_bits;
@@ -51,7 +52,8 @@ static void make_metadata(uint64_t id)
 static void make_data(uint64_t id, uint64_t offset, size_t length)
 {
     struct saratoga_written written =
-        saratoga_write_data(width_flags(), id, timestamp, 0, offset, payload, length, packet, sizeof packet);
+        saratoga_write_data(width_flags() | (stamped ? SARATOGA_FLAG_TIMESTAMP : 0), id, timestamp, stamped ? 16 : 0, offset,
+                            payload, length, packet, sizeof packet);
     size = written.size;
 }
 
@@ -106,7 +108,9 @@ static void use_marks(void)
     page = saratoga_bitmap_open(marks, sizeof marks, packet, size).transfer;
     for (run = 0; run < RUNS; run++) {
         make_data(10, GAP * run + 10, PAYLOAD);
-        accepted(saratoga_bitmap_record(page, marks, sizeof marks, packet, size).number);
+        struct saratoga_bitmap_recorded recorded = saratoga_bitmap_record(page, marks, sizeof marks, packet, size);
+        accepted(recorded.number);
+        page = recorded.transfer;
     }
 }
 static void marks_opened(void) { use_marks(); make_metadata(10); }
@@ -140,7 +144,7 @@ static void fresh(void) { saratoga_fresh(area, AREA); }
 static void open_transfer(void) { saratoga_open(area, AREA, packet, size); }
 static void record(void) { saratoga_record(area, AREA, packet, size); }
 static void status(void) { saratoga_write_status(area, AREA, 80, 0, 1, out, sizeof out); }
-static void status_of_last(void) { saratoga_write_status(area, AREA, 160, RUNS - 1, 0, out, 72); }
+static void status_of_last(void) { saratoga_write_status(area, AREA, 160, RUNS - 1, 0, out, 88); }
 static void list(void) { saratoga_transfer(area, AREA, IDS - 1); }
 static void try_record(void) { saratoga_try_record(area, AREA, packet, size); }
 static void find_last(void) { saratoga_find(area, AREA, 160); }
@@ -153,7 +157,7 @@ static void close_none(void) { saratoga_close(area, AREA, 11); }
 static void bitmap_open(void) { saratoga_bitmap_open(marks, sizeof marks, packet, size); }
 static void bitmap_record(void) { saratoga_bitmap_record(page, marks, sizeof marks, packet, size); }
 static void bitmap_status(void) { saratoga_bitmap_status(page, marks, sizeof marks, 0, 1, out, sizeof out); }
-static void bitmap_last_hole(void) { saratoga_bitmap_status(page, marks, sizeof marks, RUNS - 1, 0, out, 72); }
+static void bitmap_last_hole(void) { saratoga_bitmap_status(page, marks, sizeof marks, RUNS - 1, 0, out, 88); }
 
 static const struct way {
     const char *function;
@@ -246,7 +250,9 @@ static __attribute__((noinline)) long painted(void)
 /* Each call is made once before, so that nothing has to be bound when it counts. */
 static void *measure(void *unused)
 {
-    for (width_bits = 0; width_bits < 4; width_bits++) {
+    for (int way = 0; way < 8; way++) {
+        width_bits = way % 4;
+        stamped = way / 4;
         make_full();
         for (size_t i = 0; i < WAYS; i++) {
             ways[i].prepare();

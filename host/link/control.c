@@ -66,12 +66,12 @@ void hear_operator(void)
 /* The transfers that the area on disk holds. Takes no lock: the area is replaced whole. */
 void list_transfers(void)
 {
-    static uint8_t octets[SARATOGA_AREA_OCTETS + 1];
+    static uint8_t octets[SARATOGA_AREA_OCTETS];
     static struct transfer t;
     struct saratoga_listed one;
-    if (read_area(octets, sizeof octets) == 0)
+    if (!read_area(octets))
         return;
-    for (uint64_t i = 0; (one = saratoga_transfer(octets, SARATOGA_AREA_OCTETS, i)).number == 0; i++) {
+    for (uint64_t i = 0; (one = saratoga_transfer(octets, sizeof octets, i)).number == 0; i++) {
         char name[NAME_OCTETS], meta[MOST_META] = "";
         t.id = one.id;
         if (find_files(&t) == 0 && meta_is_of(t.meta, t.meta_len, &one))
@@ -85,8 +85,8 @@ void list_transfers(void)
 
 static int is_open_on_disk(uint64_t id)
 {
-    static uint8_t octets[SARATOGA_AREA_OCTETS + 1];
-    return read_area(octets, sizeof octets) != 0 && saratoga_find(octets, SARATOGA_AREA_OCTETS, id).number == 0;
+    static uint8_t octets[SARATOGA_AREA_OCTETS];
+    return read_area(octets) && saratoga_find(octets, sizeof octets, id).number == 0;
 }
 
 /* Asks the program that runs in the directory to close a transfer, and waits until it has. */

@@ -248,14 +248,18 @@ static void take_data(uint64_t number, const struct peer *peer, const uint8_t *p
     if (!judge(number, peer, packet, packet_len, read, &recorded))
         return;
 
-    /* A packet that adds nothing isn't written: a page that was reported complete is never touched again. */
+    /* 2. Payload. A packet that adds nothing isn't written: a page that was reported complete is never touched again. */
     if (recorded.adds) {
-        /* 2. Payload. */
         if (!store_payload(number, packet, read))
             return;
         cut_point("between payload and recording");
+    }
 
-        /* 3. Record. The same packet to the same area: the answer is the one above. */
+    /*
+     * 3. Record. The same packet to the same area: the answer is the one above. One that adds nothing changes the table by
+     * its timestamp alone.
+     */
+    if (recorded.adds || read->timestamp_len != 0) {
         recorded = saratoga_record(area, sizeof area, packet, packet_len);
         if (recorded.number != 0)
             die("recording is refused after all, with %" PRIu64 ": the program has a fault", recorded.number);

@@ -18,7 +18,7 @@ SOURCES = [os.path.join(PLACE, name + ".c") for name in (
 POWERCUT = os.path.join(PLACE, "powercut.c")
 WRAPPED = ["-Wl," + ",".join(f"--wrap={name}" for name in (
     "openat", "openat64", "pwrite", "pwrite64", "renameat", "fsync"))]
-AREA_OCTETS = 16904
+AREA_HEAD, AREA_WORDS = b"saratoga-area 2\n", 2161
 
 
 def check(holds, what):
@@ -49,19 +49,34 @@ def holds(place, name, octets):
     return os.path.exists(os.path.join(place, name)) and content(place, name) == octets
 
 
-def stored(place):
-    """The area on disk as docs/AREA.md lays it out: for each Id its length and runs. None where there is none."""
+def area_of(place):
+    """The words of the area on disk, after the head that docs/LINK.md gives its file. None where there is none."""
     try:
         octets = content(place, "area")
     except FileNotFoundError:
         return None
-    check(len(octets) == AREA_OCTETS, f"an area of {len(octets)} octets")
-    words = struct.unpack("<2113Q", octets)
+    check(octets.startswith(AREA_HEAD), f"an area that begins {octets[:16]!r}")
+    check(len(octets) == len(AREA_HEAD) + 8 * AREA_WORDS, f"an area of {len(octets)} octets")
+    return struct.unpack(f"<{AREA_WORDS}Q", octets[len(AREA_HEAD):])
+
+
+def stored(place):
+    """The area on disk as docs/AREA.md lays it out: for each Id its length and runs. None where there is none."""
+    words = area_of(place)
+    if words is None:
+        return None
     table = {}
     for i in range(words[0]):
-        ident, _, length, count = words[1 + 4 * i:5 + 4 * i]
-        table[ident] = length, [(words[65 + 64 * i + j], words[1089 + 64 * i + j]) for j in range(count)]
+        ident, _, length, count = words[1 + 5 * i:5 + 5 * i]
+        table[ident] = length, [(words[81 + 64 * i + j], words[1105 + 64 * i + j]) for j in range(count)]
     return table
+
+
+def stamps(place):
+    """The timestamps that the area on disk keeps, by Id."""
+    words = area_of(place)
+    return {words[1 + 5 * i]: struct.pack("<2Q", *words[2129 + 2 * i:2131 + 2 * i])
+            for i in range(words[0] if words else 0) if words[5 + 5 * i]}
 
 
 def stem(place, ident):

@@ -58,7 +58,7 @@ static const char help[] =
     "\n"
     "In DIR:  0000001f.part is transfer 31, not complete, 0000001f.page a complete one, 0000001f.meta its path, times\n"
     "         and checksum, 0000001f.aside what a transfer had that was ended; 0000001f.2.part and so on come after\n"
-    "         those under the same Id. area is the transfer table (docs/AREA.md); lock keeps a second program out;\n"
+    "         those under the same Id. area is the transfer table (docs/LINK.md); lock keeps a second program out;\n"
     "         an Id and a newline written to close close a transfer. Names never come from paths in packets.\n"
     "Output:  one line for each packet, its number first, as replay prints them, and N complete id=31 length=5\n"
     "         file=0000001f.page mtime=.. ctime=.. checksum=.. path=.. once the file is on disk. After a restart\n"

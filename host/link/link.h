@@ -27,6 +27,17 @@
 
 #include "saratoga.h"
 
+/*
+ * The file `area`: a line of text that says which layout it has, then the octets of the area. The number goes up with every
+ * change of either, so that a program never takes a file for what it isn't. A file without the line is of layout 1.
+ */
+#define AREA_MAGIC "saratoga-area "
+#define AREA_LAYOUT 2
+#define AREA_HEAD AREA_MAGIC "2\n"
+#define AREA_HEAD_OCTETS (sizeof AREA_HEAD - 1)
+#define AREA_FILE_OCTETS (AREA_HEAD_OCTETS + SARATOGA_AREA_OCTETS)
+#define LAYOUT_1_OCTETS 16904      /* of an area without timestamps, and so of its file */
+
 #define MOST_UNSAVED 64            /* recordings made before the area is saved, where nothing is to be answered */
 #define MOST_META 4608             /* octets of METADATA as text: a path of 1,023 octets, four for each, and the rest */
 #define MOST_PEERS 32
@@ -145,7 +156,7 @@ int save_if_due(void);
 int end_transfer(uint64_t number, struct transfer *t, const char *why);
 int deliver(uint64_t number, struct transfer *t);
 void deliver_what_waits(void);
-size_t read_area(uint8_t *octets, size_t room);
+int read_area(uint8_t octets[SARATOGA_AREA_OCTETS]);
 void take_up(void);
 
 /* dispatch.c */

@@ -131,7 +131,9 @@ int save(void)
     close_lost();
     int failed = force_files() != 0; /* the names of new files too, before an area that speaks of them */
     cut_point("between payloads and area");
-    if (failed || replace_file("area", area, sizeof area) != 0) {
+    static uint8_t file[AREA_FILE_OCTETS] = AREA_HEAD;
+    memcpy(file + AREA_HEAD_OCTETS, area, sizeof area);
+    if (failed || replace_file("area", file, sizeof file) != 0) {
         room_is_lacking("area", errno);
         memcpy(area, saved, sizeof area);
         take_work_back();
@@ -213,25 +215,46 @@ void deliver_what_waits(void)
             deliver(0, &transfers[i]);
 }
 
-/* The octets of the area on disk, as many as there is room for. Gives 0 where there is no area. */
-size_t read_area(uint8_t *octets, size_t room)
+/* The layout that the file of an area has, by its head; 0 where it is no area's. */
+static unsigned layout_of(const uint8_t *file, size_t have)
 {
+    const size_t magic = sizeof AREA_MAGIC - 1;
+    unsigned layout = 0;
+    if (have < magic || memcmp(file, AREA_MAGIC, magic) != 0) /* layout 1 has no head: its length, and a number of transfers */
+        return have == LAYOUT_1_OCTETS && file[0] <= SARATOGA_TRANSFERS && memcmp(file + 1, "\0\0\0\0\0\0", 7) == 0;
+    for (size_t i = magic; i < have && i < magic + 9 && file[i] >= '0' && file[i] <= '9'; i++)
+        layout = 10 * layout + (unsigned)(file[i] - '0');
+    return layout;
+}
+
+/* The area on disk. Gives 0 where there is none. */
+int read_area(uint8_t octets[SARATOGA_AREA_OCTETS])
+{
+    static uint8_t file[AREA_FILE_OCTETS + 1];
     int fd = open_file("area", O_RDONLY);
     if (fd < 0 && errno == ENOENT)
         return 0;
     if (fd < 0)
         die("%s/area: can't be opened: %s", options.directory, strerror(errno));
     size_t have = 0;
-    for (ssize_t done; have < room && (done = read(fd, octets + have, room - have)) != 0;) {
+    for (ssize_t done; have < sizeof file && (done = read(fd, file + have, sizeof file - have)) != 0;) {
         if (done < 0 && errno != EINTR)
             die("%s/area: can't be read: %s", options.directory, strerror(errno));
         have += done > 0 ? (size_t)done : 0;
     }
     close(fd);
+    /* The transfers of another layout may be worth more than a fresh start: nothing in the directory is touched. */
+    unsigned layout = layout_of(file, have);
+    if (layout != 0 && layout != AREA_LAYOUT)
+        die("%s/area: has layout %u, and this program reads layout %d; nothing was touched. With the version that wrote it receive "
+            "the rest or close its transfers, then remove area; or move area and the .part files away to begin anew",
+            options.directory, layout, AREA_LAYOUT);
+    memcpy(octets, file + AREA_HEAD_OCTETS, SARATOGA_AREA_OCTETS);
     /* The library judges the octets: any damage that makes them no table is refused with 22. */
-    if (have != SARATOGA_AREA_OCTETS || saratoga_transfer(octets, have, 0).number == SARATOGA_REFUSED_AREA)
+    if (have != AREA_FILE_OCTETS || memcmp(file, AREA_HEAD, AREA_HEAD_OCTETS) != 0 ||
+        saratoga_transfer(octets, SARATOGA_AREA_OCTETS, 0).number == SARATOGA_REFUSED_AREA)
         die("%s/area: holds no transfer table; move it and the .part files away to begin anew", options.directory);
-    return have;
+    return 1;
 }
 
 /* What is wrong with the files of a transfer that the area holds; NULL where nothing is. */
@@ -279,15 +302,13 @@ static void take_up_one(struct transfer *t, const struct saratoga_listed *one)
 /* Takes up what an earlier run left, or begins with nothing open. */
 void take_up(void)
 {
-    static uint8_t octets[SARATOGA_AREA_OCTETS + 1];
-    if (read_area(octets, sizeof octets) == 0) {
+    if (!read_area(area)) {
         if (saratoga_fresh(area, sizeof area).number != 0)
             die("no fresh table can be made: the program has a fault");
         memcpy(saved, area, sizeof area);
         table_changed();
         save();
     } else {
-        memcpy(area, octets, sizeof area);
         memcpy(saved, area, sizeof area);
     }
     struct saratoga_listed one;

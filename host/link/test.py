@@ -19,9 +19,9 @@ import threading
 import time
 
 sys.dont_write_bytecode = True
-from harness import (POWERCUT, SOURCES, WRAPPED, build, check, content, holds, page, run, stem,  # noqa: E402
-                     stored)
-from packets import END_OF_DATA, UNASKED, WANTED, data, failure, metadata, record, success  # noqa: E402
+from harness import (AREA_HEAD, POWERCUT, SOURCES, WRAPPED, build, check, content, holds, page, records,  # noqa: E402
+                     run, stamps, stem, stored)
+from packets import END_OF_DATA, TIMESTAMP, UNASKED, WANTED, data, failure, metadata, record, success  # noqa: E402
 import plant  # noqa: E402
 
 
@@ -47,6 +47,8 @@ def nothing_promised_is_missing(place, originals, lines=()):
             for start, stop in told:
                 check(any(first <= start and stop <= last for first, last in stored(place)[ident][1]),
                       f"a STATUS says that {start} to {stop} of transfer {ident} came, and the area on disk doesn't")
+    for ident in stamped(lines) & set(stored(place) or {}):
+        check(ident in stamps(place), f"a STATUS had a timestamp of transfer {ident}, and the area on disk keeps none")
 
 
 def original_of(originals, ident, known):
@@ -64,10 +66,22 @@ def statuses(lines):
             told.pop(int(words[2][3:]), None)
         if words[1] == "send" and words[2][6:8] == "00":
             packet = bytes.fromhex(words[2])
-            ends = [value for value, in struct.iter_unpack(">H", packet[8:])]
+            ends = [value for value, in struct.iter_unpack(">H", packet[24 if packet[1] & 8 else 8:])]
             starts = [0] + ends[3::2]
             stops = ends[2::2] + [ends[1]]
             told[packet[7]] = [(start, stop) for start, stop in zip(starts, stops) if start < stop]
+    return told
+
+
+def stamped(lines):
+    """The Ids whose last STATUS among the lines had a timestamp."""
+    told = set()
+    for line in lines:
+        words = line.split()
+        if words[1] == "close":
+            told.discard(int(words[2][3:]))
+        if words[1] == "send" and words[2][6:8] == "00" and int(words[2][3], 16) & 8:
+            told.add(int(words[2][8:16], 16))
     return told
 
 
@@ -146,7 +160,9 @@ def passes(program, place):
     check(got[1:] == (f"saratoga-link: {place}: another link program writes there\n", 1), got)
     holder.communicate()
     good = content(place, "area")
-    for bad in (b"", good[:-1], good + b"\0", b"\xff" + good[1:]):
+    head = len(AREA_HEAD)
+    for bad in (b"", good[:head], good[:-1], good + b"\0", b"\xff" + good[1:], good[head:], good[:head] + b"\xff" + good[head + 1:],
+                b"saratoga-area \n" + good[head:], b"saratoga-area 2" + good[head:], b"saratoga-area" + good[head:]):
         with open(os.path.join(place, "area"), "wb") as file:
             file.write(bad)
         got = run(program, place, "-")
@@ -158,6 +174,78 @@ def passes(program, place):
         check(got[2] == 2 and "see saratoga-link --help" in got[1], got)
     check(run(program, place, "--help")[0][0].startswith("usage: saratoga-link"), "no help")
     check(run(program, "/nowhere", "-")[1:] == ("saratoga-link: /nowhere: No such file or directory\n", 1), "/nowhere")
+
+
+def layout_1(transfers):
+    """The file of an area as it was before timestamps, without a head: for each Id its width in octets, length and runs."""
+    words = [0] * 2113
+    words[0] = len(transfers)
+    for i, (ident, (width, length, runs)) in enumerate(sorted(transfers.items())):
+        words[1 + 4 * i:5 + 4 * i] = ident, width, length, len(runs)
+        for j, (start, stop) in enumerate(runs):
+            words[65 + 64 * i + j], words[1089 + 64 * i + j] = start, stop
+    return struct.pack("<2113Q", *words)
+
+
+def other_layouts(program, place):
+    """A file of another layout is refused in words that say what to do, and nothing in the directory is touched."""
+    text = page(3000, 5)
+    packets = [metadata(7, 16, 3000), data(7, 16, 0, text[:1000]), metadata(9, 16, 2), data(9, 16, 0, b"ab")]
+    check(run(program, place, "-", octets=records(packets))[2] == 0, "the files aren't made")
+    good = content(place, "area")
+    open_ones = {7: (2, 3000, [(0, 1000)]), 9: (2, 2, [(0, 2)])}
+    rest = good[len(AREA_HEAD):]
+    others = [(1, layout_1(open_ones)), (1, layout_1({})), (1, b"saratoga-area 1\n" + layout_1(open_ones)),
+              (3, b"saratoga-area 3\n" + rest), (3, b"saratoga-area 3\n"), (3, b"saratoga-area 3"),
+              (12, b"saratoga-area 12\n" + rest + bytes(100)), (20, b"saratoga-area 20\n" + rest)]
+    for number, other in others:
+        with open(os.path.join(place, "area"), "wb") as file:
+            file.write(other)
+        before = {name: content(place, name) for name in os.listdir(place)}
+        for options in (("-",), ("--list",), ("--close", "7"), ("--udp", "0", "--any-peer", "--idle", "1")):
+            got = run(program, place, *options, octets=records(packets))
+            check(got[0] == [] and got[2] == 1, (options, got))
+            for words in (f"area: has layout {number}, and this program reads layout 2; nothing was touched",
+                          "With the version that wrote it receive the rest or close its transfers", "to begin anew"):
+                check(words in got[1], (options, got))
+            check({name: content(place, name) for name in os.listdir(place)} == before, "something was touched")
+
+    # The right one goes on.
+    with open(os.path.join(place, "area"), "wb") as file:
+        file.write(good)
+    got = run(program, place, "-", octets=records([data(7, 16, 1000, text[1000:])]))
+    check(got[1:] == ("", 0) and holds(place, "00000007.page", text), got)
+    check(content(place, "area").startswith(b"saratoga-area 2\n"), "the area has no head")
+
+
+def timestamps(program, place):
+    """A STATUS carries the timestamp of the last DATA that was taken and had one, also after a restart."""
+    first, second, zeros = bytes(range(16)), b"\xa5" * 16, bytes(16)
+    got = run(program, place, "-", octets=records([
+        metadata(7, 16, 9), data(7, 16, 0, b"ab", WANTED), data(7, 16, 2, b"cd", WANTED | TIMESTAMP, first),
+        data(7, 16, 0, b"ab", WANTED), data(7, 16, 8, b"xy", TIMESTAMP, second), metadata(7, 16, 9)]))
+    with_first = success(7, 16, 4, 4, flags=TIMESTAMP, timestamp=first).hex()
+    check(got == (["1 open id=7 width=16 length=9 edge=0 complete=0 new", "1 send 440100000000000700000000",
+                   "2 record id=7 offset=0 length=2 edge=2 complete=0 absorbed=0", "2 send 440000000000000700020002",
+                   "3 record id=7 offset=2 length=2 edge=4 complete=0 absorbed=1", "3 send " + with_first,
+                   "4 record id=7 offset=0 length=2 edge=4 complete=0 absorbed=1", "4 send " + with_first,
+                   "5 refused 14 code=9", "5 send 4400000900000007",
+                   "6 open id=7 width=16 length=9 edge=4 complete=0 already-open",
+                   "6 send " + success(7, 16, 4, 4, flags=TIMESTAMP | UNASKED, timestamp=first).hex()], "", 0), got)
+    check(stamps(place) == {7: first}, stamps(place))
+
+    # A repeat renews it: it is saved before the STATUS that has it, and its octets are not written again.
+    packets = [data(7, 16, 0, b"xy", WANTED | TIMESTAMP, second), data(7, 16, 0, b"xy", TIMESTAMP, zeros)]
+    got = run(program, place, "-", octets=records(packets))
+    check(got[0][1:] == ["1 record id=7 offset=0 length=2 edge=4 complete=0 absorbed=1",
+                         "1 send " + success(7, 16, 4, 4, flags=TIMESTAMP, timestamp=second).hex(),
+                         "2 record id=7 offset=0 length=2 edge=4 complete=0 absorbed=1"], got)
+    check(stamps(place) == {7: zeros} and content(place, "00000007.part")[:4] == b"abcd", "a repeat")
+
+    # Complete with it; then another file under the Id, which has none.
+    got = run(program, place, "-", octets=records([data(7, 16, 4, b"efghi"), metadata(7, 16, 8)]))
+    check(got[0][3:4] == ["1 send " + success(7, 16, 9, 8, flags=TIMESTAMP | UNASKED, timestamp=zeros).hex()], got)
+    check(got[0][-1] == "2 send 440100000000000700000000" and stamps(place) == {}, got)
 
 
 def more_than_sixteen(program, place):
@@ -232,12 +320,12 @@ def descriptors_of_128_bits(program, place):
 
 
 def longest_status(program, place):
-    """64 holes in 128 bits: the STATUS has 2,088 octets, and all of them."""
-    packets = [metadata(9, 128, 3000)] + [data(9, 128, 2 * at + 1, b"x", WANTED) for at in range(64)]
+    """64 holes in 128 bits, with a timestamp: the STATUS has 2,104 octets, and all of them."""
+    stamp, holes = bytes(range(16)), [(2 * at, 2 * at + 1) for at in range(64)]
+    packets = [metadata(9, 128, 3000)] + [data(9, 128, 2 * at + 1, b"x", WANTED | TIMESTAMP, stamp) for at in range(64)]
     lines, told, status = run(program, place, "-", octets=b"".join(record(b"P", packet) for packet in packets))
-    check(status == 0 and lines[-1] == "65 send " + success(9, 128, 0, 128, [(2 * at, 2 * at + 1) for at in range(64)]).hex(),
-          (told, lines[-1]))
-    check(len(lines[-1]) == len("65 send ") + 2 * 2088, len(lines[-1]))
+    check(status == 0 and lines[-1] == "65 send " + success(9, 128, 0, 128, holes, TIMESTAMP, stamp).hex(), (told, lines[-1]))
+    check(len(lines[-1]) == len("65 send ") + 2 * 2104, len(lines[-1]))
 
 
 # Cut off between two writes.
@@ -256,11 +344,12 @@ def two_transfers():
         original = originals[ident]
         packets = [metadata(ident, 16, len(original))]
         for at, length, flags in chunks:
-            packets.append(data(ident, 16, at, original[at:at + length], flags))
+            stamp = bytes([at // 4 % 256]) * 16 if flags & TIMESTAMP else b""
+            packets.append(data(ident, 16, at, original[at:at + length], flags, stamp))
         return packets
 
-    packets = sent(7, (600, 300, END_OF_DATA), (0, 300, WANTED)) + sent(9, (0, 350, 0), (350, 350, 0))
-    packets += sent(7, (200, 500, WANTED), (0, 900, WANTED))
+    packets = sent(7, (600, 300, END_OF_DATA), (0, 300, WANTED)) + sent(9, (0, 350, 0), (350, 350, TIMESTAMP))
+    packets += sent(7, (0, 300, WANTED | TIMESTAMP), (200, 500, WANTED | TIMESTAMP), (0, 900, WANTED))
     return originals, b"".join(record(b"P", packet) for packet in packets)
 
 
@@ -606,6 +695,15 @@ WRONG = {
     "answers a BEACON": (
         plant.answers, "saratoga_failure_id(packet, packet_len, code, &id))",
         "code != 0 && packet_len >= 8 && (id = saratoga_number_of(packet + 4, 4), 1))"),
+    "leaves the timestamp of a repeat": (timestamps, "    if (recorded.adds || read->timestamp_len != 0) {", "    if (recorded.adds) {"),
+    "doesn't say that an area is of another layout": (
+        other_layouts, "    if (layout != 0 && layout != AREA_LAYOUT)\n", "    if (0)\n"),
+    "begins anew where an area is of another layout": (
+        other_layouts, "    if (layout != 0 && layout != AREA_LAYOUT)\n",
+        "    if (layout != 0 && layout != AREA_LAYOUT)\n        return 0;\n    if (0)\n"),
+    "sets files aside before it looks at the area": (
+        other_layouts, "    if (!read_area(area)) {\n", "    set_orphans_aside();\n    if (!read_area(area)) {\n"),
+    "knows no area of layout 1": (other_layouts, "have == LAYOUT_1_OCTETS && ", "0 && "),
     "takes a file of any length": (plant.command_line, "read->size > options.largest", "0"),
     "counts no recording": (plant.what_is_known, "    t->work.recordings++;\n", ""),
 }
@@ -656,6 +754,8 @@ def main():
         cutting = build(SOURCES, os.path.join(place, "saratoga-link-cut"), "-DLINK_CUT_POINTS")
         power = build([*SOURCES, POWERCUT], os.path.join(place, "saratoga-link-power"), *WRAPPED)
         passes(program, fresh("passes"))
+        other_layouts(program, fresh("layouts"))
+        timestamps(program, fresh("stamps"))
         more_than_sixteen(program, fresh("sixteen"))
         descriptors_of_128_bits(program, fresh("wide"))
         longest_status(program, fresh("longest"))
@@ -666,7 +766,7 @@ def main():
             print("link: skipped with sanitizers: the compiler doesn't support them")
             checked = program
         any_octets(checked, fresh("any"))
-        print("link: passes, damaged packets, restarts and wrong input are as expected")
+        print("link: passes, timestamps, damaged packets, restarts, wrong input and areas of another layout are as expected")
         plant.all_of_it(checked, fresh)
         print("link: Ids used again, lost files, a full table, the operator, a full disk and traps are as expected")
         places = cut_everywhere(cutting, fresh("cuts")), cut_while_an_id_is_used_again(cutting, fresh("again")), (

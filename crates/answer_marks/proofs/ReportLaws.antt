@@ -2,7 +2,7 @@
 -- and `number` is the refusal of the rules, 0 where there is none.
 -- Assumes nothing.
 use Prim.Native.Nat.{ℕ, zero, suc, _≤_, _<_}
-use mathlib.Core.Path.{_≡_, refl, sym, _∙_}
+use mathlib.Core.Path.{_≡_, refl, sym, ap, _∙_}
 use mathlib.Core.List.{List, []}
 use mathlib.Core.Logic.{⊎-elim, _↔_, Iff·trans}
 use native.Mathlib.Omega.{arith}
@@ -14,16 +14,20 @@ use Rattle.runs.proofs.CompareLaws.{le-or-lt}
 use Rattle.packet_metadata.specs.Metadata.{metadataOf}
 use Rattle.packet_data.specs.Data.{dataOf}
 use Rattle.transfer.specs.declared.Reached.{Reached}
+use Rattle.transfer.specs.Record.{stampIn}
 use Rattle.transfer.specs.Transfers.{keyOf, reached, Tells}
 use Rattle.marks.specs.MarkedRuns.{markedRuns}
 use Rattle.marks.proofs.MarkLaws.{marked-member}
 use Rattle.bitmap.specs.Open.{openRefusal, openAs, openMarks}
 use Rattle.bitmap.proofs.ToldLaws.{open-answers, open-told}
 use Rattle.bitmap_record.specs.Record.{recordRefusal, recordAs, recordMarks}
+use Rattle.bitmap_record.specs.Held.{heldAfter, heldAs, recordHeld}
 use Rattle.bitmap_record.proofs.ToldLaws.{record-answers, record-told, record-counted, record-adds}
-use Rattle.answer_marks.specs.BitmapAnswers.{keyFrom, bitmapOpenedAnswer, bitmapRecordedAnswer}
+use Rattle.answers.specs.Answers.{recordedAnswer}
+use Rattle.answer_marks.specs.BitmapAnswers.{keyFrom, heldFrom, bitmapOf, noBitmap, bitmapOpenedAnswer, bitmapRecordedAnswer}
 use Rattle.answer_marks.specs.MarksReported.{Marked, MarksReported, OpeningReported, RecordingReported}
 use Rattle.answer_marks.specs.declared.Bitmap.{Bitmap}
+use Rattle.answer_marks.specs.declared.BitmapRecordedAnswer.{BitmapRecordedAnswer}
 
 -- the two numbers of an answer, from what is told of the runs
 reported : (s : List ℕ) (L : ℕ) (x : Reached) → Tells L (markedRuns s) x → MarksReported s L (x .edge) (bit (x .complete))
@@ -70,16 +74,19 @@ module _ (s packet : List ℕ) where
 -- ---- recording
 
 module _ (b : Bitmap) (s packet : List ℕ) where
-  pub record-number : bitmapRecordedAnswer b (recordMarks (keyFrom b) s packet .answer) .answer .number ≡ recordRefusal (keyFrom b) s packet
+  -- what C gets
+  abbrev answer : BitmapRecordedAnswer
+  answer = bitmapRecordedAnswer (recordHeld (heldFrom b) s packet) (recordMarks (keyFrom b) s packet .answer)
+
+  pub record-number : answer .answer .number ≡ recordRefusal (keyFrom b) s packet
   unfolding recordMarks recordAs
   record-number = go (recordRefusal (keyFrom b) s packet)
     where
-      go : (n : ℕ) → bitmapRecordedAnswer b (recordAs n (keyFrom b) s (dataOf packet) .answer) .answer .number ≡ n
+      go : (n : ℕ) → recordedAnswer (recordAs n (keyFrom b) s (dataOf packet) .answer) .number ≡ n
       go zero = refl
       go (suc n) = refl
 
-  pub record-reports : bitmapRecordedAnswer b (recordMarks (keyFrom b) s packet .answer) .answer .number ≡ 0
-      → RecordingReported s (recordMarks (keyFrom b) s packet .marks) (b .length) (bitmapRecordedAnswer b (recordMarks (keyFrom b) s packet .answer) .answer)
+  pub record-reports : answer .answer .number ≡ 0 → RecordingReported s (recordMarks (keyFrom b) s packet .marks) (b .length) (answer .answer)
   record-reports z =
       let e : recordRefusal (keyFrom b) s packet ≡ 0 = sym record-number ∙ z in
       rw (record-answers (keyFrom b) s packet e) (record {
@@ -87,3 +94,12 @@ module _ (b : Bitmap) (s packet : List ℕ) where
         counted = record-counted (keyFrom b) s packet e;
         new = record-adds (keyFrom b) s packet e;
       })
+
+  -- R12.2: the record that is handed back: with the timestamp that the packet brings or, without one, that of the record; all zeros where it is refused
+  pub record-hands-back : answer .answer .number ≡ 0 → answer .transfer ≡ bitmapOf (heldAfter (heldFrom b) (stampIn packet (dataOf packet)))
+  unfolding recordHeld heldAs
+  record-hands-back z = ap (λ (n : ℕ). bitmapOf (heldAs n (heldFrom b) (stampIn packet (dataOf packet)))) (sym record-number ∙ z)
+
+  pub record-refused-back : (n : ℕ) → answer .answer .number ≡ suc n → answer .transfer ≡ noBitmap
+  unfolding recordHeld heldAs
+  record-refused-back n z = ap (λ (m : ℕ). bitmapOf (heldAs m (heldFrom b) (stampIn packet (dataOf packet)))) (sym record-number ∙ z)

@@ -2,13 +2,16 @@
 ghost use mathlib.Core.Path.{_≡_};
 ghost use Rattle.bitmap.specs.Open.{openMarks};
 ghost use Rattle.bitmap_record.specs.Record.{recordMarks};
+ghost use Rattle.bitmap_record.specs.Held.{recordHeld};
 ghost use Rattle.bitmap_status.specs.WriteStatus.{marksWritten, marksBuffer};
 ghost use Rattle.answers.specs.Answers.{isUnasked, writtenAnswer};
-ghost use Rattle.answer_marks.specs.BitmapAnswers.{keyFrom, bitmapOf, noBitmap, bitmapOpenedAnswer, bitmapRecordedAnswer};
+ghost use Rattle.answer_marks.specs.BitmapAnswers.{keyFrom, heldFrom, bitmapOf, noBitmap, bitmapOpenedAnswer, bitmapRecordedAnswer};
 use answers::RecordedAnswer;
 use answers::WrittenAnswer;
+use bitmap::Held;
 use bitmap::Opened;
-use table::Recorded;
+use bitmap_record::Recording;
+use timestamp::Kept;
 use transfer::Key;
 
 // struct saratoga_bitmap.
@@ -17,6 +20,9 @@ pub struct Bitmap {
     pub id: u64,
     pub width: u64,
     pub length: u64,
+    pub stamped: u64,
+    pub stamp_high: u64,
+    pub stamp_low: u64,
 }
 
 // struct saratoga_bitmap_opened.
@@ -36,23 +42,34 @@ pub struct BitmapRecordedAnswer {
     pub transfer: Bitmap,
 }
 
-fn key_from(b: Bitmap) -> Key
-    ensures { λ r. ⌜ r ≡ keyFrom b ⌝ }
+// Any number but 0 says that a timestamp is kept.
+fn held_from(b: Bitmap) -> Held
+    ensures { λ r. ⌜ r ≡ heldFrom b ⌝ }
 {
-    Key {
+    let key = Key {
         id: b.id,
         width: b.width as usize,
         length: b.length,
-    }
+    };
+    let kept = Kept {
+        stamped: b.stamped != 0,
+        high: b.stamp_high,
+        low: b.stamp_low,
+    };
+    Held { key, kept }
 }
 
-fn bitmap_of(key: Key) -> Bitmap
-    ensures { λ r. ⌜ r ≡ bitmapOf key ⌝ }
+fn bitmap_of(held: Held) -> Bitmap
+    ensures { λ r. ⌜ r ≡ bitmapOf held ⌝ }
 {
+    let stamped = refusals::bit_of(held.kept.stamped);
     Bitmap {
-        id: key.id,
-        width: key.width as u64,
-        length: key.length,
+        id: held.key.id,
+        width: held.key.width as u64,
+        length: held.key.length,
+        stamped,
+        stamp_high: held.kept.high,
+        stamp_low: held.kept.low,
     }
 }
 
@@ -64,6 +81,9 @@ fn no_bitmap() -> Bitmap
         id: 0,
         width: 0,
         length: 0,
+        stamped: 0,
+        stamp_high: 0,
+        stamp_low: 0,
     }
 }
 
@@ -76,7 +96,7 @@ fn bitmap_opened_answer(a: Opened) -> BitmapOpenedAnswer
             code: 0,
             edge: x.reached.edge,
             complete: refusals::bit_of(x.reached.complete),
-            transfer: bitmap_of(x.key),
+            transfer: bitmap_of(x.held),
         },
         Opened::Refused(refusal) => BitmapOpenedAnswer {
             number: refusal.number,
@@ -88,21 +108,14 @@ fn bitmap_opened_answer(a: Opened) -> BitmapOpenedAnswer
     }
 }
 
-fn bitmap_recorded_answer(b: Bitmap, a: Recorded) -> BitmapRecordedAnswer
-    ensures { λ r. ⌜ r ≡ bitmapRecordedAnswer b a ⌝ }
+fn bitmap_recorded_answer(r: Recording) -> BitmapRecordedAnswer
+    ensures { λ a. ⌜ a ≡ bitmapRecordedAnswer (r .held) (r .told) ⌝ }
 {
-    let answer = answers::recorded_answer(a);
-    let none = no_bitmap();
-    match a {
-        Recorded::Accepted(_) => BitmapRecordedAnswer {
-            answer,
-            transfer: b,
-        },
-        Recorded::Refused(_) => BitmapRecordedAnswer {
-            answer,
-            transfer: none,
-        },
-    }
+    let told = r.told;
+    let held = r.held;
+    let answer = answers::recorded_answer(told);
+    let transfer = bitmap_of(held);
+    BitmapRecordedAnswer { answer, transfer }
 }
 
 pub fn open(marks: &mut [u8], packet: &[u8]) -> BitmapOpenedAnswer
@@ -113,10 +126,11 @@ pub fn open(marks: &mut [u8], packet: &[u8]) -> BitmapOpenedAnswer
 }
 
 pub fn record(b: Bitmap, marks: &mut [u8], packet: &[u8]) -> BitmapRecordedAnswer
-    ensures { λ r. ⌜ (r ≡ bitmapRecordedAnswer b (recordMarks (keyFrom b) (now (marks .entry)) (now (packet .entry)) .answer))
+    ensures { λ r. ⌜ (r ≡ bitmapRecordedAnswer (recordHeld (heldFrom b) (now (marks .entry)) (now (packet .entry)))
+        (recordMarks (keyFrom b) (now (marks .entry)) (now (packet .entry)) .answer))
         × (now (marks .exit) ≡ recordMarks (keyFrom b) (now (marks .entry)) (now (packet .entry)) .marks) ⌝ }
 {
-    bitmap_recorded_answer(b, bitmap_record::record(key_from(b), marks, packet))
+    bitmap_recorded_answer(bitmap_record::record(held_from(b), marks, packet))
 }
 
 pub fn write_status(
@@ -126,11 +140,11 @@ pub fn write_status(
     unasked: u64,
     out: &mut [u8],
 ) -> WrittenAnswer
-    ensures { λ r. ⌜ (r ≡ writtenAnswer (marksWritten (keyFrom b) (now (marks .entry)) skip (isUnasked unasked) (now (out .entry))))
-        × (now (out .exit) ≡ marksBuffer (keyFrom b) (now (marks .entry)) skip (isUnasked unasked) (now (out .entry))) ⌝ }
+    ensures { λ r. ⌜ (r ≡ writtenAnswer (marksWritten (heldFrom b) (now (marks .entry)) skip (isUnasked unasked) (now (out .entry))))
+        × (now (out .exit) ≡ marksBuffer (heldFrom b) (now (marks .entry)) skip (isUnasked unasked) (now (out .entry))) ⌝ }
 {
     answers::written_answer(bitmap_status::write_status(
-        key_from(b),
+        held_from(b),
         marks,
         skip,
         unasked != 0,

@@ -40,6 +40,7 @@ stands a id l s = record {
   runs = s .runs;
   received = s .counts .each;
   received-all = Iff·trans (s .counts .whole) (Iff·symm (bit-iff (l .complete)));
+  keeps = rw (← (s .keeps)) (bit-iff (l .stamped));
 }
 
 -- by its Id

@@ -2,16 +2,18 @@
 -- Assumes nothing.
 use Prim.Native.Nat.{ℕ, suc, _<_, _≤_}
 use mathlib.Core.Path.{_≡_}
+use mathlib.Core.Bool.{true}
 use mathlib.Core.List.{List}
 use mathlib.Core.Logic.{_↔_}
 use mathlib.Core.Option.{some}
 use lib.ListN.{length}
+use Rattle.timestamp.specs.Timestamps.{stamped}
 use Rattle.runs.specs.Runs.{Member}
 use Rattle.runs.specs.Holes.{hole, LongestMissing}
 use Rattle.runs.specs.Received.{membersBelow}
 use Rattle.transfer.specs.declared.Key.{Key}
 use Rattle.transfer.specs.Transfers.{Transfer}
-use Rattle.table.specs.Tables.{keys, find, runsOf}
+use Rattle.table.specs.Tables.{keys, find, runsOf, stampOf}
 use Rattle.area.specs.Judge.{tableOf}
 use Rattle.answer_table.specs.declared.ListedAnswer.{ListedAnswer}
 
@@ -36,6 +38,8 @@ pub record ReportedListing (area : List ℕ) (id : ℕ) (l : ListedAnswer) : Typ
   -- R5.10: how many offsets below the length were received, and that it is the length exactly when the transfer is told complete
   pub received : l .received ≡ membersBelow (l .length) (runsOf (told .table) id)
   pub received-all : (l .received ≡ l .length) ↔ (l .complete ≡ 1)
+  -- R6.14: whether a timestamp is kept
+  pub keeps : (l .stamped ≡ 1) ↔ (stamped (stampOf (told .table) id) ≡ true)
 
 -- R6.12: the area holds a table in which the Id is open, and this is a longest stretch that its transfer lacks
 pub record ReportedHole (area : List ℕ) (id start end : ℕ) : Type 0 where

@@ -22,6 +22,6 @@ openedAnswer (opened.Refused r) = record { number = r .number; code = r .code; e
 
 abbrev pub listedAnswer : Listed → ListedAnswer
 listedAnswer (listed.Open x) = record
-    { number = 0; code = 0; id = x .id; width = x .width; length = x .length; edge = x .edge; complete = bit (x .complete); runs = x .runs; received = x .received }
+    { number = 0; code = 0; id = x .id; width = x .width; length = x .length; edge = x .edge; complete = bit (x .complete); runs = x .runs; received = x .received; stamped = bit (x .stamped) }
 listedAnswer (listed.Refused r) = record
-    { number = r .number; code = r .code; id = 0; width = 0; length = 0; edge = 0; complete = 0; runs = 0; received = 0 }
+    { number = r .number; code = r .code; id = 0; width = 0; length = 0; edge = 0; complete = 0; runs = 0; received = 0; stamped = 0 }

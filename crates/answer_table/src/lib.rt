@@ -41,6 +41,7 @@ pub struct ListedAnswer {
     pub complete: u64,
     pub runs: usize,
     pub received: u64,
+    pub stamped: u64,
 }
 
 fn done_answer(a: Finished) -> DoneAnswer
@@ -97,6 +98,7 @@ fn listed_answer(a: Listed) -> ListedAnswer
             complete: refusals::bit_of(x.complete),
             runs: x.runs,
             received: x.received,
+            stamped: refusals::bit_of(x.stamped),
         },
         Listed::Refused(r) => ListedAnswer {
             number: r.number,
@@ -108,6 +110,7 @@ fn listed_answer(a: Listed) -> ListedAnswer
             complete: 0,
             runs: 0,
             received: 0,
+            stamped: 0,
         },
     }
 }

@@ -21,8 +21,9 @@ use Rattle.transfer.specs.declared.Key.{Key}
 use Rattle.transfer.specs.declared.Reached.{Reached}
 use Rattle.transfer.specs.declared.Receipt.{Receipt}
 use Rattle.transfer.specs.Transfers.{Transfer, keyOf}
+use Rattle.transfer.specs.Record.{stampIn}
 use Rattle.transfer.proofs.FieldLaws.{data-some}
-use Rattle.table.specs.Tables.{Valid, keys, find, runsOf, setRuns}
+use Rattle.table.specs.Tables.{Valid, keys, find, runsOf}
 use Rattle.table.specs.Outcome.{Outcome}
 use Rattle.table.specs.Open.{openPacket}
 use Rattle.table.specs.Record.{grown, recordPacket}
@@ -31,7 +32,6 @@ use Rattle.table.specs.declared.Opened.{Opened}
 use Rattle.table.specs.declared.Opened.the-variants as opened
 use Rattle.table.specs.declared.Recorded.{Recorded}
 use Rattle.table.specs.declared.Recorded.the-variants as recorded
-use Rattle.table.specs.declared.Finished.{Finished}
 use Rattle.table.specs.declared.Finished.the-variants as finished
 use Rattle.table.proofs.TableLaws.{runs-add-same, runs-set-same, runs-set-other}
 use Rattle.table.proofs.FineLaws.{runs-canonical}
@@ -39,15 +39,14 @@ use Rattle.table.proofs.OpenLaws.{open-cases}
 use Rattle.table.proofs.RecordLaws.{record-cases, recordedAs, grown-count}
 use Rattle.table.proofs.OtherLaws.{close-other}
 use Rattle.table.proofs.ValidLaws.{open-valid, record-valid, close-valid}
-use Rattle.area.specs.Judge.{tableOf}
-use Rattle.area.specs.Operations.{OnArea, leaves, onTable, openArea, recordArea, closeArea, runsHeld}
+use Rattle.area.specs.Operations.{OnArea, onTable, openArea, recordArea, closeArea, runsHeld}
 use Rattle.area.proofs.JudgeLaws.{held-valid}
 use Rattle.area.proofs.StoredLaws.{stored-held}
 use Rattle.area.proofs.OperationLaws.{on-cases, runs-held}
 use Rattle.any_order.specs.Order.{Packet, opening, recording, idIn}
 use Rattle.any_order.specs.Demand3.{callArea}
-use Rattle.any_order.specs.Absorbed.{AnyCall, call, closing, leftBy, afterAll, counted, countedBy, countedOver, recordingsTaken, absorbedSum, KeptOpen, SumOverStretch, AddsUp, SumFromOpening}
-use Rattle.any_order.proofs.TableOrder.{open-runs, id-is}
+use Rattle.any_order.specs.Absorbed.{AnyCall, call, closing, leftBy, afterAll, counted, countedBy, countedOver, recordingsTaken, absorbedSum, KeptOpen, SumOverStretch, SumFromOpening}
+use Rattle.any_order.proofs.CallLaws.{open-runs, id-is, left}
 
 -- ---- a recording, on a table
 
@@ -77,15 +76,17 @@ record-balanced t p i v =
     (λ d k e f j l. taken d k e f (ℕ-discrete (d .id) i))
   where
     taken : (d : Data) (k : Key) → readData (p .octets) ≡ data-read.Accepted d → find (d .id) (keys t) ≡ some k → Dec (d .id ≡ i)
-        → Balanced i p (recordedAs t d k .answer) (length (runsOf (recordedAs t d k .table) i)) (length (runsOf t i))
+        → Balanced i p (recordedAs t (p .octets) d k .answer) (length (runsOf (left t p d) i)) (length (runsOf t i))
     taken d k e f (yes q) =
         let same : idIn p ≡ i = id-is p d e ∙ q in
-        let has : runsOf (setRuns (d .id) (grown t d) t) i ≡ grown t d = ap (runsOf (setRuns (d .id) (grown t d) t)) (sym q) ∙ runs-set-same (d .id) (grown t d) t k f in
+        let has : runsOf (left t p d) i ≡ grown t d =
+        ap (runsOf (left t p d)) (sym q) ∙ runs-set-same (d .id) (grown t d) (stampIn (p .octets) d) t k f in
         let count = grown-count t d (data-some (p .octets) d e) (runs-canonical (d .id) t v) in
         let here : length (runsOf t (d .id)) ≡ length (runsOf t i) = ap (λ (j : ℕ). length (runsOf t j)) q in
         rw (eq-eqb (idIn p) i same, has) (omega arith)
     taken d k e f (no n) =
-        rw (runs-set-other (d .id) i (grown t d) t n) (balanced-none i p (recordedAs t d k .answer) (length (runsOf t i)) (λ z. n (sym (id-is p d e) ∙ z)))
+        rw (runs-set-other (d .id) i (grown t d) (stampIn (p .octets) d) t n)
+        (balanced-none i p (recordedAs t (p .octets) d k .answer) (length (runsOf t i)) (λ z. n (sym (id-is p d e) ∙ z)))
 
 -- ---- each call, on an area
 
@@ -119,7 +120,7 @@ record-held-balanced a p i =
     (λ t h.
     let v = held-valid a t h in
     let u = recordPacket t (p .octets) .table in
-    rw (runs-held _ u i (stored-held a u (record-valid t (p .octets) v)), runs-held a t i h) (record-balanced t p i v))
+    rw (runs-held _ u i (stored-held a u (record-valid t (p .octets) (p .are-octets) v)), runs-held a t i h) (record-balanced t p i v))
 
 -- ---- any list of calls
 

@@ -1,12 +1,12 @@
 -- Demand 3 on areas: an area holds a table, and each call on it does what it does on that table.
 -- Assumes nothing.
 use Prim.Native.Nat.{ℕ, _≤_}
-use mathlib.Core.Path.{_≡_, refl, sym, ap, subst, _∙_}
+use mathlib.Core.Path.{_≡_, sym, ap, subst, _∙_}
 use mathlib.Core.Bool.{Bool}
-use mathlib.Core.List.{List, [], _∷_}
+use mathlib.Core.List.{List, []}
 use mathlib.Core.Option.{some}
 use native.Mathlib.Omega.{arith}
-use lib.ListN.{length}
+use lib.ListN.{length, take, drop, getD}
 use Rattle.refusals.specs.Refusals.{refusalOf}
 use Rattle.transfer.specs.Transfers.{Transfer}
 use Rattle.table.specs.Tables.{Valid}
@@ -25,27 +25,13 @@ use Rattle.area.specs.Operations.{OnArea, openArea, recordArea, fromFound, from
 use Rattle.area.proofs.StoredLaws.{stored-held, length-stored}
 use Rattle.area.proofs.AreaLaws.{length-fresh}
 use Rattle.area.proofs.OperationLaws.{on-held, fresh-done, fresh-leaves}
-use Rattle.any_order.specs.Order.{Call, opening, recording, taken, after, Sorted}
-use Rattle.any_order.specs.Demand3.{callArea, Holds, OrderFree, made, Demand3, Demand3ByTransfer}
+use Rattle.any_order.specs.Order.{Call, opening, recording, taken}
+use Rattle.any_order.specs.TableDemand3.{callTable, KeepsLast, SameEnd}
+use Rattle.any_order.specs.Demand3.{callArea, SameStatus, Carries, made, Demand3, Demand3ByTransfer}
 use Rattle.table.proofs.ValidLaws.{fresh-valid}
-use Rattle.any_order.proofs.TableOrder.{callTable, call-valid, table-order}
+use Rattle.any_order.proofs.CallLaws.{call-valid}
+use Rattle.any_order.proofs.KeptOrder.{kept-order}
 use Rattle.any_order.proofs.Sorting.{sort-sorts}
-
--- ---- two ways to keep the same state
-
-module _ {A T : Type 0} (callA : A → Call → Bool × A) (callT : T → Call → Bool × T) (Keeps : A → T → Type 0)
-    (same : (a : A) (t : T) (c : Call) → Keeps a t → (callA a c .0 ≡ callT t c .0) × Keeps (callA a c .1) (callT t c .1)) where
-  same-taken : (a : A) (t : T) (cs : List Call) → Keeps a t → taken callA a cs ≡ taken callT t cs
-  unfolding taken
-  same-taken a t [] h = refl
-  same-taken a t (c ∷ cs) h =
-      let s = same a t c h in
-      rw (s .0, same-taken (callA a c .1) (callT t c .1) cs (s .1))
-
-  same-after : (a : A) (t : T) (cs : List Call) → Keeps a t → Keeps (after callA a cs) (after callT t cs)
-  unfolding after
-  same-after a t [] h = h
-  same-after a t (c ∷ cs) h = same-after (callA a c .1) (callT t c .1) cs (same a t c h .1)
 
 -- ---- the calls
 
@@ -82,31 +68,53 @@ made-keeps a l =
       held = fresh-leaves a l;
     }
 
-area-order : (a b : List ℕ) (cs : List Call) → Keeps a [] → Keeps b [] → OrderFree a b cs
-unfolding areaStatusWritten areaStatusBuffer fromTable
-area-order a b cs ka kb =
-    let r = table-order cs in
-    let e : taken callArea a cs ≡ taken callTable [] cs = same-taken callArea callTable Keeps call-keeps a [] cs ka in
-    let kept : Keeps (after callArea a cs) (after callTable [] cs) = same-after callArea callTable Keeps call-keeps a [] cs ka in
-    let same : (s : List Call) → Sorted (taken callArea a cs) s → tableOf (after callArea b s) ≡ tableOf (after callArea a cs) =
-    λ s σ. same-after callArea callTable Keeps call-keeps b [] s kb .held ∙ ap some (r .same-table s (rw e at σ)) ∙ sym (kept .held) in
+-- STATUS from an area that holds a table is the table's
+status-held : (a : List ℕ) (t : List Transfer) → tableOf a ≡ some t → (id k : ℕ) (unasked : Bool) (buffer : List ℕ)
+    → (areaStatusWritten a id k unasked buffer ≡ statusWritten t id k unasked buffer) × (areaStatusBuffer a id k unasked buffer ≡ statusBuffer t id k unasked buffer)
+unfolding areaStatusWritten areaStatusBuffer fromTable fromFound
+status-held a t e id k unasked buffer = (rw e, rw e)
+
+carries : (a : List ℕ) (t : List Transfer) (done : List Call) → tableOf a ≡ some t → KeepsLast t done → Carries a done
+carries a t done e h id k unasked buffer size w s =
+    let f = status-held a t e id k unasked buffer in
+    ap (λ (l : List ℕ). take 16 (drop 8 l)) (f .1) ∙ h .carried id k unasked buffer size (sym (f .0) ∙ w) s
+
+same-status : (a b : List ℕ) (t u : List Transfer) (done redone : List Call) → tableOf a ≡ some t → tableOf b ≡ some u → SameEnd t u done redone
+    → SameStatus a b t done
+same-status a b t u done redone e f h =
     record {
-      sorted = λ s σ.
-          record {
-            none-refused = same-taken callArea callTable Keeps call-keeps b [] s kb ∙ r .none-refused s (rw e at σ);
-            same-table = same s σ;
-            same-answer = λ id k unasked buffer. ap (fromFound _ (λ t. statusWritten t id k unasked buffer)) (same s σ);
-            same-buffer = λ id k unasked buffer. ap (fromFound buffer (λ t. statusBuffer t id k unasked buffer)) (same s σ);
-          };
-      table = after callTable [] cs;
-      valid = kept .valid;
-      held = kept .held;
-      brought = subst (Holds (after callTable [] cs)) (sym e) (r .brought);
+      same-answer = λ id k unasked buffer.
+          status-held b u f id k unasked buffer .0 ∙ h .alike .same-answer id k unasked buffer ∙ sym (status-held a t e id k unasked buffer .0);
+      same-length = λ id k unasked buffer.
+          ap length (status-held b u f id k unasked buffer .1)
+          ∙ h .alike .same-length id k unasked buffer ∙ ap length (sym (status-held a t e id k unasked buffer .1));
+      same-octets = λ id k unasked buffer n w.
+          ap (λ (l : List ℕ). getD l n 0) (status-held b u f id k unasked buffer .1)
+          ∙ h .alike .same-octets id k unasked buffer n w ∙ ap (λ (l : List ℕ). getD l n 0) (sym (status-held a t e id k unasked buffer .1));
+      same-refused = λ id k unasked buffer r w.
+          status-held b u f id k unasked buffer .1
+          ∙ h .alike .same-refused id k unasked buffer r (sym (status-held a t e id k unasked buffer .0) ∙ w) ∙ sym (status-held a t e id k unasked buffer .1);
+      same-buffer = λ id k unasked buffer w.
+          status-held b u f id k unasked buffer .1 ∙ h .same-buffer id k unasked buffer w ∙ sym (status-held a t e id k unasked buffer .1);
     }
 
 -- demand 3
 pub demand3 : Demand3
-demand3 a b la lb cs = area-order (made a) (made b) cs (made-keeps a la) (made-keeps b lb)
+demand3 a b la lb cs s σ =
+    let r = kept-order callArea Keeps call-keeps (made a) (made b) (made-keeps a la) (made-keeps b lb) cs s σ in
+    record {
+      none-refused = r .none-refused;
+      first = r .first;
+      second = r .second;
+      first-held = r .first-kept .held;
+      second-held = r .second-kept .held;
+      same-end = r .same-end;
+      same-status = same-status _ _ (r .first) (r .second) _ _ (r .first-kept .held) (r .second-kept .held) (r .same-end);
+      first-carries = carries _ (r .first) _ (r .first-kept .held) (r .same-end .first-keeps);
+      second-carries = carries _ (r .second) _ (r .second-kept .held) (r .same-end .second-keeps);
+      valid = r .first-kept .valid;
+      brought = r .brought;
+    }
 
 -- and in its own words
 pub demand3-by-transfer : Demand3ByTransfer
@@ -114,6 +122,6 @@ demand3-by-transfer a b la lb cs =
     record {
       first-made = ap (λ (x : OnArea Finished). x .answer) (fresh-done a la);
       second-made = ap (λ (x : OnArea Finished). x .answer) (fresh-done b lb);
-      ends = λ s τ. demand3 a b la lb cs .sorted s (τ .sorted);
+      ends = λ s τ. demand3 a b la lb cs s (τ .sorted);
       some-order = sort-sorts (taken callArea (made a) cs);
     }

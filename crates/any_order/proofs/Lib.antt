@@ -1,6 +1,12 @@
 pub mod FillLaws
-pub mod TableOrder
+pub mod LastLaws
+pub mod LeadLaws
+pub mod CallLaws
+pub mod AlongLaws
+pub mod SortedLaws
 pub mod Sorting
-pub mod AreaOrder
+pub mod TableOrder
 pub mod Example
+pub mod KeptOrder
+pub mod AreaOrder
 pub mod AbsorbedLaws

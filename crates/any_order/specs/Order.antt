@@ -2,11 +2,14 @@
 -- Assumes nothing.
 use Prim.Native.Nat.{ℕ, _≤_, _<_}
 use mathlib.Core.Path.{_≡_}
-use mathlib.Core.Bool.{Bool, true, false, cond}
+use mathlib.Core.Bool.{Bool, true, false, cond, _&&_, _||_}
 use mathlib.Core.List.{List, [], _∷_, _++_, map, List·Permᴰ}
 use mathlib.Core.Logic.{_⊎_}
+use lib.ListN.{take, drop}
 use lib.Dec.{ltb, leb, eqb}
 use Rattle.octets.specs.Numbers.{Octets}
+use Rattle.header.specs.FirstWord.{bits}
+use Rattle.header.specs.Start.{wordOf}
 use Rattle.packet_metadata.specs.Metadata.{readMetadata}
 use Rattle.packet_metadata.specs.declared.Metadata.{Metadata}
 use Rattle.packet_metadata.specs.declared.MetadataRead.the-variants as metadata-read
@@ -82,6 +85,32 @@ In x (y ∷ l) = (x ≡ y) ⊎ In x l
 -- R10.4: some recording with the Id i covers the offset n
 abbrev pub Covered : ℕ → ℕ → List Packet → Type 0
 Covered i n ps = (p : Packet) × In p ps × (idIn p ≡ i) × (offsetIn p ≤ n) × (n < stopIn p)
+
+-- ---- timestamps
+
+-- R6.14: whether the packet has bit 12 set, and its timestamp then: the 16 octets after the Id
+abbrev pub withStamp : Packet → Bool
+withStamp p = eqb (bits 32 (wordOf (p .octets)) 12 12) 1
+
+abbrev pub stampOctets : Packet → List ℕ
+stampOctets p = take 16 (drop 8 (p .octets))
+
+-- a recording with the Id i that had bit 12 set
+unfoldable pub stamps : ℕ → Packet → Bool
+stamps i p = eqb (idIn p) i && withStamp p
+
+-- whether there is one among these recordings
+unfoldable pub anyStamp : ℕ → List Packet → Bool
+anyStamp i [] = false
+anyStamp i (p ∷ ps) = stamps i p || anyStamp i ps
+
+-- R6.14, R10.8: the timestamp of the last of these recordings, in the order of the list, that has the Id i and bit 12 set; no octet where
+-- there is none
+unfoldable pub lastStamp : ℕ → List Packet → List ℕ
+lastStamp i [] = []
+lastStamp i (p ∷ ps) = let later = lastStamp i ps in cond (anyStamp i ps) later (cond (stamps i p) (stampOctets p) [])
+
+-- ---- what is open
 
 -- an opening brings an Id, a width w and a length L
 abbrev pub Brings : Packet → Key → Type 0

@@ -87,3 +87,4 @@ pub fresh-held : (a : List ℕ) → areaOctets ≤ length a → tableOf (freshIn
 fresh-held a h =
     held-passes (freshIn a) [] (omega (arith, length-fresh a h)) fresh-valid
     (record { count = fresh-count a; heads = λ i f p q. absurd (omega arith); sides = λ s i j l p q. absurd (omega arith) })
+    (λ i h l p c. absurd (omega arith))

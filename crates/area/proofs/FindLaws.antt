@@ -12,9 +12,9 @@ use lib.Dec.{ltb}
 use borrow.Author.Tests.{ltb-true, ltb-false, lt-ltb, le-ltb, ne-eqb, eq-eqb}
 use Rattle.runs.specs.Runs.{Run}
 use Rattle.transfer.specs.declared.Key.{Key}
-use Rattle.transfer.specs.Transfers.{Transfer, empty}
-use Rattle.table.specs.Tables.{FineFrom, keys, find, runsOf, add, setRuns, remove}
-use Rattle.table.proofs.TableLaws.{find-head, find-tail, runs-head, runs-tail}
+use Rattle.transfer.specs.Transfers.{Transfer, empty, withReceived}
+use Rattle.table.specs.Tables.{FineFrom, keys, find, runsOf, stampOf, add, setRuns, remove}
+use Rattle.table.proofs.TableLaws.{find-head, find-tail, runs-head, runs-tail, stamp-head, stamp-tail}
 use Rattle.table.proofs.FineLaws.{fine-none}
 use Rattle.area.specs.Places.{nth, placeOf, withRuns, insertAt, removeAt}
 
@@ -54,13 +54,18 @@ module _ (id : ℕ) where
   runs-at (here {x} {t} l) h e = runs-head id x t e
   runs-at (later {x} {t} {p} l r) h e = runs-tail id x t (λ q. omega arith) ∙ runs-at r (omega arith) e
 
-  pub set-at : (rs : List Run) {t : List Transfer} {p : ℕ} → Placed id t p → p < length t → nth t p .key .id ≡ id → setRuns id rs t ≡ withRuns t p rs
+  pub stamp-at : {t : List Transfer} {p : ℕ} → Placed id t p → p < length t → nth t p .key .id ≡ id → stampOf t id ≡ nth t p .stamp
+  stamp-at none-left h e = absurd (omega arith)
+  stamp-at (here {x} {t} l) h e = stamp-head id x t e
+  stamp-at (later {x} {t} {p} l r) h e = stamp-tail id x t (λ q. omega arith) ∙ stamp-at r (omega arith) e
+
+  pub set-at : (rs : List Run) (s : List ℕ) {t : List Transfer} {p : ℕ} → Placed id t p → p < length t → nth t p .key .id ≡ id → setRuns id rs s t ≡ withRuns t p rs s
   unfolding setRuns
-  set-at rs none-left h e = absurd (omega arith)
-  set-at rs (here {x} {t} l) h e = rw (eq-eqb (x .key .id) id e)
-  set-at rs (later {x} {t} {p} l r) h e =
-      ap (λ (b : Bool). cond b (record { key = x .key; runs = rs } ∷ t) (x ∷ setRuns id rs t)) (ne-eqb (x .key .id) id (λ q. omega arith))
-      ∙ ap (λ (u : List Transfer). x ∷ u) (set-at rs r (omega arith) e)
+  set-at rs s none-left h e = absurd (omega arith)
+  set-at rs s (here {x} {t} l) h e = rw (eq-eqb (x .key .id) id e)
+  set-at rs s (later {x} {t} {p} l r) h e =
+      ap (λ (b : Bool). cond b (withReceived x rs s ∷ t) (x ∷ setRuns id rs s t)) (ne-eqb (x .key .id) id (λ q. omega arith))
+      ∙ ap (λ (u : List Transfer). x ∷ u) (set-at rs s r (omega arith) e)
 
   pub remove-at : {t : List Transfer} {p : ℕ} → Placed id t p → p < length t → nth t p .key .id ≡ id → remove id t ≡ removeAt p t
   unfolding remove removeAt

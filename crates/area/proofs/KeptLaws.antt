@@ -16,7 +16,7 @@ use Rattle.run_rows.specs.Rows.{runsIn, RowsFit}
 use Rattle.run_rows.specs.declared.Rows.{Rows}
 use Rattle.run_rows.proofs.RowsLaws.{length-runs}
 use Rattle.transfer.specs.Transfers.{Transfer}
-use Rattle.table.specs.Tables.{FineFrom, keys, find, runsOf}
+use Rattle.table.specs.Tables.{FineFrom, keys, find, runsOf, stampOf}
 use Rattle.table.specs.Outcome.{Outcome}
 use Rattle.area.specs.Layout.{transferPlaces, runPlaces, areaOctets, countField, headAt, runAt}
 use Rattle.area.specs.Places.{rowsAt, transferAt, readTable, nth, placeOf, openAt, placeIn, KeptAt}
@@ -27,7 +27,7 @@ use Rattle.area.specs.declared.Place.{Place}
 use Rattle.area.proofs.PlaceLaws.{length-transfers, transfer-at, rows-fit}
 use Rattle.area.proofs.JudgeLaws.{judged-passed}
 use Rattle.area.proofs.StoredLaws.{held-stored, valid-few}
-use Rattle.area.proofs.FindLaws.{Placed, placed, found-at, runs-at, missing-at}
+use Rattle.area.proofs.FindLaws.{Placed, placed, found-at, runs-at, stamp-at, missing-at}
 use Rattle.area.proofs.AreaLaws.{judged-held}
 use Rattle.area.proofs.OperationLaws.{on-judged, on-unjudged}
 
@@ -72,6 +72,9 @@ kept-found {id} k = found-at id (kept-placed k) (k .inside) (k .same)
 
 pub kept-runs : {id : ℕ} {t : List Transfer} {p : ℕ} → KeptAt id t p → runsOf t id ≡ nth t p .runs
 kept-runs {id} k = runs-at id (kept-placed k) (k .inside) (k .same)
+
+pub kept-stamp : {id : ℕ} {t : List Transfer} {p : ℕ} → KeptAt id t p → stampOf t id ≡ nth t p .stamp
+kept-stamp {id} k = stamp-at id (kept-placed k) (k .inside) (k .same)
 
 pub free-missing : {id : ℕ} {t : List Transfer} {p : ℕ} → FineFrom 0 t → FreeAt id t p → find id (keys t) ≡ none
 free-missing {id} f h = missing-at id 0 (h .place) f (h .other)

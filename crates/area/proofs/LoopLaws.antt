@@ -1,12 +1,15 @@
 -- Judging an area: one transfer, one turn of the loop over the transfers, and the whole.
 -- Assumes nothing.
-use Prim.Native.Nat.{ℕ, suc, _+_, _-_, _^_, _≤_, _<_}
-use mathlib.Core.Path.{_≡_}
-use mathlib.Core.List.{List, _∷_}
+use Prim.Native.Nat.{ℕ, zero, suc, _+_, _-_, _^_, _≤_, _<_}
+use mathlib.Core.Path.{_≡_, refl, sym, _∙_}
+use mathlib.Core.List.{List, _∷_, _++_}
 use mathlib.Core.Bool.{Bool, true, false}
 use native.Mathlib.Omega.{arith}
-use lib.ListN.{length}
-use lib.Dec.{ltb}
+use lib.ListN.{length, length-append}
+use lib.Dec.{ltb, leb}
+use Rattle.octets.specs.Numbers.{leDigits}
+use Rattle.octets.proofs.OctetLaws.{octets-append}
+use Rattle.octets.proofs.LowFirstLaws.{length-low-digits, low-digits-octets}
 use borrow.Author.Tests.{ltb-true, lt-ltb, le-ltb, le-leb, lt-leb}
 use Rattle.words.specs.Words.{wordAt}
 use Rattle.run_rows.specs.Rows.{runsFrom}
@@ -14,9 +17,19 @@ use Rattle.run_judge.specs.Judge.{runsTest}
 use Rattle.run_rows.proofs.RowsLaws.{length-runs}
 use Rattle.run_judge.proofs.JudgeLaws.{both-true}
 use Rattle.transfer.specs.Transfers.{lengthTest}
-use Rattle.area.specs.Layout.{transferPlaces, runPlaces, areaOctets, idField, widthField, lengthField, countField, headAt, runAt}
-use Rattle.area.specs.Places.{transferAt, transfersFrom}
-use Rattle.area.specs.Judge.{transferTest, fineTest, judged}
+use Rattle.area.specs.Layout.{transferPlaces, runPlaces, areaOctets, idField, widthField, lengthField, countField, stampedField, headAt, runAt, halfAt}
+use Rattle.area.specs.Places.{stampBy, transferAt, transfersFrom}
+use Rattle.area.specs.Judge.{stampTest, transferTest, fineTest, judged}
+use Rattle.area.proofs.JudgeLaws.{octets-passes}
+
+-- a head's number 0 or 1 says a timestamp or none
+stamp-test : (n x y : ℕ) → stampTest (stampBy n x y) ≡ leb n 1
+unfolding stampTest stampBy
+stamp-test zero x y = refl
+stamp-test (suc zero) x y =
+    let l : length (leDigits 8 x ++ leDigits 8 y) ≡ 16 = length-append (leDigits 8 x) (leDigits 8 y) ∙ omega (arith, length-low-digits 8 x, length-low-digits 8 y) in
+    rw l (octets-passes (leDigits 8 x ++ leDigits 8 y) (octets-append (leDigits 8 x) (leDigits 8 y) (low-digits-octets 8 x) (low-digits-octets 8 y)))
+stamp-test (suc (suc n)) x y = sym (lt-leb (suc (suc n)) 1 (omega arith))
 
 -- ---- one transfer
 
@@ -37,11 +50,18 @@ module _ (a : List ℕ) (i id : ℕ) (p : id ≡ wordAt a (headAt i idField)) wh
           let l : length (runsFrom a (runAt 0 i 0) (runAt 1 i 0) runs) ≡ runs = length-runs a (runAt 0 i 0) (runAt 1 i 0) runs in
           rw (← p, ← q, ← r, ← g, lt-ltb id (2 ^ 32) small, ← is, f, l, lt-leb runs runPlaces h)
 
-      pub runs-decide : (b : Bool) → runs ≤ runPlaces → b ≡ runsTest size (runsFrom a (runAt 0 i 0) (runAt 1 i 0) runs) → b ≡ transferTest (transferAt a i)
-      unfolding transferTest
-      runs-decide b h w =
-          let l : length (runsFrom a (runAt 0 i 0) (runAt 1 i 0) runs) ≡ runs = length-runs a (runAt 0 i 0) (runAt 1 i 0) runs in
-          rw (← p, ← q, ← r, ← g, lt-ltb id (2 ^ 32) small, ← is, f, l, le-leb runs runPlaces h) w
+      module _ (b : Bool) (h : runs ≤ runPlaces) (w : b ≡ runsTest size (runsFrom a (runAt 0 i 0) (runAt 1 i 0) runs)) where
+        pub runs-fail : b ≡ false → false ≡ transferTest (transferAt a i)
+        unfolding transferTest
+        runs-fail e =
+            let l : length (runsFrom a (runAt 0 i 0) (runAt 1 i 0) runs) ≡ runs = length-runs a (runAt 0 i 0) (runAt 1 i 0) runs in
+            rw (← p, ← q, ← r, ← g, lt-ltb id (2 ^ 32) small, ← is, f, l, le-leb runs runPlaces h, ← w, e)
+
+        pub stamp-decide : (n : ℕ) → b ≡ true → n ≡ wordAt a (headAt i stampedField) → leb n 1 ≡ transferTest (transferAt a i)
+        unfolding transferTest
+        stamp-decide n e c =
+            let l : length (runsFrom a (runAt 0 i 0) (runAt 1 i 0) runs) ≡ runs = length-runs a (runAt 0 i 0) (runAt 1 i 0) runs in
+            rw (← p, ← q, ← r, ← g, lt-ltb id (2 ^ 32) small, ← is, f, l, le-leb runs runPlaces h, ← w, e, ← c) (sym (stamp-test n (wordAt a (halfAt i 0)) (wordAt a (halfAt i 1))))
 
 pub id-small : (a : List ℕ) (i : ℕ) → transferTest (transferAt a i) ≡ true → wordAt a (headAt i idField) < 2 ^ 32
 unfolding transferTest

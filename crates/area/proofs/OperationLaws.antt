@@ -177,9 +177,9 @@ module _ (a : List ℕ) (t : List Transfer) (h : tableOf a ≡ some t) where
   unfolding openArea
   open-leaves packet p = on-leaves _ (λ t. openPacket t packet) (open-valid t packet p (held-valid a t h))
 
-  pub record-leaves : (packet : List ℕ) → tableOf (recordArea a packet .area) ≡ some (recordPacket t packet .table)
+  pub record-leaves : (packet : List ℕ) → Octets packet → tableOf (recordArea a packet .area) ≡ some (recordPacket t packet .table)
   unfolding recordArea
-  record-leaves packet = on-leaves _ (λ t. recordPacket t packet) (record-valid t packet (held-valid a t h))
+  record-leaves packet p = on-leaves _ (λ t. recordPacket t packet) (record-valid t packet p (held-valid a t h))
 
   pub close-leaves : (id : ℕ) → tableOf (closeArea a id .area) ≡ some (closeId t id .table)
   unfolding closeArea

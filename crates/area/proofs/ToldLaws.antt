@@ -1,13 +1,15 @@
--- R6.5, R6.8: what opening and recording tell on areas, by the table that the area holds after the call; how many runs a packet absorbed; and that it added nothing exactly when
--- every octet of the area is as before. A repeat is one such packet.
+-- R6.5, R6.8: what opening and recording tell on areas, by the table that the area holds after the call; how many runs a packet
+-- absorbed; and that it added nothing exactly when the received set is as before and, where it brings no timestamp, every octet of the area.
+-- A repeat is one such packet.
 -- Assumes nothing.
 use Prim.Native.Nat.{ℕ, _+_}
 use mathlib.Core.Path.{_≡_, sym, ap, _∙_}
 use mathlib.Core.Bool.{true}
-use mathlib.Core.List.{List}
+use mathlib.Core.List.{List, []}
 use mathlib.Core.Logic.{_⊎_, ⊎-elim, _↔_}
 use mathlib.Core.Option.{some}
 use native.Mathlib.Omega.{arith}
+use lib.ListN.{take, drop}
 use Rattle.octets.specs.Numbers.{Octets}
 use Rattle.refusals.specs.Refusals.{refusalOf}
 use Rattle.packet_metadata.specs.Metadata.{readMetadata}
@@ -19,9 +21,10 @@ use Rattle.packet_data.specs.declared.DataRead.the-variants as data-read
 use Rattle.transfer.specs.declared.Reached.{Reached}
 use Rattle.transfer.specs.declared.Receipt.{Receipt}
 use Rattle.transfer.specs.Transfers.{Transfer}
+use Rattle.transfer.specs.Record.{stampIn}
 use Rattle.table.specs.Open.{openPacket}
 use Rattle.table.specs.Record.{absorbedIn, recordPacket, recordAccepted}
-use Rattle.table.specs.Tables.{Valid}
+use Rattle.table.specs.Tables.{Valid, runsOf}
 use Rattle.table.specs.Told.{Told}
 use Rattle.table.specs.declared.Opened.{Opened}
 use Rattle.table.specs.declared.Opened.the-variants as opened
@@ -55,10 +58,13 @@ pub record AreaRecording (a b packet : List ℕ) (x : Receipt) : Type 0 where
   pub number : x .absorbed ≡ absorbedIn before brought
   pub counted : runsHeld b (brought .id) + x .absorbed ≡ runsHeld a (brought .id) + 1
   pub new : (x .adds ≡ 0) ↔ Known before brought
+  pub after : List Transfer
+  pub left : tableOf b ≡ some after
+  pub same : (x .adds ≡ 0) ↔ (runsOf after (brought .id) ≡ runsOf before (brought .id))
 
 module _ (a packet : List ℕ) (x : Receipt) where
-  pub area-record-told : recordArea a packet .answer ≡ recorded.Accepted x → AreaRecording a (recordArea a packet .area) packet x
-  area-record-told = by-table
+  pub area-record-told : Octets packet → recordArea a packet .answer ≡ recorded.Accepted x → AreaRecording a (recordArea a packet .area) packet x
+  area-record-told octets = by-table
     where
       Goal : OnArea Recorded → Type 0
       Goal o = o .answer ≡ recorded.Accepted x → AreaRecording a (recordArea a packet .area) packet x
@@ -66,17 +72,20 @@ module _ (a packet : List ℕ) (x : Receipt) where
       recording : (t : List Transfer) → tableOf a ≡ some t → Recording t (recordPacket t packet .table) packet x
           → AreaRecording a (recordArea a packet .area) packet x
       recording t h r =
-          let after : tableOf (recordArea a packet .area) ≡ some (recordPacket t packet .table) = record-leaves a t h packet in
+          let left : tableOf (recordArea a packet .area) ≡ some (recordPacket t packet .table) = record-leaves a t h packet octets in
           let d : Data = r .brought in
           record {
             before = t;
             held = h;
             brought = d;
             read = r .read;
-            told = record { table = recordPacket t packet .table; held = after; told = r .told };
+            told = record { table = recordPacket t packet .table; held = left; told = r .told };
             number = r .number;
-            counted = rw (runs-held (recordArea a packet .area) (recordPacket t packet .table) (d .id) after, runs-held a t (d .id) h) (r .counted);
+            counted = rw (runs-held (recordArea a packet .area) (recordPacket t packet .table) (d .id) left, runs-held a t (d .id) h) (r .counted);
             new = r .new;
+            after = recordPacket t packet .table;
+            left = left;
+            same = r .same;
           }
 
       by-table : Goal (recordArea a packet)
@@ -86,26 +95,32 @@ module _ (a packet : List ℕ) (x : Receipt) where
           (λ e. absurd (let z : _≡_ {A = ℕ} 0 1 = cc in omega arith))
           (λ t h e. recording t h (record-told t packet x (held-valid a t h) e))
 
-  -- it tells that nothing was added exactly when every octet of the area is as before
-  pub area-record-adds : Octets a → recordArea a packet .answer ≡ recorded.Accepted x → (x .adds ≡ 0) ↔ (recordArea a packet .area ≡ a)
-  area-record-adds o = by-table
-    where
-      Goal : OnArea Recorded → Type 0
-      Goal y = y .answer ≡ recorded.Accepted x → (x .adds ≡ 0) ↔ (y .area ≡ a)
+  -- where the packet brings no timestamp: it tells that nothing was added exactly when every octet of the area is as before
+  module _ (d : Data) (read : readData packet ≡ data-read.Accepted d) (none : d .timestamp ≡ 0) where
+    without : (y : Data) → readData packet ≡ data-read.Accepted y → stampIn packet y ≡ []
+    unfolding stampIn
+    without y e = let is : y ≡ d = cc in ap (λ (z : Data). take (z .timestamp) (drop 8 packet)) is ∙ ap (λ (n : ℕ). take n (drop 8 packet)) none
 
-      stays : (t : List Transfer) → tableOf a ≡ some t → Goal (leaves a (recordPacket t packet))
-      stays t h e =
-          let u = recordPacket t packet .table in
-          let valid : Valid u = record-valid t packet (held-valid a t h) in
-          let same = record-told t packet x (held-valid a t h) e .same in (
-            (λ z. ap (storedIn a) (same .0 z) ∙ held-stored a t o h),
-            (λ z. same .1 (held-once a u t (ap tableOf (sym z) ∙ stored-held a u valid) h)),
-          )
+    pub area-record-adds : Octets a → Octets packet → recordArea a packet .answer ≡ recorded.Accepted x → (x .adds ≡ 0) ↔ (recordArea a packet .area ≡ a)
+    area-record-adds o octets = by-table
+      where
+        Goal : OnArea Recorded → Type 0
+        Goal y = y .answer ≡ recorded.Accepted x → (x .adds ≡ 0) ↔ (y .area ≡ a)
 
-      by-table : Goal (recordArea a packet)
-      by-table =
-          unfold recordArea in
-          on-cases (recorded.Refused (refusalOf 22)) (λ t. recordPacket t packet) a Goal (λ e. absurd (let z : _≡_ {A = ℕ} 0 1 = cc in omega arith)) stays
+        stays : (t : List Transfer) → tableOf a ≡ some t → Goal (leaves a (recordPacket t packet))
+        stays t h e =
+            let u = recordPacket t packet .table in
+            let valid : Valid u = record-valid t packet octets (held-valid a t h) in
+            let r = record-told t packet x (held-valid a t h) e in
+            let same = r .stays (without (r .brought) (r .read)) in (
+              (λ z. ap (storedIn a) (same .0 z) ∙ held-stored a t o h),
+              (λ z. same .1 (held-once a u t (ap tableOf (sym z) ∙ stored-held a u valid) h)),
+            )
+
+        by-table : Goal (recordArea a packet)
+        by-table =
+            unfold recordArea in
+            on-cases (recorded.Refused (refusalOf 22)) (λ t. recordPacket t packet) a Goal (λ e. absurd (let z : _≡_ {A = ℕ} 0 1 = cc in omega arith)) stays
 
 module _ (a packet : List ℕ) (x : Reached) where
   -- and so does an opening, of a transfer that is new or that was open already
@@ -131,9 +146,9 @@ module _ (a packet : List ℕ) (x : Reached) where
 abbrev repeated : OnArea Recorded → OnArea Recorded
 repeated o = record { answer = withOne (o .answer); area = o .area }
 
-pub area-record-repeat : (a packet : List ℕ) → Octets a → recordAccepted (recordArea a packet .answer) ≡ true
+pub area-record-repeat : (a packet : List ℕ) → Octets a → Octets packet → recordAccepted (recordArea a packet .answer) ≡ true
     → recordArea (recordArea a packet .area) packet ≡ repeated (recordArea a packet)
-area-record-repeat a packet o = by-table
+area-record-repeat a packet o octets = by-table
   where
     Goal : OnArea Recorded → Type 0
     Goal x = recordAccepted (x .answer) ≡ true → recordArea (x .area) packet ≡ repeated x
@@ -143,8 +158,8 @@ area-record-repeat a packet o = by-table
         let u = recordPacket t packet .table in
         let b = storedIn a u in
         let on : recordArea a packet ≡ leaves a (recordPacket t packet) = record-held a packet t h in
-        let held : tableOf b ≡ some u = ap (λ (x : OnArea Recorded). tableOf (x .area)) (sym on) ∙ record-leaves a t h packet in
-        let same : recordPacket u packet ≡ record { answer = withOne (recordPacket t packet .answer); table = u } = record-repeat t packet (held-valid a t h) e in
+        let held : tableOf b ≡ some u = ap (λ (x : OnArea Recorded). tableOf (x .area)) (sym on) ∙ record-leaves a t h packet octets in
+        let same : recordPacket u packet ≡ record { answer = withOne (recordPacket t packet .answer); table = u } = record-repeat t packet octets (held-valid a t h) e in
         let next : recordArea b packet ≡ leaves b (recordPacket u packet) = record-held b packet u held in
         next
         ∙ ap (leaves b) same

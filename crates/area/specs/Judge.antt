@@ -6,18 +6,26 @@ use mathlib.Core.List.{List, [], _∷_}
 use mathlib.Core.Bool.{Bool, true, false, cond}
 use mathlib.Core.Option.{Option, none, some}
 use lib.ListN.{length}
-use lib.Dec.{ltb, leb}
+use lib.Dec.{ltb, leb, eqb}
 use Rattle.words.specs.Words.{wordAt}
 use Rattle.run_judge.specs.Judge.{runsTest}
 use Rattle.transfer.specs.Transfers.{Transfer, lengthTest}
 use Rattle.area.specs.Layout.{transferPlaces, runPlaces, areaOctets}
 use Rattle.area.specs.Places.{readTable}
 
+-- a timestamp: 16 octets, or none
+unfoldable pub octetsTest : List ℕ → Bool
+octetsTest [] = true
+octetsTest (o ∷ s) = let rest = octetsTest s in cond (ltb o 256) rest false
+
+unfoldable pub stampTest : List ℕ → Bool
+stampTest s = cond (eqb (length s) 0) true (cond (eqb (length s) 16) (octetsTest s) false)
+
 unfoldable pub transferTest : Transfer → Bool
 transferTest x =
     cond (ltb (x .key .id) (2 ^ 32))
     (cond (lengthTest (x .key .width) (x .key .length))
-    (cond (leb (length (x .runs)) runPlaces) (runsTest (x .key .length) (x .runs)) false) false)
+    (cond (leb (length (x .runs)) runPlaces) (cond (runsTest (x .key .length) (x .runs)) (stampTest (x .stamp)) false) false) false)
     false
 
 -- the Ids rise, and the first is at least k

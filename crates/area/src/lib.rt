@@ -6,7 +6,7 @@ ghost use lib.ListN.{length};
 ghost use Rattle.words.specs.Words.{wordAt};
 ghost use Rattle.run_rows.specs.Rows.{runsIn, RowsFit};
 ghost use Rattle.transfer.specs.Transfers.{reached};
-ghost use Rattle.area.specs.Layout.{transferPlaces, headWords, areaOctets, headAt, runAt};
+ghost use Rattle.area.specs.Layout.{transferPlaces, headWords, areaOctets, headAt, runAt, halfAt};
 ghost use Rattle.area.specs.Places.{keyAt, rowsAt, transferAt, transfersFrom, readTable, placeIn};
 ghost use Rattle.area.specs.Judge.{transferTest, fineTest, judged};
 use run_rows::Rows;
@@ -18,8 +18,8 @@ pub const TRANSFERS: usize = 16;
 
 pub const RUNS: usize = 64;
 
-// A head: the Id, the width, the length, and the number of runs.
-pub const HEAD_WORDS: usize = 4;
+// A head: the Id, the width, the length, the number of runs, and 1 where a timestamp is kept, else 0.
+pub const HEAD_WORDS: usize = 5;
 
 pub const ID: usize = 0;
 
@@ -29,14 +29,21 @@ pub const LENGTH: usize = 2;
 
 pub const RUN_COUNT: usize = 3;
 
-// Where the heads begin, the starts of all runs, and their stops, in words of 8 octets; and the octets of the layout.
+pub const STAMPED: usize = 4;
+
+// The words of a timestamp.
+pub const STAMP_WORDS: usize = 2;
+
+// Where the heads begin, the starts of all runs, their stops, and the timestamps, in words of 8 octets; and the octets of the layout.
 const HEADS_AT: usize = 1;
 
 const STARTS_AT: usize = HEADS_AT + TRANSFERS * HEAD_WORDS;
 
 const STOPS_AT: usize = STARTS_AT + TRANSFERS * RUNS;
 
-pub const AREA_OCTETS: usize = (STOPS_AT + TRANSFERS * RUNS) * 8;
+const STAMPS_AT: usize = STOPS_AT + TRANSFERS * RUNS;
+
+pub const AREA_OCTETS: usize = (STAMPS_AT + TRANSFERS * STAMP_WORDS) * 8;
 
 // Where an Id is kept, or would be put, and whether it is open.
 pub struct Place {
@@ -65,6 +72,14 @@ pub fn stops_at(i: usize) -> usize
     ensures { λ r. ⌜ r ≡ runAt 1 i 0 ⌝ }
 {
     STOPS_AT + i * RUNS
+}
+
+// The word where the octets of the timestamp at place i begin.
+pub fn stamp_at(i: usize) -> usize
+    requires { ⌜ i < transferPlaces ⌝ }
+    ensures { λ r. ⌜ r ≡ halfAt i 0 ⌝ }
+{
+    STAMPS_AT + i * STAMP_WORDS
 }
 
 // A field of the head at place i.
@@ -131,7 +146,10 @@ fn transfer_ok(area: &[u8], i: usize) -> bool
         if RUNS < rows.count {
             return false;
         }
-        return run_judge::runs_ok(area, rows, size);
+        if run_judge::runs_ok(area, rows, size) {
+            return head(area, i, STAMPED) <= 1;
+        }
+        return false;
     }
     false
 }

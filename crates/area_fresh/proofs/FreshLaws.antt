@@ -10,7 +10,7 @@ use Rattle.runs.proofs.CompareLaws.{le-or-lt}
 use Rattle.words.specs.Words.{wordAt, putWord}
 use Rattle.words.proofs.RowLaws.{put-at}
 use Rattle.words.proofs.WordLaws.{by-known}
-use Rattle.area.specs.Layout.{transferPlaces, runPlaces, headWords, areaWords, areaOctets, idField, headAt, runAt}
+use Rattle.area.specs.Layout.{transferPlaces, runPlaces, headWords, stampWords, areaWords, areaOctets, idField, headAt, runAt, halfAt}
 use Rattle.area.specs.Stored.{freshIn}
 use Rattle.area_move.specs.Changes.{Changed}
 use Rattle.area_fresh.specs.Fresh.{noNumbers, WordsPut}
@@ -65,9 +65,9 @@ pub words-at : {a b ws : List ℕ} {k n : ℕ} (to : ℕ) → WordsPut a b k ws 
 words-at {a} {b} {ws} {k} {n} to w e = subst (λ (x : ℕ). WordsPut a b x ws n) e w
 
 -- the numbers of no transfer, stored whole
-module _ (a b c d e : List ℕ) (n : Numbers) (is : n ≡ noNumbers) (long : areaOctets ≤ length a) (f : b ≡ putWord 0 (n .count) a)
+module _ (a b c d e m : List ℕ) (n : Numbers) (is : n ≡ noNumbers) (long : areaOctets ≤ length a) (f : b ≡ putWord 0 (n .count) a)
     (g : WordsPut b c (headAt 0 idField) (n .heads) (length (n .heads))) (h : WordsPut c d (runAt 0 0 0) (n .starts) (length (n .starts)))
-    (k : WordsPut d e (runAt 1 0 0) (n .stops) (length (n .stops))) where
+    (k : WordsPut d e (runAt 1 0 0) (n .stops) (length (n .stops))) (l : WordsPut e m (halfAt 0 0) (n .stamps) (length (n .stamps))) where
   heads-are : n .heads ≡ replicate (transferPlaces * headWords) 0
   heads-are = ap (λ (x : Numbers). x .heads) is
 
@@ -77,31 +77,38 @@ module _ (a b c d e : List ℕ) (n : Numbers) (is : n ≡ noNumbers) (long : are
   stops-are : n .stops ≡ replicate (transferPlaces * runPlaces) 0
   stops-are = ap (λ (x : Numbers). x .stops) is
 
+  stamps-are : n .stamps ≡ replicate (transferPlaces * stampWords) 0
+  stamps-are = ap (λ (x : Numbers). x .stamps) is
+
   first : Changed a b 0 1
   first = put-changed a b 0 (n .count) (omega arith) f
 
   zero-first : ZeroTo b (headAt 0 idField)
-  zero-first m l =
+  zero-first i o =
       let z : n .count ≡ 0 = ap (λ (x : Numbers). x .count) is in
-      let w : m ≡ 0 = omega arith in
+      let w : i ≡ 0 = omega arith in
       ap (wordAt b) w ∙ ap (λ (x : List ℕ). wordAt x 0) f ∙ put-at a 0 (n .count) (omega arith) (omega arith) ∙ z
 
-  zero-all : ZeroTo e areaWords
+  zero-all : ZeroTo m areaWords
   zero-all =
-      zero-more d e (runAt 1 0 0) (transferPlaces * runPlaces) (n .stops) stops-are
+      zero-more e m (halfAt 0 0) (transferPlaces * stampWords) (n .stamps) stamps-are
+      (zero-more d e (runAt 1 0 0) (transferPlaces * runPlaces) (n .stops) stops-are
       (zero-more c d (runAt 0 0 0) (transferPlaces * runPlaces) (n .starts) starts-are
       (zero-more b c (headAt 0 idField) (transferPlaces * headWords) (n .heads) heads-are zero-first g) h)
-      k
+      k)
+      l
 
   -- what was put lies in the layout
-  within : (to m : ℕ) (ws : List ℕ) → ws ≡ replicate m 0 → to + m ≤ areaWords → (to + length ws) * 8 ≤ areaOctets
-  within to m ws w l = omega (arith, ap length w, length-replicate {A = ℕ} m 0)
+  within : (to w : ℕ) (ws : List ℕ) → ws ≡ replicate w 0 → to + w ≤ areaWords → (to + length ws) * 8 ≤ areaOctets
+  within to w ws q r = omega (arith, ap length q, length-replicate {A = ℕ} w 0)
 
-  pub fresh-stored : Octets e → e ≡ freshIn a
+  pub fresh-stored : Octets m → m ≡ freshIn a
   unfolding freshIn
   fresh-stored o =
-      by-known (λ k. 0) e (drop areaOctets a) areaWords o (omega (arith, k .changed .size, h .changed .size, g .changed .size, first .size)) zero-all
-      (k .changed .past areaOctets (within (runAt 1 0 0) (transferPlaces * runPlaces) (n .stops) stops-are (omega arith))
+      by-known (λ k. 0) m (drop areaOctets a) areaWords o
+      (omega (arith, l .changed .size, k .changed .size, h .changed .size, g .changed .size, first .size)) zero-all
+      (l .changed .past areaOctets (within (halfAt 0 0) (transferPlaces * stampWords) (n .stamps) stamps-are (omega arith))
+      ∙ k .changed .past areaOctets (within (runAt 1 0 0) (transferPlaces * runPlaces) (n .stops) stops-are (omega arith))
       ∙ h .changed .past areaOctets (within (runAt 0 0 0) (transferPlaces * runPlaces) (n .starts) starts-are (omega arith))
       ∙ g .changed .past areaOctets (within (headAt 0 idField) (transferPlaces * headWords) (n .heads) heads-are (omega arith))
       ∙ first .past areaOctets (omega arith))

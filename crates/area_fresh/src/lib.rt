@@ -6,8 +6,10 @@ ghost use Rattle.area.specs.Operations.{freshArea};
 ghost use Rattle.area_fresh.specs.Fresh.{noNumbers, WordsPut};
 use table::Finished;
 
-// The numbers of all heads.
+// The numbers of all heads, and those of all timestamps.
 const HEADS: usize = area::TRANSFERS * area::HEAD_WORDS;
+
+const STAMPS: usize = area::TRANSFERS * area::STAMP_WORDS;
 
 // The numbers of a table, in the order of the layout.
 struct Numbers {
@@ -15,6 +17,7 @@ struct Numbers {
     heads: [u64; HEADS],
     starts: [u64; 1024],
     stops: [u64; 1024],
+    stamps: [u64; STAMPS],
 }
 
 // Those of a table with no transfer.
@@ -26,6 +29,7 @@ fn no_numbers() -> Numbers
         heads: [0; HEADS],
         starts: [0; 1024],
         stops: [0; 1024],
+        stamps: [0; STAMPS],
     }
 }
 
@@ -53,5 +57,6 @@ pub fn fresh(area: &mut [u8]) -> Finished
     put_words(area, area::head_at(0, area::ID), &n.heads);
     put_words(area, area::starts_at(0), &n.starts);
     put_words(area, area::stops_at(0), &n.stops);
+    put_words(area, area::stamp_at(0), &n.stamps);
     Finished::Done
 }

@@ -11,10 +11,10 @@ module _ {a : List ℕ} {t : Target} (c : Cuts) where
   pub cut-through : (t .number ≡ 0 → ⊥) → c .number ≡ t .number → CutAt a t c
   cut-through z e = record { through = λ y. e; refused = λ y. absurd (z y); places = λ y. absurd (z y) }
 
-  pub cut-refused : t .number ≡ 0 → (n : ℕ) → c .number ≡ n → (n ≡ 0 → ⊥) → refusedBy n a ≡ given a t → CutAt a t c
-  cut-refused y n e z f = record {
-    through = λ x. absurd (x y);
-    refused = λ x w. ap (λ (m : ℕ). refusedBy m a) e ∙ f;
+  pub cut-refused : t .number ≡ 0 → (n : ℕ) → c .number ≡ n → (n ≡ 0 → ⊥) → ((y : List ℕ) → refusedBy n a ≡ given a t y) → CutAt a t c
+  cut-refused v n e z f = record {
+    through = λ x. absurd (x v);
+    refused = λ x w y. ap (λ (m : ℕ). refusedBy m a) e ∙ f y;
     places = λ x w. absurd (z (sym e ∙ w));
   }
 

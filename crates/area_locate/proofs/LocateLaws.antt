@@ -13,12 +13,13 @@ module _ {a : List ℕ} {u : ℕ} {d : Data} (t : Target) where
   pub located-through : (u ≡ 0 → ⊥) → t .number ≡ u → Located a u d t
   located-through z e = record { through = λ y. e; refused = λ y. absurd (z y); found = λ y. absurd (z y) }
 
-  pub located-refused : u ≡ 0 → (n : ℕ) → t .number ≡ n → (n ≡ 0 → ⊥) → refusedBy n a ≡ leaves a (recordData (readTable a) d) → Located a u d t
+  pub located-refused : u ≡ 0 → (n : ℕ) → t .number ≡ n → (n ≡ 0 → ⊥)
+      → ((s : List ℕ) → refusedBy n a ≡ leaves a (recordData (readTable a) d s)) → Located a u d t
   located-refused y n e z f = record {
     through = λ x. absurd (x y);
-    refused = λ x w. ap (λ (m : ℕ). refusedBy m a) e ∙ f;
+    refused = λ x w s. ap (λ (m : ℕ). refusedBy m a) e ∙ f s;
     found = λ x w. absurd (z (sym e ∙ w));
   }
 
-  pub located-found : u ≡ 0 → t .number ≡ 0 → Found a t → given a t ≡ leaves a (recordData (readTable a) d) → Located a u d t
+  pub located-found : u ≡ 0 → t .number ≡ 0 → Found a t → ((s : List ℕ) → given a t s ≡ leaves a (recordData (readTable a) d s)) → Located a u d t
   located-found y e f g = record { through = λ x. absurd (x y); refused = λ x w. absurd (w e); found = λ x w. (f, g) }

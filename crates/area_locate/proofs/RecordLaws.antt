@@ -1,5 +1,5 @@
 -- Each way through recording: the area that holds no table, the reader's refusals, 12, those of the transfer's key, 16, and the runs
--- stored. A refused packet leaves the area.
+-- stored with the timestamp that the packet brings. A refused packet leaves the area.
 -- Assumes nothing.
 use Prim.Native.Nat.{ℕ, zero, suc, _≤_, _<_}
 use mathlib.Core.Path.{_≡_, refl, sym, ap, _∙_}
@@ -20,7 +20,7 @@ use Rattle.runs.specs.Runs.{Run, insert, absorbed, adds}
 use Rattle.runs.proofs.CompareLaws.{le-or-lt}
 use Rattle.transfer.specs.declared.Key.{Key}
 use Rattle.transfer.specs.Transfers.{Transfer}
-use Rattle.transfer.specs.Record.{stopOf, keyRefusal, extended, absorbedBy, addsBy, runsRefusal}
+use Rattle.transfer.specs.Record.{stopOf, stampIn, keyRefusal, extended, absorbedBy, addsBy, runsRefusal}
 use Rattle.transfer.proofs.FieldLaws.{data-some}
 use Rattle.table.specs.Tables.{keys, find}
 use Rattle.table.specs.Record.{dataJudged, recordRefusal, grown, absorbedIn, addsIn, recordAs, recordData, recordRead, recordPacket}
@@ -39,11 +39,11 @@ use Rattle.area.proofs.OperationLaws.{on-judged, on-unjudged}
 use Rattle.area_locate.specs.Record.{runsGiven, offsetsGiven}
 
 -- a number that is not 0 is given, and the table stays
-as-refused : (n : ℕ) (k : Option Key) (rs : List Run) (t : List Transfer) (d : Data) → (n ≡ 0 → ⊥)
-    → recordAs n k rs t d ≡ record { answer = Refused (refusalOf n); table = t }
+as-refused : (n : ℕ) (k : Option Key) (rs : List Run) (t : List Transfer) (d : Data) (s : List ℕ) → (n ≡ 0 → ⊥)
+    → recordAs n k rs t d s ≡ record { answer = Refused (refusalOf n); table = t }
 unfolding recordAs
-as-refused zero k rs t d z = absurd (z refl)
-as-refused (suc n) k rs t d z = refl
+as-refused zero k rs t d s z = absurd (z refl)
+as-refused (suc n) k rs t d s z = refl
 
 -- what was read brings some offset
 pub fields-some : (s : List ℕ) (d : Data) → dataRefusal s ≡ 0 → d ≡ dataOf s → 0 < d .length
@@ -64,7 +64,7 @@ module _ (a : List ℕ) (e : judged a ≡ true) where
   record-unread s zero o f g = absurd (g refl)
   record-unread s (suc n) o f g = rw (on-judged (Refused (refusalOf 22)) (λ t. recordPacket t s) a e, ← f) (refused (suc n) o)
 
-  pub record-read : (s : List ℕ) → dataRefusal s ≡ 0 → leaves a (recordData (readTable a) (dataOf s)) ≡ recordArea a s
+  pub record-read : (s : List ℕ) → dataRefusal s ≡ 0 → leaves a (recordData (readTable a) (dataOf s) (stampIn s (dataOf s))) ≡ recordArea a s
   unfolding recordArea recordPacket recordRead readData
   record-read s f = rw (on-judged (Refused (refusalOf 22)) (λ t. recordPacket t s) a e, f)
 
@@ -77,9 +77,9 @@ module _ (a : List ℕ) (e : judged a ≡ true) where
     p = q .at
 
     -- 12
-    pub fields-missing : q .«open» ≡ false → Octets a → record { answer = Refused (refusalOf 12); area = a } ≡ leaves a (recordData table d)
+    pub fields-missing : q .«open» ≡ false → Octets a → (x : List ℕ) → record { answer = Refused (refusalOf 12); area = a } ≡ leaves a (recordData table d x)
     unfolding recordData recordRefusal dataJudged recordAs
-    fields-missing s o = rw (free-missing (judged-passed a e .1 .fine) (place-free (d .id) table q is s)) (refused 12 o)
+    fields-missing s o x = rw (free-missing (judged-passed a e .1 .fine) (place-free (d .id) table q is s)) (refused 12 o)
 
     -- k is the key that stands there, and m is what it gives
     module _ (s : KeptAt (d .id) table p) (k : Key) (key-is : k ≡ keyAt a p) (m : ℕ) (j : m ≡ keyRefusal k d) where
@@ -87,9 +87,9 @@ module _ (a : List ℕ) (e : judged a ≡ true) where
       found = kept-found s ∙ ap some (ap (λ (x : Transfer). x .key) (kept-transfer a (d .id) p s) ∙ sym key-is)
 
       -- 13, 14 and 15
-      pub fields-refused : (m ≡ 0 → ⊥) → Octets a → record { answer = Refused (refusalOf m); area = a } ≡ leaves a (recordData table d)
+      pub fields-refused : (m ≡ 0 → ⊥) → Octets a → (x : List ℕ) → record { answer = Refused (refusalOf m); area = a } ≡ leaves a (recordData table d x)
       unfolding recordData recordRefusal dataJudged
-      fields-refused z o = rw (found, ← j, stays m (runsRefusal (grown table d)) z, as-refused m (some k) (grown table d) table d z) (refused m o)
+      fields-refused z o x = rw (found, ← j, stays m (runsRefusal (grown table d)) z, as-refused m (some k) (grown table d) table d x z) (refused m o)
 
       -- 16, or the runs stored
       abbrev rest : List Run
@@ -107,12 +107,12 @@ module _ (a : List ℕ) (e : judged a ≡ true) where
       unfolding grown extended
       grown-is = ap (insert (d .offset) (stopOf d)) (kept-runs s)
 
-      pub fields-extended : m ≡ 0 → Octets a → offsetsGiven a p k (d .offset) (stopOf d) ≡ leaves a (recordData table d)
+      pub fields-extended : m ≡ 0 → Octets a → (x : List ℕ) → offsetsGiven a p k (d .offset) (stopOf d) x ≡ leaves a (recordData table d x)
       unfolding recordData recordRefusal dataJudged recordAs runsRefusal runsGiven
-      fields-extended z o =
+      fields-extended z o x =
           let y : keyRefusal k d ≡ 0 = sym j ∙ z in
           rw (found, y, grown-is)
           (⊎-elim
-          (λ (l : length rest ≤ runPlaces). rw (le-ltb runPlaces (length rest) l, absorbed-is, adds-is, set-at (d .id) rest (kept-placed s) (s .inside) (s .same)))
+          (λ (l : length rest ≤ runPlaces). rw (le-ltb runPlaces (length rest) l, absorbed-is, adds-is, set-at (d .id) rest x (kept-placed s) (s .inside) (s .same)))
           (λ (l : runPlaces < length rest). rw (lt-ltb runPlaces (length rest) l) (refused 16 o))
           (le-or-lt (length rest) runPlaces))

@@ -34,12 +34,12 @@ pub record Found (a : List ℕ) (t : Target) : Type 0 where
   pub some : t .from < t .to
   pub length-is : t .length ≡ keyAt a (t .place) .length
 
--- recording, once that is known
-abbrev pub given : List ℕ → Target → OnArea Recorded
-given a t = offsetsGiven a (t .place) (keyAt a (t .place)) (t .from) (t .to)
+-- recording, once that is known, with the timestamp that the packet brings
+abbrev pub given : List ℕ → Target → List ℕ → OnArea Recorded
+given a t s = offsetsGiven a (t .place) (keyAt a (t .place)) (t .from) (t .to) s
 
--- of a packet with the fields d
+-- of a packet with the fields d, whatever timestamp it brings
 pub record Located (a : List ℕ) (unread : ℕ) (d : Data) (t : Target) : Type 0 where
   pub through : (unread ≡ 0 → ⊥) → t .number ≡ unread
-  pub refused : unread ≡ 0 → (t .number ≡ 0 → ⊥) → refusedBy (t .number) a ≡ leaves a (recordData (readTable a) d)
-  pub found : unread ≡ 0 → t .number ≡ 0 → Found a t × (given a t ≡ leaves a (recordData (readTable a) d))
+  pub refused : unread ≡ 0 → (t .number ≡ 0 → ⊥) → (s : List ℕ) → refusedBy (t .number) a ≡ leaves a (recordData (readTable a) d s)
+  pub found : unread ≡ 0 → t .number ≡ 0 → Found a t × ((s : List ℕ) → given a t s ≡ leaves a (recordData (readTable a) d s))

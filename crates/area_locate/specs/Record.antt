@@ -18,15 +18,16 @@ use Rattle.area.specs.Stored.{storedIn}
 use Rattle.area.specs.Operations.{OnArea}
 
 -- the area a holds the table t, and the transfer at place p, whose key is k, is to have the runs rs, n of its runs absorbed, and m says
--- whether something is added. R9.16: where there would be more than 64 runs, the area stays; else they are stored
-unfoldable pub runsGiven : List ℕ → List Transfer → ℕ → Key → List Run → ℕ → ℕ → OnArea Recorded
-runsGiven a t p k rs n m =
+-- whether something is added. R9.16: where there would be more than 64 runs, the area stays; else they are stored. R6.14: and with them
+-- the timestamp s that the packet brings
+unfoldable pub runsGiven : List ℕ → List Transfer → ℕ → Key → List Run → ℕ → ℕ → List ℕ → OnArea Recorded
+runsGiven a t p k rs n m s =
     cond (ltb runPlaces (length rs))
     (record { answer = Refused (refusalOf 16); area = a })
-    (record { answer = Accepted (receipt k rs n m); area = storedIn a (withRuns t p rs) })
+    (record { answer = Accepted (receipt k rs n m); area = storedIn a (withRuns t p rs s) })
 
 -- the transfer at place p, whose key is k, is to have the offsets from `from` on too, with `to` the first after them
-abbrev pub offsetsGiven : List ℕ → ℕ → Key → ℕ → ℕ → OnArea Recorded
-offsetsGiven a p k from to =
+abbrev pub offsetsGiven : List ℕ → ℕ → Key → ℕ → ℕ → List ℕ → OnArea Recorded
+offsetsGiven a p k from to s =
     let rs = nth (readTable a) p .runs in
-    runsGiven a (readTable a) p k (insert from to rs) (absorbed from to rs) (adds from to rs)
+    runsGiven a (readTable a) p k (insert from to rs) (absorbed from to rs) (adds from to rs) s

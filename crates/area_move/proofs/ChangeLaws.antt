@@ -1,23 +1,20 @@
 -- A change of some words: as one word put or some moved, one after the other, and within a place of the layout.
 -- Assumes nothing.
 use Prim.Native.Nat.{ℕ, _+_, _*_, _≤_, _<_}
-use mathlib.Core.Path.{_≡_, ap, _∙_}
+use mathlib.Core.Path.{_≡_, refl, ap, _∙_}
 use mathlib.Core.List.{List}
-use mathlib.Core.Logic.{_⊎_, inl, inr, ⊎-elim}
+use mathlib.Core.Logic.{inr, ⊎-elim}
 use native.Mathlib.Omega.{arith}
 use lib.ListN.{length, take, drop}
 use Rattle.octets.specs.Numbers.{leValue}
-use Rattle.runs.proofs.CompareLaws.{le-or-lt}
 use Rattle.words.specs.Words.{wordAt, putWord, movedWords}
 use Rattle.words.proofs.RowLaws.{put-length, put-other, put-after, moved-length, moved-before, moved-past}
-use Rattle.area.specs.Layout.{transferPlaces, runPlaces, headWords, areaWords, areaOctets, headAt, runAt}
+use Rattle.area.specs.Layout.{transferPlaces, areaOctets}
+use Rattle.area_move.specs.Blocks.{blocks, blockAt, blockWords}
 use Rattle.area_move.specs.Changes.{Changed, PlaceKept, ChangedAt}
+use Rattle.area_move.proofs.BlockLaws.{Away, block-from, block-inside, away-place}
 
 -- ---- words of a buffer
-
--- word m is none of the n words from word `to` on
-abbrev pub Away : ℕ → ℕ → ℕ → Type 0
-Away to n m = (m < to) ⊎ (to + n ≤ m)
 
 pub changed-away : {a b : List ℕ} {to n : ℕ} → Changed a b to n → (m : ℕ) → Away to n m → wordAt b m ≡ wordAt a m
 changed-away {a} {b} {to} {n} c m o =
@@ -39,59 +36,32 @@ moved-changed a b from to n h g e = record {
 
 -- ---- places of the layout
 
--- the n words from word `to` on belong to place d
-pub record Within (d to n : ℕ) : Type 0 where
-  pub start : 0 < to
-  pub end : to + n ≤ areaWords
-  pub heads : (i f : ℕ) → i < transferPlaces → f < headWords → (i ≡ d → ⊥) → Away to n (headAt i f)
-  pub sides : (s i j : ℕ) → s < 2 → i < transferPlaces → j < runPlaces → (i ≡ d → ⊥) → Away to n (runAt s i j)
+-- words of a block of place d
+pub block-changed : {a b : List ℕ} (d k f n : ℕ) → d < transferPlaces → k < blocks → f + n ≤ blockWords k → Changed a b (blockAt k d f) n → ChangedAt a b d
+block-changed d k f n h g l c =
+    let w = block-inside k d h in
+    record {
+      size = c .size;
+      past = c .past areaOctets (omega (arith, block-from k d f));
+      count = c .before 0 (omega (arith, block-from k d f));
+      others = λ i p e. record { words = λ m j o q. changed-away c (blockAt m i j) (away-place d k f n h l m i j g o p q e) };
+    }
 
--- words on either side
-aside : (to n m i d : ℕ) → (i ≡ d → ⊥) → (i < d → m < to) → (d < i → to + n ≤ m) → Away to n m
-aside to n m i d e f g = ⊎-elim (λ (h : d ≤ i). inr (g (omega (arith, e)))) (λ (h : i < d). inl (f h)) (le-or-lt d i)
-
-pub head-within : (d f n : ℕ) → d < transferPlaces → f + n ≤ headWords → Within d (headAt d f) n
-head-within d f n h l = record {
-  start = omega arith;
-  end = omega arith;
-  heads = λ i g p q e. aside (headAt d f) n (headAt i g) i d e (λ w. omega arith) (λ w. omega arith);
-  sides = λ s i j o p q e. inr (omega arith);
-}
-
-pub side-within : (d s n : ℕ) → d < transferPlaces → s < 2 → n ≤ runPlaces → Within d (runAt s d 0) n
-side-within d s n h k l = record {
-  start = omega arith;
-  end = omega arith;
-  heads = λ i g p q e. inl (omega arith);
-  sides = λ r i j o p q e. apart s r i j k o p q e;
-}
-  where
-    apart : (s r i j : ℕ) → s < 2 → r < 2 → i < transferPlaces → j < runPlaces → (i ≡ d → ⊥) → Away (runAt s d 0) n (runAt r i j)
-    apart s r i j k o p q e =
-        ⊎-elim
-        (λ (x : s ≤ r).
-        ⊎-elim
-        (λ (y : r ≤ s). aside (runAt s d 0) n (runAt r i j) i d e (λ w. omega arith) (λ w. omega arith))
-        (λ (y : s < r). inr (omega arith))
-        (le-or-lt r s))
-        (λ (x : r < s). inl (omega arith))
-        (le-or-lt s r)
-
-pub within-changed : {a b : List ℕ} {d to n : ℕ} → Within d to n → Changed a b to n → ChangedAt a b d
-within-changed w c = record {
-  size = c .size;
-  past = c .past areaOctets (omega (arith, w .end));
-  count = c .before 0 (w .start);
-  others = λ i p e. record {
-    heads = λ f q. changed-away c (headAt i f) (w .heads i f p q e);
-    sides = λ s j o q. changed-away c (runAt s i j) (w .sides s i j o p q e);
-  };
-}
+-- the first word, which is of no place
+pub first-changed : {a b : List ℕ} → Changed a b 0 1 → (i : ℕ) → i < transferPlaces → PlaceKept a b i
+first-changed c i p =
+    record { words = λ k j o q. changed-away c (blockAt k i j) (inr (omega (arith, block-inside k i p .0, block-from k i j))) }
 
 -- ---- one change after the other
 
+pub same-place : (a : List ℕ) (i : ℕ) → PlaceKept a a i
+same-place a i = record { words = λ k j o q. refl }
+
 pub kept-kept : {a b e : List ℕ} {i : ℕ} → PlaceKept a b i → PlaceKept b e i → PlaceKept a e i
-kept-kept k l = record { heads = λ f q. l .heads f q ∙ k .heads f q; sides = λ s j o q. l .sides s j o q ∙ k .sides s j o q }
+kept-kept k l = record { words = λ m j o q. l .words m j o q ∙ k .words m j o q }
+
+pub changed-none : (a : List ℕ) (d : ℕ) → ChangedAt a a d
+changed-none a d = record { size = refl; past = refl; count = refl; others = λ i p e. same-place a i }
 
 pub changed-twice : {a b e : List ℕ} {d : ℕ} → ChangedAt a b d → ChangedAt b e d → ChangedAt a e d
 changed-twice c g = record {

@@ -1,132 +1,107 @@
--- A transfer copied to another place by three moves of words, and the head of a new one put by four words.
+-- A transfer copied to another place by a move for each block, and the head of a new one put word by word.
 -- Assumes nothing.
 use Prim.Native.Nat.{ℕ, zero, suc, _+_, _*_, _^_, _≤_, _<_}
-use mathlib.Core.Path.{_≡_, refl, ap, ap₂, _∙_}
+use mathlib.Core.Path.{_≡_, refl, sym, ap, ap₂, subst, _∙_}
 use mathlib.Core.List.{List}
-use mathlib.Core.Logic.{inl, inr}
+use mathlib.Core.Logic.{inl, inr, ⊎-elim}
 use native.Mathlib.Omega.{arith}
+use native.Mathlib.Nat.{eq-or-lt-of-le}
 use lib.ListN.{length}
 use Rattle.words.specs.Words.{wordAt, putWord, movedWords}
 use Rattle.words.proofs.RowLaws.{put-at, moved-in}
-use Rattle.transfer.specs.declared.Key.{Key}
-use Rattle.transfer.specs.Transfers.{empty}
-use Rattle.area.specs.Layout.{transferPlaces, runPlaces, headWords, areaOctets, idField, widthField, lengthField, countField, headAt, runAt}
+use Rattle.transfer.specs.Transfers.{Transfer}
+use Rattle.area.specs.Layout.{transferPlaces, runPlaces, headWords, areaOctets, countField, stampedField, headAt}
 use Rattle.area.specs.Places.{field}
+use Rattle.area_move.specs.Blocks.{blocks, blockAt, blockWords, usedAt}
 use Rattle.area_move.specs.Changes.{Changed}
 use Rattle.area_move.specs.Moves.{Copied, HeadPut}
-use Rattle.area_move.proofs.ChangeLaws.{Away, changed-away, put-changed, moved-changed, head-within, side-within, within-changed, changed-twice}
+use Rattle.area_move.proofs.BlockLaws.{block-from, block-inside, away-block}
+use Rattle.area_move.proofs.ChangeLaws.{changed-away, put-changed, moved-changed, block-changed, changed-none, changed-twice}
 
--- ---- a call by the numbers of its words
+-- ---- a move for each block
 
-pub moved-at : (a b : List ℕ) (j k n from to : ℕ) → b ≡ movedWords a j k n → j ≡ from → k ≡ to → b ≡ movedWords a from to n
-moved-at a b j k n from to e f g = e ∙ ap₂ (λ (x y : ℕ). movedWords a x y n) f g
+pub copied-start : (a : List ℕ) (s d : ℕ) → Copied a a s d 0
+copied-start a s d = record {
+  rest = changed-none a d;
+  used = λ k j h q. absurd (omega arith);
+  free = λ k j h l q. absurd (omega arith);
+  later = λ k i j h l p q. refl;
+}
 
-pub put-at-word : (a b : List ℕ) (k v to : ℕ) → b ≡ putWord k v a → k ≡ to → b ≡ putWord to v a
-put-at-word a b k v to e f = e ∙ ap (λ (x : ℕ). putWord x v a) f
+-- the words that are used fit their block
+used-fits : (a : List ℕ) (s : ℕ) → wordAt a (headAt s countField) ≤ runPlaces → wordAt a (headAt s stampedField) ≤ 1 → (k : ℕ) → usedAt a s k ≤ blockWords k
+used-fits a s r m zero = omega arith
+used-fits a s r m (suc zero) = r
+used-fits a s r m (suc (suc zero)) = r
+used-fits a s r m (suc (suc (suc k))) = omega arith
 
--- ---- three moves: the head, the starts, the stops
-
-module _ (a x y z : List ℕ) (s d c : ℕ) (long : areaOctets ≤ length a) (from : s < transferPlaces) (to : d < transferPlaces)
-    (few : c ≤ runPlaces) (e : x ≡ movedWords a (headAt s idField) (headAt d idField) headWords)
-    (f : y ≡ movedWords x (runAt 0 s 0) (runAt 0 d 0) c) (g : z ≡ movedWords y (runAt 1 s 0) (runAt 1 d 0) c) where
-  head-moved : Changed a x (headAt d idField) headWords
-  head-moved = moved-changed a x (headAt s idField) (headAt d idField) headWords (omega arith) (omega arith) e
-
-  starts-moved : Changed x y (runAt 0 d 0) c
-  starts-moved = moved-changed x y (runAt 0 s 0) (runAt 0 d 0) c (omega (arith, head-moved .size)) (omega (arith, head-moved .size)) f
-
-  stops-moved : Changed y z (runAt 1 d 0) c
-  stops-moved =
-      let l : length y ≡ length a = starts-moved .size ∙ head-moved .size in
-      moved-changed y z (runAt 1 s 0) (runAt 1 d 0) c (omega arith) (omega arith) g
-
-  -- run j of a row that was moved
-  moved-run : (k : ℕ) (u v : List ℕ) → k < 2 → length u ≡ length a → v ≡ movedWords u (runAt k s 0) (runAt k d 0) c
-      → (j : ℕ) → j < c → wordAt v (runAt k d j) ≡ wordAt u (runAt k s j)
-  moved-run k u v l n h j q =
-      let p : runAt k d j ≡ runAt k d 0 + j = omega arith in
-      let o : runAt k s 0 + j ≡ runAt k s j = omega arith in
-      ap (wordAt v) p ∙ ap (λ (w : List ℕ). wordAt w (runAt k d 0 + j)) h
-      ∙ moved-in u (runAt k s 0) (runAt k d 0) c (omega arith) (omega arith) j q ∙ ap (wordAt u) o
-
-  copied-head : (m : ℕ) → m < headWords → wordAt z (headAt d m) ≡ wordAt a (headAt s m)
-  copied-head m h =
-      let p : headAt d m ≡ headAt d idField + m = omega arith in
-      let o : headAt s idField + m ≡ headAt s m = omega arith in
-      changed-away stops-moved (headAt d m) (inl (omega arith)) ∙ changed-away starts-moved (headAt d m) (inl (omega arith))
-      ∙ ap (wordAt x) p ∙ ap (λ (w : List ℕ). wordAt w (headAt d idField + m)) e
-      ∙ moved-in a (headAt s idField) (headAt d idField) headWords (omega arith) (omega arith) m h ∙ ap (wordAt a) o
-
-  copied-run : (k j : ℕ) → k < 2 → j < c → wordAt z (runAt k d j) ≡ wordAt a (runAt k s j)
-  copied-run zero j l q =
-      changed-away stops-moved (runAt 0 d j) (inl (omega arith)) ∙ moved-run 0 x y l (head-moved .size) f j q
-      ∙ changed-away head-moved (runAt 0 s j) (inr (omega arith))
-  copied-run (suc zero) j l q =
-      moved-run 1 y z l (starts-moved .size ∙ head-moved .size) g j q
-      ∙ changed-away starts-moved (runAt 1 s j) (inr (omega arith)) ∙ changed-away head-moved (runAt 1 s j) (inr (omega arith))
-  copied-run (suc (suc k)) j l q = absurd (omega arith)
-
-  free-run : (k j : ℕ) → k < 2 → j < runPlaces → c ≤ j → wordAt z (runAt k d j) ≡ wordAt a (runAt k d j)
-  free-run k j l r q =
-      changed-away stops-moved (runAt k d j) (stops k l)
-      ∙ changed-away starts-moved (runAt k d j) (inr (omega arith)) ∙ changed-away head-moved (runAt k d j) (inr (omega arith))
-    where
-      stops : (k : ℕ) → k < 2 → Away (runAt 1 d 0) c (runAt k d j)
-      stops zero l = inl (omega arith)
-      stops (suc k) l = inr (omega arith)
-
-  pub copied : c ≡ wordAt a (headAt s countField) → Copied a z s d
-  copied is = record {
-    rest = changed-twice (within-changed (head-within d idField headWords to (omega arith)) head-moved)
-        (changed-twice (within-changed (side-within d 0 c to (omega arith) few) starts-moved) (within-changed (side-within d 1 c to (omega arith) few) stops-moved));
-    heads = copied-head;
-    used = λ k j l q. copied-run k j l (omega arith);
-    free = λ k j l r q. free-run k j l r (omega arith);
+module _ (a : List ℕ) (s d : ℕ) (long : areaOctets ≤ length a) (from : s < transferPlaces) (to : d < transferPlaces)
+    (few : wordAt a (headAt s countField) ≤ runPlaces) (code : wordAt a (headAt s stampedField) ≤ 1) where
+  -- block n is copied too
+  pub copied-next : (b e : List ℕ) (n i k c : ℕ) → n < blocks → Copied a b s d n → e ≡ movedWords b i k c → i ≡ blockAt n s 0 → k ≡ blockAt n d 0
+      → c ≡ usedAt a s n → Copied a e s d (suc n)
+  copied-next b e n i k c more was f p q is = record {
+    rest = changed-twice (was .rest) (block-changed d n 0 c to more fits moved);
+    used = λ k j h l.
+        ⊎-elim
+        (λ (o : k ≡ n). subst (λ (x : ℕ). j < usedAt a s x → wordAt e (blockAt x d j) ≡ wordAt a (blockAt x s j)) (sym o) (λ m. now j (omega arith)) l)
+        (λ (o : k < n).
+        stays k d j (omega arith) (λ z. omega arith) to (omega (arith, used-fits a s few code k)) ∙ was .used k j o l)
+        (eq-or-lt-of-le (omega arith));
+    free = λ k j h l m.
+        ⊎-elim
+        (λ (o : k ≡ n).
+        subst (λ (x : ℕ). j < blockWords x → usedAt a s x ≤ j → wordAt e (blockAt x d j) ≡ wordAt a (blockAt x d j)) (sym o)
+        (λ u v. changed-away moved (blockAt n d j) (inr (omega (arith, block-from n d j))) ∙ was .later n d j (omega arith) more to u) l m)
+        (λ (o : k < n). stays k d j (omega arith) (λ z. omega arith) to l ∙ was .free k j o l m)
+        (eq-or-lt-of-le (omega arith));
+    later = λ k i j h l p q. stays k i j l (λ z. omega arith) p q ∙ was .later k i j (omega arith) l p q;
   }
+    where
+      fits : 0 + c ≤ blockWords n
+      fits = omega (arith, used-fits a s few code n)
 
--- ---- four words: the head of a transfer with nothing received
+      same : e ≡ movedWords b (blockAt n s 0) (blockAt n d 0) c
+      same = f ∙ ap₂ (λ (x y : ℕ). movedWords b x y c) p q
 
-module _ (a w x y z : List ℕ) (d : ℕ) (key : Key) (long : areaOctets ≤ length a) (to : d < transferPlaces)
-    (e : w ≡ putWord (headAt d idField) (key .id) a) (f : x ≡ putWord (headAt d widthField) (key .width) w)
-    (g : y ≡ putWord (headAt d lengthField) (key .length) x) (h : z ≡ putWord (headAt d countField) 0 y) where
-  id-put : Changed a w (headAt d idField) 1
-  id-put = put-changed a w (headAt d idField) (key .id) (omega arith) e
+      room : (i : ℕ) → i < transferPlaces → (blockAt n i 0 + c) * 8 ≤ length b
+      room i h = omega (arith, fits, block-inside n i h, was .rest .size)
 
-  width-put : Changed w x (headAt d widthField) 1
-  width-put = put-changed w x (headAt d widthField) (key .width) (omega (arith, id-put .size)) f
+      moved : Changed b e (blockAt n d 0) c
+      moved = moved-changed b e (blockAt n s 0) (blockAt n d 0) c (room s from) (room d to) same
 
-  length-put : Changed x y (headAt d lengthField) 1
-  length-put = put-changed x y (headAt d lengthField) (key .length) (omega (arith, width-put .size, id-put .size)) g
+      now : (j : ℕ) → j < c → wordAt e (blockAt n d j) ≡ wordAt a (blockAt n s j)
+      now j h =
+          ap (wordAt e) (block-from n d j) ∙ ap (λ (w : List ℕ). wordAt w (blockAt n d 0 + j)) same
+          ∙ moved-in b (blockAt n s 0) (blockAt n d 0) c (room s from) (room d to) j h ∙ ap (wordAt b) (sym (block-from n s j))
+          ∙ was .later n s j (omega arith) more from (omega (arith, fits))
 
-  count-put : Changed y z (headAt d countField) 1
-  count-put = put-changed y z (headAt d countField) 0 (omega (arith, length-put .size, width-put .size, id-put .size)) h
+      stays : (k i j : ℕ) → k < blocks → (k ≡ n → ⊥) → i < transferPlaces → j < blockWords k → wordAt e (blockAt k i j) ≡ wordAt b (blockAt k i j)
+      stays k i j h o p q = changed-away moved (blockAt k i j) (away-block d n 0 c to fits k i j more h p q o)
 
-  put-word : (u v : List ℕ) (k n : ℕ) → length u ≡ length a → k * 8 + 8 ≤ length a → v ≡ putWord k n u → n < 2 ^ 64 → wordAt v k ≡ n
-  put-word u v k n l r q b = ap (λ (l : List ℕ). wordAt l k) q ∙ put-at u k n (omega arith) b
+-- ---- a word for each number of a head
 
-  module _ (id-fits : key .id < 2 ^ 64) (width-fits : key .width < 2 ^ 64) (length-fits : key .length < 2 ^ 64) where
-    new-head : (m : ℕ) → m < headWords → wordAt z (headAt d m) ≡ field (empty key) m
-    new-head zero q =
-        changed-away count-put (headAt d idField) (inl (omega arith)) ∙ changed-away length-put (headAt d idField) (inl (omega arith))
-        ∙ changed-away width-put (headAt d idField) (inl (omega arith)) ∙ put-word a w (headAt d idField) (key .id) refl (omega arith) e id-fits
-    new-head (suc zero) q =
-        changed-away count-put (headAt d widthField) (inl (omega arith)) ∙ changed-away length-put (headAt d widthField) (inl (omega arith))
-        ∙ put-word w x (headAt d widthField) (key .width) (id-put .size) (omega arith) f width-fits
-    new-head (suc (suc zero)) q =
-        changed-away count-put (headAt d lengthField) (inl (omega arith))
-        ∙ put-word x y (headAt d lengthField) (key .length) (width-put .size ∙ id-put .size) (omega arith) g length-fits
-    new-head (suc (suc (suc zero))) q =
-        put-word y z (headAt d countField) 0 (length-put .size ∙ width-put .size ∙ id-put .size) (omega arith) h (omega arith)
-    new-head (suc (suc (suc (suc m)))) q = absurd (omega arith)
+pub put-start : (a : List ℕ) (d : ℕ) (x : Transfer) → HeadPut a a d x 0
+put-start a d x = record { rest = changed-none a d; heads = λ f h. absurd (omega arith); others = λ k j h l q. refl }
 
-    pub head-put : HeadPut a z d (empty key)
-    head-put = record {
-      rest = changed-twice (within-changed (head-within d idField 1 to (omega arith)) id-put)
-          (changed-twice (within-changed (head-within d widthField 1 to (omega arith)) width-put)
-          (changed-twice (within-changed (head-within d lengthField 1 to (omega arith)) length-put)
-          (within-changed (head-within d countField 1 to (omega arith)) count-put)));
-      heads = new-head;
-      sides = λ k j l.
-          changed-away count-put (runAt k d j) (inr (omega arith)) ∙ changed-away length-put (runAt k d j) (inr (omega arith))
-          ∙ changed-away width-put (runAt k d j) (inr (omega arith)) ∙ changed-away id-put (runAt k d j) (inr (omega arith));
-    }
+-- number n is put too
+pub put-next : (a b e : List ℕ) (d : ℕ) (x : Transfer) (n k v : ℕ) → areaOctets ≤ length a → d < transferPlaces → n < headWords → HeadPut a b d x n
+    → e ≡ putWord k v b → k ≡ headAt d n → v ≡ field x n → v < 2 ^ 64 → HeadPut a e d x (suc n)
+put-next a b e d x n k v long to more was f p is fits = record {
+  rest = changed-twice (was .rest) (block-changed d 0 n 1 to (omega arith) (omega arith) put);
+  heads = λ g h.
+      ⊎-elim
+      (λ (o : g ≡ n). ap (λ (y : ℕ). wordAt e (headAt d y)) o ∙ ap (λ (w : List ℕ). wordAt w (headAt d n)) same ∙ put-at b (headAt d n) v room fits ∙ is ∙ ap (field x) (sym o))
+      (λ (o : g < n). changed-away put (headAt d g) (inl (omega arith)) ∙ was .heads g o)
+      (eq-or-lt-of-le (omega arith));
+  others = λ l j h o q. changed-away put (blockAt l d j) (away-block d 0 n 1 to (omega arith) l d j (omega arith) o to q (λ z. omega arith)) ∙ was .others l j h o q;
+}
+  where
+    same : e ≡ putWord (headAt d n) v b
+    same = f ∙ ap (λ (y : ℕ). putWord y v b) p
+
+    room : headAt d n * 8 + 8 ≤ length b
+    room = omega (arith, was .rest .size)
+
+    put : Changed b e (headAt d n) 1
+    put = put-changed b e (headAt d n) v room same

@@ -13,15 +13,17 @@ use Rattle.words.specs.Words.{wordAt, putWord}
 use Rattle.words.proofs.RowLaws.{put-at}
 use Rattle.transfer.specs.declared.Key.{Key}
 use Rattle.transfer.specs.Transfers.{Transfer, empty}
-use Rattle.area.specs.Layout.{transferPlaces, runPlaces, areaOctets, countField, headAt, runAt}
+use Rattle.area.specs.Layout.{transferPlaces, headWords, areaOctets}
 use Rattle.area.specs.Places.{readTable, nth, field, insertAt}
 use Rattle.area.specs.Judge.{judged}
 use Rattle.area.specs.Stored.{storedIn}
-use Rattle.area.proofs.PlaceLaws.{read-holds, head-used, run-free}
+use Rattle.area.proofs.PlaceLaws.{read-holds, code-none}
+use Rattle.area_move.specs.Blocks.{blocks, blockAt, blockWords, usedBy, usedAt}
 use Rattle.area_move.specs.Changes.{PlaceKept}
 use Rattle.area_move.specs.Moves.{Copied, HeadPut}
-use Rattle.area_move.proofs.ChangeLaws.{changed-away, put-changed, kept-kept}
-use Rattle.area_move.proofs.TransferMoves.{PlaceStored, Moving, moving-start, moving-count, moving-next, stored-kept, kept-same, all-stored}
+use Rattle.area_move.proofs.ChangeLaws.{put-changed, first-changed, kept-kept}
+use Rattle.area_move.proofs.StoredBlocks.{numberOf, PlaceStored, stored-kept, place-stored, all-stored}
+use Rattle.area_move.proofs.TransferMoves.{Moving, moving-start, moving-fits, moving-next, kept-same}
 
 -- ---- the list
 
@@ -59,14 +61,14 @@ pub record Opening (a b : List ℕ) (p n q : ℕ) (x : Transfer) : Type 0 where
   pub after : p ≤ q
   pub inside : q ≤ n
 
-pub open-start : (a : List ℕ) (p n : ℕ) (x : Transfer) → judged a ≡ true → p ≤ length (readTable a) → length (readTable a) < transferPlaces
-    → n ≡ wordAt a 0 → Opening a a p n n x
-open-start a p n x j h r e =
+pub open-start : (a : List ℕ) (p n : ℕ) (x : Transfer) → judged a ≡ true → Octets a → p ≤ length (readTable a)
+    → length (readTable a) < transferPlaces → n ≡ wordAt a 0 → Opening a a p n n x
+open-start a p n x j b h r e =
     let t : List Transfer = readTable a in
     let l : length (insertAt p x t) ≡ length t + 1 = length-inserted p x t in
     let c : wordAt a 0 ≡ length t = read-holds a .count in
     record {
-      moving = moving-start a (insertAt p x t) n (λ i. n < i) (λ i. i ≤ n) j e (λ i r o. inr (omega arith));
+      moving = moving-start a (insertAt p x t) n (λ i. n < i) (λ i. i ≤ n) j b e (λ i r o. inr (omega arith));
       few = omega arith;
       after = omega arith;
       inside = omega arith;
@@ -83,13 +85,13 @@ module _ (a b : List ℕ) (p n q : ℕ) (x : Transfer) (inv : Opening a b p n q 
   inner = omega (arith, m .held, inv .after, inv .inside)
 
   pub open-long : areaOctets ≤ length b
-  open-long = omega (arith, m .long, m .size)
+  open-long = omega (arith, m .held-image .long, m .size)
 
   module _ (more : p < q) where
-    pub open-count : wordAt b (headAt (q - 1) countField) ≤ runPlaces
-    open-count = moving-count a b (insertAt p x (readTable a)) n (λ i. q < i) (λ i. i ≤ q) m (q - 1) (omega (arith, inv .inside)) (omega arith)
+    pub open-fits : (k : ℕ) → k < blocks → usedAt b (q - 1) k ≤ blockWords k
+    open-fits = moving-fits a b (insertAt p x (readTable a)) n (λ i. q < i) (λ i. i ≤ q) m (q - 1) (omega (arith, inv .inside)) (omega arith)
 
-    pub open-next : (e : List ℕ) → Copied b e (q - 1) q → Opening a e p n (q - 1) x
+    pub open-next : (e : List ℕ) → Copied b e (q - 1) q blocks → Opening a e p n (q - 1) x
     open-next e c =
         let z : q ≡ suc (q - 1) = omega arith in
         record {
@@ -107,21 +109,35 @@ module _ (a b : List ℕ) (p n q : ℕ) (x : Transfer) (inv : Opening a b p n q 
 
 -- ---- the end: the head is written, and the number of transfers
 
-module _ (a b : List ℕ) (p n q : ℕ) (key : Key) (inv : Opening a b p n q (empty key)) (done : q ≤ p) (d : List ℕ) (put : HeadPut b d p (empty key)) where
+module _ (a b : List ℕ) (p n q : ℕ) (key : Key) (inv : Opening a b p n q (empty key)) (done : q ≤ p) (d : List ℕ) (put : HeadPut b d p (empty key) headWords) where
   abbrev u : List Transfer
   u = insertAt p (empty key) (readTable a)
 
   new-place : PlaceStored a d u p
   new-place =
-      let e : nth u p ≡ empty key = inserted-at p (empty key) (readTable a) (inner a b p n q (empty key) inv) in
-      let l : length (nth u p .runs) ≡ 0 = ap (λ (x : Transfer). length (x .runs)) e in
       let k : PlaceKept a b p = inv .moving .rest p (omega (arith, inv .few, inv .inside, inv .after)) (inv .after) in
-      record {
-        heads = λ f r.
-            put .heads f r ∙ ap (λ (x : Transfer). field x f) (sym e)
-            ∙ sym (head-used u p f (wordAt a (headAt p f)) (omega (arith, length-u a b p n q (empty key) inv, inv .inside, inv .after)));
-        sides = λ s j o r. put .sides s j o ∙ k .sides s j o r ∙ sym (run-free u s p j (wordAt a (runAt s p j)) (omega arith));
-      }
+      place-stored a d u p (empty key) (omega (arith, length-u a b p n q (empty key) inv, inv .inside, inv .after))
+      (inserted-at p (empty key) (readTable a) (inner a b p n q (empty key) inv)) (λ m l. new-fits m) new-number
+      (λ m j l r h. new-free m j l r h ∙ k .words m j l r)
+    where
+      -- it uses its head alone
+      none-used : (m : ℕ) → 0 < m → usedBy (field (empty key)) m ≡ 0
+      none-used zero l = absurd (omega arith)
+      none-used (suc zero) l = refl
+      none-used (suc (suc zero)) l = refl
+      none-used (suc (suc (suc m))) l = omega (arith, code-none)
+
+      new-fits : (m : ℕ) → usedBy (field (empty key)) m ≤ blockWords m
+      new-fits zero = omega arith
+      new-fits (suc m) = omega (arith, none-used (suc m) (omega arith))
+
+      new-number : (m j : ℕ) → m < blocks → j < blockWords m → j < usedBy (field (empty key)) m → wordAt d (blockAt m p j) ≡ numberOf (empty key) m j
+      new-number zero j l r h = put .heads j r
+      new-number (suc m) j l r h = absurd (omega (arith, none-used (suc m) (omega arith)))
+
+      new-free : (m j : ℕ) → m < blocks → j < blockWords m → usedBy (field (empty key)) m ≤ j → wordAt d (blockAt m p j) ≡ wordAt b (blockAt m p j)
+      new-free zero j l r h = absurd (omega arith)
+      new-free (suc m) j l r h = put .others (suc m) j (omega arith) l r
 
   place-end : (i : ℕ) → i < transferPlaces → PlaceStored a d u i
   place-end i r =
@@ -132,7 +148,7 @@ module _ (a b : List ℕ) (p n q : ℕ) (key : Key) (inv : Opening a b p n q (em
       (le-or-lt i p))
       (λ (z : i < p).
       let h : p ≤ length (readTable a) = inner a b p n q (empty key) inv in
-      kept-same a d u i (omega arith) (omega (arith, length-u a b p n q (empty key) inv, inv .moving .held)) (inserted-before p (empty key) (readTable a) i h z)
+      kept-same a d u i (inv .moving .held-image) (omega arith) (omega (arith, length-u a b p n q (empty key) inv, inv .moving .held)) (inserted-before p (empty key) (readTable a) i h z)
       (kept-kept (inv .moving .rest i r (omega (arith, inv .after))) (put .rest .others i r (λ y. omega arith))))
       (le-or-lt p i)
 
@@ -144,4 +160,4 @@ module _ (a b : List ℕ) (p n q : ℕ) (key : Key) (inv : Opening a b p n q (em
       (ap (λ (x : List ℕ). wordAt x 0) f ∙ put-at d 0 (n + 1) (omega arith) (omega (arith, inv .few)) ∙ sym (length-u a b p n q (empty key) inv))
       (λ i r.
       stored-kept (place-end i r)
-      (record { heads = λ x y. changed-away c (headAt i x) (inr (omega arith)); sides = λ s j x y. changed-away c (runAt s i j) (inr (omega arith)) }))
+      (first-changed c i r))

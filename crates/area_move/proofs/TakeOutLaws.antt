@@ -13,14 +13,16 @@ use Rattle.runs.proofs.CompareLaws.{le-or-lt}
 use Rattle.words.specs.Words.{wordAt, putWord}
 use Rattle.words.proofs.RowLaws.{put-at}
 use Rattle.transfer.specs.Transfers.{Transfer}
-use Rattle.area.specs.Layout.{transferPlaces, runPlaces, areaOctets, countField, headAt, runAt}
+use Rattle.area.specs.Layout.{transferPlaces, areaOctets}
 use Rattle.area.specs.Places.{readTable, nth, removeAt}
 use Rattle.area.specs.Judge.{judged}
 use Rattle.area.specs.Stored.{storedIn}
 use Rattle.area.proofs.PlaceLaws.{read-holds}
+use Rattle.area_move.specs.Blocks.{blocks, blockWords, usedAt}
 use Rattle.area_move.specs.Moves.{Copied}
-use Rattle.area_move.proofs.ChangeLaws.{changed-away, put-changed}
-use Rattle.area_move.proofs.TransferMoves.{Moving, moving-start, moving-count, moving-next, stored-kept, kept-free, all-stored}
+use Rattle.area_move.proofs.ChangeLaws.{put-changed, first-changed}
+use Rattle.area_move.proofs.StoredBlocks.{stored-kept, past-stored, all-stored}
+use Rattle.area_move.proofs.TransferMoves.{Moving, moving-start, moving-fits, moving-next}
 
 -- ---- the list
 
@@ -52,12 +54,12 @@ pub record Closing (a b : List ℕ) (p n q : ℕ) : Type 0 where
   pub after : p ≤ q
   pub inside : q + 1 ≤ n
 
-pub close-start : (a : List ℕ) (p n : ℕ) → judged a ≡ true → p < length (readTable a) → n ≡ wordAt a 0 → Closing a a p n p
-close-start a p n j h e =
+pub close-start : (a : List ℕ) (p n : ℕ) → judged a ≡ true → Octets a → p < length (readTable a) → n ≡ wordAt a 0 → Closing a a p n p
+close-start a p n j b h e =
     let t : List Transfer = readTable a in
     let l : length (removeAt p t) + 1 ≡ length t = length-removed p t h in
     let c : wordAt a 0 ≡ length t = read-holds a .count in
-    let m = moving-start a (removeAt p t) n (λ i. i < p) (λ i. p ≤ i) j e (λ i r o. inl (omega arith, omega arith, removed-before p t i o)) in
+    let m = moving-start a (removeAt p t) n (λ i. i < p) (λ i. p ≤ i) j b e (λ i r o. inl (omega arith, omega arith, removed-before p t i o)) in
     record { moving = m; few = m .few; after = omega arith; inside = omega arith }
 
 module _ (a b : List ℕ) (p n q : ℕ) (inv : Closing a b p n q) where
@@ -68,13 +70,13 @@ module _ (a b : List ℕ) (p n q : ℕ) (inv : Closing a b p n q) where
   length-u = length-removed p (readTable a) (omega (arith, m .held, inv .after, inv .inside)) ∙ sym (m .held)
 
   pub close-long : areaOctets ≤ length b
-  close-long = omega (arith, m .long, m .size)
+  close-long = omega (arith, m .held-image .long, m .size)
 
   module _ (more : q + 1 < n) where
-    pub close-count : wordAt b (headAt (q + 1) countField) ≤ runPlaces
-    close-count = moving-count a b (removeAt p (readTable a)) n (λ i. i < q) (λ i. q ≤ i) m (q + 1) more (omega arith)
+    pub close-fits : (k : ℕ) → k < blocks → usedAt b (q + 1) k ≤ blockWords k
+    close-fits = moving-fits a b (removeAt p (readTable a)) n (λ i. i < q) (λ i. q ≤ i) m (q + 1) more (omega arith)
 
-    pub close-next : (e : List ℕ) → Copied b e (q + 1) q → Closing a e p n (q + 1)
+    pub close-next : (e : List ℕ) → Copied b e (q + 1) q blocks → Closing a e p n (q + 1)
     close-next e c = record {
       moving =
           moving-next a b (removeAt p (readTable a)) n (λ i. i < q) (λ i. q ≤ i) m (q + 1) more (omega arith) e q (λ i. i < q + 1) (λ i. q + 1 ≤ i)
@@ -95,7 +97,7 @@ module _ (a b : List ℕ) (p n q : ℕ) (inv : Closing a b p n q) where
       (λ i r.
       stored-kept
       (⊎-elim
-      (λ (z : q ≤ i). kept-free a b (removeAt p (readTable a)) i (omega (arith, length-u)) (m .rest i r z))
+      (λ (z : q ≤ i). past-stored a b (removeAt p (readTable a)) i (omega (arith, length-u)) (m .rest i r z))
       (λ (z : i < q). m .done i r z)
       (le-or-lt q i))
-      (record { heads = λ x y. changed-away c (headAt i x) (inr (omega arith)); sides = λ s j x y. changed-away c (runAt s i j) (inr (omega arith)) }))
+      (first-changed c i r))

@@ -5,7 +5,8 @@ use mathlib.Core.Path.{_≡_}
 use mathlib.Core.List.{List}
 use lib.ListN.{length, drop}
 use Rattle.words.specs.Words.{wordAt}
-use Rattle.area.specs.Layout.{transferPlaces, runPlaces, headWords, areaOctets, headAt, runAt}
+use Rattle.area.specs.Layout.{transferPlaces, areaOctets}
+use Rattle.area_move.specs.Blocks.{blocks, blockAt, blockWords}
 
 -- no word is another but the n from word `to` on
 pub record Changed (a b : List ℕ) (to n : ℕ) : Type 0 where
@@ -15,8 +16,7 @@ pub record Changed (a b : List ℕ) (to n : ℕ) : Type 0 where
 
 -- the words of place i are as they were
 pub record PlaceKept (a b : List ℕ) (i : ℕ) : Type 0 where
-  pub heads : (f : ℕ) → f < headWords → wordAt b (headAt i f) ≡ wordAt a (headAt i f)
-  pub sides : (s j : ℕ) → s < 2 → j < runPlaces → wordAt b (runAt s i j) ≡ wordAt a (runAt s i j)
+  pub words : (k j : ℕ) → k < blocks → j < blockWords k → wordAt b (blockAt k i j) ≡ wordAt a (blockAt k i j)
 
 -- all is as it was but place d
 pub record ChangedAt (a b : List ℕ) (d : ℕ) : Type 0 where

@@ -6,20 +6,27 @@ use mathlib.Core.Bool.{Bool, true, false}
 use mathlib.Core.List.{List}
 use mathlib.Core.Logic.{⊎-elim}
 use native.Mathlib.Omega.{arith}
+use lib.ListN.{length, take, drop}
 use Rattle.octets.specs.Numbers.{Octets}
 use Rattle.refusals.specs.Refusals.{refusalOf}
 use Rattle.runs.proofs.CompareLaws.{same-or}
-use Rattle.packet_data.specs.Data.{dataRefusal, dataOf}
+use Rattle.header.specs.Start.{wordOf}
+use Rattle.packet_data.specs.Data.{payloadAt, dataRefusal, dataOf}
 use Rattle.packet_data.specs.declared.Data.{Data}
+use Rattle.packet_data.specs.declared.DataRead.the-variants as data-read
+use Rattle.packet_data.proofs.DataLaws.{data-fine, data-accepted}
+use Rattle.timestamp.specs.Timestamps.{Stamp}
+use Rattle.transfer.specs.Record.{stampIn}
+use Rattle.transfer.proofs.StampLaws.{stamp-known}
 use Rattle.table.specs.Record.{recordData}
 use Rattle.table.specs.declared.Recorded.{Recorded}
 use Rattle.table.specs.declared.Recorded.the-variants.{Accepted, Refused}
 use Rattle.area.specs.Places.{readTable}
 use Rattle.area.specs.Judge.{judged}
 use Rattle.area.specs.Operations.{OnArea, leaves, recordArea}
-use Rattle.area_splice.specs.Splice.{splicedArea}
+use Rattle.area_splice.specs.Splice.{splicedArea, Brings, stampedArea}
 use Rattle.area_locate.specs.Locate.{unreadAs, refusedBy, Found, given, Located}
-use Rattle.area_join.specs.Join.{Places, CutAt, toldBy, Joins}
+use Rattle.area_join.specs.Join.{Places, CutAt, toldBy, recordedArea, Joins}
 use Rattle.area_locate.specs.declared.Target.{Target}
 use Rattle.area_join.specs.declared.Cuts.{Cuts}
 use Rattle.area_join.specs.declared.Joined.{Joined}
@@ -32,6 +39,14 @@ read-fine false s e = absurd (omega arith)
 -- an answer with its area, part by part
 both : {x : Recorded} {l : List ℕ} {o : OnArea Recorded} → record { answer = x; area = l } ≡ o → (x ≡ o .answer) × (l ≡ o .area)
 both f = (ap (λ (r : OnArea Recorded). r .answer) f, ap (λ (r : OnArea Recorded). r .area) f)
+
+-- R6.14: a packet that is read brings 16 octets, or none
+read-brings : (s : List ℕ) → dataRefusal s ≡ 0 → Brings s (dataOf s .timestamp)
+unfolding dataOf
+read-brings s z =
+    let f = data-fine s z in
+    let h : payloadAt (wordOf s) < length s = f .more in
+    record { size = λ n. omega arith; whole = omega arith }
 
 -- ---- the packet s, recorded in the area a
 
@@ -51,8 +66,12 @@ module _ (a s : List ℕ) (u : ℕ) (is : u ≡ unreadAs (judged a) s) where
     pub locate-asks : u ≡ 0 → (judged a ≡ true) × (0 < d .length)
     locate-asks z = (passed z .0, fields-some s d (passed z .1) (fields z))
 
-    of-fields : u ≡ 0 → leaves a (recordData (readTable a) d) ≡ recordArea a s
-    of-fields z = ap (λ (x : Data). leaves a (recordData (readTable a) x)) (fields z) ∙ record-read a (passed z .0) s (passed z .1)
+    of-fields : u ≡ 0 → leaves a (recordData (readTable a) d (stampIn s d)) ≡ recordArea a s
+    of-fields z = ap (λ (x : Data). leaves a (recordData (readTable a) x (stampIn s x))) (fields z) ∙ record-read a (passed z .0) s (passed z .1)
+
+    -- the timestamp that it brings
+    stamp-fine : u ≡ 0 → Octets s → Stamp (stampIn s d)
+    stamp-fine z o = stamp-known s d o (data-accepted s (passed z .1) ∙ ap data-read.Accepted (sym (fields z)))
 
     -- ---- its place
     module _ (t : Target) (l : Located a u d t) where
@@ -62,13 +81,13 @@ module _ (a s : List ℕ) (u : ℕ) (is : u ≡ unreadAs (judged a) s) where
       pub cut-asks : t .number ≡ 0 → Found a t
       cut-asks z = l .found (read z) z .0
 
-      of-place : t .number ≡ 0 → given a t ≡ recordArea a s
-      of-place z = l .found (read z) z .1 ∙ of-fields (read z)
+      of-place : t .number ≡ 0 → given a t (stampIn s d) ≡ recordArea a s
+      of-place z = l .found (read z) z .1 (stampIn s d) ∙ of-fields (read z)
 
       place-refused : Octets a → (t .number ≡ 0 → ⊥) → refusedBy (t .number) a ≡ recordArea a s
       place-refused o z =
           ⊎-elim
-          (λ (e : u ≡ 0). l .refused e z ∙ of-fields e)
+          (λ (e : u ≡ 0). l .refused e z (stampIn s d) ∙ of-fields e)
           (λ (e : u ≡ 0 → ⊥). ap (λ (n : ℕ). refusedBy n a) (l .through e) ∙ unread-refused o e)
           (same-or u 0)
 
@@ -85,12 +104,20 @@ module _ (a s : List ℕ) (u : ℕ) (is : u ≡ unreadAs (judged a) s) where
         steps-refused o z =
             both
             (⊎-elim
-            (λ (e : t .number ≡ 0). k .refused e z ∙ of-place e)
+            (λ (e : t .number ≡ 0). k .refused e z (stampIn s d) ∙ of-place e)
             (λ (e : t .number ≡ 0 → ⊥). ap (λ (n : ℕ). refusedBy n a) (k .through e) ∙ place-refused o e)
             (same-or (t .number) 0))
 
+        pub keep-asks : c .number ≡ 0 → Brings s (d .timestamp)
+        keep-asks z = let y = read (located z) in rw (fields y) (read-brings s (passed y .1))
+
         -- and this where it is taken
-        pub steps-taken : (j : Joined) → Joins a t c j → c .number ≡ 0 → (b : List ℕ)
-            → b ≡ splicedArea a (t .place) (c .count) (c .i) (c .j) (j .lo) (j .hi)
+        pub steps-taken : Octets s → (j : Joined) → Joins a t c j → c .number ≡ 0 → (x b : List ℕ)
+            → x ≡ splicedArea a (t .place) (c .count) (c .i) (c .j) (j .lo) (j .hi) → b ≡ stampedArea x (t .place) (take (d .timestamp) (drop 8 s))
             → (Accepted (toldBy c j) ≡ recordArea a s .answer) × (b ≡ recordArea a s .area)
-        steps-taken j h z b e = both (ap (λ (l : List ℕ). record { answer = Accepted (toldBy c j); area = l }) e ∙ h .is ∙ of-place (located z))
+        unfolding stampIn
+        steps-taken o j h z x b e f =
+            let left : b ≡ recordedArea a t c j (stampIn s d) = f ∙ ap (λ (l : List ℕ). stampedArea l (t .place) (stampIn s d)) e in
+            both
+            (ap (λ (l : List ℕ). record { answer = Accepted (toldBy c j); area = l }) left ∙ h .is (stampIn s d) (stamp-fine (read (located z)) o)
+            ∙ of-place (located z))

@@ -3,7 +3,7 @@ ghost use mathlib.Core.Path.{_≡_};
 ghost use Rattle.area.specs.Operations.{recordArea};
 use table::Recorded;
 
-// A packet that has to be DATA, recorded in a lent area.
+// A packet that has to be DATA, recorded in a lent area: its offsets, and the timestamp that it brings.
 pub fn record(area: &mut [u8], packet: &[u8]) -> Recorded
     ensures { λ r. ⌜ (r ≡ recordArea (now (area .entry)) (now (packet .entry)) .answer)
         × (now (area .exit) ≡ recordArea (now (area .entry)) (now (packet .entry)) .area) ⌝ }
@@ -18,6 +18,7 @@ pub fn record(area: &mut [u8], packet: &[u8]) -> Recorded
     }
     let s = area_join::join(area, t, c);
     area_splice::put_runs(area, t.place, c.count, c.i, c.j, s.lo, s.hi);
+    area_splice::keep_stamp(area, t.place, packet, d.timestamp);
     Recorded::Accepted(area_join::receipt(c, s))
 }
 

@@ -1,9 +1,9 @@
 -- An area in which the two rows of one transfer were spliced, and its number of runs put: it is the area that was, with the table
--- that has these runs stored in it.
+-- that has these runs stored in it, and the timestamps that were kept.
 -- Assumes nothing.
 use Prim.Native.Nat.{ℕ, zero, suc, _+_, _*_, _-_, _^_, _≤_, _<_}
 use mathlib.Core.Path.{_≡_, sym, ap, _∙_}
-use mathlib.Core.List.{List, _++_}
+use mathlib.Core.List.{List, [], _++_}
 use mathlib.Core.Logic.{⊎-elim}
 use native.Mathlib.Omega.{arith}
 use lib.ListN.{length, take, drop, length-set}
@@ -17,21 +17,24 @@ use Rattle.runs.specs.Runs.{Run, nthRun}
 use Rattle.runs.proofs.CompareLaws.{same-or}
 use Rattle.words.specs.Words.{wordAt, putWord, splicedRow}
 use Rattle.words.proofs.RowLaws.{splice-length, splice-after, put-length, put-at, put-other, put-after}
-use Rattle.transfer.specs.Transfers.{Transfer}
-use Rattle.area.specs.Layout.{transferPlaces, runPlaces, headWords, countField, areaOctets, headAt, runAt}
-use Rattle.area.specs.Places.{unused, nth, field, sideOf, runNumber, Holds, withRuns}
-use Rattle.area.specs.Stored.{storedIn}
-use Rattle.area.proofs.PlaceLaws.{Few}
-use Rattle.area.proofs.StoredLaws.{stored-is}
+use Rattle.timestamp.proofs.StampLaws.{none-renewed}
+use Rattle.transfer.specs.Transfers.{Transfer, withReceived}
+use Rattle.area.specs.Layout.{transferPlaces, runPlaces, headWords, stampWords, countField, areaOctets, headAt, runAt, halfAt}
+use Rattle.area.specs.Places.{unused, nth, field, sideOf, runNumber, stampCode, Holds, HoldsHalves, withRuns}
+use Rattle.area.specs.Stored.{wordOr}
+use Rattle.area.proofs.PlaceLaws.{Few, or-half, holds-stored}
 use Rattle.area_splice.specs.Splice.{runsAfter, splicedArea}
 use Rattle.area_splice.proofs.SplicedRowLaws.{spliced, spliced-length, row-new, row-off}
-use Rattle.area_splice.proofs.OverlayLaws.{kept-words}
+use Rattle.area_splice.proofs.OverlayLaws.{Stores, half-same, kept-words}
 
 -- ---- what is written is octets
 
 put-octets : (at : ℕ) (bs l : List ℕ) → Octets bs → Octets l → Octets (put at bs l)
 unfolding put
 put-octets at bs l p q = octets-append (take at l) _ (octets-take at l q) (octets-append bs _ p (octets-drop (at + length bs) l q))
+
+pub word-octets : (k v : ℕ) (l : List ℕ) → Octets l → Octets (putWord k v l)
+word-octets k v l o = put-octets (k * 8) (leDigits 8 v) l (low-digits-octets 8 v) o
 
 row-octets : (a : List ℕ) (k n i j v : ℕ) → Octets a → Octets (splicedRow a k n i j v)
 unfolding splicedRow
@@ -55,10 +58,10 @@ module _ (a : List ℕ) (t : List Transfer) (p i j : ℕ) (x : Run) (long : area
   new = spliced rs i j x
 
   abbrev changed : Transfer
-  changed = record { key = nth t p .key; runs = new }
+  changed = withReceived (nth t p) new []
 
   abbrev grown : List Transfer
-  grown = withRuns t p new
+  grown = withRuns t p new []
 
   -- after the splice of the starts, after that of the stops, and after the number of runs
   abbrev b₁ : List ℕ
@@ -141,7 +144,9 @@ module _ (a : List ℕ) (t : List Transfer) (p i j : ℕ) (x : Run) (long : area
   field-changed (suc zero) l = head-kept p 1 (omega arith) l (λ z. omega arith) ∙ h .heads p 1 there l
   field-changed (suc (suc zero)) l = head-kept p 2 (omega arith) l (λ z. omega arith) ∙ h .heads p 2 there l
   field-changed (suc (suc (suc zero))) l = count-new
-  field-changed (suc (suc (suc (suc f)))) l = absurd (omega arith)
+  field-changed (suc (suc (suc (suc zero)))) l =
+      head-kept p 4 (omega arith) l (λ z. omega arith) ∙ h .heads p 4 there l ∙ ap stampCode (sym (none-renewed (nth t p .stamp)))
+  field-changed (suc (suc (suc (suc (suc f))))) l = absurd (omega arith)
 
   -- a word of a run of another transfer, or past the runs here
   side-kept : (s m q : ℕ) → s < 2 → m < transferPlaces → q < runPlaces → (m ≡ p → runsAfter n i j ≤ q) → wordAt b₃ (runAt s m q) ≡ wordAt a (runAt s m q)
@@ -181,22 +186,42 @@ module _ (a : List ℕ) (t : List Transfer) (p i j : ℕ) (x : Run) (long : area
           ∙ h .sides s m q z (omega (arith, length-set t p changed)) (omega arith)
           ∙ ap (λ (y : Transfer). sideOf (nthRun (y .runs) q) s) (sym o)
 
-  -- and is the one that was, with this table stored in it
-  pub spliced-stored : Octets a → splicedArea a p n i j (x .start) (x .stop) ≡ storedIn a grown
+  -- ---- its timestamps are those that were
+  stamps-same : (m : ℕ) → nth grown m .stamp ≡ nth t m .stamp
+  stamps-same m =
+      ⊎-elim
+      (λ (e : m ≡ p). ap (λ (y : ℕ). nth grown y .stamp) e ∙ ap (λ (y : Transfer). y .stamp) at-place ∙ none-renewed (nth t p .stamp) ∙ ap (λ (y : ℕ). nth t y .stamp) (sym e))
+      (λ (e : m ≡ p → ⊥). ap (λ (y : Transfer). y .stamp) (elsewhere m e))
+      (same-or m p)
+
+  half-word : HoldsHalves a t → (m f : ℕ) → m < transferPlaces → f < stampWords → wordAt b₃ (halfAt m f) ≡ wordOr grown (halfAt m f) (wordAt a (halfAt m f))
+  half-word s m f k l =
+      let old = wordAt a (halfAt m f) in
+      kept (halfAt m f) (λ z. omega arith) (λ s q y z d. omega arith)
+      ∙ sym (holds-stored a t h s (halfAt m f) (omega arith))
+      ∙ or-half t m f old k l ∙ half-same t grown m f old (sym (stamps-same m)) ∙ sym (or-half grown m f old k l)
+
+  -- and it is the one that was, with this table stored in it
+  pub spliced-stores : Octets a → HoldsHalves a t → Stores a (splicedArea a p n i j (x .start) (x .stop)) grown
   unfolding splicedArea
-  spliced-stored o =
+  spliced-stores o s =
       let l : length b₃ ≡ length a = length₃ in
       let rows : Octets b₂ = row-octets b₁ (runAt 1 p 0) n i j (x .stop) (row-octets a (runAt 0 p 0) n i j (x .start) o) in
-      stored-is a b₃ grown (put-octets (headAt p countField * 8) (leDigits 8 (runsAfter n i j)) b₂ (low-digits-octets 8 (runsAfter n i j)) rows) (omega arith)
-      (kept-words a b₃ grown holds₃
-      (λ m f y k z. head-kept m f k z (λ e. omega (arith, length-set t p changed)))
-      (λ s m q z y k l.
-      side-kept s m q z k l
-      (λ e.
-      omega (
-        arith,
-        ap (λ (u : ℕ). length (nth grown u .runs)) e,
-        ap (λ (u : Transfer). length (u .runs)) at-place,
-        spliced-length rs i j x (omega arith),
-      ))))
-      past₃
+      record {
+        octets = word-octets (headAt p countField) (runsAfter n i j) b₂ rows;
+        long = omega arith;
+        words =
+            kept-words a b₃ grown holds₃
+            (λ m f y k z. head-kept m f k z (λ e. omega (arith, length-set t p changed)))
+            (λ s m q z y k l.
+            side-kept s m q z k l
+            (λ e.
+            omega (
+              arith,
+              ap (λ (u : ℕ). length (nth grown u .runs)) e,
+              ap (λ (u : Transfer). length (u .runs)) at-place,
+              spliced-length rs i j x (omega arith),
+            )))
+            (half-word s);
+        past = past₃;
+      }

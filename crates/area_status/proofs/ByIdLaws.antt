@@ -20,16 +20,16 @@ use Rattle.area.specs.declared.Place.{Place}
 use Rattle.area.specs.Operations.{fromFound, fromTable}
 use Rattle.area.proofs.JudgeLaws.{judged-passed}
 use Rattle.area.proofs.OperationLaws.{from-judged}
-use Rattle.area.proofs.KeptLaws.{place-free, kept-found, kept-runs, free-missing}
+use Rattle.area.proofs.KeptLaws.{place-free, kept-found, kept-runs, kept-stamp, free-missing}
 use Rattle.area_status.specs.Listing.{listingOf, listedIn}
 use Rattle.area_status.specs.ById.{foundFor, foundIn, foundArea, holeIn, holeFor, holeOf, holeArea}
 use Rattle.area_status.specs.declared.Listed.the-variants.{Open, Refused}
-use Rattle.area_status.proofs.UsedLaws.{key-found, runs-found}
+use Rattle.area_status.proofs.UsedLaws.{key-found, runs-found, stamp-found}
 
 -- what is found is what is listed at the Id's place
 pub found-listed : (id : ℕ) (t : List Transfer) (p : ℕ) → KeptAt id t p → foundIn t id ≡ listedIn t p
 unfolding foundIn foundFor listedIn
-found-listed id t p k = rw (kept-found k, kept-runs k, lt-ltb p (length t) (k .inside))
+found-listed id t p k = rw (kept-found k, kept-runs k, kept-stamp k, lt-ltb p (length t) (k .inside))
 
 -- 12 where the Id is not open
 pub found-missing : (t : List Transfer) (id : ℕ) → find id (keys t) ≡ none → foundIn t id ≡ Refused (refusalOf 12)
@@ -67,7 +67,7 @@ module _ (a : List ℕ) (id : ℕ) where
       unfolding foundArea foundIn foundFor
       found-open =
           from-judged _ (λ t. foundIn t id) a yes
-          ∙ rw (key-found a id yes p is yes-open (keyAt a (p .at)) refl, runs-found a id yes p is yes-open (rowsAt a (p .at)) refl)
+          ∙ rw (key-found a id yes p is yes-open (keyAt a (p .at)) refl, runs-found a id yes p is yes-open (rowsAt a (p .at)) refl, stamp-found a id yes p is yes-open)
 
       -- the holes of the runs in the rows at its place
       module _ (rows : Rows) (rows-are : rows ≡ rowsAt a (p .at)) (i : ℕ) where

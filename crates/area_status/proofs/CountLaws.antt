@@ -11,13 +11,12 @@ use Rattle.runs.proofs.CompareLaws.{le-or-lt}
 use Rattle.runs.proofs.CompleteLaws.{complete-iff}
 use Rattle.runs.proofs.ReceivedLaws.{received-counts, received-complete}
 use Rattle.transfer.specs.declared.Key.{Key}
-use Rattle.transfer.specs.Transfers.{Transfer, TransferFine}
-use Rattle.table.specs.Tables.{keys, find, runsOf}
+use Rattle.transfer.specs.Transfers.{Transfer, TransferFine, transferOf}
+use Rattle.table.specs.Tables.{keys, find, runsOf, stampOf}
 use Rattle.table.proofs.FindLaws.{found-fine}
 use Rattle.area.specs.Places.{nth}
 use Rattle.area.specs.Judge.{tableOf}
-use Rattle.area.proofs.JudgeLaws.{held-valid}
-use Rattle.area.proofs.StoredLaws.{fine-at}
+use Rattle.area.proofs.JudgeLaws.{held-valid, fine-at}
 use Rattle.area.proofs.OperationLaws.{from-held}
 use Rattle.area_status.specs.Listing.{listingOf, listedArea, Counts}
 use Rattle.area_status.specs.ById.{foundFor, foundIn, foundArea}
@@ -53,9 +52,9 @@ module _ (a : List ℕ) (t : List Transfer) (held : tableOf a ≡ some t) (l : L
   unfolding foundArea foundIn foundFor
   found-counts id e = go (find id (keys t)) refl (sym (from-held (Refused _) (λ t. foundIn t id) a t held) ∙ e)
     where
-      go : (o : Option Key) → find id (keys t) ≡ o → foundFor o (runsOf t id) ≡ Open l → Counts (runsOf t id) l
+      go : (o : Option Key) → find id (keys t) ≡ o → foundFor o (runsOf t id) (stampOf t id) ≡ Open l → Counts (runsOf t id) l
       go none f z = absurd (let y : _≡_ {A = ℕ} 0 1 = cc in omega arith)
       go (some k) f z =
-          let x : Transfer = record { key = k; runs = runsOf t id } in
+          let x : Transfer = transferOf k (runsOf t id) (stampOf t id) in
           let is : listingOf x ≡ l = cc in
           rw (← is) (listing-counts x (found-fine t (held-valid a t held) id k f .fine))

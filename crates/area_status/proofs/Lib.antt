@@ -1,3 +1,4 @@
+pub mod StampLaws
 pub mod UsedLaws
 pub mod WriteStatusLaws
 pub mod ListingLaws

@@ -8,6 +8,7 @@ use mathlib.Core.Option.{none, some}
 use native.Mathlib.Omega.{arith}
 use lib.ListN.{length}
 use borrow.Author.Tests.{lt-ltb, le-ltb}
+use Rattle.timestamp.specs.Timestamps.{stamped}
 use Rattle.refusals.specs.Refusals.{refusalOf}
 use Rattle.runs.specs.Holes.{edge, complete}
 use Rattle.runs.specs.Received.{received}
@@ -18,7 +19,7 @@ use Rattle.run_rows.specs.Rows.{runsIn}
 use Rattle.run_rows.specs.declared.Rows.{Rows}
 use Rattle.run_rows.proofs.RowsLaws.{length-runs}
 use Rattle.words.specs.Words.{wordAt}
-use Rattle.area.specs.Places.{keyAt, rowsAt, transferAt, readTable, nth}
+use Rattle.area.specs.Places.{keyAt, rowsAt, stampAt, transferAt, readTable, nth}
 use Rattle.area.specs.Judge.{judged, tableOf}
 use Rattle.area.specs.Operations.{fromFound, fromTable}
 use Rattle.area.proofs.PlaceLaws.{length-transfers, transfer-at}
@@ -72,9 +73,9 @@ module _ (a : List ℕ) (i : ℕ) (yes : judged a ≡ true) where
       listed-open a (readTable a) (judged-held a yes) i (omega (arith, length-transfers a 0 (wordAt a 0)))
       ∙ ap (λ (x : Transfer). Open (listingOf x)) (transfer-at a i h)
 
-pub listing-is : (a : List ℕ) (i : ℕ) (key : Key) (rows : Rows) (e : ℕ) (c : Bool) (n : ℕ) → key ≡ keyAt a i → rows ≡ rowsAt a i
-    → e ≡ edge (runsIn a rows) → c ≡ complete (key .length) (runsIn a rows) → n ≡ received (runsIn a rows)
-    → _≡_ {A = Listing} (record { id = key .id; width = key .width; length = key .length; edge = e; complete = c; runs = rows .count; received = n })
+pub listing-is : (a : List ℕ) (i : ℕ) (key : Key) (rows : Rows) (e : ℕ) (c : Bool) (n : ℕ) (b : Bool) → key ≡ keyAt a i → rows ≡ rowsAt a i
+    → e ≡ edge (runsIn a rows) → c ≡ complete (key .length) (runsIn a rows) → n ≡ received (runsIn a rows) → b ≡ stamped (stampAt a i)
+    → _≡_ {A = Listing} (record { id = key .id; width = key .width; length = key .length; edge = e; complete = c; runs = rows .count; received = n; stamped = b })
     (listingOf (transferAt a i))
 unfolding listingOf
-listing-is a i key rows e c n k r f g h = rw (f, g, h, k, r, length-runs)
+listing-is a i key rows e c n b k r f g h s = rw (f, g, h, s, k, r, length-runs)

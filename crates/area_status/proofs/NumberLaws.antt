@@ -13,7 +13,7 @@ use Rattle.runs.specs.Holes.{holes}
 use Rattle.packet_status.specs.declared.HoleRead.{HoleRead}
 use Rattle.packet_status.specs.declared.HoleRead.the-variants as hole-read
 use Rattle.transfer.specs.declared.Key.{Key}
-use Rattle.table.specs.Tables.{keys, find, runsOf}
+use Rattle.table.specs.Tables.{keys, find, runsOf, stampOf}
 use Rattle.table.proofs.TableLaws.{by-test}
 use Rattle.area.proofs.OperationLaws.{from-cases}
 use Rattle.area_status.specs.Listing.{listedIn, listedArea}
@@ -38,11 +38,11 @@ listed-numbered a i =
 pub found-numbered : (a : List ℕ) (id : ℕ) → Numbered (foundArea a id)
 unfolding foundArea foundIn foundFor
 found-numbered a id =
-    from-cases (Refused (refusalOf 22)) (λ t. foundIn t id) a Numbered (λ e. omega arith) (λ t h. go (find id (keys t)) (runsOf t id))
+    from-cases (Refused (refusalOf 22)) (λ t. foundIn t id) a Numbered (λ e. omega arith) (λ t h. go (find id (keys t)) (runsOf t id) (stampOf t id))
   where
-    go : (o : Option Key) (rs : List Run) → Numbered (foundFor o rs)
-    go none rs = λ e. omega arith
-    go (some k) rs = tt
+    go : (o : Option Key) (rs : List Run) (s : List ℕ) → Numbered (foundFor o rs s)
+    go none rs s = λ e. omega arith
+    go (some k) rs s = tt
 
 pub hole-numbered : (a : List ℕ) (id i : ℕ) → HoleNumbered (holeArea a id i)
 unfolding holeArea holeOf holeFor holeIn

@@ -15,14 +15,14 @@ use Rattle.transfer.specs.Transfers.{Transfer}
 use Rattle.transfer_status.specs.WriteStatus.{transferWritten, transferBuffer}
 use Rattle.table.specs.WriteStatus.{writtenFor, bufferFor, statusWritten, statusBuffer}
 use Rattle.table.proofs.StatusWritten.{status-twelve}
-use Rattle.area.specs.Places.{keyAt, rowsAt, readTable, placeIn}
+use Rattle.area.specs.Places.{keyAt, rowsAt, stampAt, readTable, placeIn}
 use Rattle.area.specs.Judge.{judged, tableOf}
 use Rattle.area.specs.declared.Place.{Place}
 use Rattle.area.specs.Operations.{fromFound, fromTable, areaStatusWritten, areaStatusBuffer}
 use Rattle.area.proofs.JudgeLaws.{judged-passed}
 use Rattle.area.proofs.OperationLaws.{from-held, from-judged}
 use Rattle.area.proofs.KeptLaws.{place-free, free-missing}
-use Rattle.area_status.proofs.UsedLaws.{key-found, runs-found}
+use Rattle.area_status.proofs.UsedLaws.{key-found, runs-found, stamp-found}
 
 module _ (a : List ℕ) (id k : ℕ) (unasked : Bool) (old : List ℕ) where
   -- the answer and the buffer of an area that holds t are those of t: what table's laws say of them, holds of the area's
@@ -53,12 +53,13 @@ module _ (a : List ℕ) (id k : ℕ) (unasked : Bool) (old : List ℕ) where
         )
 
     -- where it is open, the transfer's
-    module _ (yes-open : p .«open» ≡ true) (key : Key) (rows : Rows) (key-is : key ≡ keyAt a (p .at)) (rows-are : rows ≡ rowsAt a (p .at)) where
-      pub status-found : (x : Written) (y : List ℕ) → x ≡ transferWritten key (runsIn a rows) k unasked old
-          → y ≡ transferBuffer key (runsIn a rows) k unasked old
+    module _ (yes-open : p .«open» ≡ true) (key : Key) (rows : Rows) (key-is : key ≡ keyAt a (p .at)) (rows-are : rows ≡ rowsAt a (p .at))
+        (s : List ℕ) (stamp-is : s ≡ stampAt a (p .at)) where
+      pub status-found : (x : Written) (y : List ℕ) → x ≡ transferWritten key (runsIn a rows) s k unasked old
+          → y ≡ transferBuffer key (runsIn a rows) s k unasked old
           → (x ≡ areaStatusWritten a id k unasked old) × (y ≡ areaStatusBuffer a id k unasked old)
       unfolding areaStatusWritten areaStatusBuffer statusWritten statusBuffer writtenFor bufferFor
       status-found x y e f = (
-        e ∙ sym (from-judged _ (λ t. statusWritten t id k unasked old) a yes ∙ rw (key-found a id yes p is yes-open key key-is, runs-found a id yes p is yes-open rows rows-are)),
-        f ∙ sym (from-judged _ (λ t. statusBuffer t id k unasked old) a yes ∙ rw (key-found a id yes p is yes-open key key-is, runs-found a id yes p is yes-open rows rows-are)),
+        e ∙ sym (from-judged _ (λ t. statusWritten t id k unasked old) a yes ∙ rw (key-found a id yes p is yes-open key key-is, runs-found a id yes p is yes-open rows rows-are, stamp-found a id yes p is yes-open ∙ sym stamp-is)),
+        f ∙ sym (from-judged _ (λ t. statusBuffer t id k unasked old) a yes ∙ rw (key-found a id yes p is yes-open key key-is, runs-found a id yes p is yes-open rows rows-are, stamp-found a id yes p is yes-open ∙ sym stamp-is)),
       )

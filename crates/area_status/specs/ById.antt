@@ -12,8 +12,8 @@ use Rattle.runs.specs.Holes.{hole, holes}
 use Rattle.packet_status.specs.declared.HoleRead.{HoleRead}
 use Rattle.packet_status.specs.declared.HoleRead.the-variants as hole-read
 use Rattle.transfer.specs.declared.Key.{Key}
-use Rattle.transfer.specs.Transfers.{Transfer}
-use Rattle.table.specs.Tables.{keys, find, runsOf}
+use Rattle.transfer.specs.Transfers.{Transfer, transferOf}
+use Rattle.table.specs.Tables.{keys, find, runsOf, stampOf}
 use Rattle.area.specs.Operations.{fromTable}
 use Rattle.area_status.specs.Listing.{listingOf}
 use Rattle.area_status.specs.declared.Listed.{Listed}
@@ -21,13 +21,13 @@ use Rattle.area_status.specs.declared.Listed.the-variants as listed
 
 -- ---- how it stands
 
--- R6.11: 12 where the Id is not open; else the transfer with the Id's key and its received offsets
-unfoldable pub foundFor : Option Key → List Run → Listed
-foundFor none rs = listed.Refused (refusalOf 12)
-foundFor (some k) rs = listed.Open (listingOf (record { key = k; runs = rs }))
+-- R6.11: 12 where the Id is not open; else the transfer with the Id's key, its received offsets and its timestamp
+unfoldable pub foundFor : Option Key → List Run → List ℕ → Listed
+foundFor none rs s = listed.Refused (refusalOf 12)
+foundFor (some k) rs s = listed.Open (listingOf (transferOf k rs s))
 
 unfoldable pub foundIn : List Transfer → ℕ → Listed
-foundIn t id = foundFor (find id (keys t)) (runsOf t id)
+foundIn t id = foundFor (find id (keys t)) (runsOf t id) (stampOf t id)
 
 -- R6.13: 22 comes first
 unfoldable pub foundArea : List ℕ → ℕ → Listed

@@ -8,6 +8,7 @@ use mathlib.Core.List.{List}
 use mathlib.Core.Logic.{_↔_}
 use lib.ListN.{length}
 use lib.Dec.{ltb}
+use Rattle.timestamp.specs.Timestamps.{stamped}
 use Rattle.refusals.specs.Refusals.{refusalOf}
 use Rattle.runs.specs.Runs.{Run, Member}
 use Rattle.runs.specs.Holes.{edge, complete}
@@ -19,7 +20,8 @@ use Rattle.area_status.specs.declared.Listing.{Listing}
 use Rattle.area_status.specs.declared.Listed.{Listed}
 use Rattle.area_status.specs.declared.Listed.the-variants.{Open, Refused}
 
--- a transfer's key, with its width in octets, the edge, whether it is complete, the number of its runs, and how many offsets they have
+-- a transfer's key, with its width in octets, the edge, whether it is complete, the number of its runs, how many offsets they have, and
+-- whether it keeps a timestamp
 unfoldable pub listingOf : Transfer → Listing
 listingOf x = record {
   id = x .key .id;
@@ -29,6 +31,7 @@ listingOf x = record {
   complete = complete (x .key .length) (x .runs);
   runs = length (x .runs);
   received = received (x .runs);
+  stamped = stamped (x .stamp);
 }
 
 -- the transfer with this index; 12 for an index at or past the number open

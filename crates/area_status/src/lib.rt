@@ -1,6 +1,7 @@
 // STATUS written from the lent area, and what is open in it, read where they are.
 ghost use mathlib.Core.Path.{_≡_};
-ghost use Rattle.area.specs.Places.{transferAt};
+ghost use Rattle.timestamp.specs.Timestamps.{keptOctets};
+ghost use Rattle.area.specs.Places.{stampAt, transferAt};
 ghost use Rattle.area.specs.Operations.{areaStatusWritten, areaStatusBuffer};
 ghost use Rattle.area_status.specs.Used.{UsedPlace};
 ghost use Rattle.area_status.specs.Listing.{listingOf, listedArea};
@@ -9,8 +10,10 @@ pub mod by_id;
 
 use refusals::Refusal;
 use refusals::Written;
+use timestamp::Kept;
 
-// A transfer that is open. `width` counts octets, `runs` its runs, and `received` the offsets that they have.
+// A transfer that is open. `width` counts octets, `runs` its runs, and `received` the offsets that they have; `stamped` tells whether it
+// keeps a timestamp.
 pub struct Listing {
     pub id: u64,
     pub width: u64,
@@ -19,6 +22,7 @@ pub struct Listing {
     pub complete: bool,
     pub runs: usize,
     pub received: u64,
+    pub stamped: bool,
 }
 
 pub enum Listed {
@@ -27,6 +31,15 @@ pub enum Listed {
 }
 
 // ---- STATUS
+
+// The timestamp that the transfer at place i keeps.
+fn kept_at(area: &[u8], i: usize) -> Kept
+    requires { ⌜ UsedPlace (now area) i ⌝ }
+    ensures { λ r. ⌜ keptOctets r ≡ stampAt (now (area .entry)) i ⌝ }
+{
+    let stamped = area::head(area, i, area::STAMPED) == 1;
+    timestamp::read_stamp(area, area::stamp_at(i) * 8, stamped)
+}
 
 // Writes STATUS of an open Id into a lent buffer.
 pub fn write_status(area: &[u8], id: u64, skip: u64, unasked: bool, out: &mut [u8]) -> Written
@@ -42,8 +55,9 @@ pub fn write_status(area: &[u8], id: u64, skip: u64, unasked: bool, out: &mut [u
     }
     let at = place.at;
     let key = area::key_at(area, at);
+    let kept = kept_at(area, at);
     let rows = area::rows_at(area, at);
-    row_status::write_rows(area, key, rows, skip, unasked, out)
+    row_status::write_rows(area, key, kept, rows, skip, unasked, out)
 }
 
 // ---- what is open
@@ -58,6 +72,7 @@ pub fn listing_at(area: &[u8], i: usize) -> Listing
     let edge = run_rows::edge_of(area, rows);
     let complete = run_rows::is_complete(area, rows, key.length);
     let received = run_rows::received_of(area, rows);
+    let stamped = area::head(area, i, area::STAMPED) == 1;
     Listing {
         id: key.id,
         width: key.width as u64,
@@ -66,6 +81,7 @@ pub fn listing_at(area: &[u8], i: usize) -> Listing
         complete,
         runs: rows.count,
         received,
+        stamped,
     }
 }
 

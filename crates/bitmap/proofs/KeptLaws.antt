@@ -37,7 +37,7 @@ module _ (s packet : List ℕ) where
     unfolding openMarks openAs
     open-clears = rw e
 
-    long : markOctets ≤ length s
+    pub long : markOctets ≤ length s
     unfolding openRefusal marksRefusal
     long = ltb-false (length s) markOctets (failed (ltb (length s) markOctets) 19 (first-none (marksRefusal s) _ e))
 
@@ -45,7 +45,7 @@ module _ (s packet : List ℕ) where
     unfolding openRefusal
     opened-read = first-none (metadataRefusal packet) _ (rest-none (marksRefusal s) _ e)
 
-    short : keyOf (metadataOf packet) .length ≤ longest
+    pub short : keyOf (metadataOf packet) .length ≤ longest
     unfolding openRefusal
     short =
         ltb-false longest (keyOf (metadataOf packet) .length)

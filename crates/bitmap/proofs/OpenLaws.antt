@@ -13,8 +13,9 @@ use Rattle.transfer.specs.declared.Key.{Key}
 use Rattle.transfer.specs.declared.Reached.{Reached}
 use Rattle.transfer.specs.Transfers.{keyOf, reached}
 use Rattle.marks.specs.Marks.{markOctets, cleared}
-use Rattle.bitmap.specs.State.{longest, marksRefusal}
+use Rattle.bitmap.specs.State.{unstamped, longest, marksRefusal}
 use Rattle.bitmap.specs.Open.{openRefusal, openAs, openMarks}
+use Rattle.bitmap.specs.declared.Held.{Held}
 use Rattle.bitmap.specs.declared.Opened.the-variants.{New, Refused}
 
 module _ (s packet : List ℕ) where
@@ -46,8 +47,8 @@ module _ (s packet : List ℕ) where
       unfolding openRefusal marksRefusal
       none h = rw (le-ltb (length s) markOctets long, read, ← is, le-ltb longest (k .length) h)
 
-      -- opened: nothing is received
-      pub open-new : k .length ≤ longest → (r : Reached) (x : List ℕ) → r ≡ reached k [] → x ≡ cleared s
-          → (New (record { key = k; reached = r }) ≡ openMarks s packet .answer) × (x ≡ openMarks s packet .marks)
+      -- opened: nothing is received, and no timestamp is kept
+      pub open-new : k .length ≤ longest → (held : Held) (r : Reached) (x : List ℕ) → held ≡ unstamped k → r ≡ reached k [] → x ≡ cleared s
+          → (New (record { held = held; reached = r }) ≡ openMarks s packet .answer) × (x ≡ openMarks s packet .marks)
       unfolding openMarks openAs
-      open-new h r x e f = (rw (none h, ← is, e), rw (none h) f)
+      open-new h held r x u e f = (rw (none h, ← is, u, e), rw (none h) f)

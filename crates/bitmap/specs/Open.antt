@@ -8,7 +8,7 @@ use Rattle.packet_metadata.specs.Metadata.{metadataRefusal, metadataOf}
 use Rattle.transfer.specs.declared.Key.{Key}
 use Rattle.transfer.specs.Transfers.{keyOf, reached}
 use Rattle.marks.specs.Marks.{cleared}
-use Rattle.bitmap.specs.State.{Left, longest, marksRefusal}
+use Rattle.bitmap.specs.State.{Left, unstamped, longest, marksRefusal}
 use Rattle.bitmap.specs.declared.Opened.{Opened}
 use Rattle.bitmap.specs.declared.Opened.the-variants.{New, Refused}
 
@@ -16,9 +16,9 @@ use Rattle.bitmap.specs.declared.Opened.the-variants.{New, Refused}
 unfoldable pub openRefusal : List ℕ → List ℕ → ℕ
 openRefusal s packet = marksRefusal s ▹ metadataRefusal packet ▹ when (ltb longest (keyOf (metadataOf packet) .length)) 9
 
--- R12.3: nothing is received then, whatever was marked before
+-- R12.3, R6.14: nothing is received then, whatever was marked before, and no timestamp is kept
 unfoldable pub openAs : ℕ → List ℕ → Key → Left Opened
-openAs zero s k = record { answer = New (record { key = k; reached = reached k [] }); marks = cleared s }
+openAs zero s k = record { answer = New (record { held = unstamped k; reached = reached k [] }); marks = cleared s }
 openAs (suc n) s k = record { answer = Refused (refusalOf (suc n)); marks = s }
 
 unfoldable pub openMarks : List ℕ → List ℕ → Left Opened

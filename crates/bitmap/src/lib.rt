@@ -1,13 +1,14 @@
-// The bitmap receiver: one transfer, whose key travels by value, with one mark for each octet in 8,192 lent octets. Here is how marks
+// The bitmap receiver: one transfer, whose record travels by value, with one mark for each octet in 8,192 lent octets. Here is how marks
 // are judged, and opening; recording and STATUS stand in crates above.
 ghost use mathlib.Core.Path.{_≡_};
 ghost use lib.ListN.{length};
 ghost use Rattle.marks.specs.Walk.{runRows};
-ghost use Rattle.bitmap.specs.State.{openable};
+ghost use Rattle.bitmap.specs.State.{unstamped, openable};
 ghost use Rattle.bitmap.specs.Judged.{JudgedAs};
 ghost use Rattle.bitmap.specs.Open.{openMarks};
 use refusals::Refusal;
 use run_rows::Rows;
+use timestamp::Kept;
 use transfer::Key;
 use transfer::Reached;
 
@@ -17,9 +18,15 @@ const LONGEST: u64 = 65535;
 // Two rows of 64 words, for the starts and the stops of the runs.
 pub const ROW_OCTETS: usize = 2 * marks::RUNS * 8;
 
+// The record of a transfer: its key, and the timestamp that it keeps.
+pub struct Held {
+    pub key: Key,
+    pub kept: Kept,
+}
+
 // A transfer that was opened, and how far it has come.
 pub struct Opening {
-    pub key: Key,
+    pub held: Held,
     pub reached: Reached,
 }
 
@@ -93,6 +100,18 @@ pub fn judge(key: Key, marks: &[u8], rows: &mut [u8]) -> Judged
 
 // ---- opening
 
+// The record of a transfer that keeps no timestamp.
+pub fn unstamped(key: Key) -> Held
+    ensures { λ r. ⌜ r ≡ unstamped key ⌝ }
+{
+    let kept = Kept {
+        stamped: false,
+        high: 0,
+        low: 0,
+    };
+    Held { key, kept }
+}
+
 // Opens by a packet that has to be METADATA, and always starts anew.
 pub fn open(marks: &mut [u8], packet: &[u8]) -> Opened
     ensures { λ r. ⌜ (r ≡ openMarks (now (marks .entry)) (now (packet .entry)) .answer)
@@ -110,6 +129,7 @@ pub fn open(marks: &mut [u8], packet: &[u8]) -> Opened
         return Opened::Refused(refusals::refuse(9));
     }
     marks::clear(marks);
+    let held = unstamped(key);
     let reached = transfer::reached_new(key);
-    Opened::New(Opening { key, reached })
+    Opened::New(Opening { held, reached })
 }

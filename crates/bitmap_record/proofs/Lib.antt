@@ -3,3 +3,5 @@ pub mod RecordLaws
 pub mod LimitLaws
 pub mod KeptLaws
 pub mod ToldLaws
+pub mod HandedLaws
+pub mod HeldLaws

@@ -1,18 +1,31 @@
-// Recording DATA in the marks of one transfer.
+// Recording DATA in the marks of one transfer, and the record that is handed back.
 ghost use mathlib.Core.Path.{_≡_};
 ghost use Prim.Native.Nat.{_≤_, _<_, max};
 ghost use lib.ListN.{length};
-ghost use Rattle.transfer.specs.Record.{stopOf, extended, runsRefusal};
+ghost use Rattle.timestamp.specs.Timestamps.{renewed, keptOctets, keptFrom};
+ghost use Rattle.packet_data.specs.Data.{dataRefusal, dataOf};
+ghost use Rattle.transfer.specs.Record.{stopOf, stampIn, extended, runsRefusal};
 ghost use Rattle.marks.specs.Marks.{markOctets};
 ghost use Rattle.marks.specs.MarkedRuns.{markedRuns};
 ghost use Rattle.bitmap.specs.State.{longest};
 ghost use Rattle.bitmap.specs.Judged.{RunsStand};
 ghost use Rattle.bitmap_record.specs.Record.{dataRefused, recordAs, recordMarks};
+ghost use Rattle.bitmap_record.specs.Held.{heldAfter, noHeld, recordHeld};
+use bitmap::Held;
 use packet_data::Data;
 use table::Recorded;
+use timestamp::Kept;
 use transfer::Key;
 use transfer::Reached;
 use transfer::Receipt;
+
+// What recording tells, and the record that it hands back.
+pub struct Recording {
+    pub told: Recorded,
+    pub held: Held,
+}
+
+// ---- the marks
 
 // 12 for DATA of another Id, 13, 14 and 15; 0 for none.
 fn data_refused(key: Key, d: Data) -> u64
@@ -58,8 +71,8 @@ fn extend(key: Key, marks: &mut [u8], rows: &[u8], n: usize, d: Data) -> Recorde
     })
 }
 
-// Records a packet that has to be DATA. That the marks are no transfer's counts before what the packet is.
-pub fn record(key: Key, marks: &mut [u8], packet: &[u8]) -> Recorded
+// Marks a packet that has to be DATA. That the marks are no transfer's counts before what the packet is.
+fn record_marks(key: Key, marks: &mut [u8], packet: &[u8]) -> Recorded
     ensures { λ r. ⌜ (r ≡ recordMarks key (now (marks .entry)) (now (packet .entry)) .answer)
         × (now (marks .exit) ≡ recordMarks key (now (marks .entry)) (now (packet .entry)) .marks) ⌝ }
 {
@@ -79,4 +92,63 @@ pub fn record(key: Key, marks: &mut [u8], packet: &[u8]) -> Recorded
         return Recorded::Refused(refusals::refuse(n));
     }
     extend(key, marks, &rows, judged.runs, d)
+}
+
+// ---- the record
+
+// The timestamp that is kept after a packet that brings `new`, or none. Where none is kept, both halves are 0.
+fn kept_after(new: Kept, old: Kept) -> Kept
+    ensures { λ r. ⌜ r ≡ keptFrom (renewed (keptOctets new) (keptOctets old)) ⌝ }
+{
+    if new.stamped {
+        return new;
+    }
+    if old.stamped {
+        return old;
+    }
+    Kept {
+        stamped: false,
+        high: 0,
+        low: 0,
+    }
+}
+
+// The record after a packet that was accepted.
+fn held_after(held: Held, packet: &[u8]) -> Held
+    requires { ⌜ dataRefusal (now packet) ≡ 0 ⌝ }
+    ensures { λ r. ⌜ r ≡ heldAfter held (stampIn (now (packet .entry)) (dataOf (now (packet .entry)))) ⌝ }
+{
+    let d = packet_data::data_fields(packet);
+    let new = timestamp::read_stamp(packet, 8, d.timestamp != 0);
+    let kept = kept_after(new, held.kept);
+    let key = held.key;
+    Held { key, kept }
+}
+
+// The record of no transfer.
+fn no_held() -> Held
+    ensures { λ r. ⌜ r ≡ noHeld ⌝ }
+{
+    bitmap::unstamped(Key {
+        id: 0,
+        width: 0,
+        length: 0,
+    })
+}
+
+// Records a packet that has to be DATA.
+pub fn record(held: Held, marks: &mut [u8], packet: &[u8]) -> Recording
+    ensures { λ r. ⌜ (r .told ≡ recordMarks (held .key) (now (marks .entry)) (now (packet .entry)) .answer)
+        × (r .held ≡ recordHeld held (now (marks .entry)) (now (packet .entry)))
+        × (now (marks .exit) ≡ recordMarks (held .key) (now (marks .entry)) (now (packet .entry)) .marks) ⌝ }
+{
+    let told = record_marks(held.key, marks, packet);
+    let none = no_held();
+    match told {
+        Recorded::Accepted(_) => {
+            let after = held_after(held, packet);
+            Recording { told, held: after }
+        }
+        Recorded::Refused(_) => Recording { told, held: none },
+    }
 }

@@ -23,7 +23,8 @@ use Rattle.packet_data.specs.declared.Data.{Data}
 use Rattle.packet_data.specs.declared.DataRead.{DataRead}
 use Rattle.packet_data.specs.declared.DataRead.the-variants as data-read
 use Rattle.transfer.specs.declared.Key.{Key}
-use Rattle.transfer.specs.Transfers.{Transfer}
+use Rattle.transfer.specs.Transfers.{Transfer, transferOf}
+use Rattle.transfer.specs.Record.{stampIn}
 use Rattle.table.specs.Tables.{keys, find, add}
 use Rattle.table.specs.Open.{judgeFound, judgeOpen, openAs, openKey, openRead, openPacket}
 use Rattle.table.specs.Record.{dataJudged, recordRefusal, recordAs, recordData, recordRead, recordPacket, recordAccepted}
@@ -37,7 +38,7 @@ abbrev key : Key
 key = record { id = 7; width = 2; length = 0 }
 
 abbrev table : List Transfer
-table = record { key = key; runs = [] } ∷ []
+table = transferOf key [] [] ∷ []
 
 empty-is : emptyFile ≡ table
 unfolding emptyFile startRefusal typeRefusal fileRefusal descriptorRefusal upperZero propertyRefusal pathRefusal entryRefusal entryOf pairAllowed pairRefusal metadataRefusal metadataOf readMetadata keys find add judgeFound judgeOpen openAs openKey openRead openPacket
@@ -45,10 +46,10 @@ empty-is = refl
 
 -- ---- the number of the refusal: 14, and 12 or 13 where Id or width are others
 
-record-refused : (t : List Transfer) (d : Data) (n : ℕ) → dataJudged (find (d .id) (keys t)) d ≡ suc n
-    → recordData t d .answer ≡ recorded.Refused (refusalOf (suc n))
+record-refused : (t : List Transfer) (d : Data) (s : List ℕ) (n : ℕ) → dataJudged (find (d .id) (keys t)) d ≡ suc n
+    → recordData t d s .answer ≡ recorded.Refused (refusalOf (suc n))
 unfolding recordData recordRefusal recordAs
-record-refused t d n e = rw e
+record-refused t d s n e = rw e
 
 not-open : (d : Data) → eqb 7 (d .id) ≡ false → find (d .id) (keys table) ≡ none
 unfolding keys find
@@ -62,31 +63,31 @@ judged-fourteen : (d : Data) → 0 < d .length → eqb 7 (d .id) ≡ true → d 
 unfolding dataJudged
 judged-fourteen d p i w = rw (is-open d i) (fourteen-iff key d .1 (w, omega arith))
 
-never : (d : Data) → 0 < d .length → recordAccepted (recordData table d .answer) ≡ false
+never : (d : Data) (s : List ℕ) → 0 < d .length → recordAccepted (recordData table d s .answer) ≡ false
 unfolding dataJudged
-never d p = go (eqb 7 (d .id)) refl (eqb (d .width) 2) refl
+never d s p = go (eqb 7 (d .id)) refl (eqb (d .width) 2) refl
   where
-    refused : (n : ℕ) → dataJudged (find (d .id) (keys table)) d ≡ suc n → recordAccepted (recordData table d .answer) ≡ false
-    refused n e = rw (record-refused table d n e)
+    refused : (n : ℕ) → dataJudged (find (d .id) (keys table)) d ≡ suc n → recordAccepted (recordData table d s .answer) ≡ false
+    refused n e = rw (record-refused table d s n e)
 
-    go : (i : Bool) → eqb 7 (d .id) ≡ i → (w : Bool) → eqb (d .width) 2 ≡ w → recordAccepted (recordData table d .answer) ≡ false
+    go : (i : Bool) → eqb 7 (d .id) ≡ i → (w : Bool) → eqb (d .width) 2 ≡ w → recordAccepted (recordData table d s .answer) ≡ false
     go false i w e = refused 11 (rw (not-open d i) (twelve-iff none d .1 refl))
     go true i false e = refused 12 (rw (is-open d i) (thirteen-iff key d .1 (eqb-false (d .width) 2 e)))
     go true i true e = refused 13 (judged-fourteen d p i (eqb-true (d .width) 2 e))
 
 -- ---- any octets
 
-read-never : (r : DataRead) → ((d : Data) → r ≡ data-read.Accepted d → 0 < d .length) → recordAccepted (recordRead table r .answer) ≡ false
+read-never : (packet : List ℕ) (r : DataRead) → ((d : Data) → r ≡ data-read.Accepted d → 0 < d .length) → recordAccepted (recordRead table packet r .answer) ≡ false
 unfolding recordRead
-read-never (data-read.Accepted d) f = never d (f d refl)
-read-never (data-read.Refused r) f = refl
+read-never packet (data-read.Accepted d) f = never d (stampIn packet d) (f d refl)
+read-never packet (data-read.Refused r) f = refl
 
 pub empty-never : (packet : List ℕ) → recordAccepted (recordPacket emptyFile packet .answer) ≡ false
 unfolding recordPacket
-empty-never packet = rw empty-is (read-never (readData packet) (data-some packet))
+empty-never packet = rw empty-is (read-never packet (readData packet) (data-some packet))
 
 pub empty-fourteen : (packet : List ℕ) (d : Data) → readData packet ≡ data-read.Accepted d → d .id ≡ 7 → d .width ≡ 2
     → recordPacket emptyFile packet .answer ≡ recorded.Refused (refusalOf 14)
 unfolding recordPacket recordRead
 empty-fourteen packet d e i w =
-    rw (empty-is, e) (record-refused table d 13 (judged-fourteen d (data-some packet d e) (eq-eqb 7 (d .id) (sym i)) w))
+    rw (empty-is, e) (record-refused table d (stampIn packet d) 13 (judged-fourteen d (data-some packet d e) (eq-eqb 7 (d .id) (sym i)) w))

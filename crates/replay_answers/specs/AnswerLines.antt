@@ -1,5 +1,5 @@
--- The answer of each operation as a line, by its cases: docs/REPLAY.md, "The lines". "`refused`, with the number and the code of
--- the refusal" is the line of every refusal.
+-- The answer of each operation as a line, by its cases: docs/REPLAY.md, "The lines". Every refusal has the line `refused`, with its number and
+-- its code.
 -- Assumes nothing.
 use Prim.Native.Nat.{ℕ}
 use mathlib.Core.List.{List, []}
@@ -26,17 +26,17 @@ use Rattle.replay_packets.specs.PacketLines.{metadataLine, dataLine, failureLin
 use Rattle.replay_success.specs.SuccessLine.{successLine}
 use Rattle.replay_fields.specs.LineWords.{w-already, w-fresh, w-new, w-send, w-written}
 
--- "`fresh`"; refused where the area is too short, as replay's own never is
+-- the line `fresh`; refused where the area is too short, as replay's own never is
 unfoldable pub freshText : ℕ → Finished → List ℕ
 freshText n finished.Done = plainLine n w-fresh
 freshText n (finished.Refused x) = refusedLine n x
 
--- "`close`"
+-- the line `close`
 unfoldable pub closeText : ℕ → ℕ → Finished → List ℕ
 closeText n id finished.Done = closeLine n id
 closeText n id (finished.Refused x) = refusedLine n x
 
--- "`open` .. `new` or `already-open`"
+-- the line `open`, which ends in `new` or `already-open`
 unfoldable pub openingText : ℕ → Metadata → Opened → List ℕ
 openingText n m (opened.New x) = openedLine n m x w-new
 openingText n m (opened.AlreadyOpen x) = openedLine n m x w-already
@@ -47,7 +47,7 @@ unfoldable pub openText : ℕ → MetadataRead → Opened → List ℕ
 openText n (metadata-read.Accepted m) a = openingText n m a
 openText n (metadata-read.Refused x) a = refusedLine n x
 
--- "`record`": "`offset` and `length` are the packet's, `edge` and `complete` the transfer's after it"
+-- the line `record`: offset and length of the packet, edge and completeness of the transfer after it
 unfoldable pub recordingText : ℕ → Data → Recorded → List ℕ
 recordingText n d (recorded.Accepted x) = recordLine n d x
 recordingText n d (recorded.Refused x) = refusedLine n x
@@ -56,7 +56,7 @@ unfoldable pub recordText : ℕ → DataRead → Recorded → List ℕ
 recordText n (data-read.Accepted d) a = recordingText n d a
 recordText n (data-read.Refused x) a = refusedLine n x
 
--- "`beacon`", "`metadata`, `data`", "`success`, `failure`": what the packet p was read as
+-- the lines `beacon`, `metadata`, `data`, `success` and `failure`: what the packet p was read as
 unfoldable pub readText : ℕ → List ℕ → Read → List ℕ
 readText n p (read.Beacon b) = beaconLine n p b
 readText n p (read.Metadata m) = metadataLine n p m
@@ -65,12 +65,12 @@ readText n p (read.Success s) = successLine n p s
 readText n p (read.Failure f) = failureLine n f
 readText n p (read.Refused x) = refusedLine n x
 
--- "`status`": "the octets that were written", into the buffer that is lent
+-- the line `status`: the octets that were written into the buffer that is lent
 unfoldable pub statusText : ℕ → Written → List ℕ → List ℕ
 statusText n (written.Size k) lent = octetsLine n w-written (take k lent)
 statusText n (written.Refused x) lent = refusedLine n x
 
--- "`send`": "the STATUS or failure STATUS to send"; no line where none was written
+-- the line `send`: the STATUS or failure STATUS to send; no line where none was written
 unfoldable pub sentText : ℕ → Written → List ℕ → List ℕ
 sentText n (written.Size k) lent = octetsLine n w-send (take k lent)
 sentText n (written.Refused x) lent = []

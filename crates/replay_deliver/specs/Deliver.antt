@@ -1,4 +1,4 @@
--- `P`: "what a link program does with a packet off the link". `room` is the lent buffer as it stands before.
+-- R13.1, R13.2: a record `P`, a packet off the link, as a link program takes it. `room` is the lent buffer as it stands before.
 -- Assumes nothing.
 use Prim.Native.Nat.{ℕ}
 use mathlib.Core.List.{List, _++_}
@@ -19,7 +19,7 @@ use Rattle.replay_success.specs.SuccessLine.{successLine}
 use Rattle.replay_answers.specs.AnswerLines.{openingText, recordingText}
 use Rattle.replay_status.specs.StatusLines.{failureSent, wantedSent}
 
--- "What is to be sent is a second line"
+-- what is to be sent is a second line
 unfoldable pub refusalLines : ℕ → List ℕ → Refusal → List ℕ → List ℕ
 refusalLines n p x room = refusedLine n x ++ failureSent n p (x .code) room
 
@@ -29,20 +29,20 @@ openedCode (opened.New x) = 0
 openedCode (opened.AlreadyOpen x) = 0
 openedCode (opened.Refused x) = x .code
 
--- "METADATA opens": the line of an opening, and what is to be sent
+-- METADATA opens: the line of an opening, and what is to be sent
 unfoldable pub openedLines : ℕ → List ℕ → Metadata → Opened → List ℕ → List ℕ
 openedLines n p m a room = openingText n m a ++ failureSent n p (openedCode a) room
 
--- "where that was accepted"; else as for any packet that is refused
+-- where the recording was accepted; else as for any packet that is refused
 unfoldable pub recordedSent : ℕ → List ℕ → Data → Recorded → List ℕ → List ℕ → List ℕ
 recordedSent n p d (recorded.Accepted x) area room = wantedSent n area d room
 recordedSent n p d (recorded.Refused x) area room = failureSent n p (x .code) room
 
--- "DATA is recorded": the line of a recording, and what is to be sent, by the area after it
+-- DATA is recorded: the line of a recording, and what is to be sent, by the area after it
 unfoldable pub recordedLines : ℕ → List ℕ → Data → Recorded → List ℕ → List ℕ → List ℕ
 recordedLines n p d a area room = recordingText n d a ++ recordedSent n p d a area room
 
--- "METADATA opens. DATA is recorded .. STATUS is read", and so is a BEACON, which is never answered
+-- METADATA opens, DATA is recorded, STATUS and BEACON are read; a BEACON is never answered
 unfoldable pub deliverLines : ℕ → List ℕ → Read → List ℕ → List ℕ → List ℕ
 deliverLines n p (read.Beacon b) area room = beaconLine n p b
 deliverLines n p (read.Metadata m) area room = openedLines n p m (openArea area p .answer) room

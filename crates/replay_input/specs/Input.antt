@@ -9,7 +9,7 @@ use Rattle.replay_lines.specs.Body.{numberAt}
 use Rattle.replay_input.specs.declared.Input.{Input}
 use Rattle.replay_input.specs.declared.Input.the-variants as input
 
--- "A record is one octet of kind, a length of four octets, big-endian, and a body"; 0 where the five are not there
+-- a record begins with an octet for its kind and four for the length of its body, the highest first; 0 where the five are not there
 unfoldable pub bodyLength : List ℕ → ℕ
 bodyLength head = cond (ltb (length head) 5) 0 (numberAt 1 4 head)
 

@@ -28,7 +28,7 @@ unfoldable pub piecesText : List Piece → ℕ → List ℕ
 piecesText ps zero = []
 piecesText ps (suc k) = piecesText ps k ++ inList k (pieceText (getD ps k (piece 0 0)))
 
--- "from 4,096 records lent"
+-- how many records are lent for a plan
 abbrev pub recordsLent : ℕ
 recordsLent = 4096
 
@@ -46,7 +46,7 @@ planLine n m s = plannedText n (planRefusal m recordsLent s) (planOf m (holeList
 
 -- ---- a check
 
--- the piece with this index, of a list in octets: "8 octets offset and 8 octets length"
+-- the piece with this index, of a list in octets: eight for its offset and eight for its length
 abbrev pub pieceIn : List ℕ → ℕ → Piece
 pieceIn s i = piece (numberAt (16 * i) 8 s) (numberAt (16 * i + 8) 8 s)
 

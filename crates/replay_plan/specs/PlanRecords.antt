@@ -1,4 +1,4 @@
--- The lines of the records `L` and `K`: docs/REPLAY.md, "A pass".
+-- The lines of the records `L` and `K`: docs/REPLAY.md.
 -- Assumes nothing.
 use Prim.Native.Nat.{ℕ, _+_, _*_}
 use mathlib.Core.Bool.{cond}
@@ -8,12 +8,12 @@ use lib.ListN.{length, drop}
 use Rattle.replay_lines.specs.Body.{numberAt, badLine}
 use Rattle.replay_plan.specs.PlanLines.{recordsLent, planLine, piecesIn, checkLine}
 
--- `L`, body: "largest payload 8 octets, then a STATUS packet"; "what to send again"
+-- `L`: eight octets for the largest payload, then a STATUS packet; what is to be sent again
 unfoldable pub planLines : ℕ → List ℕ → List ℕ
 planLines n body = cond (ltb (length body) 8) (badLine n) (planLine n (numberAt 0 8 body) (drop 8 body))
 
--- `K`, body: "largest payload 8, n 8, n times offset 8 and length 8 octets, then a STATUS packet"; "whether these pieces are a plan for
--- it". `bad length` are "a body of `L` or `K` too short for its numbers or its pieces, and more than 4,096 pieces"
+-- `K`: eight octets for the largest payload, eight for a number n, n pieces, then a STATUS packet; whether these pieces are a plan for it.
+-- A body that is too short for its pieces is a bad length, and so are more pieces than records are lent
 unfoldable pub checkLines : ℕ → List ℕ → List ℕ
 checkLines n body =
     cond (ltb (length body) 16) (badLine n)

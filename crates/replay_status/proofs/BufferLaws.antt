@@ -17,7 +17,7 @@ use Rattle.transfer.specs.declared.Key.{Key}
 use Rattle.transfer.specs.Transfers.{Transfer}
 use Rattle.transfer_status.specs.WriteStatus.{statusPacket, transferRefused, transferBuffer}
 use Rattle.transfer_status.proofs.StatusSize.{status-size-fits}
-use Rattle.table.specs.Tables.{Valid, keys, find, runsOf}
+use Rattle.table.specs.Tables.{Valid, keys, find, runsOf, stampOf}
 use Rattle.table.specs.WriteStatus.{bufferFor, statusBuffer}
 use Rattle.table.proofs.FindLaws.{found-fine}
 use Rattle.area.specs.Judge.{tableOf}
@@ -40,13 +40,14 @@ module _ {room : List ℕ} {m : ℕ} (h : AtMost room m) where
   unfolding statusBuffer bufferFor transferBuffer
   status-buffer-most t v id k unasked = go (find id (keys t)) refl
     where
-      go : (x : Option Key) → find id (keys t) ≡ x → AtMost (bufferFor x (runsOf t id) k unasked room) m
+      go : (x : Option Key) → find id (keys t) ≡ x → AtMost (bufferFor x (runsOf t id) (stampOf t id) k unasked room) m
       go none e = h
       go (some key) e =
           let rs = runsOf t id in
+          let s = stampOf t id in
           let w = width-some (found-fine t v id key e .fine .width-is) in
-          after-most (transferRefused key rs k unasked room) (statusPacket key rs k unasked (length room))
-          (status-size-fits key rs k unasked (length room) (omega arith)) h
+          after-most (transferRefused key rs s k unasked room) (statusPacket key rs s k unasked (length room))
+          (status-size-fits key rs s k unasked (length room) (omega arith)) h
 
   pub area-buffer-most : (area : List ℕ) (id k : ℕ) (unasked : Bool) → AtMost (areaStatusBuffer area id k unasked room) m
   unfolding areaStatusBuffer fromTable fromFound

@@ -36,8 +36,7 @@ unfoldable pub writtenLine : ℕ → List ℕ → ℕ → ℕ → Bool → List 
 writtenLine n area id k unasked room =
     statusText n (areaStatusWritten area id k unasked room) (areaStatusBuffer area id k unasked room)
 
--- `S`, body: "Id 4, k 8, unasked 1, room 4 octets, all big-endian"; of the room "at most 65,535 octets are used", which is what
--- is lent; "unasked is no for 0, else yes"
+-- `S`: four octets for the Id, eight for k, one that is not 0 where unasked, four for the room, of which no more is used than is lent
 unfoldable pub statusLines : ℕ → List ℕ → List ℕ → List ℕ → List ℕ
 statusLines n body area room =
     cond (eqb (length body) 17)

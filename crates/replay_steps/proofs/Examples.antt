@@ -21,8 +21,9 @@ use Rattle.runs.specs.Runs.{run}
 use Rattle.runs.specs.Holes.{edgeFrom, holesFrom, progress, complete}
 use Rattle.table.specs.Record.{dataJudged, recordRefusal, grown, recordAs, recordData, recordRead, recordPacket}
 use Rattle.table.specs.Open.{judgeFound, judgeOpen, openAs, openKey, openRead, openPacket}
-use Rattle.table.specs.Tables.{keys, find, runsOf, add}
-use Rattle.transfer.specs.Transfers.{reached, Transfer}
+use Rattle.table.specs.Tables.{keys, find, runsOf, add, stampOf}
+use Rattle.timestamp.specs.Timestamps.{stamped}
+use Rattle.transfer.specs.Transfers.{reached, Transfer, transferOf}
 use Rattle.table.specs.WriteStatus.{writtenFor, bufferFor, statusWritten, statusBuffer}
 use Rattle.hole_list.specs.Pairs.{pairs}
 use Rattle.success_status.specs.SuccessStatus.{frontOctets, widthBits, statusFlags, statusOctets}
@@ -91,7 +92,7 @@ opened-new area e = rw e
 
 -- Id 7, with octets 0 to 999 and 2,000 to 2,999 of 3,000 received
 abbrev seven : Transfer
-seven = record { key = record { id = 7; width = 2; length = 3000 }; runs = run 0 1000 ∷ run 2000 3000 ∷ [] }
+seven = transferOf (record { id = 7; width = 2; length = 3000 }) (run 0 1000 ∷ run 2000 3000 ∷ []) []
 
 -- the body of an `S`: Id 7, k = 0, not unasked, a room of 16 octets
 abbrev statusBody : List ℕ
@@ -100,5 +101,5 @@ statusBody = 0 ∷ 0 ∷ 0 ∷ 7 ∷ 0 ∷ 0 ∷ 0 ∷ 0 ∷ 0 ∷ 0 ∷ 0 ∷ 0
 -- "5 status 440000000000000703e80bb803e807d0"
 pub status-written : (area : List ℕ) → tableOf area ≡ some (seven ∷ []) → recordLines 5 0x53 statusBody area (replicate 20 0)
     ≡ 53 ∷ 32 ∷ 115 ∷ 116 ∷ 97 ∷ 116 ∷ 117 ∷ 115 ∷ 32 ∷ 52 ∷ 52 ∷ 48 ∷ 48 ∷ 48 ∷ 48 ∷ 48 ∷ 48 ∷ 48 ∷ 48 ∷ 48 ∷ 48 ∷ 48 ∷ 48 ∷ 48 ∷ 55 ∷ 48 ∷ 51 ∷ 101 ∷ 56 ∷ 48 ∷ 98 ∷ 98 ∷ 56 ∷ 48 ∷ 51 ∷ 101 ∷ 56 ∷ 48 ∷ 55 ∷ 100 ∷ 48 ∷ 10 ∷ []
-unfolding recordLines statusLines writtenLine statusText octetsLine decimalOf decimalOnto hexOf areaStatusWritten areaStatusBuffer fromTable fromFound holesFrom edgeFrom progress complete keys find runsOf skipsTooMany leastRoom sizeRefusal transferWritten transferBuffer frontOctets holeRoom holesSent partialSent widthBits statusFlags pairs statusOctets lastOffset responseSent statusPacket writtenFor bufferFor statusWritten statusBuffer put
+unfolding recordLines statusLines writtenLine statusText octetsLine decimalOf decimalOnto hexOf areaStatusWritten areaStatusBuffer fromTable fromFound holesFrom edgeFrom progress complete keys find runsOf stampOf stamped skipsTooMany leastRoom sizeRefusal transferWritten transferBuffer frontOctets holeRoom holesSent partialSent widthBits statusFlags pairs statusOctets lastOffset responseSent statusPacket writtenFor bufferFor statusWritten statusBuffer put
 status-written area e = rw e

@@ -16,7 +16,7 @@ use Rattle.replay_status.specs.StatusLines.{statusLines}
 use Rattle.replay_deliver.specs.Deliver.{deliverLines, deliverArea}
 use Rattle.replay_records.specs.Kinds.{freshLines, freshAfter, closeLines, closeAfter, timeLines}
 
--- "the last, where the input ends inside its record"
+-- the last line, where the input ends inside a record
 abbrev pub cutLine : ℕ → List ℕ
 cutLine n = plainLine n w-cut
 

@@ -9,7 +9,7 @@ use Rattle.replay_plan.specs.PlanLines.{recordsLent}
 abbrev pub bodyMost : ℕ
 bodyMost = 16 + 16 * recordsLent + 65536
 
--- "of the room at most 65,535 octets are used"
+-- the room that is lent for a STATUS
 abbrev pub lentMost : ℕ
 lentMost = 65535
 

@@ -22,5 +22,5 @@ module _ (key : Key) (rs : List Run) (partial unasked done told : Bool) (from en
   unfolding responseSent
   front-same = rw (r, t, d, p, e)
 
-  pub front-put : (old x : List ℕ) → x ≡ put 0 (frontOctets filled) old → x ≡ put 0 (frontOctets (fieldsSent key rs partial unasked)) old
-  front-put old x g = g ∙ ap (λ (f : Fields). put 0 (frontOctets f) old) front-same
+  pub front-put : (s old x : List ℕ) → x ≡ put 0 (frontOctets filled s) old → x ≡ put 0 (frontOctets (fieldsSent key rs partial unasked) s) old
+  front-put s old x g = g ∙ ap (λ (f : Fields). put 0 (frontOctets f s) old) front-same

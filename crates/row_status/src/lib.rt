@@ -6,12 +6,14 @@ ghost use Rattle.octets.specs.Numbers.{Width};
 ghost use Rattle.octets.specs.Put.{put};
 ghost use Rattle.runs.specs.Holes.{holes};
 ghost use Rattle.run_rows.specs.Rows.{runsIn, RowsFit, RowsFine};
+ghost use Rattle.timestamp.specs.Timestamps.{keptOctets};
 ghost use Rattle.hole_list.specs.Pairs.{pairs};
 ghost use Rattle.success_status.specs.SuccessStatus.{frontSize, frontOctets};
 ghost use Rattle.transfer_status.specs.WriteStatus.{fieldsSent, transferWritten, transferBuffer};
 use refusals::Written;
 use run_rows::Rows;
 use success_status::Fields;
+use timestamp::Kept;
 use transfer::Key;
 
 // The `count` holes from hole `first` on, one after the other, from octet `from` on.
@@ -72,10 +74,18 @@ fn put_holes(
 }
 
 // What stands before the holes.
-fn put_front(buf: &[u8], key: Key, rows: Rows, partial: bool, unasked: bool, out: &mut [u8])
-    requires { ⌜ RowsFit (now buf) rows × (frontSize (key .width) ≤ length (now out)) ⌝ }
+fn put_front(
+    buf: &[u8],
+    key: Key,
+    kept: Kept,
+    rows: Rows,
+    partial: bool,
+    unasked: bool,
+    out: &mut [u8],
+)
+    requires { ⌜ RowsFit (now buf) rows × (frontSize (length (keptOctets kept)) (key .width) ≤ length (now out)) ⌝ }
     ensures { λ _. ⌜ now (out .exit)
-        ≡ put 0 (frontOctets (fieldsSent key (runsIn (now (buf .entry)) rows) partial unasked)) (now (out .entry)) ⌝ }
+        ≡ put 0 (frontOctets (fieldsSent key (runsIn (now (buf .entry)) rows) partial unasked) (keptOctets kept)) (now (out .entry)) ⌝ }
 {
     let done = run_rows::is_complete(buf, rows, key.length);
     let told = transfer_status::unasked_or_complete(unasked, done);
@@ -90,34 +100,36 @@ fn put_front(buf: &[u8], key: Key, rows: Rows, partial: bool, unasked: bool, out
         progress,
         response,
     };
-    success_status::put_fields(out, fields);
+    success_status::put_fields(out, fields, kept);
 }
 
-// STATUS of the transfer with this key and the runs in these rows: after the first `skip` holes as many as fit.
+// STATUS of the transfer with this key, this timestamp and the runs in these rows: after the first `skip` holes as many as fit.
 pub fn write_rows(
     buf: &[u8],
     key: Key,
+    kept: Kept,
     rows: Rows,
     skip: u64,
     unasked: bool,
     out: &mut [u8],
 ) -> Written
     requires { ⌜ RowsFine (now buf) rows × Width (key .width) ⌝ }
-    ensures { λ r. ⌜ (r ≡ transferWritten key (runsIn (now (buf .entry)) rows) skip unasked (now (out .entry)))
-        × (now (out .exit) ≡ transferBuffer key (runsIn (now (buf .entry)) rows) skip unasked (now (out .entry))) ⌝ }
+    ensures { λ r. ⌜ (r ≡ transferWritten key (runsIn (now (buf .entry)) rows) (keptOctets kept) skip unasked (now (out .entry)))
+        × (now (out .exit) ≡ transferBuffer key (runsIn (now (buf .entry)) rows) (keptOctets kept) skip unasked (now (out .entry))) ⌝ }
 {
     let width = key.width;
+    let stamp = timestamp::stamp_octets(kept);
     let holes = run_rows::hole_count(buf, rows);
     let room = out.len();
-    let n = transfer_status::size_refusal(width, holes, skip, room);
+    let n = transfer_status::size_refusal(stamp, width, holes, skip, room);
     if n != 0 {
         return Written::Refused(refusals::refuse(n));
     }
-    let count = transfer_status::holes_to_send(width, holes, skip, room);
-    let partial = transfer_status::partial_sent(width, holes, skip, room);
-    let front = success_status::front_size(width);
-    let size = success_status::status_size(width, count);
-    put_front(buf, key, rows, partial, unasked, out);
+    let count = transfer_status::holes_to_send(stamp, width, holes, skip, room);
+    let partial = transfer_status::partial_sent(stamp, width, holes, skip, room);
+    let front = success_status::front_size(stamp, width);
+    let size = success_status::status_size(stamp, width, count);
+    put_front(buf, key, kept, rows, partial, unasked, out);
     put_holes(buf, rows, width, skip as usize, count, out, front);
     Written::Size(size)
 }

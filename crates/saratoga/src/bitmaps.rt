@@ -2,9 +2,10 @@
 ghost use mathlib.Core.Path.{_≡_};
 ghost use Rattle.bitmap.specs.Open.{openMarks};
 ghost use Rattle.bitmap_record.specs.Record.{recordMarks};
+ghost use Rattle.bitmap_record.specs.Held.{recordHeld};
 ghost use Rattle.bitmap_status.specs.WriteStatus.{marksWritten, marksBuffer};
 ghost use Rattle.answers.specs.Answers.{isUnasked, writtenAnswer};
-ghost use Rattle.answer_marks.specs.BitmapAnswers.{keyFrom, bitmapOpenedAnswer, bitmapRecordedAnswer};
+ghost use Rattle.answer_marks.specs.BitmapAnswers.{keyFrom, heldFrom, bitmapOpenedAnswer, bitmapRecordedAnswer};
 use answer_marks::Bitmap;
 use answer_marks::BitmapOpenedAnswer;
 use answer_marks::BitmapRecordedAnswer;
@@ -24,7 +25,8 @@ pub extern "C" fn saratoga_bitmap_record(
     marks: &mut [u8],
     packet: &[u8],
 ) -> BitmapRecordedAnswer
-    ensures { λ r. ⌜ (r ≡ bitmapRecordedAnswer b (recordMarks (keyFrom b) (now (marks .entry)) (now (packet .entry)) .answer))
+    ensures { λ r. ⌜ (r ≡ bitmapRecordedAnswer (recordHeld (heldFrom b) (now (marks .entry)) (now (packet .entry)))
+        (recordMarks (keyFrom b) (now (marks .entry)) (now (packet .entry)) .answer))
         × (now (marks .exit) ≡ recordMarks (keyFrom b) (now (marks .entry)) (now (packet .entry)) .marks) ⌝ }
 {
     answer_marks::record(b, marks, packet)
@@ -38,8 +40,8 @@ pub extern "C" fn saratoga_bitmap_status(
     unasked: u64,
     out: &mut [u8],
 ) -> WrittenAnswer
-    ensures { λ r. ⌜ (r ≡ writtenAnswer (marksWritten (keyFrom b) (now (marks .entry)) skip (isUnasked unasked) (now (out .entry))))
-        × (now (out .exit) ≡ marksBuffer (keyFrom b) (now (marks .entry)) skip (isUnasked unasked) (now (out .entry))) ⌝ }
+    ensures { λ r. ⌜ (r ≡ writtenAnswer (marksWritten (heldFrom b) (now (marks .entry)) skip (isUnasked unasked) (now (out .entry))))
+        × (now (out .exit) ≡ marksBuffer (heldFrom b) (now (marks .entry)) skip (isUnasked unasked) (now (out .entry))) ⌝ }
 {
     answer_marks::write_status(b, marks, skip, unasked, out)
 }

@@ -12,7 +12,7 @@ use Rattle.refusals.specs.declared.Written.the-variants as written
 use Rattle.transfer.specs.declared.Key.{Key}
 use Rattle.transfer.specs.Transfers.{Transfer}
 use Rattle.transfer_status.specs.WriteStatus.{transferBuffer}
-use Rattle.table.specs.Tables.{keys, find, runsOf}
+use Rattle.table.specs.Tables.{keys, find, runsOf, stampOf}
 use Rattle.table.specs.WriteStatus.{writtenFor, bufferFor, statusWritten, statusBuffer}
 use Rattle.table.proofs.FindLaws.{found-fine}
 use Rattle.area.specs.Judge.{tableOf}
@@ -28,13 +28,13 @@ module _ (a : List ℕ) (id k : ℕ) (unasked : Bool) (old : List ℕ) (n : ℕ)
 
   -- what the buffer holds, by the table and what is open
   buffer-is : (t : List Transfer) (key : Key) → tableOf a ≡ some t → find id (keys t) ≡ some key
-      → areaStatusBuffer a id k unasked old ≡ transferBuffer key (runsOf t id) k unasked old
+      → areaStatusBuffer a id k unasked old ≡ transferBuffer key (runsOf t id) (stampOf t id) k unasked old
   unfolding areaStatusBuffer statusBuffer bufferFor
   buffer-is t key e f =
-      from-held old (λ u. statusBuffer u id k unasked old) a t e ∙ ap (λ (o : Option Key). bufferFor o (runsOf t id) k unasked old) f
+      from-held old (λ u. statusBuffer u id k unasked old) a t e ∙ ap (λ (o : Option Key). bufferFor o (runsOf t id) (stampOf t id) k unasked old) f
 
   open-in : (t : List Transfer) → tableOf a ≡ some t → (o : Option Key) → find id (keys t) ≡ o
-      → writtenFor o (runsOf t id) k unasked old ≡ written.Size n → Reads
+      → writtenFor o (runsOf t id) (stampOf t id) k unasked old ≡ written.Size n → Reads
   unfolding writtenFor
   open-in t e none f q = absurd (let z : _≡_ {A = ℕ} 0 1 = cc in omega arith)
   open-in t e (some key) f q =
@@ -45,7 +45,7 @@ module _ (a : List ℕ) (id k : ℕ) (unasked : Bool) (old : List ℕ) (n : ℕ)
         held = e;
         found = f;
         id-is = x .id-is;
-        reads = rw (buffer-is t key e f) (buffer-reads key (runsOf t id) (x .fine) k unasked old n q);
+        reads = rw (buffer-is t key e f) (buffer-reads key (runsOf t id) (stampOf t id) (x .fine) k unasked old n q);
       }
 
   in-table : (o : Option (List Transfer)) → tableOf a ≡ o

@@ -1,15 +1,17 @@
 -- R7.9: what is written from fields and holes reads as these.
 -- Assumes nothing.
 use Prim.Native.Nat.{ℕ, _+_, _*_, _^_, _<_, _≤_}
-use mathlib.Core.Path.{_≡_, ap, _∙_}
+use mathlib.Core.Path.{_≡_, refl, sym, ap, _∙_}
 use mathlib.Core.Bool.{true}
 use mathlib.Core.List.{List, _++_, append-assoc}
 use native.Mathlib.Nat.{mul-comm, mul-assoc, mul-div-right, mul-mod-right}
 use native.Mathlib.Omega.{arith}
-use lib.ListN.{length, drop, getD}
+use lib.ListN.{length, take, drop, getD}
+use lib.Seq.{drop-drop, drop-at, take-at}
 use borrow.Author.Tests.{eq-eqb}
 use Rattle.octets.specs.Numbers.{beDigits, Width}
 use Rattle.octets.proofs.NumberLaws.{value-digits, width-some}
+use Rattle.timestamp.specs.Timestamps.{Stamp, stamped}
 use Rattle.refusals.specs.Refusals.{refusalOf}
 use Rattle.refusals.proofs.TestLaws.{bit-test}
 use Rattle.header.specs.FirstWord.{markOf, typeOf, flagsOf, descriptorOctets, timestampOctets, statusOf, wordFor}
@@ -27,123 +29,135 @@ use Rattle.packet_status.proofs.StatusLaws.{success-none, hole-read-listed, hol
 use Rattle.success_status.specs.declared.Fields.{Fields}
 use Rattle.success_status.specs.SuccessStatus.{frontSize, statusSize, statusFlags, frontOctets, statusOctets, fieldsRead}
 use Rattle.success_status.proofs.SizeLaws.{status-length}
-use Rattle.success_status.proofs.FlagLaws.{flags-fit, flags-mark, flags-type, flags-flags, flags-octets, flags-timestamp, flags-partial, flags-unasked, flags-status}
+use Rattle.success_status.proofs.FlagLaws.{flags-fit, flags-mark, flags-type, flags-flags, flags-octets, flags-timestamp, flags-partial, flags-unasked, flags-status, stamp-told}
 
 -- numbers that fit their fields
-pub record FieldsFit (f : Fields) (hs : List Hole) : Type 0 where
+pub record FieldsFit (f : Fields) (s : List ℕ) (hs : List Hole) : Type 0 where
   pub width-is : Width (f .width)
   pub id-fits : f .id < 2 ^ 32
+  pub stamp-is : Stamp s
   pub progress-fits : Held (f .width) (f .progress)
   pub response-fits : Held (f .width) (f .response)
   pub holes-fit : HolesHeld (f .width) hs
 
-module _ (f : Fields) (hs : List Hole) where
+module _ (f : Fields) (s : List ℕ) (hs : List Hole) where
   abbrev d : ℕ
   d = f .width
 
-  abbrev s : List ℕ
-  s = statusOctets f hs
+  abbrev x : List ℕ
+  x = statusOctets f s hs
 
-  pub word-written : wordOf s ≡ wordFor 4 (statusFlags f)
+  pub word-written : wordOf x ≡ wordFor 4 (statusFlags (stamped s) f)
   unfolding statusOctets frontOctets
-  word-written = value-digits 4 (wordFor 4 (statusFlags f)) (omega (arith, flags-fit f))
+  word-written = value-digits 4 (wordFor 4 (statusFlags (stamped s) f)) (omega (arith, flags-fit (stamped s) f))
 
-  pub code-written : statusOf (wordOf s) ≡ 0
-  code-written = ap statusOf word-written ∙ flags-status f
+  pub code-written : statusOf (wordOf x) ≡ 0
+  code-written = ap statusOf word-written ∙ flags-status (stamped s) f
 
-  module _ (fit : FieldsFit f hs) where
-    ident : idOf s ≡ f .id
+  module _ (fit : FieldsFit f s hs) where
+    ident : idOf x ≡ f .id
     unfolding statusOctets frontOctets
     ident = value-digits 4 (f .id) (fit .id-fits)
 
-    octets : descriptorOctets (wordOf s) ≡ d
-    octets = ap descriptorOctets word-written ∙ flags-octets f (fit .width-is)
+    octets : descriptorOctets (wordOf x) ≡ d
+    octets = ap descriptorOctets word-written ∙ flags-octets (stamped s) f (fit .width-is)
 
-    stamp : timestampOctets (wordOf s) ≡ 0
-    stamp = ap timestampOctets word-written ∙ flags-timestamp f
+    stamp : timestampOctets (wordOf x) ≡ length s
+    stamp = ap timestampOctets word-written ∙ flags-timestamp (stamped s) f ∙ stamp-told s (fit .stamp-is)
 
-    -- what stands after the Id, after Progress and after In-Response-To
-    after-id : drop 8 s ≡ beDigits d (f .progress) ++ (beDigits d (f .response) ++ pairs d hs)
+    -- where Progress begins
+    abbrev first : ℕ
+    first = 8 + length s
+
+    -- what stands after the Id, after the timestamp, after Progress and after In-Response-To
+    pub after-id : drop 8 x ≡ s ++ (beDigits d (f .progress) ++ (beDigits d (f .response) ++ pairs d hs))
     unfolding statusOctets frontOctets
-    after-id = append-assoc (beDigits d (f .progress)) (beDigits d (f .response)) (pairs d hs)
+    after-id = simp append-assoc
 
-    after-progress : drop (8 + d) s ≡ beDigits d (f .response) ++ pairs d hs
-    after-progress = number-after d (f .progress) 8 s _ (fit .width-is) (fit .progress-fits) after-id
+    after-stamp : drop first x ≡ beDigits d (f .progress) ++ (beDigits d (f .response) ++ pairs d hs)
+    after-stamp = sym (drop-drop (length s) 8 x) ∙ rw after-id (drop-at s _ (length s) refl)
 
-    after-response : drop (frontSize d) s ≡ pairs d hs
+    -- R7.10: the timestamp as it was kept
+    pub stamp-written : take (length s) (drop 8 x) ≡ s
+    stamp-written = rw after-id (take-at s _ (length s) refl)
+
+    after-progress : drop (first + d) x ≡ beDigits d (f .response) ++ pairs d hs
+    after-progress = number-after d (f .progress) first x _ (fit .width-is) (fit .progress-fits) after-stamp
+
+    after-response : drop (frontSize (length s) d) x ≡ pairs d hs
     after-response =
-        let e : frontSize d ≡ 8 + d + d = omega arith in
-        ap (λ (n : ℕ). drop n s) e ∙ number-after d (f .response) (8 + d) s _ (fit .width-is) (fit .response-fits) after-progress
+        let e : frontSize (length s) d ≡ first + d + d = omega arith in
+        ap (λ (n : ℕ). drop n x) e ∙ number-after d (f .response) (first + d) x _ (fit .width-is) (fit .response-fits) after-progress
 
-    pub progress-written : progressOf s ≡ f .progress
-    progress-written = rw (octets, stamp) (number-read d (f .progress) 8 s _ (fit .width-is) (fit .progress-fits) after-id)
+    pub progress-written : progressOf x ≡ f .progress
+    progress-written = rw (octets, stamp) (number-read d (f .progress) first x _ (fit .width-is) (fit .progress-fits) after-stamp)
 
-    pub response-written : responseOf s ≡ f .response
-    response-written = rw (octets, stamp) (number-read d (f .response) (8 + d) s _ (fit .width-is) (fit .response-fits) after-progress)
+    pub response-written : responseOf x ≡ f .response
+    response-written = rw (octets, stamp) (number-read d (f .response) (first + d) x _ (fit .width-is) (fit .response-fits) after-progress)
 
-    holes-at : holesAt (wordOf s) ≡ frontSize d
+    holes-at : holesAt (wordOf x) ≡ frontSize (length s) d
     holes-at = rw (octets, stamp)
 
-    list-octets : listOctets s ≡ 2 * d * length hs
-    list-octets = omega (arith, status-length f hs, holes-at)
+    list-octets : listOctets x ≡ 2 * d * length hs
+    list-octets = omega (arith, status-length f s hs, holes-at)
 
-    count-written : holeCount s ≡ length hs
+    count-written : holeCount x ≡ length hs
     count-written = rw (list-octets, octets) (mul-div-right (length hs) {m = 2 * d} (omega (arith, width-some (fit .width-is))))
 
-    pub holes-written : holeList s ≡ hs
+    pub holes-written : holeList x ≡ hs
     unfolding holeList
-    holes-written = rw (count-written, holes-at, octets) (pairs-read d s (fit .width-is) (frontSize d) hs (fit .holes-fit) after-response)
+    holes-written = rw (count-written, holes-at, octets) (pairs-read d x (fit .width-is) (frontSize (length s) d) hs (fit .holes-fit) after-response)
 
     -- each descriptor that was written is taken
-    descriptors-written : listDescriptors s ≡ 2 * length hs
+    descriptors-written : listDescriptors x ≡ 2 * length hs
     descriptors-written =
         let e : 2 * d * length hs ≡ d * (2 * length hs) = rw (mul-comm 2 d) (mul-assoc d 2 (length hs)) in
         rw (list-octets, octets, e) (mul-div-right (2 * length hs) {m = d} (omega (arith, width-some (fit .width-is))))
 
-    taken : DescriptorsFine s
+    taken : DescriptorsFine x
     taken =
         record {
-          progress-none = rw (octets, stamp) (number-none d (f .progress) 8 s _ (fit .width-is) (fit .progress-fits) after-id);
-          response-none = rw (octets, stamp) (number-none d (f .response) (8 + d) s _ (fit .width-is) (fit .response-fits) after-progress);
-          list-none = rw (descriptors-written, octets, stamp) (pairs-none d s (fit .width-is) (frontSize d) hs (fit .holes-fit) after-response);
+          progress-none = rw (octets, stamp) (number-none d (f .progress) first x _ (fit .width-is) (fit .progress-fits) after-stamp);
+          response-none = rw (octets, stamp) (number-none d (f .response) (first + d) x _ (fit .width-is) (fit .response-fits) after-progress);
+          list-none = rw (descriptors-written, octets, stamp) (pairs-none d x (fit .width-is) (frontSize (length s) d) hs (fit .holes-fit) after-response);
         }
 
     -- with a list that the reader accepts, in a packet that isn't too long
-    module _ (well : listWell (f .partial) (f .unasked) (f .progress) (f .response) hs ≡ true) (short : statusSize d (length hs) ≤ 65535) where
-      pub typed-written : typeRefusal 4 s ≡ 0
+    module _ (well : listWell (f .partial) (f .unasked) (f .progress) (f .response) hs ≡ true) (short : statusSize (length s) d (length hs) ≤ 65535) where
+      pub typed-written : typeRefusal 4 x ≡ 0
       typed-written =
-          let mark : markOf (wordOf s) ≡ 1 = rw word-written (flags-mark f) in
-          let ptype : typeOf (wordOf s) ≡ 4 = rw word-written (flags-type f) in
-          let size = status-length f hs in
-          type-none 4 s (type-known 4 s (omega arith) mark ptype (omega arith))
+          let mark : markOf (wordOf x) ≡ 1 = rw word-written (flags-mark (stamped s) f) in
+          let ptype : typeOf (wordOf x) ≡ 4 = rw word-written (flags-type (stamped s) f) in
+          let size = status-length f s hs in
+          type-none 4 x (type-known 4 x (omega arith) mark ptype (omega arith))
 
-      list-well : listWell (partialTold s) (unaskedTold s) (progressOf s) (responseOf s) (holeList s) ≡ true
+      list-well : listWell (partialTold x) (unaskedTold x) (progressOf x) (responseOf x) (holeList x) ≡ true
       list-well =
-          rw (progress-written, response-written, holes-written, word-written, flags-partial f, bit-test (f .partial), flags-unasked f, bit-test (f .unasked)) well
+          rw (progress-written, response-written, holes-written, word-written, flags-partial (stamped s) f, bit-test (f .partial), flags-unasked (stamped s) f, bit-test (f .unasked)) well
 
-      success : successRefusal s ≡ 0
+      success : successRefusal x ≡ 0
       success =
-          success-none s (record {
+          success-none x (record {
             descriptors = taken;
             whole = rw (list-octets, octets) (mul-mod-right (2 * d) (length hs));
             list = list-well-iff _ _ _ _ _ .0 list-well;
           })
 
-      pub status-taken : statusRefusal s ≡ 0
+      pub status-taken : statusRefusal x ≡ 0
       unfolding statusRefusal
-      status-taken = rw (typed-written, eq-eqb (statusOf (wordOf s)) 0 code-written) success
+      status-taken = rw (typed-written, eq-eqb (statusOf (wordOf x)) 0 code-written) success
 
-      pub status-read-written : readStatus s ≡ Success (fieldsRead f (length hs))
+      pub status-read-written : readStatus x ≡ Success (fieldsRead f s (length hs))
       unfolding readStatus successOf
       status-read-written =
-          let flags : flagsOf (wordOf s) ≡ statusFlags f = ap flagsOf word-written ∙ flags-flags f in
+          let flags : flagsOf (wordOf x) ≡ statusFlags (stamped s) f = ap flagsOf word-written ∙ flags-flags (stamped s) f in
           rw (status-taken, code-written, flags, ident, count-written, progress-written, response-written, holes-at, octets, stamp)
 
       -- each hole that was written is read by its index, and no other
-      pub hole-read-written : (index : ℕ) (default : Hole) → index < length hs → readHole index s ≡ hole-read.Accepted (getD hs index default)
+      pub hole-read-written : (index : ℕ) (default : Hole) → index < length hs → readHole index x ≡ hole-read.Accepted (getD hs index default)
       hole-read-written index default h =
-          hole-read-listed s status-taken code-written index default (rw holes-written h)
+          hole-read-listed x status-taken code-written index default (rw holes-written h)
           ∙ ap (λ (l : List Hole). hole-read.Accepted (getD l index default)) holes-written
 
-      pub hole-past-written : (index : ℕ) → length hs ≤ index → readHole index s ≡ hole-read.Refused (refusalOf 19)
-      hole-past-written index h = hole-past-list s status-taken code-written index (rw holes-written h)
+      pub hole-past-written : (index : ℕ) → length hs ≤ index → readHole index x ≡ hole-read.Refused (refusalOf 19)
+      hole-past-written index h = hole-past-list x status-taken code-written index (rw holes-written h)

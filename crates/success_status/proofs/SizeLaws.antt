@@ -1,5 +1,6 @@
 -- The size of a success STATUS.
 -- Assumes nothing.
+use Prim.Native.Nat.{ℕ}
 use mathlib.Core.Path.{_≡_}
 use mathlib.Core.List.{List}
 use native.Mathlib.Omega.{arith}
@@ -10,10 +11,10 @@ use Rattle.hole_list.proofs.PairLaws.{pairs-length}
 use Rattle.success_status.specs.declared.Fields.{Fields}
 use Rattle.success_status.specs.SuccessStatus.{frontSize, statusSize, frontOctets, statusOctets}
 
-pub front-length : (f : Fields) → length (frontOctets f) ≡ frontSize (f .width)
+pub front-length : (f : Fields) (s : List ℕ) → length (frontOctets f s) ≡ frontSize (length s) (f .width)
 unfolding frontOctets
-front-length f = simp (length-append, length-digits) (omega arith)
+front-length f s = simp (length-append, length-digits) (omega arith)
 
-pub status-length : (f : Fields) (hs : List Hole) → length (statusOctets f hs) ≡ statusSize (f .width) (length hs)
+pub status-length : (f : Fields) (s : List ℕ) (hs : List Hole) → length (statusOctets f s hs) ≡ statusSize (length s) (f .width) (length hs)
 unfolding statusOctets
-status-length f hs = simp (length-append, front-length, pairs-length)
+status-length f s hs = simp (length-append, front-length, pairs-length)

@@ -35,12 +35,12 @@ pub open-refused-iff : (t : List Transfer) (k : Key) (n : ℕ) → (openKey t k 
 unfolding openKey
 open-refused-iff t k n = open-as-iff (judgeOpen (keys t) k) t k n
 
-record-as-iff : (m n : ℕ) (o : Option Key) (runs : List Run) (t : List Transfer) (d : Data) → (m ≡ 0 → o ≡ none → ⊥)
-    → (recordAs m o runs t d .answer ≡ recorded.Refused (refusalOf (suc n))) ↔ (m ≡ suc n)
+record-as-iff : (m n : ℕ) (o : Option Key) (runs : List Run) (t : List Transfer) (d : Data) (s : List ℕ) → (m ≡ 0 → o ≡ none → ⊥)
+    → (recordAs m o runs t d s .answer ≡ recorded.Refused (refusalOf (suc n))) ↔ (m ≡ suc n)
 unfolding recordAs
-record-as-iff zero n none runs t d f = absurd (f refl refl)
-record-as-iff zero n (some k) runs t d f = ((λ e. absurd (let z : _≡_ {A = ℕ} 0 1 = cc in omega arith)), (λ e. absurd (omega arith)))
-record-as-iff (suc m) n o runs t d f = (
+record-as-iff zero n none runs t d s f = absurd (f refl refl)
+record-as-iff zero n (some k) runs t d s f = ((λ e. absurd (let z : _≡_ {A = ℕ} 0 1 = cc in omega arith)), (λ e. absurd (omega arith)))
+record-as-iff (suc m) n o runs t d s f = (
   (λ e. let r : refusalOf (suc m) ≡ refusalOf (suc n) = cc in ap (λ (x : Refusal). x .number) r),
   (λ e. ap (λ (i : ℕ). recorded.Refused (refusalOf i)) e),
 )
@@ -51,9 +51,9 @@ unfolding recordRefusal
 record-open o runs d e z = omega (arith, first-none (dataJudged o d) _ e, twelve-iff o d .1 z)
 
 -- recording refuses with n exactly when the judgement gives n
-pub record-refused-iff : (t : List Transfer) (d : Data) (n : ℕ)
-    → (recordData t d .answer ≡ recorded.Refused (refusalOf (suc n))) ↔ (recordRefusal (find (d .id) (keys t)) (grown t d) d ≡ suc n)
+pub record-refused-iff : (t : List Transfer) (d : Data) (s : List ℕ) (n : ℕ)
+    → (recordData t d s .answer ≡ recorded.Refused (refusalOf (suc n))) ↔ (recordRefusal (find (d .id) (keys t)) (grown t d) d ≡ suc n)
 unfolding recordData
-record-refused-iff t d n =
+record-refused-iff t d s n =
     let o = find (d .id) (keys t) in
-    record-as-iff (recordRefusal o (grown t d) d) n o (grown t d) t d (record-open o (grown t d) d)
+    record-as-iff (recordRefusal o (grown t d) d) n o (grown t d) t d s (record-open o (grown t d) d)

@@ -11,9 +11,10 @@ use mathlib.Core.Logic.{_↔_}
 use Rattle.runs.specs.Runs.{Run, Member, Canonical}
 use Rattle.runs.proofs.CanonicalLaws.{canonical-unique}
 use Rattle.transfer.specs.declared.Key.{Key}
-use Rattle.transfer.specs.Transfers.{Transfer, TransferFine, empty}
-use Rattle.table.specs.Tables.{FineFrom, Valid, keys, find, runsOf, add, setRuns, remove}
-use Rattle.table.proofs.TableLaws.{find-head, find-tail, find-cases, runs-head, runs-tail, runs-none, add-cases, set-cases, remove-cases}
+use Rattle.timestamp.specs.Timestamps.{renewed}
+use Rattle.transfer.specs.Transfers.{Transfer, TransferFine, empty, transferOf}
+use Rattle.table.specs.Tables.{FineFrom, Valid, keys, find, runsOf, stampOf, add, setRuns, remove}
+use Rattle.table.proofs.TableLaws.{find-head, find-tail, find-cases, runs-head, runs-tail, runs-none, stamp-head, stamp-tail, stamp-none, add-cases, set-cases, remove-cases}
 
 pub fine-weaken : (j k : ℕ) (t : List Transfer) → j ≤ k → FineFrom k t → FineFrom j t
 fine-weaken j k [] p h = tt
@@ -34,13 +35,13 @@ fine-least m i (x ∷ t) k h e =
 
 -- an open transfer is fine
 pub fine-found : (m i : ℕ) (t : List Transfer) (k : Key) → FineFrom m t → find i (keys t) ≡ some k
-    → TransferFine (record { key = k; runs = runsOf t i })
+    → TransferFine (transferOf k (runsOf t i) (stampOf t i))
 unfolding keys find
 fine-found m i [] k h e = absurd (let z : _≡_ {A = ℕ} 0 1 = cc in omega arith)
 fine-found m i (x ∷ t) k h e =
-    find-cases (λ (o : Option Key). o ≡ some k → TransferFine (record { key = k; runs = runsOf (x ∷ t) i })) i (x .key) (keys t)
-    (λ q z. let y : x .key ≡ k = cc in rw (runs-head i x t q, ← y) (h .1))
-    (λ q z. rw (runs-tail i x t q) (fine-found (suc (x .key .id)) i t k (h .2) z)) e
+    find-cases (λ (o : Option Key). o ≡ some k → TransferFine (transferOf k (runsOf (x ∷ t) i) (stampOf (x ∷ t) i))) i (x .key) (keys t)
+    (λ q z. let y : x .key ≡ k = cc in rw (runs-head i x t q, stamp-head i x t q, ← y) (h .1))
+    (λ q z. rw (runs-tail i x t q, stamp-tail i x t q) (fine-found (suc (x .key .id)) i t k (h .2) z)) e
 
 -- ---- changes
 
@@ -55,14 +56,14 @@ fine-add m k (x ∷ t) h p e f =
     (λ b. (h .0, h .1, fine-add (suc (x .key .id)) k t (h .2) (omega arith) z f)))
     e
 
-pub fine-set : (m i : ℕ) (rs : List Run) (t : List Transfer) (k : Key) → FineFrom m t → find i (keys t) ≡ some k
-    → TransferFine (record { key = k; runs = rs }) → FineFrom m (setRuns i rs t)
+pub fine-set : (m i : ℕ) (rs : List Run) (s : List ℕ) (t : List Transfer) (k : Key) → FineFrom m t → find i (keys t) ≡ some k
+    → TransferFine (transferOf k rs (renewed s (stampOf t i))) → FineFrom m (setRuns i rs s t)
 unfolding keys setRuns
-fine-set m i rs [] k h e f = tt
-fine-set m i rs (x ∷ t) k h e f =
-    set-cases (FineFrom m) i rs x t
-    (λ q. let y : x .key ≡ k = first (sym (find-head i (x .key) (keys t) q) ∙ e) in (h .0, (rw y f), h .2))
-    (λ q. (h .0, h .1, fine-set (suc (x .key .id)) i rs t k (h .2) (sym (find-tail i (x .key) (keys t) q) ∙ e) f))
+fine-set m i rs s [] k h e f = tt
+fine-set m i rs s (x ∷ t) k h e f =
+    set-cases (FineFrom m) i rs s x t
+    (λ q. let y : x .key ≡ k = first (sym (find-head i (x .key) (keys t) q) ∙ e) in (h .0, (rw (y, ← stamp-head i x t q) f), h .2))
+    (λ q. (h .0, h .1, fine-set (suc (x .key .id)) i rs s t k (h .2) (sym (find-tail i (x .key) (keys t) q) ∙ e) (rw (stamp-tail i x t q) at f)))
   where
     first : some (x .key) ≡ some k → x .key ≡ k
     first z = cc
@@ -84,30 +85,32 @@ find-remove-same m i (x ∷ t) h =
 
 -- ---- R6.2: only the map counts, and not where a transfer is kept
 
-transfer-eq : (x y : Transfer) → x .key ≡ y .key → x .runs ≡ y .runs → x ≡ y
-transfer-eq x y p q = ap₂ (λ (k : Key) (rs : List Run). record { key = k; runs = rs }) p q
+transfer-eq : (x y : Transfer) → x .key ≡ y .key → x .runs ≡ y .runs → x .stamp ≡ y .stamp → x ≡ y
+transfer-eq x y p q r = λ i. transferOf (p i) (q i) (r i)
 
 unique-from : (m n : ℕ) (t u : List Transfer) → FineFrom m t → FineFrom n u
-    → ((i : ℕ) → find i (keys t) ≡ find i (keys u)) → ((i : ℕ) → runsOf t i ≡ runsOf u i) → t ≡ u
+    → ((i : ℕ) → find i (keys t) ≡ find i (keys u)) → ((i : ℕ) → runsOf t i ≡ runsOf u i)
+    → ((i : ℕ) → stampOf t i ≡ stampOf u i) → t ≡ u
 unfolding keys find
-unique-from m n [] [] h g f r = refl
-unique-from m n [] (y ∷ u) h g f r =
+unique-from m n [] [] h g f r s = refl
+unique-from m n [] (y ∷ u) h g f r s =
     let e : none ≡ some (y .key) = f (y .key .id) ∙ find-head (y .key .id) (y .key) (keys u) refl in
     absurd (let z : _≡_ {A = ℕ} 0 1 = cc in omega arith)
-unique-from m n (x ∷ t) [] h g f r =
+unique-from m n (x ∷ t) [] h g f r s =
     let e : none ≡ some (x .key) = sym (f (x .key .id)) ∙ find-head (x .key .id) (x .key) (keys t) refl in
     absurd (let z : _≡_ {A = ℕ} 0 1 = cc in omega arith)
-unique-from m n (x ∷ t) (y ∷ u) h g f r =
+unique-from m n (x ∷ t) (y ∷ u) h g f r s =
     let p : find (x .key .id) (keys (y ∷ u)) ≡ some (x .key) = sym (f (x .key .id)) ∙ find-head (x .key .id) (x .key) (keys t) refl in
     let q : find (y .key .id) (keys (x ∷ t)) ≡ some (y .key) = f (y .key .id) ∙ find-head (y .key .id) (y .key) (keys u) refl in
     let a : y .key .id ≤ x .key .id = fine-least (y .key .id) (x .key .id) (y ∷ u) (x .key) (le-refl _, g .1, g .2) p in
     let b : x .key .id ≤ y .key .id = fine-least (x .key .id) (y .key .id) (x ∷ t) (y .key) (le-refl _, h .1, h .2) q in
     let e : y .key .id ≡ x .key .id = omega arith in
     let k : x .key ≡ y .key = same (sym p ∙ find-head (x .key .id) (y .key) (keys u) e) in
-    let s : x .runs ≡ y .runs = sym (runs-head (x .key .id) x t refl) ∙ r (x .key .id) ∙ runs-head (x .key .id) y u e in
-    ap₂ (λ (z : Transfer) (v : List Transfer). z ∷ v) (transfer-eq x y k s)
+    let same-runs : x .runs ≡ y .runs = sym (runs-head (x .key .id) x t refl) ∙ r (x .key .id) ∙ runs-head (x .key .id) y u e in
+    let same-stamp : x .stamp ≡ y .stamp = sym (stamp-head (x .key .id) x t refl) ∙ s (x .key .id) ∙ stamp-head (x .key .id) y u e in
+    ap₂ (λ (z : Transfer) (v : List Transfer). z ∷ v) (transfer-eq x y k same-runs same-stamp)
     (unique-from (suc (x .key .id)) (suc (y .key .id)) t u (h .2) (g .2)
-    (λ i. rest-keys e i (ℕ-discrete (x .key .id) i)) (λ i. rest-runs e i (ℕ-discrete (x .key .id) i)))
+    (λ i. rest-keys e i (ℕ-discrete (x .key .id) i)) (λ i. rest-runs e i (ℕ-discrete (x .key .id) i)) (λ i. rest-stamps e i (ℕ-discrete (x .key .id) i)))
   where
     same : some (x .key) ≡ some (y .key) → x .key ≡ y .key
     same z = cc
@@ -123,10 +126,17 @@ unique-from m n (x ∷ t) (y ∷ u) h g f r =
         ∙ sym (runs-none i u (fine-none (suc (y .key .id)) i u (g .2) (omega arith)))
     rest-runs e i (no d) = sym (runs-tail i x t d) ∙ r i ∙ runs-tail i y u (λ z. d (sym e ∙ z))
 
--- two tables with the same Ids, widths, lengths and received offsets are equal
+    rest-stamps : y .key .id ≡ x .key .id → (i : ℕ) → Dec (x .key .id ≡ i) → stampOf t i ≡ stampOf u i
+    rest-stamps e i (yes d) =
+        stamp-none i t (fine-none (suc (x .key .id)) i t (h .2) (omega arith))
+        ∙ sym (stamp-none i u (fine-none (suc (y .key .id)) i u (g .2) (omega arith)))
+    rest-stamps e i (no d) = sym (stamp-tail i x t d) ∙ s i ∙ stamp-tail i y u (λ z. d (sym e ∙ z))
+
+-- two tables with the same Ids, widths, lengths, received offsets and timestamps are equal
 pub table-unique : (t u : List Transfer) → Valid t → Valid u
-    → ((i : ℕ) → find i (keys t) ≡ find i (keys u)) → ((i : ℕ) → runsOf t i ≡ runsOf u i) → t ≡ u
-table-unique t u h g f r = unique-from 0 0 t u (h .fine) (g .fine) f r
+    → ((i : ℕ) → find i (keys t) ≡ find i (keys u)) → ((i : ℕ) → runsOf t i ≡ runsOf u i)
+    → ((i : ℕ) → stampOf t i ≡ stampOf u i) → t ≡ u
+table-unique t u h g f r s = unique-from 0 0 t u (h .fine) (g .fine) f r s
 
 pub runs-canonical : (i : ℕ) (t : List Transfer) → Valid t → Canonical (runsOf t i)
 runs-canonical i t h = go (find i (keys t)) refl
@@ -137,7 +147,8 @@ runs-canonical i t h = go (find i (keys t)) refl
 
 -- the same with the set of received offsets
 pub table-map : (t u : List Transfer) → Valid t → Valid u
-    → ((i : ℕ) → find i (keys t) ≡ find i (keys u)) → ((i x : ℕ) → Member (runsOf t i) x ↔ Member (runsOf u i) x) → t ≡ u
-table-map t u h g f r =
+    → ((i : ℕ) → find i (keys t) ≡ find i (keys u)) → ((i x : ℕ) → Member (runsOf t i) x ↔ Member (runsOf u i) x)
+    → ((i : ℕ) → stampOf t i ≡ stampOf u i) → t ≡ u
+table-map t u h g f r s =
     table-unique t u h g f
-    (λ i. canonical-unique (runsOf t i) (runsOf u i) (runs-canonical i t h) (runs-canonical i u g) (λ x. r i x .0) (λ x. r i x .1))
+    (λ i. canonical-unique (runsOf t i) (runsOf u i) (runs-canonical i t h) (runs-canonical i u g) (λ x. r i x .0) (λ x. r i x .1)) s

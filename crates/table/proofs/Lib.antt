@@ -8,5 +8,6 @@ pub mod FindLaws
 pub mod LimitLaws
 pub mod AnswerLaws
 pub mod StatusWritten
+pub mod StatusAlike
 pub mod ToldLaws
 pub mod RepeatLaws

@@ -16,14 +16,15 @@ use Rattle.packet_data.specs.declared.Data.{Data}
 use Rattle.packet_data.specs.declared.DataRead.the-variants as data-read
 use Rattle.transfer.specs.declared.Key.{Key}
 use Rattle.transfer.specs.Transfers.{Transfer, keyOf}
-use Rattle.table.specs.Tables.{keys, find, runsOf, remove}
+use Rattle.transfer.specs.Record.{stampIn}
+use Rattle.table.specs.Tables.{keys, find, runsOf, stampOf, remove}
 use Rattle.table.specs.Open.{openPacket, openAccepted}
 use Rattle.table.specs.Record.{grown, recordPacket, recordAccepted}
 use Rattle.table.specs.Close.{closeFound, closeId}
 use Rattle.table.specs.declared.Opened.the-variants as opened
 use Rattle.table.specs.declared.Recorded.the-variants as recorded
 use Rattle.table.specs.declared.Finished.the-variants as finished
-use Rattle.table.proofs.TableLaws.{find-add-other, runs-add-other, keys-set, runs-set-other, find-remove-other, runs-remove-other}
+use Rattle.table.proofs.TableLaws.{find-add-other, runs-add-other, stamp-add-other, keys-set, runs-set-other, stamp-set-other, find-remove-other, runs-remove-other, stamp-remove-other}
 use Rattle.table.proofs.OpenLaws.{open-cases}
 use Rattle.table.proofs.RecordLaws.{record-cases}
 use Rattle.table.specs.Outcome.{Outcome}
@@ -31,13 +32,14 @@ use Rattle.table.specs.declared.Opened.{Opened}
 use Rattle.table.specs.declared.Recorded.{Recorded}
 use Rattle.table.specs.declared.Finished.{Finished}
 
--- what u holds for an Id is what t holds for it: open or not, width, length, and the received offsets
+-- what u holds for an Id is what t holds for it: open or not, width, length, the received offsets, and the timestamp
 pub record Kept (t u : List Transfer) (i : ℕ) : Type 0 where
   pub key : find i (keys u) ≡ find i (keys t)
   pub runs : runsOf u i ≡ runsOf t i
+  pub stamp : stampOf u i ≡ stampOf t i
 
 kept : (t : List Transfer) (i : ℕ) → Kept t t i
-kept t i = record { key = refl; runs = refl }
+kept t i = record { key = refl; runs = refl; stamp = refl }
 
 -- ---- another Id
 
@@ -46,14 +48,24 @@ pub open-other : (t : List Transfer) (packet : List ℕ) (i : ℕ) → ((m : Met
     → Kept t (openPacket t packet .table) i
 open-other t packet i n =
     open-cases (λ (o : Outcome Opened). Kept t (o .table) i) t packet (λ r. kept t i) (λ m e f. kept t i)
-    (λ m e f l. record { key = find-add-other i (keyOf m) t (n m e); runs = runs-add-other i (keyOf m) t (n m e) })
+    (λ m e f l.
+    record {
+      key = find-add-other i (keyOf m) t (n m e);
+      runs = runs-add-other i (keyOf m) t (n m e);
+      stamp = stamp-add-other i (keyOf m) t (n m e);
+    })
 
 -- i is not the Id of the DATA
 pub record-other : (t : List Transfer) (packet : List ℕ) (i : ℕ) → ((d : Data) → readData packet ≡ data-read.Accepted d → d .id ≡ i → ⊥)
     → Kept t (recordPacket t packet .table) i
 record-other t packet i n =
     record-cases (λ (o : Outcome Recorded). Kept t (o .table) i) t packet (λ r. kept t i)
-    (λ d k e f j l. record { key = ap (find i) (keys-set (d .id) (grown t d) t); runs = runs-set-other (d .id) i (grown t d) t (n d e) })
+    (λ d k e f j l.
+    record {
+      key = ap (find i) (keys-set (d .id) (grown t d) (stampIn packet d) t);
+      runs = runs-set-other (d .id) i (grown t d) (stampIn packet d) t (n d e);
+      stamp = stamp-set-other (d .id) i (grown t d) (stampIn packet d) t (n d e);
+    })
 
 -- refused, and the table stays; or the Id is open, and it is removed
 pub close-cases : (P : Outcome Finished → Type 0) (t : List Transfer) (id : ℕ)
@@ -70,7 +82,7 @@ close-cases P t id refused done = go (find id (keys t)) refl
 pub close-other : (t : List Transfer) (id i : ℕ) → (id ≡ i → ⊥) → Kept t (closeId t id .table) i
 close-other t id i n =
     close-cases (λ (o : Outcome Finished). Kept t (o .table) i) t id (kept t i)
-    (λ k e. record { key = find-remove-other id i t n; runs = runs-remove-other id i t n })
+    (λ k e. record { key = find-remove-other id i t n; runs = runs-remove-other id i t n; stamp = stamp-remove-other id i t n })
 
 -- ---- a refusal
 

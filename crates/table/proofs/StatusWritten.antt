@@ -22,8 +22,8 @@ use Rattle.packet_status.specs.declared.StatusRead.the-variants.{Success}
 use Rattle.runs.specs.Runs.{Run}
 use Rattle.runs.specs.Holes.{holes}
 use Rattle.transfer.specs.declared.Key.{Key}
-use Rattle.transfer.specs.Transfers.{Transfer}
-use Rattle.table.specs.Tables.{Valid, keys, find, runsOf}
+use Rattle.transfer.specs.Transfers.{Transfer, transferOf}
+use Rattle.table.specs.Tables.{Valid, keys, find, runsOf, stampOf}
 use Rattle.table.specs.WriteStatus.{writtenFor, bufferFor, statusWritten, statusBuffer}
 use Rattle.success_status.specs.SuccessStatus.{statusSize, fieldsRead}
 use Rattle.transfer_status.specs.WriteStatus.{holesSent, partialSent, fieldsSent, statusPacket, transferRefused, transferWritten, transferBuffer}
@@ -32,27 +32,34 @@ use Rattle.transfer_status.proofs.StatusSize.{status-fits, status-size, status-
 use Rattle.transfer_status.proofs.StatusReads.{status-read, status-holes-read}
 
 module _ (t : List Transfer) (v : Valid t) (id k : ℕ) (unasked : Bool) (old : List ℕ) (key : Key) (found : find id (keys t) ≡ some key)
-    (ok : transferRefused key (runsOf t id) k unasked old ≡ 0) where
+    (ok : transferRefused key (runsOf t id) (stampOf t id) k unasked old ≡ 0) where
   abbrev rs : List Run
   rs = runsOf t id
+
+  -- the timestamp, and its octets where one is kept
+  abbrev s : List ℕ
+  s = stampOf t id
+
+  abbrev ts : ℕ
+  ts = length s
 
   abbrev d : ℕ
   d = key .width
 
   -- the holes that are written, and the size
   abbrev sent : List Hole
-  sent = holesSent d k (length old) (holes rs)
+  sent = holesSent ts d k (length old) (holes rs)
 
   abbrev size : ℕ
-  size = statusSize d (length sent)
+  size = statusSize ts d (length sent)
 
-  known : Found id key rs
+  known : Found id key rs s
   known = found-fine t v id key found
 
-  sent-size : length (statusPacket key rs k unasked (length old)) ≡ size
-  sent-size = status-size key rs k unasked (length old)
+  sent-size : length (statusPacket key rs s k unasked (length old)) ≡ size
+  sent-size = status-size key rs s k unasked (length old)
 
-  buffer-is : statusBuffer t id k unasked old ≡ statusPacket key rs k unasked (length old) ++ drop size old
+  buffer-is : statusBuffer t id k unasked old ≡ statusPacket key rs s k unasked (length old) ++ drop size old
   unfolding statusBuffer bufferFor transferBuffer put
   buffer-is = rw (found, ok, sent-size, zero-add)
 
@@ -65,30 +72,30 @@ module _ (t : List Transfer) (v : Valid t) (id k : ℕ) (unasked : Bool) (old : 
   pub status-buffer-room : size ≤ length old
   status-buffer-room =
       let p : 0 < d = omega (arith, width-some (known .fine .width-is)) in
-      rw (status-size key rs k unasked (length old)) at (status-size-fits key rs k unasked (length old) p ok)
+      rw (status-size key rs s k unasked (length old)) at (status-size-fits key rs s k unasked (length old) p ok)
 
   -- R4.1: the packet stands first, and octets after it stay
-  pub status-buffer-packet : take size (statusBuffer t id k unasked old) ≡ statusPacket key rs k unasked (length old)
-  status-buffer-packet = rw buffer-is (take-at (statusPacket key rs k unasked (length old)) (drop size old) size sent-size)
+  pub status-buffer-packet : take size (statusBuffer t id k unasked old) ≡ statusPacket key rs s k unasked (length old)
+  status-buffer-packet = rw buffer-is (take-at (statusPacket key rs s k unasked (length old)) (drop size old) size sent-size)
 
   pub status-buffer-rest : drop size (statusBuffer t id k unasked old) ≡ drop size old
-  status-buffer-rest = rw buffer-is (drop-at (statusPacket key rs k unasked (length old)) (drop size old) size sent-size)
+  status-buffer-rest = rw buffer-is (drop-at (statusPacket key rs s k unasked (length old)) (drop size old) size sent-size)
 
   -- the fields that are written, with the Id i
   abbrev fieldsWith : ℕ → StatusRead
-  fieldsWith i = Success (fieldsRead (fieldsSent (record { id = i; width = d; length = key .length }) rs (partialSent d k (length old) (length (holes rs))) unasked) (length sent))
+  fieldsWith i = Success (fieldsRead (fieldsSent (record { id = i; width = d; length = key .length }) rs (partialSent ts d k (length old) (length (holes rs))) unasked) s (length sent))
 
   allowed : (k ≡ 0) ⊎ (k < length (holes rs))
-  allowed = status-fits d (length (holes rs)) k (length old) ok .allowed
+  allowed = status-fits ts d (length (holes rs)) k (length old) ok .allowed
 
   -- R7.9: it reads back
   pub status-buffer-read : readStatus (take size (statusBuffer t id k unasked old)) ≡ fieldsWith id
   status-buffer-read =
       ap readStatus status-buffer-packet
-      ∙ status-read (record { key = key; runs = rs }) k unasked (length old) (known .fine) allowed ∙ ap fieldsWith (known .id-is)
+      ∙ status-read (transferOf key rs s) k unasked (length old) (known .fine) allowed ∙ ap fieldsWith (known .id-is)
 
   pub status-buffer-holes : holeList (take size (statusBuffer t id k unasked old)) ≡ sent
-  status-buffer-holes = ap holeList status-buffer-packet ∙ status-holes-read (record { key = key; runs = rs }) k unasked (length old) (known .fine)
+  status-buffer-holes = ap holeList status-buffer-packet ∙ status-holes-read (transferOf key rs s) k unasked (length old) (known .fine)
 
 -- where it is refused, the answer is the refusal, and the buffer keeps what it held: 12 where the Id is not open, 19 and 20 where it is
 module _ (t : List Transfer) (id k : ℕ) (unasked : Bool) (old : List ℕ) where
@@ -96,11 +103,11 @@ module _ (t : List Transfer) (id k : ℕ) (unasked : Bool) (old : List ℕ) wher
   unfolding statusWritten writtenFor statusBuffer bufferFor
   status-twelve e = (rw e, rw e)
 
-  module _ (key : Key) (found : find id (keys t) ≡ some key) (no : transferRefused key (runsOf t id) k unasked old ≡ 0 → ⊥) where
-    pub status-refused-answer : statusWritten t id k unasked old ≡ Refused (refusalOf (transferRefused key (runsOf t id) k unasked old))
+  module _ (key : Key) (found : find id (keys t) ≡ some key) (no : transferRefused key (runsOf t id) (stampOf t id) k unasked old ≡ 0 → ⊥) where
+    pub status-refused-answer : statusWritten t id k unasked old ≡ Refused (refusalOf (transferRefused key (runsOf t id) (stampOf t id) k unasked old))
     unfolding statusWritten writtenFor transferWritten
-    status-refused-answer = rw found (sym (written-refused (transferRefused key (runsOf t id) k unasked old) _ no))
+    status-refused-answer = rw found (sym (written-refused (transferRefused key (runsOf t id) (stampOf t id) k unasked old) _ no))
 
     pub status-refused-buffer : statusBuffer t id k unasked old ≡ old
     unfolding statusBuffer bufferFor transferBuffer
-    status-refused-buffer = rw found (sym (buffer-refused (transferRefused key (runsOf t id) k unasked old) _ old no))
+    status-refused-buffer = rw found (sym (buffer-refused (transferRefused key (runsOf t id) (stampOf t id) k unasked old) _ old no))

@@ -12,8 +12,9 @@ use lib.Dec.{ltb, eqb}
 use borrow.Author.Tests.{eq-eqb, ne-eqb, eqb-true, eqb-false, ltb-true, ltb-false}
 use Rattle.runs.specs.Runs.{Run}
 use Rattle.transfer.specs.declared.Key.{Key}
-use Rattle.transfer.specs.Transfers.{Transfer, empty}
-use Rattle.table.specs.Tables.{keys, find, runsOf, add, setRuns, remove}
+use Rattle.timestamp.specs.Timestamps.{renewed}
+use Rattle.transfer.specs.Transfers.{Transfer, empty, withReceived}
+use Rattle.table.specs.Tables.{keys, find, runsOf, stampOf, add, setRuns, remove}
 
 -- a test's two values
 pub by-test : {A : Type 0} (P : A → Type 0) (b : Bool) (x y : A) → (b ≡ true → P x) → (b ≡ false → P y) → P (cond b x y)
@@ -54,18 +55,30 @@ runs-cong : (i : ℕ) (x : Transfer) (t u : List Transfer) → runsOf t i ≡ ru
 unfolding runsOf
 runs-cong i x t u e = ap (λ (l : List Run). cond (eqb (x .key .id) i) (x .runs) l) e
 
+pub stamp-head : (i : ℕ) (x : Transfer) (t : List Transfer) → x .key .id ≡ i → stampOf (x ∷ t) i ≡ x .stamp
+unfolding stampOf
+stamp-head i x t e = rw (eq-eqb (x .key .id) i e)
+
+pub stamp-tail : (i : ℕ) (x : Transfer) (t : List Transfer) → (x .key .id ≡ i → ⊥) → stampOf (x ∷ t) i ≡ stampOf t i
+unfolding stampOf
+stamp-tail i x t n = rw (ne-eqb (x .key .id) i n)
+
+stamp-cong : (i : ℕ) (x : Transfer) (t u : List Transfer) → stampOf t i ≡ stampOf u i → stampOf (x ∷ t) i ≡ stampOf (x ∷ u) i
+unfolding stampOf
+stamp-cong i x t u e = ap (λ (l : List ℕ). cond (eqb (x .key .id) i) (x .stamp) l) e
+
 pub add-cases : (P : List Transfer → Type 0) (k : Key) (x : Transfer) (t : List Transfer)
     → (k .id < x .key .id → P (empty k ∷ x ∷ t)) → (x .key .id ≤ k .id → P (x ∷ add k t)) → P (add k (x ∷ t))
 unfolding add
 add-cases P k x t f g =
     by-test P (ltb (k .id) (x .key .id)) (empty k ∷ x ∷ t) (x ∷ add k t) (λ b. f (ltb-true _ _ b)) (λ b. g (ltb-false _ _ b))
 
-pub set-cases : (P : List Transfer → Type 0) (i : ℕ) (rs : List Run) (x : Transfer) (t : List Transfer)
-    → (x .key .id ≡ i → P (record { key = x .key; runs = rs } ∷ t)) → ((x .key .id ≡ i → ⊥) → P (x ∷ setRuns i rs t))
-    → P (setRuns i rs (x ∷ t))
+pub set-cases : (P : List Transfer → Type 0) (i : ℕ) (rs : List Run) (s : List ℕ) (x : Transfer) (t : List Transfer)
+    → (x .key .id ≡ i → P (withReceived x rs s ∷ t)) → ((x .key .id ≡ i → ⊥) → P (x ∷ setRuns i rs s t))
+    → P (setRuns i rs s (x ∷ t))
 unfolding setRuns
-set-cases P i rs x t f g =
-    by-test P (eqb (x .key .id) i) (record { key = x .key; runs = rs } ∷ t) (x ∷ setRuns i rs t) (λ b. f (eqb-true _ _ b))
+set-cases P i rs s x t f g =
+    by-test P (eqb (x .key .id) i) (withReceived x rs s ∷ t) (x ∷ setRuns i rs s t) (λ b. f (eqb-true _ _ b))
     (λ b. g (eqb-false _ _ b))
 
 pub remove-cases : (P : List Transfer → Type 0) (i : ℕ) (x : Transfer) (t : List Transfer)
@@ -99,11 +112,11 @@ find-add-other i k (x ∷ t) n =
     add-cases (λ (u : List Transfer). find i (keys u) ≡ find i (keys (x ∷ t))) k x t
     (λ b. find-tail i k (x .key ∷ keys t) n) (λ b. find-cong i (x .key) (keys (add k t)) (keys t) (find-add-other i k t n))
 
-pub keys-set : (i : ℕ) (rs : List Run) (t : List Transfer) → keys (setRuns i rs t) ≡ keys t
+pub keys-set : (i : ℕ) (rs : List Run) (s : List ℕ) (t : List Transfer) → keys (setRuns i rs s t) ≡ keys t
 unfolding keys setRuns
-keys-set i rs [] = refl
-keys-set i rs (x ∷ t) =
-    set-cases (λ (u : List Transfer). keys u ≡ x .key ∷ keys t) i rs x t (λ e. refl) (λ n. ap (λ (ks : List Key). x .key ∷ ks) (keys-set i rs t))
+keys-set i rs s [] = refl
+keys-set i rs s (x ∷ t) =
+    set-cases (λ (u : List Transfer). keys u ≡ x .key ∷ keys t) i rs s x t (λ e. refl) (λ n. ap (λ (ks : List Key). x .key ∷ ks) (keys-set i rs s t))
 
 pub find-remove-other : (i j : ℕ) (t : List Transfer) → (i ≡ j → ⊥) → find j (keys (remove i t)) ≡ find j (keys t)
 unfolding keys remove
@@ -147,21 +160,21 @@ runs-add i k t e = go (ℕ-discrete (k .id) i)
     go (yes q) = rw (← q) (runs-add-same k t e ∙ sym (runs-none (k .id) t e))
     go (no n) = runs-add-other i k t n
 
-pub runs-set-same : (i : ℕ) (rs : List Run) (t : List Transfer) (k : Key) → find i (keys t) ≡ some k → runsOf (setRuns i rs t) i ≡ rs
+pub runs-set-same : (i : ℕ) (rs : List Run) (s : List ℕ) (t : List Transfer) (k : Key) → find i (keys t) ≡ some k → runsOf (setRuns i rs s t) i ≡ rs
 unfolding keys setRuns find
-runs-set-same i rs [] k e = absurd (let z : _≡_ {A = ℕ} 0 1 = cc in omega arith)
-runs-set-same i rs (x ∷ t) k e =
-    set-cases (λ (u : List Transfer). runsOf u i ≡ rs) i rs x t
-    (λ q. runs-head i (record { key = x .key; runs = rs }) t q)
-    (λ q. runs-tail i x (setRuns i rs t) q ∙ runs-set-same i rs t k (sym (find-tail i (x .key) (keys t) q) ∙ e))
+runs-set-same i rs s [] k e = absurd (let z : _≡_ {A = ℕ} 0 1 = cc in omega arith)
+runs-set-same i rs s (x ∷ t) k e =
+    set-cases (λ (u : List Transfer). runsOf u i ≡ rs) i rs s x t
+    (λ q. runs-head i (withReceived x rs s) t q)
+    (λ q. runs-tail i x (setRuns i rs s t) q ∙ runs-set-same i rs s t k (sym (find-tail i (x .key) (keys t) q) ∙ e))
 
-pub runs-set-other : (i j : ℕ) (rs : List Run) (t : List Transfer) → (i ≡ j → ⊥) → runsOf (setRuns i rs t) j ≡ runsOf t j
+pub runs-set-other : (i j : ℕ) (rs : List Run) (s : List ℕ) (t : List Transfer) → (i ≡ j → ⊥) → runsOf (setRuns i rs s t) j ≡ runsOf t j
 unfolding setRuns
-runs-set-other i j rs [] n = refl
-runs-set-other i j rs (x ∷ t) n =
-    set-cases (λ (u : List Transfer). runsOf u j ≡ runsOf (x ∷ t) j) i rs x t
-    (λ q. let f : x .key .id ≡ j → ⊥ = λ p. n (sym q ∙ p) in runs-tail j (record { key = x .key; runs = rs }) t f ∙ sym (runs-tail j x t f))
-    (λ q. runs-cong j x (setRuns i rs t) t (runs-set-other i j rs t n))
+runs-set-other i j rs s [] n = refl
+runs-set-other i j rs s (x ∷ t) n =
+    set-cases (λ (u : List Transfer). runsOf u j ≡ runsOf (x ∷ t) j) i rs s x t
+    (λ q. let f : x .key .id ≡ j → ⊥ = λ p. n (sym q ∙ p) in runs-tail j (withReceived x rs s) t f ∙ sym (runs-tail j x t f))
+    (λ q. runs-cong j x (setRuns i rs s t) t (runs-set-other i j rs s t n))
 
 pub runs-remove-other : (i j : ℕ) (t : List Transfer) → (i ≡ j → ⊥) → runsOf (remove i t) j ≡ runsOf t j
 unfolding remove
@@ -169,6 +182,66 @@ runs-remove-other i j [] n = refl
 runs-remove-other i j (x ∷ t) n =
     remove-cases (λ (u : List Transfer). runsOf u j ≡ runsOf (x ∷ t) j) i x t
     (λ e. sym (runs-tail j x t (λ q. n (sym e ∙ q)))) (λ e. runs-cong j x (remove i t) t (runs-remove-other i j t n))
+
+-- ---- the timestamp that is kept
+
+pub stamp-none : (i : ℕ) (t : List Transfer) → find i (keys t) ≡ none → stampOf t i ≡ []
+unfolding keys stampOf
+stamp-none i [] e = refl
+stamp-none i (x ∷ t) e =
+    find-cases (λ (o : Option Key). o ≡ none → stampOf (x ∷ t) i ≡ []) i (x .key) (keys t)
+    (λ q z. absurd (let y : _≡_ {A = ℕ} 0 1 = cc in omega arith)) (λ q z. stamp-tail i x t q ∙ stamp-none i t z) e
+
+pub stamp-add-other : (i : ℕ) (k : Key) (t : List Transfer) → (k .id ≡ i → ⊥) → stampOf (add k t) i ≡ stampOf t i
+unfolding add
+stamp-add-other i k [] n = stamp-tail i (empty k) [] n
+stamp-add-other i k (x ∷ t) n =
+    add-cases (λ (u : List Transfer). stampOf u i ≡ stampOf (x ∷ t) i) k x t
+    (λ b. stamp-tail i (empty k) (x ∷ t) n) (λ b. stamp-cong i x (add k t) t (stamp-add-other i k t n))
+
+pub stamp-add-same : (k : Key) (t : List Transfer) → find (k .id) (keys t) ≡ none → stampOf (add k t) (k .id) ≡ []
+unfolding keys add
+stamp-add-same k [] e = stamp-head (k .id) (empty k) [] refl
+stamp-add-same k (x ∷ t) e =
+    add-cases (λ (u : List Transfer). stampOf u (k .id) ≡ []) k x t
+    (λ b. stamp-head (k .id) (empty k) (x ∷ t) refl)
+    (λ b. find-cases (λ (o : Option Key). o ≡ none → stampOf (x ∷ add k t) (k .id) ≡ []) (k .id) (x .key) (keys t)
+    (λ q z. absurd (let y : _≡_ {A = ℕ} 0 1 = cc in omega arith))
+    (λ q z. stamp-tail (k .id) x (add k t) q ∙ stamp-add-same k t z) e)
+
+-- a transfer more, with no timestamp: no Id's timestamp changes
+pub stamp-add : (i : ℕ) (k : Key) (t : List Transfer) → find (k .id) (keys t) ≡ none → stampOf (add k t) i ≡ stampOf t i
+stamp-add i k t e = go (ℕ-discrete (k .id) i)
+  where
+    go : Dec (k .id ≡ i) → stampOf (add k t) i ≡ stampOf t i
+    go (yes q) = rw (← q) (stamp-add-same k t e ∙ sym (stamp-none (k .id) t e))
+    go (no n) = stamp-add-other i k t n
+
+pub stamp-set-same : (i : ℕ) (rs : List Run) (s : List ℕ) (t : List Transfer) (k : Key) → find i (keys t) ≡ some k
+    → stampOf (setRuns i rs s t) i ≡ renewed s (stampOf t i)
+unfolding keys setRuns find
+stamp-set-same i rs s [] k e = absurd (let z : _≡_ {A = ℕ} 0 1 = cc in omega arith)
+stamp-set-same i rs s (x ∷ t) k e =
+    set-cases (λ (u : List Transfer). stampOf u i ≡ renewed s (stampOf (x ∷ t) i)) i rs s x t
+    (λ q. stamp-head i (withReceived x rs s) t q ∙ ap (renewed s) (sym (stamp-head i x t q)))
+    (λ q.
+    stamp-tail i x (setRuns i rs s t) q
+    ∙ stamp-set-same i rs s t k (sym (find-tail i (x .key) (keys t) q) ∙ e) ∙ ap (renewed s) (sym (stamp-tail i x t q)))
+
+pub stamp-set-other : (i j : ℕ) (rs : List Run) (s : List ℕ) (t : List Transfer) → (i ≡ j → ⊥) → stampOf (setRuns i rs s t) j ≡ stampOf t j
+unfolding setRuns
+stamp-set-other i j rs s [] n = refl
+stamp-set-other i j rs s (x ∷ t) n =
+    set-cases (λ (u : List Transfer). stampOf u j ≡ stampOf (x ∷ t) j) i rs s x t
+    (λ q. let f : x .key .id ≡ j → ⊥ = λ p. n (sym q ∙ p) in stamp-tail j (withReceived x rs s) t f ∙ sym (stamp-tail j x t f))
+    (λ q. stamp-cong j x (setRuns i rs s t) t (stamp-set-other i j rs s t n))
+
+pub stamp-remove-other : (i j : ℕ) (t : List Transfer) → (i ≡ j → ⊥) → stampOf (remove i t) j ≡ stampOf t j
+unfolding remove
+stamp-remove-other i j [] n = refl
+stamp-remove-other i j (x ∷ t) n =
+    remove-cases (λ (u : List Transfer). stampOf u j ≡ stampOf (x ∷ t) j) i x t
+    (λ e. sym (stamp-tail j x t (λ q. n (sym e ∙ q)))) (λ e. stamp-cong j x (remove i t) t (stamp-remove-other i j t n))
 
 -- ---- the keys of a table with one transfer more are made from its keys alone
 
@@ -196,10 +269,10 @@ unfolding add
 length-add k [] = refl
 length-add k (x ∷ t) = add-cases (λ (u : List Transfer). length u ≡ suc (suc (length t))) k x t (λ b. refl) (λ b. ap suc (length-add k t))
 
-pub length-set : (i : ℕ) (rs : List Run) (t : List Transfer) → length (setRuns i rs t) ≡ length t
+pub length-set : (i : ℕ) (rs : List Run) (s : List ℕ) (t : List Transfer) → length (setRuns i rs s t) ≡ length t
 unfolding setRuns
-length-set i rs [] = refl
-length-set i rs (x ∷ t) = set-cases (λ (u : List Transfer). length u ≡ suc (length t)) i rs x t (λ e. refl) (λ n. ap suc (length-set i rs t))
+length-set i rs s [] = refl
+length-set i rs s (x ∷ t) = set-cases (λ (u : List Transfer). length u ≡ suc (length t)) i rs s x t (λ e. refl) (λ n. ap suc (length-set i rs s t))
 
 pub length-remove : (i : ℕ) (t : List Transfer) → length (remove i t) ≤ length t
 unfolding remove

@@ -14,7 +14,7 @@ use Rattle.packet_data.specs.declared.DataRead.the-variants as data-read
 use Rattle.transfer.specs.declared.Reached.{Reached}
 use Rattle.transfer.specs.declared.Receipt.{Receipt}
 use Rattle.transfer.specs.Transfers.{Transfer, keyOf, reached}
-use Rattle.transfer.specs.Record.{receipt}
+use Rattle.transfer.specs.Record.{stampIn, receipt}
 use Rattle.runs.specs.Runs.{Canonical}
 use Rattle.transfer.proofs.FieldLaws.{data-some}
 use Rattle.transfer.proofs.ReachedLaws.{reached-tells}
@@ -31,10 +31,11 @@ use Rattle.table.proofs.TableLaws.{find-add-same, runs-add-same, keys-s
 use Rattle.table.proofs.FineLaws.{runs-canonical}
 use Rattle.table.proofs.OpenLaws.{open-cases}
 use Rattle.table.proofs.RecordLaws.{record-cases, grown-canonical, grown-count}
-use Rattle.table.proofs.RepeatLaws.{Known, grown-new, grown-same}
+use Rattle.table.proofs.RepeatLaws.{Known, grown-new, grown-same, grown-stays}
 
 -- an accepted recording tells of the packet's Id in the table after it, and of the runs that were there before it: how many were
--- absorbed, and whether something was added, which is so unless all its offsets were received, and unless the table stays as it is
+-- absorbed, and whether something was added, which is so unless all its offsets were received, and unless the received set stays as it
+-- is; where it brings no timestamp, unless the table stays
 pub record Recording (t u : List Transfer) (packet : List ℕ) (x : Receipt) : Type 0 where
   pub brought : Data
   pub read : readData packet ≡ data-read.Accepted brought
@@ -42,7 +43,8 @@ pub record Recording (t u : List Transfer) (packet : List ℕ) (x : Receipt) : T
   pub number : x .absorbed ≡ absorbedIn t brought
   pub counted : Counted t u (brought .id) (x .absorbed)
   pub new : (x .adds ≡ 0) ↔ Known t brought
-  pub same : (x .adds ≡ 0) ↔ (u ≡ t)
+  pub same : (x .adds ≡ 0) ↔ (runsOf u (brought .id) ≡ runsOf t (brought .id))
+  pub stays : stampIn packet brought ≡ [] → (x .adds ≡ 0) ↔ (u ≡ t)
 
 pub record-told : (t : List Transfer) (packet : List ℕ) (x : Receipt) → Valid t → recordPacket t packet .answer ≡ recorded.Accepted x
     → Recording t (recordPacket t packet .table) packet x
@@ -53,20 +55,21 @@ record-told t packet x v a =
     let is : receipt k (grown t d) (absorbedIn t d) (addsIn t d) ≡ x = cc in
     let some : 0 < d .length = data-some packet d e in
     let canonical : Canonical (runsOf t (d .id)) = runs-canonical (d .id) t v in
-    let has : runsOf (setRuns (d .id) (grown t d) t) (d .id) ≡ grown t d = runs-set-same (d .id) (grown t d) t k f in
+    let has : runsOf (setRuns (d .id) (grown t d) (stampIn packet d) t) (d .id) ≡ grown t d = runs-set-same (d .id) (grown t d) (stampIn packet d) t k f in
     rw (← is)
     (record {
       brought = d;
       read = e;
       told = record {
         key = k;
-        found = ap (find (d .id)) (keys-set (d .id) (grown t d) t) ∙ f;
+        found = ap (find (d .id)) (keys-set (d .id) (grown t d) (stampIn packet d) t) ∙ f;
         tells = rw has (reached-tells k (grown t d) (grown-canonical t d some canonical));
       };
       number = refl;
       counted = rw has (grown-count t d some canonical);
       new = grown-new t d some canonical;
-      same = grown-same t d k f some canonical;
+      same = grown-same t d k (stampIn packet d) f some canonical;
+      stays = grown-stays t d k (stampIn packet d) f some canonical;
     }))
     a
 

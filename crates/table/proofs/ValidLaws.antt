@@ -1,21 +1,24 @@
 -- R6.1: every call leaves a table.
 -- Assumes nothing.
 use Prim.Native.Nat.{ℕ, _≤_, _<_}
-use mathlib.Core.Path.{_≡_}
+use mathlib.Core.Path.{_≡_, refl}
 use mathlib.Core.List.{List, []}
 use mathlib.Core.Option.{some}
+use mathlib.Core.Logic.{inl}
 use native.Mathlib.Omega.{arith}
 use lib.ListN.{length}
 use Rattle.octets.specs.Numbers.{Octets}
 use Rattle.packet_metadata.specs.declared.Metadata.{Metadata}
 use Rattle.packet_data.specs.declared.Data.{Data}
 use Rattle.transfer.proofs.ExtendLaws.{extended-fine}
+use Rattle.transfer.proofs.StampLaws.{stamp-known}
 use Rattle.transfer.specs.declared.Key.{Key}
-use Rattle.transfer.specs.Transfers.{Transfer, TransferFine, empty, keyOf}
-use Rattle.table.specs.Tables.{Valid, keys, find, runsOf}
+use Rattle.timestamp.specs.Timestamps.{Stamp, renewed}
+use Rattle.transfer.specs.Transfers.{Transfer, TransferFine, empty, keyOf, transferOf}
+use Rattle.table.specs.Tables.{Valid, keys, find, runsOf, stampOf}
 use Rattle.table.specs.Open.{openPacket}
 use Rattle.table.specs.Record.{grown, recordPacket}
-use Rattle.transfer.specs.Record.{stopOf}
+use Rattle.transfer.specs.Record.{stopOf, stampIn}
 use Rattle.table.specs.Close.{closeId}
 use Rattle.table.proofs.TableLaws.{length-keys, length-add, length-set, length-remove}
 use Rattle.table.proofs.FineLaws.{fine-found, fine-add, fine-set, fine-remove}
@@ -41,6 +44,7 @@ empty-fine m h =
       few = omega arith;
       canonical = tt;
       within = tt;
+      stamp-is = inl refl;
     }
 
 pub open-valid : (t : List Transfer) (packet : List ℕ) → Octets packet → Valid t → Valid (openPacket t packet .table)
@@ -52,18 +56,20 @@ open-valid t packet o v =
       fine = fine-add 0 (keyOf m) t (v .fine) (omega arith) f (empty-fine m (metadata-known packet m o e));
     })
 
-grown-fine : (t : List Transfer) (d : Data) (k : Key) → Valid t → find (d .id) (keys t) ≡ some k → 0 < d .length → stopOf d ≤ k .length
-    → length (grown t d) ≤ 64 → TransferFine (record { key = k; runs = grown t d })
+grown-fine : (t : List Transfer) (d : Data) (s : List ℕ) (k : Key) → Valid t → find (d .id) (keys t) ≡ some k → 0 < d .length → stopOf d ≤ k .length
+    → length (grown t d) ≤ 64 → Stamp s → TransferFine (transferOf k (grown t d) (renewed s (stampOf t (d .id))))
 unfolding grown
-grown-fine t d k v f payload stop few = extended-fine k (runsOf t (d .id)) d (fine-found 0 (d .id) t k (v .fine) f) payload stop few
+grown-fine t d s k v f payload stop few new =
+    extended-fine k (runsOf t (d .id)) (stampOf t (d .id)) s d (fine-found 0 (d .id) t k (v .fine) f) payload stop few new
 
-pub record-valid : (t : List Transfer) (packet : List ℕ) → Valid t → Valid (recordPacket t packet .table)
-record-valid t packet v =
+pub record-valid : (t : List Transfer) (packet : List ℕ) → Octets packet → Valid t → Valid (recordPacket t packet .table)
+record-valid t packet o v =
     record-cases (λ (x : Outcome Recorded). Valid (x .table)) t packet (λ r. v)
     (λ d k e f j l.
     record {
-      few = rw (length-set (d .id) (grown t d) t) (v .few);
-      fine = fine-set 0 (d .id) (grown t d) t k (v .fine) f (grown-fine t d k v f (data-some packet d e) (judged-stop k d j) l);
+      few = rw (length-set (d .id) (grown t d) (stampIn packet d) t) (v .few);
+      fine = fine-set 0 (d .id) (grown t d) (stampIn packet d) t k (v .fine) f
+          (grown-fine t d (stampIn packet d) k v f (data-some packet d e) (judged-stop k d j) l (stamp-known packet d o e));
     })
 
 pub close-valid : (t : List Transfer) (id : ℕ) → Valid t → Valid (closeId t id .table)

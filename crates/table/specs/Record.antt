@@ -12,7 +12,7 @@ use Rattle.packet_data.specs.declared.DataRead.the-variants as data-read
 use Rattle.runs.specs.Runs.{Run}
 use Rattle.transfer.specs.declared.Key.{Key}
 use Rattle.transfer.specs.Transfers.{Transfer}
-use Rattle.transfer.specs.Record.{keyRefusal, extended, absorbedBy, addsBy, receipt, runsRefusal}
+use Rattle.transfer.specs.Record.{stampIn, keyRefusal, extended, absorbedBy, addsBy, receipt, runsRefusal}
 use Rattle.table.specs.Tables.{keys, find, runsOf, setRuns}
 use Rattle.table.specs.declared.Recorded.{Recorded}
 use Rattle.table.specs.declared.Recorded.the-variants.{Accepted, Refused}
@@ -39,23 +39,24 @@ absorbedIn t d = absorbedBy (runsOf t (d .id)) d
 unfoldable pub addsIn : List Transfer → Data → ℕ
 addsIn t d = addsBy (runsOf t (d .id)) d
 
-unfoldable pub recordAs : ℕ → Option Key → List Run → List Transfer → Data → Outcome Recorded
-recordAs zero none runs t d = record { answer = Refused (refusalOf 12); table = t }
-recordAs zero (some k) runs t d = record { answer = Accepted (receipt k runs (absorbedIn t d) (addsIn t d)); table = setRuns (d .id) runs t }
-recordAs (suc n) k runs t d = record { answer = Refused (refusalOf (suc n)); table = t }
+-- s is the timestamp that the packet brings
+unfoldable pub recordAs : ℕ → Option Key → List Run → List Transfer → Data → List ℕ → Outcome Recorded
+recordAs zero none runs t d s = record { answer = Refused (refusalOf 12); table = t }
+recordAs zero (some k) runs t d s = record { answer = Accepted (receipt k runs (absorbedIn t d) (addsIn t d)); table = setRuns (d .id) runs s t }
+recordAs (suc n) k runs t d s = record { answer = Refused (refusalOf (suc n)); table = t }
 
-unfoldable pub recordData : List Transfer → Data → Outcome Recorded
-recordData t d =
+unfoldable pub recordData : List Transfer → Data → List ℕ → Outcome Recorded
+recordData t d s =
     let k = find (d .id) (keys t) in
-    recordAs (recordRefusal k (grown t d) d) k (grown t d) t d
+    recordAs (recordRefusal k (grown t d) d) k (grown t d) t d s
 
 -- R6.6: the reader's refusals, then 12, 13, 14, 15, 16
-unfoldable pub recordRead : List Transfer → DataRead → Outcome Recorded
-recordRead t (data-read.Accepted d) = recordData t d
-recordRead t (data-read.Refused r) = record { answer = Refused r; table = t }
+unfoldable pub recordRead : List Transfer → List ℕ → DataRead → Outcome Recorded
+recordRead t packet (data-read.Accepted d) = recordData t d (stampIn packet d)
+recordRead t packet (data-read.Refused r) = record { answer = Refused r; table = t }
 
 unfoldable pub recordPacket : List Transfer → List ℕ → Outcome Recorded
-recordPacket t packet = recordRead t (readData packet)
+recordPacket t packet = recordRead t packet (readData packet)
 
 abbrev pub recordAccepted : Recorded → Bool
 recordAccepted (Accepted r) = true

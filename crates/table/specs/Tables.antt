@@ -8,7 +8,7 @@ use lib.ListN.{length}
 use lib.Dec.{ltb, eqb}
 use Rattle.runs.specs.Runs.{Run}
 use Rattle.transfer.specs.declared.Key.{Key}
-use Rattle.transfer.specs.Transfers.{Transfer, TransferFine, empty}
+use Rattle.transfer.specs.Transfers.{Transfer, TransferFine, empty, withReceived}
 
 -- the Ids rise, and the first is at least k
 abbrev pub FineFrom : ℕ → List Transfer → Type 0
@@ -34,17 +34,22 @@ unfoldable pub runsOf : List Transfer → ℕ → List Run
 runsOf [] i = []
 runsOf (x ∷ t) i = let rest = runsOf t i in cond (eqb (x .key .id) i) (x .runs) rest
 
+-- the timestamp that is kept for an Id; none where it is not open
+unfoldable pub stampOf : List Transfer → ℕ → List ℕ
+stampOf [] i = []
+stampOf (x ∷ t) i = let rest = stampOf t i in cond (eqb (x .key .id) i) (x .stamp) rest
+
 -- a new transfer, in the order of the Ids
 unfoldable pub add : Key → List Transfer → List Transfer
 add k [] = empty k ∷ []
 add k (x ∷ t) = let later = x ∷ add k t in cond (ltb (k .id) (x .key .id)) (empty k ∷ x ∷ t) later
 
--- other runs for an Id
-unfoldable pub setRuns : ℕ → List Run → List Transfer → List Transfer
-setRuns i rs [] = []
-setRuns i rs (x ∷ t) =
-    let later = x ∷ setRuns i rs t in
-    cond (eqb (x .key .id) i) (record { key = x .key; runs = rs } ∷ t) later
+-- other runs for an Id, and the timestamp s where the packet brings one
+unfoldable pub setRuns : ℕ → List Run → List ℕ → List Transfer → List Transfer
+setRuns i rs s [] = []
+setRuns i rs s (x ∷ t) =
+    let later = x ∷ setRuns i rs s t in
+    cond (eqb (x .key .id) i) (withReceived x rs s ∷ t) later
 
 -- without an Id
 unfoldable pub remove : ℕ → List Transfer → List Transfer

@@ -11,20 +11,20 @@ use Rattle.runs.specs.Runs.{Run}
 use Rattle.transfer.specs.declared.Key.{Key}
 use Rattle.transfer.specs.Transfers.{Transfer}
 use Rattle.transfer_status.specs.WriteStatus.{transferWritten, transferBuffer}
-use Rattle.table.specs.Tables.{keys, find, runsOf}
+use Rattle.table.specs.Tables.{keys, find, runsOf, stampOf}
 
 -- by what is open under the Id: 12 where nothing is
-unfoldable pub writtenFor : Option Key → List Run → ℕ → Bool → List ℕ → Written
-writtenFor none rs k unasked old = Refused (refusalOf 12)
-writtenFor (some key) rs k unasked old = transferWritten key rs k unasked old
+unfoldable pub writtenFor : Option Key → List Run → List ℕ → ℕ → Bool → List ℕ → Written
+writtenFor none rs s k unasked old = Refused (refusalOf 12)
+writtenFor (some key) rs s k unasked old = transferWritten key rs s k unasked old
 
-unfoldable pub bufferFor : Option Key → List Run → ℕ → Bool → List ℕ → List ℕ
-bufferFor none rs k unasked old = old
-bufferFor (some key) rs k unasked old = transferBuffer key rs k unasked old
+unfoldable pub bufferFor : Option Key → List Run → List ℕ → ℕ → Bool → List ℕ → List ℕ
+bufferFor none rs s k unasked old = old
+bufferFor (some key) rs s k unasked old = transferBuffer key rs s k unasked old
 
 -- R4.1: the writer's answer, and the buffer at exit
 unfoldable pub statusWritten : List Transfer → ℕ → ℕ → Bool → List ℕ → Written
-statusWritten t id k unasked old = writtenFor (find id (keys t)) (runsOf t id) k unasked old
+statusWritten t id k unasked old = writtenFor (find id (keys t)) (runsOf t id) (stampOf t id) k unasked old
 
 unfoldable pub statusBuffer : List Transfer → ℕ → ℕ → Bool → List ℕ → List ℕ
-statusBuffer t id k unasked old = bufferFor (find id (keys t)) (runsOf t id) k unasked old
+statusBuffer t id k unasked old = bufferFor (find id (keys t)) (runsOf t id) (stampOf t id) k unasked old

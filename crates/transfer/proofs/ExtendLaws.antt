@@ -11,6 +11,8 @@ use lib.Dec.{eqb}
 use borrow.Author.Tests.{ltb-false, le-ltb}
 use Rattle.refusals.specs.Refusals.{when}
 use Rattle.refusals.proofs.RefusalLaws.{first-none, rest-none, failed}
+use Rattle.timestamp.specs.Timestamps.{Stamp, renewed}
+use Rattle.timestamp.proofs.StampLaws.{renewed-is}
 use Rattle.packet_data.specs.declared.Data.{Data}
 use Rattle.runs.specs.Runs.{Run, Member, Canonical}
 use Rattle.runs.proofs.InsertLaws.{insert-member, insert-canonical, insert-stops}
@@ -18,7 +20,7 @@ use Rattle.runs.proofs.CountLaws.{insert-count}
 use Rattle.runs.proofs.RepeatLaws.{insert-known, absorbed-known}
 use Rattle.runs.proofs.AddsLaws.{adds-none, adds-same}
 use Rattle.transfer.specs.declared.Key.{Key}
-use Rattle.transfer.specs.Transfers.{TransferFine}
+use Rattle.transfer.specs.Transfers.{TransferFine, transferOf}
 use Rattle.transfer.specs.Record.{stopOf, keyRefusal, extended, absorbedBy, addsBy, runsRefusal}
 
 -- R6.6: recording adds the offsets of the payload
@@ -71,10 +73,10 @@ pub few-runs : (rs : List Run) → length rs ≤ 64 → runsRefusal rs ≡ 0
 unfolding runsRefusal
 few-runs rs h = rw (le-ltb 64 (length rs) h)
 
-pub extended-fine : (k : Key) (rs : List Run) (d : Data) → TransferFine (record { key = k; runs = rs }) → 0 < d .length → stopOf d ≤ k .length
-    → length (extended rs d) ≤ 64 → TransferFine (record { key = k; runs = extended rs d })
+pub extended-fine : (k : Key) (rs : List Run) (s new : List ℕ) (d : Data) → TransferFine (transferOf k rs s) → 0 < d .length
+    → stopOf d ≤ k .length → length (extended rs d) ≤ 64 → Stamp new → TransferFine (transferOf k (extended rs d) (renewed new s))
 unfolding extended
-extended-fine k rs d x payload stop few =
+extended-fine k rs s new d x payload stop few brought =
     record {
       id-fits = x .id-fits;
       width-is = x .width-is;
@@ -83,4 +85,5 @@ extended-fine k rs d x payload stop few =
       few = few;
       canonical = extended-canonical rs d payload (x .canonical);
       within = insert-stops (k .length) (d .offset) (stopOf d) rs stop (x .within);
+      stamp-is = renewed-is new s brought (x .stamp-is);
     }

@@ -1,4 +1,5 @@
 pub mod FieldLaws
+pub mod StampLaws
 pub mod ReachedLaws
 pub mod ExtendLaws
 pub mod LimitLaws

@@ -1,9 +1,9 @@
--- R6.6, R6.8: recording DATA in one transfer: which packets it refuses, and the received offsets after the others.
+-- R6.6, R6.8, R6.14: recording DATA in one transfer: which packets it refuses, and the received offsets after the others.
 -- Assumes nothing.
 use Prim.Native.Nat.{ℕ, _+_}
 use mathlib.Core.Bool.{not, _&&_}
 use mathlib.Core.List.{List}
-use lib.ListN.{length}
+use lib.ListN.{length, take, drop}
 use lib.Dec.{ltb, eqb}
 use Rattle.refusals.specs.Refusals.{_▹_, when}
 use Rattle.packet_data.specs.declared.Data.{Data}
@@ -15,6 +15,10 @@ use Rattle.transfer.specs.Transfers.{reached}
 -- R6.6: the first offset after those that the packet brings
 abbrev pub stopOf : Data → ℕ
 stopOf d = d .offset + d .length
+
+-- R6.14: the timestamp that the packet brings: the 16 octets after the Id where bit 12 is set, and else none
+unfoldable pub stampIn : List ℕ → Data → List ℕ
+stampIn packet d = take (d .timestamp) (drop 8 packet)
 
 -- R6.6: 13, 14, 15. They are judged by the key alone, and not by what was received
 unfoldable pub keyRefusal : Key → Data → ℕ

@@ -1,4 +1,4 @@
--- R6.1, R6.5: one transfer: its key, its received offsets, and how far it has come.
+-- R6.1, R6.5, R6.14: one transfer: its key, its received offsets, the timestamp that it keeps, and how far it has come.
 -- Assumes nothing.
 use Prim.Native.Nat.{ℕ, suc, _^_, _≤_, _<_}
 use mathlib.Core.Path.{_≡_}
@@ -8,6 +8,7 @@ use mathlib.Core.Logic.{_↔_}
 use lib.ListN.{length}
 use lib.Dec.{ltb, eqb}
 use Rattle.octets.specs.Numbers.{Width}
+use Rattle.timestamp.specs.Timestamps.{Stamp, renewed}
 use Rattle.packet_metadata.specs.declared.Metadata.{Metadata}
 use Rattle.runs.specs.Runs.{Run, Member, Canonical, StopsTo}
 use Rattle.runs.specs.Holes.{edge, complete}
@@ -24,14 +25,23 @@ lengthTest width length =
     cond (eqb width 2) (ltb length (256 ^ 2))
     (cond (eqb width 4) (ltb length (256 ^ 4)) (cond (eqb width 8) (ltb length (256 ^ 8)) (cond (eqb width 16) (ltb length (2 ^ 64)) false)))
 
--- a transfer: its key, and the received offsets as their canonical list of runs
+-- R6.1, R6.14: a transfer: its key, the received offsets as their canonical list of runs, and the timestamp that it keeps
 pub record Transfer : Type 0 where
   pub key : Key
   pub runs : List Run
+  pub stamp : List ℕ
 
--- R6.4: nothing is received
+-- the one place where a transfer is made of its parts
+abbrev pub transferOf : Key → List Run → List ℕ → Transfer
+transferOf k rs s = record { key = k; runs = rs; stamp = s }
+
+-- R6.4: nothing is received, and no timestamp is kept
 abbrev pub empty : Key → Transfer
-empty k = record { key = k; runs = [] }
+empty k = transferOf k [] []
+
+-- R6.6, R6.14: the transfer with other runs, and with the timestamp s where a packet brings one
+abbrev pub withReceived : Transfer → List Run → List ℕ → Transfer
+withReceived x rs s = transferOf (x .key) rs (renewed s (x .stamp))
 
 -- R6.1: L fits the width and is below 2^64, whatever the width is; all received offsets are below L, in at most 64 runs
 pub record TransferFine (x : Transfer) : Type 0 where
@@ -42,6 +52,7 @@ pub record TransferFine (x : Transfer) : Type 0 where
   pub few : length (x .runs) ≤ 64
   pub canonical : Canonical (x .runs)
   pub within : StopsTo (x .key .length) (x .runs)
+  pub stamp-is : Stamp (x .stamp)
 
 -- R6.5, R6.8: what opening and recording tell
 unfoldable pub reached : Key → List Run → Reached

@@ -4,4 +4,5 @@ pub mod StatusResponse
 pub mod StatusReads
 pub mod StatusSays
 pub mod StatusWriter
+pub mod StatusAlike
 pub mod LimitLaws

@@ -1,4 +1,4 @@
--- What a STATUS says of its transfer: its holes are the offsets below the edge that were not received, its bit 14 that
+-- What a STATUS says of its transfer: its holes are the offsets below the edge that were not received, its bit 12 that a timestamp is kept, its bit 14 that
 -- holes are left out, its bit 15 that it was sent unasked or that the transfer is complete, its In-Response-To the last octet of a
 -- complete transfer and the edge of any other.
 -- Assumes nothing.
@@ -9,6 +9,7 @@ use mathlib.Core.List.{List, [], _∷_, _++_}
 use mathlib.Core.Logic.{_⊎_, inl, inr, ⊎-elim, _↔_}
 use native.Mathlib.Omega.{arith}
 use lib.ListN.{length, take, drop, take-append-drop}
+use Rattle.timestamp.specs.Timestamps.{stamped}
 use Rattle.refusals.specs.Tests.{bit}
 use Rattle.refusals.proofs.TestLaws.{or-iff, test-not, bit-iff}
 use Rattle.header.specs.FirstWord.{bits, partialOf}
@@ -24,7 +25,7 @@ use Rattle.runs.proofs.CompleteLaws.{complete-iff, complete-progress, complete-
 use Rattle.runs.proofs.CompareLaws.{le-or-lt}
 use Rattle.transfer.specs.Transfers.{Transfer, TransferFine}
 use Rattle.success_status.specs.declared.Fields.{Fields}
-use Rattle.success_status.proofs.FlagLaws.{flags-partial, flags-unasked}
+use Rattle.success_status.proofs.FlagLaws.{flags-stamped, flags-partial, flags-unasked}
 use Rattle.transfer_status.specs.WriteStatus.{holeRoom, holesSent, partialSent, responseSent, fieldsSent, statusPacket}
 use Rattle.transfer_status.proofs.StatusPartial.{partial-iff, whole-sent}
 use Rattle.transfer_status.proofs.StatusSize.{holes-sent-count}
@@ -41,9 +42,9 @@ in-append (h ∷ f) g o =
     )
 
 -- the holes that were skipped, those that were written, and those that did not fit are all the holes, in their order
-pub holes-parts : (d k room : ℕ) (hs : List Hole) → take k hs ++ (holesSent d k room hs ++ drop (holeRoom d room) (drop k hs)) ≡ hs
+pub holes-parts : (ts d k room : ℕ) (hs : List Hole) → take k hs ++ (holesSent ts d k room hs ++ drop (holeRoom ts d room) (drop k hs)) ≡ hs
 unfolding holesSent
-holes-parts d k room hs = rw (take-append-drop (holeRoom d room) (drop k hs)) (take-append-drop k hs)
+holes-parts ts d k room hs = rw (take-append-drop (holeRoom ts d room) (drop k hs)) (take-append-drop k hs)
 
 in-parts : (f g h hs : List Hole) (o : ℕ) → f ++ (g ++ h) ≡ hs → (InHole f o ⊎ (InHole g o ⊎ InHole h o)) ↔ InHole hs o
 in-parts f g h hs o e =
@@ -70,30 +71,33 @@ module _ (x : Transfer) (k : ℕ) (unasked : Bool) (room : ℕ) (fine : Transfer
   abbrev d : ℕ
   d = x .key .width
 
+  abbrev ts : ℕ
+  ts = length (x .stamp)
+
   abbrev hs : List Hole
   hs = holes (x .runs)
 
   -- the holes that were written
   abbrev sent : List Hole
-  sent = holesSent d k room hs
+  sent = holesSent ts d k room hs
 
   -- the holes that were skipped, and those that did not fit
   abbrev skipped : List Hole
   skipped = take k hs
 
   abbrev unfit : List Hole
-  unfit = drop (holeRoom d room) (drop k hs)
+  unfit = drop (holeRoom ts d room) (drop k hs)
 
   -- an offset lies in a hole that was skipped, written or did not fit exactly when it is below the edge and was not received
   pub status-says-missing : (o : ℕ) → (InHole skipped o ⊎ (InHole sent o ⊎ InHole unfit o)) ↔ ((o < edge rs) × (Member rs o → ⊥))
   status-says-missing o =
-      let p = in-parts skipped sent unfit hs o (holes-parts d k room hs) in
+      let p = in-parts skipped sent unfit hs o (holes-parts ts d k room hs) in
       let h = hole-iff rs o (fine .canonical) in
       ((λ m. h .0 (p .0 m)), (λ m. p .1 (h .1 m)))
 
   -- with bit 14 clear the holes that were written say it alone
-  pub status-says-whole : partialSent d k room (length hs) ≡ false → (o : ℕ) → InHole sent o ↔ ((o < edge rs) × (Member rs o → ⊥))
-  status-says-whole e o = rw (whole-sent d k room hs e) (hole-iff rs o (fine .canonical))
+  pub status-says-whole : partialSent ts d k room (length hs) ≡ false → (o : ℕ) → InHole sent o ↔ ((o < edge rs) × (Member rs o → ⊥))
+  status-says-whole e o = rw (whole-sent ts d k room hs e) (hole-iff rs o (fine .canonical))
 
   -- R5.6: Progress is the lowest offset not received
   pub status-says-progress : (Member rs (progress rs) → ⊥) × ((o : ℕ) → o < progress rs → Member rs o)
@@ -104,28 +108,36 @@ module _ (x : Transfer) (k : ℕ) (unasked : Bool) (room : ℕ) (fine : Transfer
   status-says-complete = complete-iff (x .key .length) rs (fine .canonical)
 
   abbrev word : ℕ
-  word = wordOf (statusPacket (x .key) rs k unasked room)
+  word = wordOf (statusPacket (x .key) rs (x .stamp) k unasked room)
 
   abbrev fifteen : Bool
   fifteen = unasked || complete (x .key .length) rs
 
   abbrev fields : Fields
-  fields = fieldsSent (x .key) rs (partialSent d k room (length hs)) unasked
+  fields = fieldsSent (x .key) rs (partialSent ts d k room (length hs)) unasked
+
+  -- R7.10: bit 12 is set exactly when a timestamp is kept
+  pub status-says-twelve : (bits 32 word 12 12 ≡ 1) ↔ (stamped (x .stamp) ≡ true)
+  status-says-twelve =
+      let e : bits 32 word 12 12 ≡ bit (stamped (x .stamp)) =
+      ap (λ (n : ℕ). bits 32 n 12 12) (status-word x k unasked room fine) ∙ flags-stamped (stamped (x .stamp)) fields in
+      let b = bit-iff (stamped (x .stamp)) in
+      ((λ z. b .0 (sym e ∙ z)), (λ z. e ∙ b .1 z))
 
   -- bit 14 is set exactly when fewer holes are written than there are
   pub status-says-fourteen : (k ≡ 0) ⊎ (k < length hs) → (partialOf word ≡ 1) ↔ (length sent < length hs)
   status-says-fourteen a =
-      let e : partialOf word ≡ bit (partialSent d k room (length hs)) =
-      ap partialOf (status-word x k unasked room fine) ∙ flags-partial fields in
-      let b = bit-iff (partialSent d k room (length hs)) in
-      let q = partial-iff d k room hs a in
+      let e : partialOf word ≡ bit (partialSent ts d k room (length hs)) =
+      ap partialOf (status-word x k unasked room fine) ∙ flags-partial (stamped (x .stamp)) fields in
+      let b = bit-iff (partialSent ts d k room (length hs)) in
+      let q = partial-iff ts d k room hs a in
       ((λ z. q .0 (b .0 (sym e ∙ z))), (λ l. e ∙ b .1 (q .1 l)))
 
   -- R7.4: bit 15, exactly when unasked or complete
   pub status-says-fifteen : (bits 32 word 15 15 ≡ 1) ↔ ((unasked ≡ true) ⊎ ((o : ℕ) → o < x .key .length → Member rs o))
   status-says-fifteen =
       let e : bits 32 word 15 15 ≡ bit fifteen =
-      ap (λ (n : ℕ). bits 32 n 15 15) (status-word x k unasked room fine) ∙ flags-unasked fields in
+      ap (λ (n : ℕ). bits 32 n 15 15) (status-word x k unasked room fine) ∙ flags-unasked (stamped (x .stamp)) fields in
       let b = bit-iff fifteen in
       let o = or-iff unasked (complete (x .key .length) rs) in
       let c = status-says-complete in (
@@ -136,7 +148,7 @@ module _ (x : Transfer) (k : ℕ) (unasked : Bool) (room : ℕ) (fine : Transfer
   -- ---- Progress and In-Response-To, as they stand in the packet
 
   abbrev packet : List ℕ
-  packet = statusPacket (x .key) rs k unasked room
+  packet = statusPacket (x .key) rs (x .stamp) k unasked room
 
   abbrev L : ℕ
   L = x .key .length
@@ -201,7 +213,7 @@ module _ (x : Transfer) (k : ℕ) (unasked : Bool) (room : ℕ) (fine : Transfer
   none-sent : hs ≡ [] → holeList packet ≡ []
   none-sent e =
       let z : length hs ≡ 0 = ap length e in
-      status-holes-read x k unasked room fine ∙ no-holes sent (omega (arith, holes-sent-count d k room hs))
+      status-holes-read x k unasked room fine ∙ no-holes sent (omega (arith, holes-sent-count ts d k room hs))
 
   all-done : AllReceived → SaysComplete packet
   all-done a =

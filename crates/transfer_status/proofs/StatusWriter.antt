@@ -36,42 +36,45 @@ take-least n l =
     (le-or-lt (length l) n)
 
 -- the holes that are written have room
-pub sent-room : (d n k room : ℕ) → Width d → sizeRefusal d n k room ≡ 0 → (m : ℕ) → m ≤ holeRoom d room → statusSize d m ≤ room
-sent-room d n k room w ok m h = hole-room-iff d m room (omega (arith, width-some w)) (status-fits d n k room ok .fields) .0 h
+pub sent-room : (ts d n k room : ℕ) → Width d → sizeRefusal ts d n k room ≡ 0 → (m : ℕ) → m ≤ holeRoom ts d room → statusSize ts d m ≤ room
+sent-room ts d n k room w ok m h = hole-room-iff ts d m room (omega (arith, width-some w)) (status-fits ts d n k room ok .fields) .0 h
 
-module _ (key : Key) (rs : List Run) (k : ℕ) (unasked : Bool) (old : List ℕ) where
+module _ (key : Key) (rs : List Run) (s : List ℕ) (k : ℕ) (unasked : Bool) (old : List ℕ) where
   abbrev d : ℕ
   d = key .width
+
+  abbrev ts : ℕ
+  ts = length s
 
   abbrev hs : List Hole
   hs = holes rs
 
   -- the refusal
   abbrev number : ℕ
-  number = transferRefused key rs k unasked old
+  number = transferRefused key rs s k unasked old
 
   pub transfer-refused : (n : ℕ) → n ≡ number → (n ≡ 0 → ⊥)
-      → (Refused (refusalOf n) ≡ transferWritten key rs k unasked old) × (old ≡ transferBuffer key rs k unasked old)
+      → (Refused (refusalOf n) ≡ transferWritten key rs s k unasked old) × (old ≡ transferBuffer key rs s k unasked old)
   unfolding transferWritten transferBuffer
   transfer-refused n e h = (rw e (written-refused number _ (λ z. h (e ∙ z))), buffer-refused number _ old (λ z. h (e ∙ z)))
 
   module _ (w : Width d) (ok : number ≡ 0) where
-    packet-is : (p : Bool) (n : ℕ) → p ≡ partialSent d k (length old) (length hs) → n ≡ min (length hs - k) (holeRoom d (length old))
-        → statusOctets (fieldsSent key rs p unasked) (take n (drop k hs)) ≡ statusPacket key rs k unasked (length old)
+    packet-is : (p : Bool) (n : ℕ) → p ≡ partialSent ts d k (length old) (length hs) → n ≡ min (length hs - k) (holeRoom ts d (length old))
+        → statusOctets (fieldsSent key rs p unasked) s (take n (drop k hs)) ≡ statusPacket key rs s k unasked (length old)
     unfolding statusPacket holesSent
     packet-is p n e g = rw (e, g, ← length-drop k hs, take-least)
 
     -- written: the fields are put first, which makes x of the buffer, then n holes after the first k, which makes y
-    pub transfer-written : (p : Bool) (n size : ℕ) (x y : List ℕ) → p ≡ partialSent d k (length old) (length hs)
-        → n ≡ min (length hs - k) (holeRoom d (length old)) → size ≡ statusSize d n
-        → x ≡ put 0 (frontOctets (fieldsSent key rs p unasked)) old
-        → y ≡ put (frontSize d) (pairs d (take n (drop k hs))) x
-        → (Size size ≡ transferWritten key rs k unasked old) × (y ≡ transferBuffer key rs k unasked old)
+    pub transfer-written : (p : Bool) (n size : ℕ) (x y : List ℕ) → p ≡ partialSent ts d k (length old) (length hs)
+        → n ≡ min (length hs - k) (holeRoom ts d (length old)) → size ≡ statusSize ts d n
+        → x ≡ put 0 (frontOctets (fieldsSent key rs p unasked) s) old
+        → y ≡ put (frontSize ts d) (pairs d (take n (drop k hs))) x
+        → (Size size ≡ transferWritten key rs s k unasked old) × (y ≡ transferBuffer key rs s k unasked old)
     unfolding transferWritten transferBuffer
-    transfer-written p n size x y e g s a b =
+    transfer-written p n size x y e g z a b =
         let q = packet-is p n e g in
-        let l : length (take n (drop k hs)) ≡ n = part-length hs k n (omega (arith, skip-there d (length hs) k (length old) ok)) in
-        let r : statusSize d (length (take n (drop k hs))) ≤ length old = rw l (sent-room d (length hs) k (length old) w ok n (omega arith)) in (
-          rw (ok, ← q, status-length, l, s),
-          rw ok (holes-put (fieldsSent key rs p unasked) (take n (drop k hs)) old x y r a b ∙ ap (λ (z : List ℕ). put 0 z old) q),
+        let l : length (take n (drop k hs)) ≡ n = part-length hs k n (omega (arith, skip-there ts d (length hs) k (length old) ok)) in
+        let r : statusSize ts d (length (take n (drop k hs))) ≤ length old = rw l (sent-room ts d (length hs) k (length old) w ok n (omega arith)) in (
+          rw (ok, ← q, status-length, l, z),
+          rw ok (holes-put (fieldsSent key rs p unasked) s (take n (drop k hs)) old x y r a b ∙ ap (λ (l : List ℕ). put 0 l old) q),
         )

@@ -1,4 +1,4 @@
--- R7.1 to R7.8: which fields and holes the STATUS of one transfer has, after k holes are skipped, unasked or not.
+-- R7.1 to R7.8, R7.10: which fields and holes the STATUS of one transfer has, after k holes are skipped, unasked or not.
 -- Assumes nothing.
 use Prim.Native.Nat.{ℕ, zero, suc, _*_, _-_, _/_}
 use mathlib.Core.Bool.{Bool, cond, not, _&&_, _||_}
@@ -15,32 +15,32 @@ use Rattle.success_status.specs.SuccessStatus.{frontSize, statusSize, statusOct
 use Rattle.success_status.specs.declared.Fields.{Fields}
 use Rattle.transfer.specs.declared.Key.{Key}
 
--- ---- 19 and 20, with descriptors of d octets and n holes
+-- ---- 19 and 20, with ts octets of timestamp, descriptors of d octets and n holes
 
 -- R7.1: k is neither 0 nor less than the number of holes
 unfoldable pub skipsTooMany : ℕ → ℕ → Bool
 skipsTooMany k n = not (eqb k 0) && not (ltb k n)
 
 -- R7.8: the octets that a STATUS has at least: with one hole, where there are holes
-unfoldable pub leastRoom : ℕ → ℕ → ℕ
-leastRoom d n = cond (eqb n 0) (frontSize d) (statusSize d 1)
+unfoldable pub leastRoom : ℕ → ℕ → ℕ → ℕ
+leastRoom ts d n = cond (eqb n 0) (frontSize ts d) (statusSize ts d 1)
 
-unfoldable pub sizeRefusal : ℕ → ℕ → ℕ → ℕ → ℕ
-sizeRefusal d n k room = when (skipsTooMany k n) 19 ▹ when (ltb room (leastRoom d n)) 20
+unfoldable pub sizeRefusal : ℕ → ℕ → ℕ → ℕ → ℕ → ℕ
+sizeRefusal ts d n k room = when (skipsTooMany k n) 19 ▹ when (ltb room (leastRoom ts d n)) 20
 
 -- ---- the holes that are written
 
 -- how many holes a buffer of so many octets has room for
-unfoldable pub holeRoom : ℕ → ℕ → ℕ
-holeRoom d room = (room - frontSize d) / (2 * d)
+unfoldable pub holeRoom : ℕ → ℕ → ℕ → ℕ
+holeRoom ts d room = (room - frontSize ts d) / (2 * d)
 
 -- R7.2: after the first k, as many as fit, the lowest first
-unfoldable pub holesSent : ℕ → ℕ → ℕ → List Hole → List Hole
-holesSent d k room hs = take (holeRoom d room) (drop k hs)
+unfoldable pub holesSent : ℕ → ℕ → ℕ → ℕ → List Hole → List Hole
+holesSent ts d k room hs = take (holeRoom ts d room) (drop k hs)
 
 -- R7.3: some of n holes was skipped or did not fit
-unfoldable pub partialSent : ℕ → ℕ → ℕ → ℕ → Bool
-partialSent d k room n = ltb 0 k || ltb (holeRoom d room) (n - k)
+unfoldable pub partialSent : ℕ → ℕ → ℕ → ℕ → ℕ → Bool
+partialSent ts d k room n = ltb 0 k || ltb (holeRoom ts d room) (n - k)
 
 -- ---- the fields
 
@@ -65,21 +65,22 @@ fieldsSent key rs partial unasked =
       response = responseSent (key .length) rs;
     }
 
--- the STATUS of a transfer
-unfoldable pub statusPacket : Key → List Run → ℕ → Bool → ℕ → List ℕ
-statusPacket key rs k unasked room =
+-- R7.10: the STATUS of a transfer that keeps the timestamp s
+unfoldable pub statusPacket : Key → List Run → List ℕ → ℕ → Bool → ℕ → List ℕ
+statusPacket key rs s k unasked room =
     let d = key .width in
+    let ts = length s in
     let hs = holes rs in
-    statusOctets (fieldsSent key rs (partialSent d k room (length hs)) unasked) (holesSent d k room hs)
+    statusOctets (fieldsSent key rs (partialSent ts d k room (length hs)) unasked) s (holesSent ts d k room hs)
 
 -- ---- the writer's answer, and the buffer at exit
 
-module _ (key : Key) (rs : List Run) (k : ℕ) (unasked : Bool) (old : List ℕ) where
+module _ (key : Key) (rs : List Run) (s : List ℕ) (k : ℕ) (unasked : Bool) (old : List ℕ) where
   abbrev pub transferRefused : ℕ
-  transferRefused = sizeRefusal (key .width) (length (holes rs)) k (length old)
+  transferRefused = sizeRefusal (length s) (key .width) (length (holes rs)) k (length old)
 
   unfoldable pub transferWritten : Written
-  transferWritten = writtenOf transferRefused (length (statusPacket key rs k unasked (length old)))
+  transferWritten = writtenOf transferRefused (length (statusPacket key rs s k unasked (length old)))
 
   unfoldable pub transferBuffer : List ℕ
-  transferBuffer = bufferAfter transferRefused (statusPacket key rs k unasked (length old)) old
+  transferBuffer = bufferAfter transferRefused (statusPacket key rs s k unasked (length old)) old

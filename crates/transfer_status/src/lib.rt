@@ -17,36 +17,36 @@ fn skips_too_many(skip: u64, holes: usize) -> bool
 }
 
 // The octets that a STATUS has at least.
-fn least_room(width: usize, holes: usize) -> usize
-    requires { ⌜ width ≤ 16 ⌝ }
-    ensures { λ r. ⌜ r ≡ leastRoom width holes ⌝ }
+fn least_room(stamp: usize, width: usize, holes: usize) -> usize
+    requires { ⌜ (stamp ≤ 16) × (width ≤ 16) ⌝ }
+    ensures { λ r. ⌜ r ≡ leastRoom stamp width holes ⌝ }
 {
     if holes == 0 {
-        return success_status::front_size(width);
+        return success_status::front_size(stamp, width);
     }
-    success_status::status_size(width, 1)
+    success_status::status_size(stamp, width, 1)
 }
 
-// Refusals 19 and 20; 0 for none. `room` is the buffer's length.
-pub fn size_refusal(width: usize, holes: usize, skip: u64, room: usize) -> u64
-    requires { ⌜ width ≤ 16 ⌝ }
-    ensures { λ r. ⌜ r ≡ sizeRefusal width holes skip room ⌝ }
+// Refusals 19 and 20; 0 for none. `stamp` counts the octets of timestamp, and `room` is the buffer's length.
+pub fn size_refusal(stamp: usize, width: usize, holes: usize, skip: u64, room: usize) -> u64
+    requires { ⌜ (stamp ≤ 16) × (width ≤ 16) ⌝ }
+    ensures { λ r. ⌜ r ≡ sizeRefusal stamp width holes skip room ⌝ }
 {
     if skips_too_many(skip, holes) {
         return 19;
     }
-    if room < least_room(width, holes) {
+    if room < least_room(stamp, width, holes) {
         return 20;
     }
     0
 }
 
 // How many holes have room behind the fields.
-fn hole_room(width: usize, room: usize) -> usize
-    requires { ⌜ (0 < width) × (width ≤ 16) × (frontSize width ≤ room) ⌝ }
-    ensures { λ r. ⌜ r ≡ holeRoom width room ⌝ }
+fn hole_room(stamp: usize, width: usize, room: usize) -> usize
+    requires { ⌜ (stamp ≤ 16) × (0 < width) × (width ≤ 16) × (frontSize stamp width ≤ room) ⌝ }
+    ensures { λ r. ⌜ r ≡ holeRoom stamp width room ⌝ }
 {
-    (room - success_status::front_size(width)) / (2 * width)
+    (room - success_status::front_size(stamp, width)) / (2 * width)
 }
 
 fn lesser(x: usize, y: usize) -> usize
@@ -56,23 +56,23 @@ fn lesser(x: usize, y: usize) -> usize
 }
 
 // How many holes are written: of those that are left as many as have room.
-pub fn holes_to_send(width: usize, holes: usize, skip: u64, room: usize) -> usize
-    requires { ⌜ Width width × (sizeRefusal width holes skip room ≡ 0) ⌝ }
-    ensures { λ r. ⌜ r ≡ min (holes - skip) (holeRoom width room) ⌝ }
+pub fn holes_to_send(stamp: usize, width: usize, holes: usize, skip: u64, room: usize) -> usize
+    requires { ⌜ (stamp ≤ 16) × Width width × (sizeRefusal stamp width holes skip room ≡ 0) ⌝ }
+    ensures { λ r. ⌜ r ≡ min (holes - skip) (holeRoom stamp width room) ⌝ }
 {
     let left = holes - skip as usize;
-    lesser(left, hole_room(width, room))
+    lesser(left, hole_room(stamp, width, room))
 }
 
 // Bit 14: whether some hole is skipped or does not fit.
-pub fn partial_sent(width: usize, holes: usize, skip: u64, room: usize) -> bool
-    requires { ⌜ Width width × (sizeRefusal width holes skip room ≡ 0) ⌝ }
-    ensures { λ r. ⌜ r ≡ partialSent width skip room holes ⌝ }
+pub fn partial_sent(stamp: usize, width: usize, holes: usize, skip: u64, room: usize) -> bool
+    requires { ⌜ (stamp ≤ 16) × Width width × (sizeRefusal stamp width holes skip room ≡ 0) ⌝ }
+    ensures { λ r. ⌜ r ≡ partialSent stamp width skip room holes ⌝ }
 {
     if 0 < skip {
         return true;
     }
-    hole_room(width, room) < holes
+    hole_room(stamp, width, room) < holes
 }
 
 // Bit 15: unasked or complete.

@@ -148,6 +148,7 @@ pub struct Listed {
     pub complete: u64,
     pub runs: u64,
     pub received: u64,
+    pub stamped: u64,
 }
 
 impl From<Result<u64, Refusal>> for Planned {
@@ -237,6 +238,7 @@ impl From<Result<table::Listed, Refusal>> for Listed {
                 complete: listed.state.complete.into(),
                 runs: listed.runs as u64,
                 received: listed.received,
+                stamped: listed.stamped.into(),
                 ..Listed::default()
             },
             Err(refusal) => Listed { number: refusal.number(), code: refusal.code(), ..Listed::default() },

@@ -44,10 +44,10 @@ usage: compare [--seed N] [--calls N] [--receiver-calls N] [--plan-calls N] [--b
 
   --seed N             start the random numbers from N (else from the clock); the seed is printed
   --calls N            make N calls on packets, 3,000,000 unless given; each limit is always tried, in some 650,000
-  --receiver-calls N   make N calls on areas, 1,000,000 unless given; each limit is always tried, in some 400,000
+  --receiver-calls N   make N calls on areas, 1,000,000 unless given; each limit is always tried, in some 550,000
   --plan-calls N       make N calls on plans, 1,000,000 unless given; each limit is always tried, in some 510,000
   --bitmap-calls N     make N calls on marks and the table beside them, 200,000 unless given; each limit is always tried,
-                       in some 20,000
+                       in some 32,000
   --seconds N          make calls for N seconds instead, two fifths of the time on areas and one on each other kind
   --self-check         compare with codecs, receivers and planners that are wrong in one way each instead: each must be
                        found

@@ -53,6 +53,7 @@ pub fn receiver(codec: &dyn Codec, receiver: &dyn Receiver, seed: u64, end: End)
         receiver::limits::run(check)?;
         receiver::limits_area::run(check)?;
         receiver::limits_width::run(check)?;
+        receiver::limits_stamp::run(check)?;
         until(check, end, pass::case)
     })
 }

@@ -1,19 +1,21 @@
 //! The table in a lent area, as docs/AREA.md lays it out, and the table's calls on areas. A place of the layout is used
 //! where the table has a number for it; the others may hold anything, and keep it.
 
-use crate::layout::largest;
+use crate::layout::{largest, Timestamp};
 use crate::read::Hole;
 use crate::received::Received;
 use crate::refusal::Refusal;
 use crate::table::{Listed, Opened, Recorded, Table, Transfer, MAX_RUNS, MAX_TRANSFERS};
 
-// The words of the layout: the number of open transfers, a head for each, the starts of their runs, and the stops.
+// The words of the layout: the number of open transfers, a head for each, the starts of their runs, the stops, and the timestamps.
 const COUNT: usize = 0;
 const HEADS: usize = COUNT + 1;
-const HEAD_WORDS: usize = 4;
+const HEAD_WORDS: usize = 5;
 const STARTS: usize = HEADS + MAX_TRANSFERS * HEAD_WORDS;
 const STOPS: usize = STARTS + MAX_TRANSFERS * MAX_RUNS;
-const END: usize = STOPS + MAX_TRANSFERS * MAX_RUNS;
+const STAMPS: usize = STOPS + MAX_TRANSFERS * MAX_RUNS;
+const STAMP_WORDS: usize = 2;
+const END: usize = STAMPS + MAX_TRANSFERS * STAMP_WORDS;
 
 /// Octets of the layout.
 pub const OCTETS: usize = 8 * END;
@@ -22,8 +24,12 @@ pub const OCTETS: usize = 8 * END;
 fn used(table: &Table) -> Vec<(usize, u64)> {
     let mut used = vec![(COUNT, table.transfers.len() as u64)];
     for (i, (&id, transfer)) in table.transfers.iter().enumerate() {
-        let head = [id, transfer.width as u64, transfer.length, transfer.received.run_count() as u64];
+        let runs = transfer.received.run_count() as u64;
+        let head = [id, transfer.width as u64, transfer.length, runs, transfer.timestamp.is_some().into()];
         used.extend((HEADS + HEAD_WORDS * i..).zip(head));
+        // The octets of a timestamp stand as they came; where none is kept, its words are not used.
+        let halves = transfer.timestamp.iter().flat_map(|octets| octets.chunks(8)).map(|half| number(half, 0));
+        used.extend((STAMPS + STAMP_WORDS * i..).zip(halves));
         for (j, (start, stop)) in transfer.received.runs().enumerate() {
             used.push((STARTS + MAX_RUNS * i + j, start));
             used.push((STOPS + MAX_RUNS * i + j, stop));
@@ -63,11 +69,11 @@ fn table(area: &[u8]) -> Option<Table> {
     Some(table)
 }
 
-/// "width w, length L (at most 2^w - 1) and a set of received offsets below L". AREA.md, 4 to 8: the width is one of
-/// four, the length fits it, there are at most 64 runs, each start is below its stop, each stop at most the length, and
-/// each start above the stop before it.
+/// "width w, length L (at most 2^w - 1) and a set of received offsets below L", and a timestamp or none. AREA.md, 4 to 9: the width
+/// is one of four, the length fits it, there are at most 64 runs, each start is below its stop, each stop at most the length, each
+/// start above the stop before it, and the word that says whether a timestamp is kept is 0 or 1.
 fn transfer(area: &[u8], i: usize) -> Option<Transfer> {
-    let [_, width, length, runs] = [0, 1, 2, 3].map(|field| number(area, HEADS + HEAD_WORDS * i + field));
+    let [_, width, length, runs, stamped] = [0, 1, 2, 3, 4].map(|field| number(area, HEADS + HEAD_WORDS * i + field));
     let width = small(width, 16).filter(|width| [2, 4, 8, 16].contains(width))?;
     if u128::from(length) > largest(width) {
         return None;
@@ -84,7 +90,9 @@ fn transfer(area: &[u8], i: usize) -> Option<Transfer> {
         received.add(start, stop);
         before = Some(stop);
     }
-    Some(Transfer { width, length, received })
+    let octets: Timestamp = area[8 * (STAMPS + STAMP_WORDS * i)..][..16].try_into().expect("two words");
+    let timestamp = (small(stamped, 1)? == 1).then_some(octets);
+    Some(Transfer { width, length, received, timestamp })
 }
 
 /// The number as a count, if it is at most `most`.

@@ -1,7 +1,7 @@
 //! Document 02, "A second receiver that an engineer can follow by eye": "one mark for each octet in a lent area of 8,192 octets",
 //! for one transfer. A refused call returns before anything is changed.
 
-use crate::layout::{DATA, METADATA};
+use crate::layout::{Timestamp, DATA, METADATA};
 use crate::marks::Marks;
 use crate::read::{read_types, Packet};
 use crate::refusal::Refusal;
@@ -13,7 +13,8 @@ pub const OCTETS: usize = 8_192;
 /// "for one transfer with L up to 65,535", which every width allows.
 pub const LONGEST: u64 = 65_535;
 
-/// "Id, w and L travel as a record by value". It lies in memory as C's does, so that it can be handed to the archive too.
+/// "Id, w and L travel as a record by value"; of the timestamp, the receiver "keeps it in its record". It lies in memory as C's
+/// does, so that it can be handed to the archive too.
 #[repr(C)]
 #[derive(Clone, Copy, Debug, Default, PartialEq, Eq)]
 pub struct Bitmap {
@@ -21,6 +22,34 @@ pub struct Bitmap {
     /// Octets of a descriptor.
     pub width: u64,
     pub length: u64,
+    /// Whether a timestamp is kept: no for 0, yes for any other number.
+    pub stamped: u64,
+    /// Its first eight octets and its last eight, as numbers: "All numbers are big-endian." Not looked at where none is kept.
+    pub stamp_high: u64,
+    pub stamp_low: u64,
+}
+
+impl Bitmap {
+    /// A transfer that keeps no timestamp: "A new opening keeps none."
+    pub fn new(id: u64, width: u64, length: u64) -> Bitmap {
+        Bitmap { id, width, length, stamped: 0, stamp_high: 0, stamp_low: 0 }
+    }
+
+    pub fn timestamp(self) -> Option<Timestamp> {
+        match self.stamped {
+            0 => None,
+            _ => Some((u128::from(self.stamp_high) << 64 | u128::from(self.stamp_low)).to_be_bytes()),
+        }
+    }
+
+    /// The same with this timestamp: 1 and its halves, or zeros where there is none.
+    pub fn keeping(self, timestamp: Option<Timestamp>) -> Bitmap {
+        let bare = Bitmap::new(self.id, self.width, self.length);
+        timestamp.map_or(bare, |octets| {
+            let number = u128::from_be_bytes(octets);
+            Bitmap { stamped: 1, stamp_high: (number >> 64) as u64, stamp_low: number as u64, ..bare }
+        })
+    }
 }
 
 /// "Opening always starts anew". The order: 20 (the area: "before all"), the reader's, "above that, refusal 9 at opening".
@@ -31,12 +60,12 @@ pub fn open(marks: &mut [u8], packet: &[u8]) -> Result<(Bitmap, State), Refusal>
         return Err(Refusal::Size);
     }
     area.fill(0);
-    let transfer = Bitmap { id: metadata.header.id, width: metadata.width as u64, length: metadata.size };
+    let transfer = Bitmap::new(metadata.header.id, metadata.width as u64, metadata.size);
     Ok((transfer, state(&Marks::new(transfer.length as usize))))
 }
 
-/// Recording: 20, 22, the reader's, 12, 13, 14, 15, 16. The record that "an accepted recording hands back" is the one that came:
-/// of a refusal the "other results are 0 or empty".
+/// Recording: 20, 22, the reader's, 12, 13, 14, 15, 16. The record that "an accepted recording hands back" is the one that came,
+/// with the packet's timestamp if it has one: of a refusal the "other results are 0 or empty".
 pub fn record(transfer: Bitmap, marks: &mut [u8], packet: &[u8]) -> Result<(Bitmap, Recorded), Refusal> {
     let mut received = take_up(transfer, marks)?;
     let Packet::Data(data) = read_types(packet, &[DATA])? else { unreachable!("only DATA is taken") };
@@ -54,8 +83,9 @@ pub fn record(transfer: Bitmap, marks: &mut [u8], packet: &[u8]) -> Result<(Bitm
     for n in start as usize..end as usize {
         marks[n / 8] |= 0x80 >> (n % 8);
     }
+    let handed_back = transfer.keeping(data.timestamp_in(packet).or(transfer.timestamp()));
     // "runs after equal runs before plus one minus that number"
-    Ok((transfer, Recorded { state: state(&received), absorbed: before + 1 - after, adds }))
+    Ok((handed_back, Recorded { state: state(&received), absorbed: before + 1 - after, adds }))
 }
 
 /// STATUS: 20 (the area), 22, 12 for an Id over 32 bits, which is open nowhere, 19, 20 (the buffer).
@@ -77,6 +107,7 @@ pub fn write_status(
         holes: received.holes(),
         lowest_missing: received.lowest_missing(),
         state: state(&received),
+        timestamp: transfer.timestamp(),
     };
     status::write(&told, skip, unasked, out)
 }

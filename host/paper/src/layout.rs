@@ -7,6 +7,8 @@ pub const MAX_PACKET: usize = 65_535;
 pub const MAX_PATH: usize = 1_023;
 /// "16 octets of timestamp if bit 12 is set"
 pub const TIMESTAMP_OCTETS: usize = 16;
+/// As it came.
+pub type Timestamp = [u8; TIMESTAMP_OCTETS];
 
 /// "BEACON (type 0)" of document 02, and document 01's "the type: METADATA 2, DATA 3, STATUS 4".
 pub const BEACON: u64 = 0;
@@ -200,8 +202,9 @@ pub fn free_octets(word: u64) -> usize {
     }
 }
 
-/// The flags of a success STATUS that is written: "All other flags are 0, apart from the width."
-pub fn status_flags(width: usize, list_incomplete: bool, unasked: bool) -> u64 {
+/// The flags of a success STATUS that is written: "All other flags are 0, apart from the width", and "bit 12 set" where it carries
+/// a timestamp.
+pub fn status_flags(width: usize, stamped: bool, list_incomplete: bool, unasked: bool) -> u64 {
     let bit = |bit: u32, set: bool| u64::from(set) << (31 - bit);
-    (width_bits(width) << (31 - 9)) + bit(14, list_incomplete) + bit(15, unasked)
+    (width_bits(width) << (31 - 9)) + bit(12, stamped) + bit(14, list_incomplete) + bit(15, unasked)
 }

@@ -70,6 +70,13 @@ pub struct Data {
     pub payload: Range<usize>,
 }
 
+impl Data {
+    /// The timestamp of the packet that this was read from; none where bit 12 is clear.
+    pub fn timestamp_in(&self, packet: &[u8]) -> Option<Timestamp> {
+        packet[self.timestamp.clone()].try_into().ok()
+    }
+}
+
 /// A STATUS with code 0.
 #[derive(Clone, Debug, PartialEq, Eq)]
 pub struct Success {

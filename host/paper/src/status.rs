@@ -1,6 +1,6 @@
 //! "**Writing STATUS** for an open Id takes a number k of holes to skip and whether it was unasked."
 
-use crate::layout::{status_flags, STATUS};
+use crate::layout::{status_flags, Timestamp, STATUS};
 use crate::refusal::Refusal;
 use crate::table::{State, Table, Transfer};
 use crate::write::{copy_out, first_octets, push};
@@ -13,6 +13,7 @@ pub struct Told {
     pub holes: Vec<(u64, u64)>,
     pub lowest_missing: u64,
     pub state: State,
+    pub timestamp: Option<Timestamp>,
 }
 
 /// Writes a success STATUS and answers its size: 19, 20.
@@ -23,9 +24,11 @@ pub fn write(told: &Told, skip: u64, unasked: bool, out: &mut [u8]) -> Result<us
         Ok(skip) if skip == 0 || skip < holes.len() => skip,
         _ => return Err(Refusal::Index),
     };
-    // "With descriptors of d octets and h holes written the size is 8 + 2d + 2dh octets."
+    // "With descriptors of d octets and h holes written the size is 8 + 2d + 2dh octets." Document 02: "its STATUS carries them
+    // with bit 12 set; before the first, none. The size grows by 16 octets then, and refusal 20 counts them."
     let d = told.width;
-    let size = |h: usize| 8 + 2 * d + 2 * d * h;
+    let timestamp: &[u8] = told.timestamp.as_ref().map_or(&[], |octets| octets);
+    let size = |h: usize| 8 + timestamp.len() + 2 * d + 2 * d * h;
     // "It writes as many holes as fit, lowest first, after the first k."
     let after = &holes[skip..];
     let fit = (0..=after.len()).rev().find(|&h| size(h) <= out.len()).ok_or(Refusal::Buffer)?;
@@ -35,9 +38,10 @@ pub fn write(told: &Told, skip: u64, unasked: bool, out: &mut [u8]) -> Result<us
     }
     // "Bit 14 is set exactly when some hole was skipped or did not fit. Bit 15 is set if unasked or complete."
     let list_incomplete = skip > 0 || fit < after.len();
-    let flags = status_flags(d, list_incomplete, unasked || told.state.complete);
+    let flags = status_flags(d, told.timestamp.is_some(), list_incomplete, unasked || told.state.complete);
 
     let mut packet = first_octets(STATUS, flags, told.id);
+    packet.extend_from_slice(timestamp);
     // "Progress is the lowest offset not received (the edge if there are no holes)"
     push(&mut packet, told.lowest_missing, d);
     push(&mut packet, in_response_to(told.state, told.length), d);
@@ -76,6 +80,7 @@ impl Transfer {
             holes: self.received.holes(),
             lowest_missing: self.received.lowest_missing(),
             state: self.state(),
+            timestamp: self.timestamp,
         }
     }
 }

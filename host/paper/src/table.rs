@@ -3,7 +3,7 @@
 
 use std::collections::BTreeMap;
 
-use crate::layout::{end_of_data, DATA, METADATA};
+use crate::layout::{end_of_data, Timestamp, DATA, METADATA};
 use crate::read::{read_types, Data, Hole, Packet};
 use crate::received::Received;
 use crate::refusal::Refusal;
@@ -23,6 +23,8 @@ pub struct Transfer {
     pub width: usize,
     pub length: u64,
     pub received: Received,
+    /// Document 02: "Each transfer keeps the 16 octets of the last accepted DATA that had bit 12 set"; "before the first, none".
+    pub timestamp: Option<Timestamp>,
 }
 
 /// "Opening and recording [...] both answer the edge and whether the transfer is complete."
@@ -57,9 +59,16 @@ pub struct Listed {
     pub runs: usize,
     /// How many offsets were received.
     pub received: u64,
+    /// Whether a timestamp is kept.
+    pub stamped: bool,
 }
 
 impl Transfer {
+    /// "starts with nothing received"; "A new opening keeps none", of timestamps.
+    pub fn new(width: usize, length: u64) -> Transfer {
+        Transfer { width, length, received: Received::default(), timestamp: None }
+    }
+
     pub fn state(&self) -> State {
         State { edge: self.received.edge(), complete: self.received.complete(self.length) }
     }
@@ -72,6 +81,7 @@ impl Transfer {
             state: self.state(),
             runs: self.received.run_count(),
             received: self.received.count(),
+            stamped: self.timestamp.is_some(),
         }
     }
 }
@@ -109,7 +119,7 @@ impl Table {
         if self.transfers.len() == MAX_TRANSFERS {
             return Err(Refusal::TableFull);
         }
-        let new = Transfer { width: metadata.width, length: metadata.size, received: Received::default() };
+        let new = Transfer::new(metadata.width, metadata.size);
         let state = new.state();
         self.transfers.insert(id, new);
         Ok(Opened { state, already_open: false })
@@ -129,6 +139,8 @@ impl Table {
         }
         let (absorbed, adds) = (transfer.received.absorbed(start, end), transfer.received.adds(start, end));
         transfer.received = received;
+        // "the last accepted DATA that had bit 12 set": a repeat is accepted too.
+        transfer.timestamp = data.timestamp_in(packet).or(transfer.timestamp);
         Ok(Recorded { state: transfer.state(), absorbed, adds })
     }
 

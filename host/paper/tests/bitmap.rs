@@ -3,7 +3,7 @@
 
 mod common;
 
-use common::{data, hex, last_data, metadata};
+use common::{data, hex, last_data, metadata, stamped};
 use paper::bitmap::{self, open, write_status, Bitmap, OCTETS};
 use paper::refusal::Refusal;
 use paper::table::{Recorded, State, Table};
@@ -12,7 +12,7 @@ use paper::table::{Recorded, State, Table};
 fn opened(width: usize, length: u64) -> (Bitmap, Vec<u8>) {
     let mut marks = vec![0xFF; OCTETS + 10];
     let (transfer, _) = open(&mut marks, &metadata(7, width, length)).unwrap();
-    assert_eq!(transfer, Bitmap { id: 7, width: width as u64, length });
+    assert_eq!(transfer, Bitmap::new(7, width as u64, length));
     (transfer, marks)
 }
 
@@ -209,8 +209,13 @@ fn beside_the_table() {
         let mut page = opened(width, length);
         for _ in 0..150 {
             let offset = below(length + 2);
-            let packet = data(7, width, offset, 1 + below(4) as usize);
-            assert_eq!(record(page.0, &mut page.1, &packet), table.record(&packet));
+            let mut packet = data(7, width, offset, 1 + below(4) as usize);
+            if below(5) == 0 {
+                packet = stamped(&packet, [below(4) as u8; 16]);
+            }
+            let (marks, table) = (bitmap::record(page.0, &mut page.1, &packet), table.record(&packet));
+            assert_eq!(marks.map(|(_, recorded)| recorded), table);
+            page.0 = marks.map_or(page.0, |(transfer, _)| transfer);
         }
         let holes = table.transfers[&7].received.holes().len() as u64;
         for (skip, room) in (0..holes + 2).flat_map(|skip| (0..60).map(move |by| (skip, 37 * by))) {
@@ -219,4 +224,39 @@ fn beside_the_table() {
             assert_eq!(status(&page, skip, false, room), written);
         }
     }
+}
+
+/// "The plain receiver of Seven keeps it in its record, which an accepted recording hands back."
+#[test]
+fn timestamp_in_the_record() {
+    let (first, last) = (0x0102_0304_0506_0708, 0x1112_1314_1516_1718);
+    let octets = hex("01 02 03 04 05 06 07 08 11 12 13 14 15 16 17 18").try_into().unwrap();
+    let (bare, mut marks) = received(100, &[(10, 5)]);
+    let mut hand = |transfer, packet: &[u8]| bitmap::record(transfer, &mut marks, packet).map(|(transfer, _)| transfer);
+    let kept = Bitmap { stamped: 1, stamp_high: first, stamp_low: last, ..bare };
+    assert_eq!(hand(bare, &data(7, 2, 0, 1)), Ok(bare));
+    assert_eq!(hand(bare, &stamped(&data(7, 2, 20, 1), octets)), Ok(kept));
+    assert_eq!(hand(kept, &data(7, 2, 30, 1)), Ok(kept));
+    assert_eq!(hand(kept, &stamped(&data(7, 2, 30, 1), [0; 16])), Ok(Bitmap { stamp_high: 0, stamp_low: 0, ..kept }));
+    assert_eq!(hand(kept, &stamped(&data(7, 2, 100, 1), [0; 16])), Err(Refusal::PastEnd));
+    // Any number but 0 is yes, and is handed back as 1; where it is 0 the halves are not looked at, and are handed back as 0.
+    for yes in [1, 2, 1 << 32, u64::MAX] {
+        assert_eq!(hand(Bitmap { stamped: yes, ..kept }, &data(7, 2, 30, 1)), Ok(kept));
+    }
+    assert_eq!(hand(Bitmap { stamped: 0, ..kept }, &data(7, 2, 30, 1)), Ok(bare));
+    // "Opening always starts anew."
+    assert_eq!(open(&mut marks, &metadata(7, 2, 100)).unwrap().0, bare);
+}
+
+/// The STATUS carries it, and 20 counts it.
+#[test]
+fn status_with_a_timestamp() {
+    let (bare, marks) = received(9, &[(1, 1)]);
+    let kept = Bitmap { stamped: u64::MAX, stamp_high: 1, stamp_low: 2, ..bare };
+    let page = (kept, marks.clone());
+    let want = "44 08 00 00 00 00 00 07 00 00 00 00 00 00 00 01 00 00 00 00 00 00 00 02 00 00 00 02 00 00 00 01";
+    assert_eq!(status(&page, 0, false, 32), Ok(hex(want)));
+    assert_eq!(status(&page, 0, false, 31), Err(Refusal::Buffer));
+    let none = (Bitmap { stamped: 0, ..kept }, marks);
+    assert_eq!(status(&none, 0, false, 31), Ok(hex("44 00 00 00 00 00 00 07 00 00 00 02 00 00 00 01")));
 }

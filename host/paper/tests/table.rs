@@ -2,7 +2,7 @@
 
 mod common;
 
-use common::{data, hex, last_data, metadata};
+use common::{data, hex, last_data, metadata, stamped};
 use paper::refusal::Refusal;
 use paper::table::{Opened, Recorded, State, Table};
 
@@ -245,13 +245,14 @@ fn listing() {
     for (id, width, length) in [(300, 8, u64::MAX), (7, 2, 3), (0xFFFF_FFFF, 4, 0)] {
         table.open(&metadata(id, width, length)).unwrap();
     }
-    table.record(&data(7, 2, 2, 1)).unwrap();
+    table.record(&stamped(&data(7, 2, 2, 1), [0; 16])).unwrap();
     let list = |index| {
-        table.transfer(index).map(|t| (t.id, t.width, t.length, t.state.edge, t.state.complete, t.runs, t.received))
+        let state = |t: State| (t.edge, t.complete);
+        table.transfer(index).map(|t| (t.id, t.width, t.length, state(t.state), t.runs, t.received, t.stamped))
     };
-    assert_eq!(list(0), Ok((7, 2, 3, 3, false, 1, 1)));
-    assert_eq!(list(1), Ok((300, 8, u64::MAX, 0, false, 0, 0)));
-    assert_eq!(list(2), Ok((0xFFFF_FFFF, 4, 0, 0, true, 0, 0)));
+    assert_eq!(list(0), Ok((7, 2, 3, (3, false), 1, 1, true)));
+    assert_eq!(list(1), Ok((300, 8, u64::MAX, (0, false), 0, 0, false)));
+    assert_eq!(list(2), Ok((0xFFFF_FFFF, 4, 0, (0, true), 0, 0, false)));
     assert_eq!(list(3), Err(Refusal::NotOpen));
     assert_eq!(list(u64::MAX), Err(Refusal::NotOpen));
 }
@@ -284,4 +285,98 @@ fn by_id() {
     assert_eq!(hole(2), Err(Refusal::Index));
     assert_eq!(hole(u64::MAX), Err(Refusal::Index));
     assert_eq!(table.hole(8, 0).map(|hole| hole.start), Err(Refusal::NotOpen));
+}
+
+/// Sixteen octets that differ.
+const A: [u8; 16] = *b"ABCDEFGHIJKLMNOP";
+const B: [u8; 16] = [0xB0; 16];
+const ZEROS: [u8; 16] = [0; 16];
+
+/// What transfer 7 keeps: in the table, as it is listed, and in its STATUS, which is 16 octets longer then.
+fn kept(table: &Table) -> Option<[u8; 16]> {
+    let transfer = &table.transfers[&7];
+    assert_eq!(table.find(7).unwrap().stamped, transfer.timestamp.is_some());
+    let status = status(table, 0, false, 2_104).unwrap();
+    let holes = transfer.received.holes().len();
+    let bare = 8 + 2 * transfer.width * (1 + holes);
+    assert_eq!(status[1] & 0x08 != 0, transfer.timestamp.is_some());
+    match transfer.timestamp {
+        None => assert_eq!(status.len(), bare),
+        Some(octets) => assert_eq!((status.len(), &status[8..24]), (bare + 16, &octets[..])),
+    }
+    transfer.timestamp
+}
+
+/// "Each transfer keeps the 16 octets of the last accepted DATA that had bit 12 set [...] before the first, none."
+#[test]
+fn last_timestamp_kept() {
+    let mut table = received(100, &[(10, 5)]);
+    assert_eq!(kept(&table), None);
+    table.record(&stamped(&data(7, 2, 30, 5), A)).unwrap();
+    assert_eq!(kept(&table), Some(A));
+    // DATA without one leaves it; the next with one renews it, and so does a repeat.
+    table.record(&data(7, 2, 40, 5)).unwrap();
+    assert_eq!(kept(&table), Some(A));
+    table.record(&stamped(&data(7, 2, 50, 5), B)).unwrap();
+    assert_eq!(kept(&table), Some(B));
+    assert_eq!(table.record(&stamped(&data(7, 2, 30, 5), A)), repeat(55));
+    assert_eq!(kept(&table), Some(A));
+    // Sixteen zero octets are one as well.
+    table.record(&stamped(&data(7, 2, 30, 5), ZEROS)).unwrap();
+    assert_eq!(kept(&table), Some(ZEROS));
+}
+
+/// A refused DATA, "already open", another Id's DATA and asking leave it; closing forgets it, and "A new opening keeps none."
+#[test]
+fn timestamp_left_and_forgotten() {
+    let mut table = received(100, &[]);
+    table.open(&metadata(8, 2, 100)).unwrap();
+    table.record(&stamped(&data(7, 2, 30, 5), A)).unwrap();
+    assert_eq!(table.record(&stamped(&data(7, 2, 99, 5), B)), Err(Refusal::PastEnd));
+    assert_eq!(table.record(&stamped(&data(7, 4, 0, 5), B)), Err(Refusal::OtherWidth));
+    assert_eq!(table.record(&stamped(&last_data(7, 2, 0, 5), B)), Err(Refusal::EarlyEnd));
+    assert!(table.try_record(&stamped(&data(7, 2, 0, 5), B)).is_ok());
+    assert!(table.open(&metadata(7, 2, 100)).unwrap().already_open);
+    assert_eq!(table.open(&metadata(7, 2, 99)), Err(Refusal::OpenOther));
+    table.record(&stamped(&data(8, 2, 0, 5), B)).unwrap();
+    assert_eq!(kept(&table), Some(A));
+    assert_eq!(table.transfers[&8].timestamp, Some(B));
+    table.close(8).unwrap();
+    assert_eq!(kept(&table), Some(A));
+    table.close(7).unwrap();
+    table.open(&metadata(7, 2, 100)).unwrap();
+    assert_eq!(kept(&table), None);
+}
+
+/// "The size grows by 16 octets then, and refusal 20 counts them", with the holes that fit.
+#[test]
+fn status_with_a_timestamp() {
+    let mut table = with(2, 9);
+    for offset in [1, 3, 5] {
+        table.record(&stamped(&data(7, 2, offset, 1), A)).unwrap();
+    }
+    let of = |flags: &str, holes: &str| {
+        let start = format!("44 {flags} 00 00 00 00 00 07");
+        Ok([hex(&start), A.to_vec(), hex("00 00 00 06"), hex(holes)].concat())
+    };
+    assert_eq!(status(&table, 0, false, 40), of("08", "00 00 00 01 00 02 00 03 00 04 00 05"));
+    assert_eq!(status(&table, 0, false, 39), of("0A", "00 00 00 01 00 02 00 03"));
+    assert_eq!(status(&table, 0, true, 35), of("0B", "00 00 00 01"));
+    assert_eq!(status(&table, 2, false, 32), of("0A", "00 04 00 05"));
+    assert_eq!(status(&table, 0, false, 31), Err(Refusal::Buffer));
+    assert_eq!(status(&table, 3, false, 0), Err(Refusal::Index));
+    // Without a hole, and complete.
+    let mut table = with(2, 9);
+    table.record(&stamped(&data(7, 2, 0, 9), ZEROS)).unwrap();
+    let want = [hex("44 09 00 00 00 00 00 07"), vec![0; 16], hex("00 09 00 08")].concat();
+    assert_eq!(status(&table, 0, false, 28), Ok(want));
+    assert_eq!(status(&table, 0, false, 27), Err(Refusal::Buffer));
+    // The longest of all.
+    let mut table = with(16, 1_000);
+    for run in 0..64 {
+        table.record(&stamped(&data(7, 16, 10 * run + 1, 1), B)).unwrap();
+    }
+    assert_eq!(status(&table, 0, false, 2_104).map(|status| status.len()), Ok(2_104));
+    let short = status(&table, 0, false, 2_103).unwrap();
+    assert_eq!((short.len(), short[1]), (2_072, 0xCA));
 }

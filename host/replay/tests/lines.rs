@@ -221,6 +221,51 @@ fn descriptors_of_128_bits() {
     ]);
 }
 
+/// "its STATUS carries them with bit 12 set; before the first, none"; what was written reads back with `timestamp=`.
+#[test]
+fn timestamps() {
+    let stamped = |octet: u8, flags: u32, offset: u16, len: usize| {
+        let bare = data(0x08_0000 | flags, offset, len);
+        [&bare[..8], &[octet; 16], &bare[8..]].concat()
+    };
+    let ask = |room: u8| hex(&format!("00000007 0000000000000000 00 000000{room:02x}"));
+    let repeat: &[&str] = &["record id=7 offset=0 length=1000 edge=1000 complete=0 absorbed=1"];
+    let bare = "status 440000000000000703e803e8";
+    let (first, zeros) = ("5a".repeat(16), "00".repeat(16));
+    let with_first = format!("44080000 00000007 {first} 03e803e8");
+    let written = format!("status {}", with_first.replace(' ', ""));
+    let read = format!("success id=7 flags=080000 width=16 timestamp={first} progress=1000 in-response-to=1000 holes=");
+    let with_zeros = format!("send 4408000000000007{zeros}03e803e8");
+    let last = format!("send 4409000000000007{zeros}0bb80bb7");
+    check_octets(&[
+        ('O', hex(PAGE), &["open id=7 width=16 length=3000 edge=0 complete=0 new"]),
+        ('D', data(0, 0, 1_000), &["record id=7 offset=0 length=1000 edge=1000 complete=0 absorbed=0"]),
+        ('S', ask(12), &[bare]),
+        ('D', stamped(0x5A, 0, 0, 1_000), repeat),
+        ('S', ask(28), &[&written]),
+        ('S', ask(27), &["refused 20 code=0"]),
+        ('R', hex(&with_first), &[&read]),
+        ('P', hex(&with_first), &[&read]),
+        // These leave it.
+        ('D', data(0, 0, 1_000), repeat),
+        ('D', stamped(0x11, 0, 2_999, 2), &["refused 14 code=9"]),
+        ('D', stamped(0x11, END, 0, 1_000), &["refused 15 code=1"]),
+        ('O', hex(PAGE), &["open id=7 width=16 length=3000 edge=1000 complete=0 already-open"]),
+        ('S', ask(28), &[&written]),
+        // Zeros are one too; complete with it; closed it is forgotten.
+        ('P', stamped(0, ASKED, 0, 1_000), &[repeat[0], &with_zeros]),
+        (
+            'P',
+            data(ASKED, 1_000, 2_000),
+            &["record id=7 offset=1000 length=2000 edge=3000 complete=1 absorbed=1", &last],
+        ),
+        ('C', hex("00000007"), &["close id=7"]),
+        ('O', hex(PAGE), &["open id=7 width=16 length=3000 edge=0 complete=0 new"]),
+        ('D', data(0, 0, 1_000), &["record id=7 offset=0 length=1000 edge=1000 complete=0 absorbed=0"]),
+        ('S', ask(28), &[bare]),
+    ]);
+}
+
 #[test]
 fn opening_and_closing_at_every_width() {
     check(&[

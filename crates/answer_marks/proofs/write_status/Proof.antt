@@ -8,7 +8,7 @@ use Rattle.answer_marks.proofs.write_status.Tie as tie
 returns : tie.Need-returns
 returns c =
     let w = c .before .before .before in
-    let k = w .before .before .key-from .ensures in
+    let k = w .before .before .held-from .ensures in
     (c .written-answer .ensures ∙ ap writtenAnswer (rw k at (w .write-status .ensures .0)), rw k at (w .write-status .ensures .1))
 
 pub write-status-spec : {M : Type 1} → statement M

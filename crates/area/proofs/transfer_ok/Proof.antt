@@ -8,7 +8,7 @@ use mathlib.Core.Path.{refl, ap}
 use Rattle.run_rows.specs.declared.Rows.{Rows}
 use Rattle.area.specs.Layout.{runPlaces}
 use Rattle.area.proofs.PlaceLaws.{rows-fit}
-use Rattle.area.proofs.LoopLaws.{id-not, width-not, runs-not, runs-decide}
+use Rattle.area.proofs.LoopLaws.{id-not, width-not, runs-not, runs-fail, stamp-decide}
 use Rattle.area.proofs.transfer_ok.Statement.{statement}
 use Rattle.area.proofs.transfer_ok.Tie as tie
 
@@ -29,16 +29,30 @@ runs-ok-requires c κs =
 
 returns-3 : tie.Need-returns-3
 returns-3 c =
-    let p = c .before .before .before .before .before in
+    let judged = c .before .before in
+    let p = judged .before .before .before .before .before in
     let w = p .before .before .before in
     let a = w .before .before .before .args in
-    let r = c .before .before .before .rows-at .ensures in
-    let few : c .before .before .before .rows-at .result .count ≤ runPlaces = omega arith in
-    runs-decide (now (a .area)) (a .i) _ (w .before .head .ensures) _ _ _ (omega arith) (p .before .before .head2 .ensures) (p .before .head3 .ensures) (p .length-ok .ensures)
-    _ (c .before .before .before .before .if2 .taken) refl _ (omega (arith, ap (λ (r : Rows). r .count) r)) (rw r at (c .runs-ok .ensures))
+    let r = judged .before .before .before .rows-at .ensures in
+    let few : judged .before .before .before .rows-at .result .count ≤ runPlaces = omega arith in
+    stamp-decide (now (a .area)) (a .i) _ (w .before .head .ensures) _ _ _ (omega arith) (p .before .before .head2 .ensures) (p .before .head3 .ensures) (p .length-ok .ensures)
+    _ (judged .before .before .before .before .if2 .taken) refl _ (omega (arith, ap (λ (r : Rows). r .count) r)) (rw r at (judged .runs-ok .ensures))
+    _ (c .before .if4 .taken) (c .head4 .ensures)
 
 returns-4 : tie.Need-returns-4
 returns-4 c =
+    let judged = c .before in
+    let p = judged .before .before .before .before .before in
+    let w = p .before .before .before in
+    let a = w .before .before .before .args in
+    let r = judged .before .before .before .rows-at .ensures in
+    let few : judged .before .before .before .rows-at .result .count ≤ runPlaces = omega arith in
+    runs-fail (now (a .area)) (a .i) _ (w .before .head .ensures) _ _ _ (omega arith) (p .before .before .head2 .ensures) (p .before .head3 .ensures) (p .length-ok .ensures)
+    _ (judged .before .before .before .before .if2 .taken) refl _ (omega (arith, ap (λ (r : Rows). r .count) r)) (rw r at (judged .runs-ok .ensures))
+    (c .if4 .left)
+
+returns-5 : tie.Need-returns-5
+returns-5 c =
     let p = c .before in
     let w = p .before .before .before in
     let a = w .before .before .before .args in
@@ -51,4 +65,5 @@ transfer-ok-spec =
     (tie.spec
     (λ c κs. search needs)
     (λ c. let a = c .before .before .before .args in id-not (now (a .area)) (a .i) _ (c .before .head .ensures) (omega arith))
-    (λ c κs. search needs) (λ c κs. search needs) (λ c κs. search needs) (λ c κs. search needs) returns-2 runs-ok-requires returns-3 returns-4)
+    (λ c κs. search needs) (λ c κs. search needs) (λ c κs. search needs) (λ c κs. search needs) returns-2 runs-ok-requires (λ c κs. search needs)
+    returns-3 returns-4 returns-5)

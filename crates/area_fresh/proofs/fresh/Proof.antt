@@ -5,7 +5,7 @@ use mathlib.Core.Path.{sym, ap, _∙_}
 use denote.Ref.{now}
 use Rattle.table.specs.declared.Finished.{Finished}
 use Rattle.table.specs.declared.Finished.the-variants as finished
-use Rattle.area.specs.Layout.{idField, headAt, runAt}
+use Rattle.area.specs.Layout.{idField, headAt, runAt, halfAt}
 use Rattle.area.specs.Operations.{OnArea}
 use Rattle.area.proofs.OperationLaws.{fresh-refused, fresh-done}
 use Rattle.area_fresh.proofs.FreshLaws.{words-at, fresh-stored}
@@ -21,7 +21,8 @@ returns c =
 
 returns-2 : tie.Need-returns-2
 returns-2 c =
-    let stops = c .before .before in
+    let stamps = c .before .before in
+    let stops = stamps .before .before .before .before .before .before .before .before in
     let starts = stops .before .before .before .before .before .before .before .before in
     let heads = starts .before .before .before .before .before .before .before .before in
     let count = heads .before .before .before .before .before .before .before .before in
@@ -29,11 +30,12 @@ returns-2 c =
     let a = now (n .before .before .before .args .area) in
     let e = fresh-done a (omega arith) in (
       sym (ap (λ (f : OnArea Finished). f .answer) e),
-      fresh-stored a _ _ _ _ (n .no-numbers .result) (n .no-numbers .ensures) (omega arith) (count .put-word .ensures)
+      fresh-stored a _ _ _ _ _ (n .no-numbers .result) (n .no-numbers .ensures) (omega arith) (count .put-word .ensures)
           (words-at (headAt 0 idField) (heads .put-words .ensures) (heads .before .before .before .before .head-at .ensures))
           (words-at (runAt 0 0 0) (starts .put-words2 .ensures) (starts .before .before .before .before .starts-at .ensures))
           (words-at (runAt 1 0 0) (stops .put-words3 .ensures) (stops .before .before .before .before .stops-at .ensures))
-          (λ i. c .slice-known5 .given i .fits)
+          (words-at (halfAt 0 0) (stamps .put-words4 .ensures) (stamps .before .before .before .before .stamp-at .ensures))
+          (λ i. c .slice-known6 .given i .fits)
           ∙ sym (ap (λ (f : OnArea Finished). f .area) e),
     )
 
@@ -42,4 +44,5 @@ fresh-spec =
     tie.close
     (tie.spec
     (λ c κs. search needs) returns (λ c κs. search needs) (λ c κs. search needs) (λ c κs. search needs) (λ c κs. search needs)
-    (λ c κs. search needs) (λ c κs. search needs) (λ c κs. search needs) (λ c κs. search needs) (λ c. search needs) returns-2)
+    (λ c κs. search needs) (λ c κs. search needs) (λ c κs. search needs) (λ c κs. search needs) (λ c κs. search needs) (λ c κs. search needs)
+    (λ c. search needs) returns-2)

@@ -69,11 +69,11 @@ returns c =
         few = omega (arith, rows r .few-runs, count-is r);
         room = p .room;
       };
-      is =
+      is = λ y brings.
           rw (count-is r)
           (extend-taken a (t .place) (f .held) (f .there) _ (r .rows-at .ensures) (t .from) (t .to) (k .i) (k .j) (f .some) (upper r) (lower r)
           (l .joined-start .result) (h .joined-stop .result) (l .joined-start .ensures) (h .joined-stop .ensures) (omega arith) (omega arith)
-          (rw (← count-is r) (p .room)) (λ i. r .before .shared-slice-known .given i .fits) (keyAt a (t .place)) _ _ _ (c .adds-of .ensures) told);
+          (rw (← count-is r) (p .room)) (λ i. r .before .shared-slice-known .given i .fits) y brings (keyAt a (t .place)) _ _ _ (c .adds-of .ensures) told);
     }
 
 pub join-spec : {M : Type 1} → statement M

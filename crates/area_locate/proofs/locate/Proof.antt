@@ -76,9 +76,10 @@ returns-4 c =
       some = let z = s .pre (omega arith) .1 in omega arith;
       length-is = ap (λ (x : Key). x .length) (k .key-at .ensures);
     })
-    (ap (λ (x : Key). offsetsGiven a p x (d .offset) (stopOf d)) (sym (k .key-at .ensures))
+    (λ y.
+    ap (λ (x : Key). offsetsGiven a p x (d .offset) (stopOf d) y) (sym (k .key-at .ensures))
     ∙ fields-extended a (held e) d (f .find-place .result) (f .find-place .ensures) (open-known (k .before)) (k .key-at .result) (k .key-at .ensures)
-    (r .key-refusal .result) (r .key-refusal .ensures) (omega arith) (octets (e .before)))
+    (r .key-refusal .result) (r .key-refusal .ensures) (omega arith) (octets (e .before)) y)
 
 pub locate-spec : {M : Type 1} → statement M
 locate-spec =

@@ -6,7 +6,7 @@ use native.Mathlib.Omega.{arith}
 use denote.Ref.{now}
 use Rattle.transfer.specs.Transfers.{empty}
 use Rattle.area.proofs.JudgeLaws.{judged-passed}
-use Rattle.area_move.proofs.PutInLaws.{Opening, open-start, open-long, open-count, open-next, open-end}
+use Rattle.area_move.proofs.PutInLaws.{Opening, open-start, open-long, open-fits, open-next, open-end}
 use Rattle.area_move.proofs.insert_at.Statement.{statement}
 use Rattle.area_move.proofs.insert_at.Tie as tie
 
@@ -19,12 +19,13 @@ abbrev μ-loop : tie.MeasureT-loop
 loop-holds : tie.Need-loop-holds Inv-loop μ-loop
 loop-holds c =
     let s = c .before .before .before in
-    open-start (now (s .args .area)) (s .args .place) _ _ (s .pre .0) (s .pre .1) (s .pre .2) (c .open-count .ensures)
+    open-start (now (s .args .area)) (s .args .place) _ _ (s .pre .0) (λ i. c .before .before .slice-known .given i .fits) (s .pre .1) (s .pre .2) (c .open-count .ensures)
 
 copy-transfer-requires : tie.Need-copy-transfer-requires Inv-loop μ-loop
 copy-transfer-requires c κs =
     let l = c .before .before .loop in
-    (open-long _ _ _ _ _ _ (l .inv), omega (arith, l .inv .few), omega (arith, l .inv .few), open-count _ _ _ _ _ _ (l .inv) (omega arith))
+    let fits = open-fits _ _ _ _ _ _ (l .inv) (omega arith) in
+    (open-long _ _ _ _ _ _ (l .inv), omega (arith, l .inv .few), omega (arith, l .inv .few), fits 1 (omega arith), omega (arith, fits 3 (omega arith)))
 
 loop-again : tie.Need-loop-again Inv-loop μ-loop
 loop-again c =

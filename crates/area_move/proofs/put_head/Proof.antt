@@ -1,11 +1,13 @@
--- `area_move::put_head` meets its contract: four words.
+-- `area_move::put_head` meets its contract: a word for each number of the head.
 -- Assumes nothing.
 use native.Mathlib.Omega.{arith}
 use borrow.Author.Needs.{needs}
 use Prim.Native.Nat.{_^_, _<_}
+use mathlib.Core.Path.{refl, sym}
 use denote.Ref.{now}
-use Rattle.area.specs.Layout.{idField, widthField, lengthField, countField, headAt}
-use Rattle.area_move.proofs.CopyLaws.{put-at-word, head-put}
+use Rattle.transfer.specs.Transfers.{empty}
+use Rattle.area.proofs.PlaceLaws.{code-none}
+use Rattle.area_move.proofs.CopyLaws.{put-start, put-next}
 use Rattle.area_move.proofs.put_head.Statement.{statement}
 use Rattle.area_move.proofs.put_head.Tie as tie
 
@@ -15,22 +17,30 @@ fits c = (omega arith, omega arith, omega arith)
 
 returns : tie.Need-returns
 returns c =
-    let z = c .before .before in
-    let y = z .before .before .before .before .before in
-    let x = y .before .before .before .before .before in
-    let w = x .before .before .before .before .before in
-    let b = w .before .before .before .before in
+    let stamped = c .before .before in
+    let count = stamped .before .before .before .before .before in
+    let size = count .before .before .before .before .before in
+    let width = size .before .before .before .before .before in
+    let id = width .before .before .before .before .before in
+    let b = id .before .before .before .before in
+    let a = now (b .args .area) in
     let d = b .args .place in
-    head-put (now (b .args .area)) _ _ _ _ d (b .args .key) (b .pre .0) (b .pre .1)
-    (put-at-word _ _ _ _ (headAt d idField) (w .put-word .ensures) (w .before .head-at .ensures))
-    (put-at-word _ _ _ _ (headAt d widthField) (x .put-word2 .ensures) (x .before .head-at2 .ensures))
-    (put-at-word _ _ _ _ (headAt d lengthField) (y .put-word3 .ensures) (y .before .head-at3 .ensures))
-    (put-at-word _ _ _ _ (headAt d countField) (z .put-word4 .ensures) (z .before .head-at4 .ensures))
-    (fits b .0) (fits b .1) (fits b .2)
+    let x = empty (b .args .key) in
+    let fit = fits b in
+    put-next a _ _ d x 4 _ _ (b .pre .0) (b .pre .1) (omega arith)
+    (put-next a _ _ d x 3 _ _ (b .pre .0) (b .pre .1) (omega arith)
+    (put-next a _ _ d x 2 _ _ (b .pre .0) (b .pre .1) (omega arith)
+    (put-next a _ _ d x 1 _ _ (b .pre .0) (b .pre .1) (omega arith)
+    (put-next a _ _ d x 0 _ _ (b .pre .0) (b .pre .1) (omega arith) (put-start a d x)
+    (id .put-word .ensures) (id .before .head-at .ensures) refl (fit .0))
+    (width .put-word2 .ensures) (width .before .head-at2 .ensures) refl (fit .1))
+    (size .put-word3 .ensures) (size .before .head-at3 .ensures) refl (fit .2))
+    (count .put-word4 .ensures) (count .before .head-at4 .ensures) refl (omega arith))
+    (stamped .put-word5 .ensures) (stamped .before .head-at5 .ensures) (sym code-none) (omega arith)
 
 pub put-head-spec : {M : Type 1} → statement M
 put-head-spec =
     tie.close
     (tie.spec
     (λ c κs. search needs) (λ c κs. search needs) (λ c κs. search needs) (λ c κs. search needs) (λ c κs. search needs) (λ c κs. search needs)
-    (λ c κs. search needs) (λ c κs. search needs) (λ c. search needs) returns)
+    (λ c κs. search needs) (λ c κs. search needs) (λ c κs. search needs) (λ c κs. search needs) (λ c. search needs) returns)

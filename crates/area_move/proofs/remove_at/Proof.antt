@@ -6,7 +6,7 @@ use native.Mathlib.Omega.{arith}
 use Prim.Native.Nat.{_-_}
 use denote.Ref.{now}
 use Rattle.area.proofs.JudgeLaws.{judged-passed}
-use Rattle.area_move.proofs.TakeOutLaws.{Closing, close-start, close-long, close-count, close-next, close-end}
+use Rattle.area_move.proofs.TakeOutLaws.{Closing, close-start, close-long, close-fits, close-next, close-end}
 use Rattle.area_move.proofs.remove_at.Statement.{statement}
 use Rattle.area_move.proofs.remove_at.Tie as tie
 
@@ -19,12 +19,13 @@ abbrev μ-loop : tie.MeasureT-loop
 loop-holds : tie.Need-loop-holds Inv-loop μ-loop
 loop-holds c =
     let s = c .before .before .before in
-    close-start (now (s .args .area)) (s .args .place) _ (s .pre .0) (s .pre .1) (c .open-count .ensures)
+    close-start (now (s .args .area)) (s .args .place) _ (s .pre .0) (λ i. c .before .before .slice-known .given i .fits) (s .pre .1) (c .open-count .ensures)
 
 copy-transfer-requires : tie.Need-copy-transfer-requires Inv-loop μ-loop
 copy-transfer-requires c κs =
     let l = c .before .before .loop in
-    (close-long _ _ _ _ _ (l .inv), omega (arith, l .inv .few), omega (arith, l .inv .few), close-count _ _ _ _ _ (l .inv) (omega arith))
+    let fits = close-fits _ _ _ _ _ (l .inv) (omega arith) in
+    (close-long _ _ _ _ _ (l .inv), omega (arith, l .inv .few), omega (arith, l .inv .few), fits 1 (omega arith), omega (arith, fits 3 (omega arith)))
 
 loop-again : tie.Need-loop-again Inv-loop μ-loop
 loop-again c =

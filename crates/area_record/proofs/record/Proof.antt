@@ -8,7 +8,7 @@ use mathlib.Core.Bool.{Bool}
 use Rattle.table.specs.declared.Recorded.the-variants.{Accepted, Refused}
 use Rattle.area.specs.Judge.{judged}
 use Rattle.area_locate.specs.Locate.{unreadAs}
-use Rattle.area_record.proofs.DecideLaws.{passed, locate-asks, cut-asks, join-asks, steps-refused, steps-taken}
+use Rattle.area_record.proofs.DecideLaws.{passed, locate-asks, cut-asks, join-asks, keep-asks, steps-refused, steps-taken}
 use Rattle.area_record.proofs.record.Statement.{statement}
 use Rattle.area_record.proofs.record.Tie as tie
 
@@ -41,14 +41,28 @@ join-requires c κs =
     let b = l .before .before in
     join-asks _ _ _ (unread-is (b .before)) _ (b .brought .ensures) _ (l .locate .ensures) _ (k .cut .ensures) (omega arith)
 
-returns-2 : tie.Need-returns-2
-returns-2 c =
+keep-stamp-requires : tie.Need-keep-stamp-requires
+keep-stamp-requires c κs =
     let put = c .before .before .before in
     let j = put .before .before in
     let k = j .before .before .before .before in
     let l = k .before .before in
     let b = l .before .before in
-    let told = steps-taken _ _ _ (unread-is (b .before)) _ (b .brought .ensures) _ (l .locate .ensures) _ (k .cut .ensures) _ (j .join .ensures) (omega arith) _ (put .put-runs .ensures) in
+    let f = j .join .ensures .fits in
+    let brings = keep-asks _ _ _ (unread-is (b .before)) _ (b .brought .ensures) _ (l .locate .ensures) _ (k .cut .ensures) (omega arith) in
+    (omega arith, f .place-low, brings)
+
+returns-2 : tie.Need-returns-2
+returns-2 c =
+    let keep = c .before .before .before in
+    let put = keep .before .before .before .before in
+    let j = put .before .before in
+    let k = j .before .before .before .before in
+    let l = k .before .before in
+    let b = l .before .before in
+    let u = b .before in
+    let told = steps-taken _ _ _ (unread-is u) _ (b .brought .ensures) _ (l .locate .ensures) _ (k .cut .ensures)
+    (λ i. u .before .before .before .shared-slice-known .given i .fits) _ (j .join .ensures) (omega arith) _ _ (put .put-runs .ensures) (keep .keep-stamp .ensures) in
     (ap Accepted (c .receipt .ensures) ∙ told .0, told .1)
 
 pub record-spec : {M : Type 1} → statement M
@@ -57,5 +71,5 @@ record-spec =
     (tie.spec
     (λ c κs. search needs) (λ c κs. search needs) (λ c κs z. passed _ _ _ (unread-is c) z .1)
     (λ c κs. let b = c .before in locate-asks _ _ _ (unread-is (b .before)) _ (b .brought .ensures)) cut-requires (λ c κs. search needs)
-    (λ c. search needs) returns join-requires (λ c κs. let k = c .before .join .ensures .fits in search needs)
-    (λ c κs. c .before .before .before .before .join .ensures .fits .order) (λ c. search needs) returns-2)
+    (λ c. search needs) returns join-requires (λ c κs. let k = c .before .join .ensures .fits in search needs) keep-stamp-requires
+    (λ c κs. c .before .before .before .before .before .before .before .before .join .ensures .fits .order) (λ c. search needs) returns-2)

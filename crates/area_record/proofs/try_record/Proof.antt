@@ -41,8 +41,10 @@ returns-2 c =
     let k = j .before .before .before in
     let l = k .before in
     let b = l .before in
+    let u = b .before in
     ap Accepted (c .receipt .ensures)
-    ∙ steps-taken _ _ _ (unread-is (b .before)) _ (b .brought .ensures) _ (l .locate .ensures) _ (k .cut .ensures) _ (j .join .ensures) (omega arith) _ refl .0
+    ∙ steps-taken _ _ _ (unread-is u) _ (b .brought .ensures) _ (l .locate .ensures) _ (k .cut .ensures) (λ i. u .before .before .shared-slice-known2 .given i .fits)
+    _ (j .join .ensures) (omega arith) _ _ refl refl .0
 
 pub try-record-spec : {M : Type 1} → statement M
 try-record-spec =

@@ -48,27 +48,28 @@ used c =
 
 write-rows-requires : tie.Need-write-rows-requires
 write-rows-requires c κs =
-    let u = used (c .before .before .before) in
-    (rw (c .before .rows-at .ensures) (u .rows), rw (c .before .before .key-at .ensures) (u .width))
+    let u = used (c .before .before .before .before) in
+    (rw (c .before .rows-at .ensures) (u .rows), rw (c .before .before .before .key-at .ensures) (u .width))
 
 returns-3 : tie.Need-returns-3
 returns-3 c =
     let write-rows-place = c .before .before in
     let rows-at-place = write-rows-place .before .before in
-    let before-place = rows-at-place .before in
-    let e = before-place .before in
+    let kept-place = rows-at-place .before in
+    let key-place = kept-place .before in
+    let e = key-place .before in
     let f = e .before .before in
     let a = f .before .before .before .before .before .args in
     let p = f .find-place in
-    let k = before-place .key-at in
+    let k = key-place .key-at in
     let r = rows-at-place .rows-at in
     status-found (now (a .area)) (a .id) (a .skip) (a .unasked) (now (a .out)) (passed (f .before)) (p .result) (p .ensures) (is-open e)
-    (k .result) (r .result) (k .ensures) (r .ensures) _ _ (write-rows-place .write-rows .ensures .0) (write-rows-place .write-rows .ensures .1)
+    (k .result) (r .result) (k .ensures) (r .ensures) _ (kept-place .kept-at .ensures) _ _ (write-rows-place .write-rows .ensures .0) (write-rows-place .write-rows .ensures .1)
 
 pub write-status-spec : {M : Type 1} → statement M
 write-status-spec =
     tie.close
     (tie.spec
     (λ c κs. search needs) (λ c κs. search needs) returns (λ c κs. passed c) (λ c κs. search needs) returns-2
-    (λ c κs. let u = used c in (u .long, u .low)) (λ c κs. let u = used (c .before) in (u .long, u .low)) write-rows-requires
+    (λ c κs. let u = used c in (u .long, u .low)) (λ c κs. used (c .before)) (λ c κs. let u = used (c .before .before) in (u .long, u .low)) write-rows-requires
     (λ c. search needs) returns-3)

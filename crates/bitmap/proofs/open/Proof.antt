@@ -41,16 +41,17 @@ returns-3 c =
 
 returns-4 : tie.Need-returns-4
 returns-4 c =
-    let l = c .before .before .before in
+    let u = c .before in
+    let l = u .before .before .before in
     let k = l .before .before .before .before in
     let e = k .before .before in
     let a = e .before .before .before .before .before .args in
-    open-new (now (a .marks)) (now (a .packet)) (omega arith) (read e) (k .key-of .result) (key-is k) (omega arith) (c .reached-new .result) _
-    (c .reached-new .ensures) (l .clear .ensures)
+    open-new (now (a .marks)) (now (a .packet)) (omega arith) (read e) (k .key-of .result) (key-is k) (omega arith) (u .unstamped .result) (c .reached-new .result) _
+    (u .unstamped .ensures) (c .reached-new .ensures) (l .clear .ensures)
 
 pub open-spec : {M : Type 1} → statement M
 open-spec =
     tie.close
     (tie.spec
     (λ c κs. search needs) returns (λ c κs. search needs) (λ c κs. search needs) returns-2 (λ c κs. search needs) (λ c κs. search needs)
-    (λ c κs. search needs) returns-3 (λ c κs. search needs) (λ c κs. search needs) (λ c. search needs) returns-4)
+    (λ c κs. search needs) returns-3 (λ c κs. search needs) (λ c κs. search needs) (λ c κs. search needs) (λ c. search needs) returns-4)

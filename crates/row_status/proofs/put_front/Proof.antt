@@ -2,6 +2,7 @@
 -- Assumes nothing.
 use borrow.Author.Needs.{needs}
 use denote.Ref.{now}
+use Rattle.timestamp.specs.Timestamps.{keptOctets}
 use Rattle.run_rows.specs.Rows.{runsIn}
 use Rattle.row_status.proofs.FrontLaws.{front-put}
 use Rattle.row_status.proofs.put_front.Statement.{statement}
@@ -16,7 +17,7 @@ returns c =
     let a = u .before .before .before .before .args in
     front-put (a .key) (runsIn (now (a .buf)) (a .rows)) (a .partial) (a .unasked) _ _ _ _ _
     (u .before .is-complete .ensures) (u .unasked-or-complete .ensures) (p .progress-of .ensures) (e .edge-of .ensures) (r .response-sent .ensures)
-    (now (a .out)) _ (c .before .before .put-fields .ensures)
+    (keptOctets (a .kept)) (now (a .out)) _ (c .before .before .put-fields .ensures)
 
 pub put-front-spec : {M : Type 1} → statement M
 put-front-spec =

@@ -1,4 +1,4 @@
--- `success_status::status_flags` meets its contract: an or of the three parts is their sum.
+-- `success_status::status_flags` meets its contract: an or of the four parts is their sum.
 -- Assumes nothing.
 use Rattle.success_status.proofs.FlagLaws.{flags-or}
 use borrow.Author.Needs.{needs}
@@ -9,9 +9,11 @@ returns : tie.Need-returns
 returns c =
     let second = c .before in
     let first = second .before in
-    flags-or (first .before .args .f) (first .width-bits .result) (second .bit-of .result) (c .bit-of2 .result)
-    (first .width-bits .ensures) (second .bit-of .ensures) (c .bit-of2 .ensures)
+    let width = first .before in
+    let a = width .before .args in
+    flags-or (a .stamped) (a .f) (width .width-bits .result) (first .bit-of .result) (second .bit-of2 .result) (c .bit-of3 .result)
+    (width .width-bits .ensures) (first .bit-of .ensures) (second .bit-of2 .ensures) (c .bit-of3 .ensures)
 
 pub status-flags-spec : {M : Type 1} → statement M
 status-flags-spec =
-    tie.close (tie.spec (λ c κs. search needs) (λ c κs. search needs) (λ c κs. search needs) returns)
+    tie.close (tie.spec (λ c κs. search needs) (λ c κs. search needs) (λ c κs. search needs) (λ c κs. search needs) returns)

@@ -16,7 +16,7 @@ returns c = rw (lt-ltb 0 (c .before .args .skip) (omega arith))
 hole-room-requires : tie.Need-hole-room-requires
 hole-room-requires c κs =
     let a = c .before .args in
-    fields-room (a .width) (a .holes) (a .skip) (a .room) (c .before .pre .0) (c .before .pre .1)
+    fields-room (a .stamp) (a .width) (a .holes) (a .skip) (a .room) (c .before .pre .0) (c .before .pre .1) (c .before .pre .2)
 
 returns-2 : tie.Need-returns-2
 unfolding partialSent

@@ -24,13 +24,13 @@ returns-2 : tie.Need-returns-2
 unfolding sizeRefusal
 returns-2 c =
     let a = c .before .before .before .before .args in
-    rw (allowed (c .before .before), lt-ltb (a .room) (leastRoom (a .width) (a .holes)) (omega arith))
+    rw (allowed (c .before .before), lt-ltb (a .room) (leastRoom (a .stamp) (a .width) (a .holes)) (omega arith))
 
 returns-3 : tie.Need-returns-3
 unfolding sizeRefusal
 returns-3 c =
     let a = c .before .before .before .before .args in
-    rw (allowed (c .before .before), le-ltb (a .room) (leastRoom (a .width) (a .holes)) (omega arith))
+    rw (allowed (c .before .before), le-ltb (a .room) (leastRoom (a .stamp) (a .width) (a .holes)) (omega arith))
 
 pub size-refusal-spec : {M : Type 1} → statement M
 size-refusal-spec =

@@ -34,7 +34,11 @@ pub fn trial(check: &mut Check) -> Step {
                 continue;
             }
             let one = check.record(&mut desk, &packet)?;
-            let handed_back = if one.number == 0 { marked.transfer } else { Bitmap::default() };
+            let open = &desk.table.as_ref().expect("it holds one").transfers[&u64::from(file.id)];
+            let handed_back = match one.number {
+                0 => marked.transfer.keeping(open.timestamp),
+                _ => Bitmap::default(),
+            };
             let want = BitmapRecorded { recorded: one, transfer: handed_back };
             let other = check.bitmap_record(&mut marked, &packet)?;
             require(other == want, || differ(&one, &other, &packet, &desk, &marked))?;
@@ -106,10 +110,11 @@ fn statuses(check: &mut Check, desk: &Held, marked: &Marked, file: File) -> Step
     let id = u64::from(file.id);
     let open = desk.table.as_ref().and_then(|table| table.transfers.get(&id)).expect("it was opened");
     let (holes, d) = (open.received.holes().len() as u64, open.width);
+    let stamp = if open.timestamp.is_some() { 16 } else { 0 };
     for skip in (0..=holes + 1).chain([u64::MAX]) {
-        let size = |written: u64| 8 + 2 * d + 2 * d * written as usize;
+        let size = |written: u64| 8 + stamp + 2 * d + 2 * d * written as usize;
         let left = holes.saturating_sub(skip);
-        let rooms = [0, size(0) - 1, size(0), size(1) - 1, size(1), size(left) - 1, size(left), 2_100];
+        let rooms = [0, size(0) - 1, size(0), size(1) - 1, size(1), size(left) - 1, size(left), 2_110];
         let some = [check.rng.pick(&rooms), check.rng.place(0, size(left) + 40)];
         for &room in if holes < 4 { &rooms[..] } else { &some[..] } {
             let unasked = check.rng.pick(&[0, 1, u64::MAX]);

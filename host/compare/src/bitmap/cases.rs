@@ -7,7 +7,7 @@ use crate::bitmap::both;
 use crate::bitmap::held::{damage, Marked};
 use crate::check::{Check, Step};
 use crate::receiver::aim;
-use crate::receiver::files::{opening, received, File};
+use crate::receiver::files::{kept, opening, received, File};
 use crate::receiver::pass::{damaged_packet, opening_packet, recording_packet};
 use crate::rng::Rng;
 
@@ -38,7 +38,7 @@ pub fn short_file(rng: &mut Rng) -> File {
 fn states(check: &mut Check) -> Step {
     let file = short_file(&mut check.rng);
     let open = part_received(&mut check.rng, file);
-    let transfer = Bitmap { id: file.id.into(), width: open.width as u64, length: file.length };
+    let transfer = Bitmap::new(file.id.into(), open.width as u64, file.length).keeping(open.timestamp);
     let right = Marked::with_runs(transfer, open.received.runs(), &mut check.rng);
     let table = Table { transfers: [(file.id.into(), open)].into() };
     for _ in 0..check.rng.between(1, 8) {
@@ -57,7 +57,8 @@ fn part_received(rng: &mut Rng, file: File) -> Transfer {
         2 => most.saturating_sub(1),
         _ => most,
     };
-    Transfer { width: 2 << file.code, length: file.length, received: received(rng, file.length, runs) }
+    let received = received(rng, file.length, runs);
+    Transfer { received, timestamp: kept(rng), ..Transfer::new(2 << file.code, file.length) }
 }
 
 /// A call of any of the three functions; the table has what the transfer was before anything was wrong with it.

@@ -62,17 +62,21 @@ pub fn set(octets: &mut [u8], marks: impl IntoIterator<Item = u64>) {
 
 /// The transfer, and the runs of the marks, of which no more than some are shown.
 pub fn describe(transfer: Bitmap, octets: &[u8]) -> String {
-    let Bitmap { id, width, length } = transfer;
+    let Bitmap { id, width, length, stamped, stamp_high, stamp_low } = transfer;
     let runs = Marks::of(&octets[..octets.len().min(OCTETS)]).runs();
     let some: Vec<_> = runs.iter().take(70).map(|(start, stop)| format!("{start}..{stop}")).collect();
     let (count, some) = (runs.len(), some.join(", "));
-    format!("  Id {id:#x}, width {width}, length {length}\n  marks of {} octets, {count} runs: {some}", octets.len())
+    format!(
+        "  Id {id:#x}, width {width}, length {length}, timestamp {stamped:#x}, {stamp_high:016x} {stamp_low:016x}\n  \
+         marks of {} octets, {count} runs: {some}",
+        octets.len()
+    )
 }
 
 pub type Damage = fn(&mut Bitmap, &mut Vec<u8>, &mut Rng);
 
 /// Each way in which marks and a transfer don't go together, and some in which they do: another Id, another length above the
-/// marks, marks below the length, octets past the marks. The octets are long enough for all marks.
+/// marks, marks below the length, octets past the marks, any timestamp. The octets are long enough for all marks.
 pub const DAMAGES: &[Damage] = &[
     // Marks: at the length, next to it, far above it, the last one of all, and any.
     |transfer, octets, _| set_one(octets, transfer.length),
@@ -104,6 +108,10 @@ pub const DAMAGES: &[Damage] = &[
     // Another Id, and one over 32 bits.
     |transfer, _, rng| transfer.id ^= 1 << rng.below(32),
     |transfer, _, rng| transfer.id = rng.pick(&[transfer.id | 1 << 32, 1 << 32, transfer.id | 1 << 63, u64::MAX]),
+    // A timestamp: any number for yes, and halves that are not looked at.
+    |transfer, _, rng| transfer.stamped = rng.pick(&[0, 0, 1, 2, 256, 1 << 32, 1 << 63, u64::MAX]),
+    |transfer, _, rng| (transfer.stamp_high, transfer.stamp_low) = (rng.number(64), rng.number(64)),
+    |transfer, _, rng| (transfer.stamped, transfer.stamp_high, transfer.stamp_low) = (0, rng.any(), rng.any()),
     // Octets past the marks.
     |_, octets, rng| {
         let more = rng.place(1, 20);

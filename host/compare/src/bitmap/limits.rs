@@ -5,7 +5,7 @@ use crate::bitmap::held::Marked;
 use crate::check::{require, Check, Step};
 use crate::faults;
 use crate::packets::{last, with_entry_width, Beacon, Metadata};
-use crate::receiver::files::{opening, recording, File};
+use crate::receiver::files::{self, opening, recording, timestamp, File};
 
 /// All of it.
 pub fn run(check: &mut Check) -> Step {
@@ -17,12 +17,13 @@ pub fn run(check: &mut Check) -> Step {
     many_runs(check)?;
     last_octets(check)?;
     ends_of_numbers(check)?;
-    statuses(check)
+    statuses(check)?;
+    timestamps(check)
 }
 
 /// A transfer with Id 9.
 pub fn transfer(width: u64, length: u64) -> Bitmap {
-    Bitmap { id: 9, width, length }
+    Bitmap::new(9, width, length)
 }
 
 /// Each fault of a packet alone, with the number that it brings; and a BEACON, cut at each length.
@@ -206,32 +207,70 @@ fn ends_of_numbers(check: &mut Check) -> Step {
     Ok(())
 }
 
-/// Every k and the rooms at a limit, at each width, for transfers with no hole up to 64.
+/// Every k and the rooms at a limit, at each width, with and without a timestamp, for transfers with no hole up to 64.
 fn statuses(check: &mut Check) -> Step {
-    for code in 0..4 {
+    for (code, stamp) in (0..4).flat_map(|code| [(code, 0), (code, 16)]) {
         let d = 2usize << code;
         for holes in [0, 1, 2, 3, 63, 64] {
             let runs: Vec<_> = match holes {
                 0 => vec![(0, check.rng.pick(&[7, 200]))],
                 _ => (0..holes).map(|hole| (3 * hole + 1, 3 * hole + 2)).collect(),
             };
-            let marked = Marked::with_runs(transfer(d as u64, 200), runs, &mut check.rng);
+            let kept = (stamp > 0).then(|| timestamp(&mut check.rng));
+            let marked = Marked::with_runs(transfer(d as u64, 200).keeping(kept), runs, &mut check.rng);
             for skip in (0..=holes + 2).chain([1 << 32, 1 << 62, u64::MAX]) {
                 if holes > 10 && skip > 2 && skip < holes - 1 && !check.rng.one_in(16) {
                     continue;
                 }
                 let left = holes.saturating_sub(skip) as usize;
                 for written in [0, 1, 2, left / 2, left.saturating_sub(1), left, left + 1] {
-                    for room in [8 + 2 * d + 2 * d * written - 1, 8 + 2 * d + 2 * d * written] {
+                    let size = 8 + stamp + 2 * d + 2 * d * written;
+                    for room in [size - 1, size] {
                         let unasked = check.rng.pick(&[0, 1, 2, u64::MAX]);
                         check.bitmap_status(&marked, skip, unasked, room)?;
                     }
                 }
-                for room in [0, 7, 8, 9] {
+                for room in [0, 7, 8, 9, 8 + 2 * d, 24 + 2 * d - 1, 24 + 2 * d, 24 + 4 * d - 1] {
                     check.bitmap_status(&marked, skip, 0, room)?;
                 }
             }
         }
+    }
+    Ok(())
+}
+
+/// Timestamps in the record: each number for yes with halves of each kind, and DATA with one, without one, again and refused.
+fn timestamps(check: &mut Check) -> Step {
+    let numbers = [0, 1, 2, 3, 255, 256, 1 << 32, 1 + (1 << 32), 1 << 63, u64::MAX];
+    let halves = [0, 1, 0x0102_0304_0506_0708, 1 << 63, u64::MAX];
+    for (is, (high, low)) in numbers.into_iter().flat_map(|is| halves.map(|high| (is, (high, halves[2] ^ high)))) {
+        for code in 0..4 {
+            let transfer = Bitmap { stamped: is, stamp_high: high, stamp_low: low, ..transfer(2 << code, 300) };
+            let marked = Marked::with_runs(transfer, [(3, 5)], &mut check.rng);
+            for (offset, stamped) in [(3, false), (3, true), (20, false), (20, true), (300, true)] {
+                let mut marked = marked.clone();
+                let rng = &mut check.rng;
+                let octets = timestamp(rng);
+                let packet = recording(rng, 9, code, offset, 1, false);
+                let packet = if stamped { files::stamped(packet, octets) } else { files::bare(packet) };
+                let packet = packet.octets(rng);
+                let recorded = check.bitmap_record(&mut marked, &packet)?;
+                let kept = recorded.recorded.number == 0 && (stamped || is != 0);
+                require(recorded.transfer.stamped == u64::from(kept), || {
+                    format!("handed back with stamped {:#x}", recorded.transfer.stamped)
+                })?;
+                for room in [8 + 4 * (2 << code), 24 + 4 * (2 << code), 100] {
+                    check.bitmap_status(&marked, 0, 0, room)?;
+                }
+            }
+        }
+    }
+    for bit in 0..128 {
+        let mut marked = Marked::with_runs(transfer(2, 300), [(3, 5)], &mut check.rng);
+        let packet = recording(&mut check.rng, 9, 0, 4, 1, false);
+        let packet = files::stamped(packet, (1u128 << bit).to_be_bytes()).octets(&mut check.rng);
+        check.bitmap_record(&mut marked, &packet)?;
+        check.bitmap_status(&marked, 0, 0, 100)?;
     }
     Ok(())
 }

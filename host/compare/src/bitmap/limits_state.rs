@@ -43,7 +43,7 @@ fn areas(check: &mut Check) -> Step {
 /// Ids of the packet and of the transfer: equal, different in one bit, and over 32 bits.
 fn ids(check: &mut Check) -> Step {
     for id in (0..64).map(|bit| 9 ^ 1 << bit).chain([9, 0, u64::from(u32::MAX), 1 << 32, u64::MAX]) {
-        let mut marked = Marked::with_runs(Bitmap { id, width: 2, length: 300 }, [(2, 4)], &mut check.rng);
+        let mut marked = Marked::with_runs(Bitmap::new(id, 2, 300), [(2, 4)], &mut check.rng);
         let packet = recording(&mut check.rng, 9, 0, 3, 5, false).octets(&mut check.rng);
         let number = check.bitmap_record(&mut marked, &packet)?.recorded.number;
         require(number == if id == 9 { 0 } else { 12 }, || format!("DATA of Id 9 for Id {id:#x}: {number}"))?;
@@ -144,7 +144,7 @@ fn judged(check: &mut Check, marked: &Marked, refused: bool, what: &str) -> Step
     let code = (marked.transfer.width.clamp(2, 16).ilog2() - 1).min(3);
     let packet = recording(&mut check.rng, 9, code, 0, 1, false).octets(&mut check.rng);
     let recorded = check.bitmap_record(&mut marked.clone(), &packet)?.recorded.number;
-    let written = check.bitmap_status(marked, 0, 0, 2_100)?.number;
+    let written = check.bitmap_status(marked, 0, 0, 2_110)?.number;
     let as_wanted = |number: u64| (number == 22) == refused;
     require(as_wanted(recorded) && as_wanted(written), || format!("{what}: {recorded} and {written}"))
 }

@@ -60,6 +60,42 @@ wrong! {
     /// The transfer that is handed back has the edge for its length.
     EdgeHandedBack,
 
+    // The timestamp.
+    /// It is not renewed where one is kept.
+    FirstStampKept,
+    /// Sixteen zero octets are none.
+    ZerosForNone,
+    /// A repeat does not renew it.
+    RepeatLeavesStamp,
+    /// DATA without one forgets it.
+    BareForgetsStamp,
+    /// Its halves are handed back the other way round.
+    HalvesSwapped,
+    /// Each half is handed back with its lowest octet first.
+    HalvesTurned,
+    /// `stamped` is handed back as it came.
+    StampedAsItCame,
+    /// Halves are handed back where none is kept.
+    HalvesAsTheyCame,
+    /// Only 1 is yes.
+    OnlyOneIsYes,
+    /// The lowest octet of `stamped` alone says whether one is kept.
+    StampedByOctet,
+    /// Halves that aren't zero are yes.
+    HalvesAreYes,
+    /// A `stamped` over 1 is 22.
+    StampedJudged,
+    /// Bit 12 of METADATA, which says something else there, is taken for one.
+    EndedForStamp,
+    /// STATUS has none.
+    StampNotSent,
+    /// STATUS has bit 12 set where none is kept.
+    StampBitAlways,
+    /// STATUS has its halves the other way round.
+    HalvesSentSwapped,
+    /// STATUS into a buffer that is short by no more than it is not refused.
+    StampUncounted,
+
     // The runs absorbed.
     /// Runs that touch the packet are not counted.
     TouchingUncounted,
@@ -193,6 +229,17 @@ pub const BESIDE_THE_TABLE: &[Wrong] = &[
     LastOctetMissed,
     LastBitMissed,
     HoleToLength,
+    FirstStampKept,
+    ZerosForNone,
+    RepeatLeavesStamp,
+    BareForgetsStamp,
+    HalvesSwapped,
+    HalvesTurned,
+    EndedForStamp,
+    StampNotSent,
+    StampBitAlways,
+    HalvesSentSwapped,
+    StampUncounted,
 ];
 
 impl BitmapReceiver for Wrong {
@@ -201,7 +248,7 @@ impl BitmapReceiver for Wrong {
         let right = Paper.bitmap_open(marks, packet);
         let refused = |number, code| BitmapOpened { number, code, ..BitmapOpened::default() };
         let read = Paper.read(packet);
-        let of_packet = Bitmap { id: read.id, width: read.width, length: read.size };
+        let of_packet = Bitmap::new(read.id, read.width, read.size);
         let (accepted, metadata) = (right.number == 0, read.number == 0 && read.kind == 2);
         let opened = BitmapOpened { transfer: of_packet, ..BitmapOpened::default() };
         let wrong = match self {
@@ -238,6 +285,9 @@ impl BitmapReceiver for Wrong {
                 return BitmapOpened { transfer: Bitmap { width, ..right.transfer }, ..right };
             }
             EmptyNotComplete if accepted => return BitmapOpened { complete: 0, ..right },
+            EndedForStamp if accepted && packet[1] & 0x08 != 0 => {
+                return BitmapOpened { transfer: Bitmap { stamped: 1, ..right.transfer }, ..right };
+            }
             RefusedWithTransfer if !accepted => return BitmapOpened { transfer: of_packet, ..right },
             _ => return right,
         };
@@ -248,11 +298,11 @@ impl BitmapReceiver for Wrong {
     fn bitmap_record(&self, transfer: Bitmap, marks: &mut [u8], packet: &[u8]) -> BitmapRecorded {
         let before = marks.to_vec();
         if let Some((other, mut mended)) = self.mended(transfer, marks) {
-            let recorded = Paper.bitmap_record(other, &mut mended, packet).recorded;
+            let BitmapRecorded { recorded, transfer: handed_back } = Paper.bitmap_record(other, &mut mended, packet);
             if recorded.number == 0 {
                 marks.iter_mut().zip(&mended).for_each(|(octet, mended)| *octet |= mended);
             }
-            return answer(recorded, transfer);
+            return answer(recorded, Bitmap { width: transfer.width, length: transfer.length, ..handed_back });
         }
         if self == &LowestFirst {
             return turned(marks, |marks| Paper.bitmap_record(transfer, marks, packet));
@@ -271,11 +321,14 @@ impl BitmapReceiver for Wrong {
             (RefusedHandsBack, _) if right.recorded.number != 0 => BitmapRecorded { transfer, ..right },
             (NothingHandedBack, _) => BitmapRecorded { transfer: Bitmap::default(), ..right },
             (EdgeHandedBack, _) if right.recorded.number == 0 => {
-                answer(right.recorded, Bitmap { length: right.recorded.edge, ..transfer })
+                answer(right.recorded, Bitmap { length: right.recorded.edge, ..right.transfer })
+            }
+            (_, Ok(_)) if right.recorded.number == 0 && self.is_of_stamps() => {
+                answer(right.recorded, self.stamp_recorded(transfer, packet, right))
             }
             (_, Ok(received)) if read.number == 0 && read.kind == 3 => {
                 let recorded = self.record_to(transfer, &before, marks, packet, &received, right.recorded);
-                answer(recorded, transfer)
+                answer(recorded, if right.recorded.number == 0 { right.transfer } else { transfer })
             }
             _ => right,
         }
@@ -291,7 +344,8 @@ impl BitmapReceiver for Wrong {
         if let Some(number) = self.judged_wrongly(transfer, marks) {
             return Written { number, ..Written::default() };
         }
-        let right = Paper.bitmap_status(transfer, marks, skip, unasked, out);
+        let sent = if self == &StampNotSent { transfer.keeping(None) } else { transfer };
+        let right = Paper.bitmap_status(sent, marks, skip, unasked, out);
         let long_id = transfer.id >= 1 << 32;
         let short_id = Bitmap { id: transfer.id % (1 << 32), ..transfer };
         match self {
@@ -311,12 +365,52 @@ impl BitmapReceiver for Wrong {
                 right
             }
             HoleToLength if right.number == 0 => hole_to_length(transfer, marks, right, out),
+            StampBitAlways if right.number == 0 => {
+                out[1] |= 0x08;
+                right
+            }
+            HalvesSentSwapped if right.number == 0 && transfer.stamped != 0 => {
+                out[8..24].rotate_left(8);
+                right
+            }
+            StampUncounted if right.number == 20 && transfer.stamped != 0 => {
+                let bare = Bitmap { stamped: 0, ..transfer };
+                let written = Paper.bitmap_status(bare, marks, skip, unasked, &mut out.to_vec());
+                Written { size: if written.number == 0 { written.size + 16 } else { 0 }, ..written }
+            }
             _ => right,
         }
     }
 }
 
 impl Wrong {
+    /// Whether the timestamp that an accepted recording hands back is what is wrong.
+    fn is_of_stamps(self) -> bool {
+        let kept = [FirstStampKept, ZerosForNone, RepeatLeavesStamp, BareForgetsStamp];
+        let handed_back = [HalvesSwapped, HalvesTurned, StampedAsItCame, HalvesAsTheyCame];
+        kept.contains(&self) || handed_back.contains(&self)
+    }
+
+    /// The transfer that an accepted recording hands back.
+    fn stamp_recorded(self, came: Bitmap, packet: &[u8], right: BitmapRecorded) -> Bitmap {
+        let (back, stamped) = (right.transfer, packet[1] & 0x08 != 0);
+        let (high, low) = (back.stamp_high, back.stamp_low);
+        let left = back.keeping(came.timestamp());
+        match self {
+            FirstStampKept if came.stamped != 0 => left,
+            ZerosForNone if stamped && (high, low) == (0, 0) => left,
+            RepeatLeavesStamp if right.recorded.adds == 0 => left,
+            BareForgetsStamp if !stamped => back.keeping(None),
+            HalvesSwapped => Bitmap { stamp_high: low, stamp_low: high, ..back },
+            HalvesTurned => Bitmap { stamp_high: high.swap_bytes(), stamp_low: low.swap_bytes(), ..back },
+            StampedAsItCame if !stamped => Bitmap { stamped: came.stamped, ..back },
+            HalvesAsTheyCame if back.stamped == 0 => {
+                Bitmap { stamp_high: came.stamp_high, stamp_low: came.stamp_low, ..back }
+            }
+            _ => back,
+        }
+    }
+
     /// Recording DATA over marks that go with the transfer: what is wrong with the answer, or with the marks.
     fn record_to(
         self,
@@ -423,6 +517,7 @@ impl Wrong {
             (SixteenRefused, Ok(_)) => wide.then_some(22),
             (LongestNotTaken, Ok(_)) => (transfer.length == 65_535).then_some(22),
             (LongerRefused, Ok(_)) => (marks.len() > OCTETS).then_some(22),
+            (StampedJudged, Ok(_)) => (transfer.stamped > 1).then_some(22),
             _ => None,
         }
     }
@@ -448,6 +543,9 @@ impl Wrong {
             }
             AnyWidthTaken if ![2, 4, 8, 16].contains(&transfer.width) => other.width = 4,
             LongerTaken if transfer.length == 65_536 => other.length = 65_535,
+            OnlyOneIsYes => other.stamped = u64::from(transfer.stamped == 1),
+            StampedByOctet => other.stamped %= 256,
+            HalvesAreYes => other.stamped |= transfer.stamp_high | transfer.stamp_low,
             RunsEndWithOctets => (8..65_536).step_by(8).for_each(|mark| clear(&mut mended, [mark])),
             LastOctetMissed => mended[OCTETS - 1] = 0,
             LastBitMissed => {

@@ -84,8 +84,9 @@ pub fn id(rng: &mut Rng, table: &Table, files: &[File]) -> u64 {
 
 /// A STATUS to ask for, with room around what matters.
 pub fn status(rng: &mut Rng, table: &Table, id: u64) -> (Ask, usize) {
-    let (holes, d) =
-        table.transfers.get(&id).map_or((0, 2), |transfer| (transfer.received.holes().len(), transfer.width));
+    let (holes, d, stamp) = table.transfers.get(&id).map_or((0, 2, 0), |transfer| {
+        (transfer.received.holes().len(), transfer.width, if transfer.timestamp.is_some() { 16 } else { 0 })
+    });
     let skip = match rng.below(12) {
         0..=4 => 0,
         5 => holes.saturating_sub(1) as u64,
@@ -96,8 +97,9 @@ pub fn status(rng: &mut Rng, table: &Table, id: u64) -> (Ask, usize) {
         _ => rng.between(0, holes as u64),
     };
     let left = holes.saturating_sub(skip.min(64) as usize);
-    let size = |written: usize| 8 + 2 * d + 2 * d * written;
-    let room = match rng.below(10) {
+    let bare = |written: usize| 8 + 2 * d + 2 * d * written;
+    let size = |written: usize| stamp + bare(written);
+    let room = match rng.below(12) {
         0 => rng.pick(&[0, 1, 7, 8]),
         1 => size(0) - 1,
         2 => size(0),
@@ -107,7 +109,10 @@ pub fn status(rng: &mut Rng, table: &Table, id: u64) -> (Ask, usize) {
         6 => size(left) - 1,
         7 => size(left.saturating_sub(1)),
         8 => rng.place(0, size(left) + 40),
-        _ => 2_088 + rng.place(0, 40),
+        // As if there were no timestamp, and as if there were one.
+        9 => bare(rng.pick(&[0, 1, left])) + rng.pick(&[0, 15, 16]),
+        10 => bare(rng.pick(&[0, 1, left])) - 1 + rng.pick(&[0, 16]),
+        _ => 2_104 + rng.place(0, 40),
     };
     let unasked = rng.pick(&[0, 0, 0, 1, 1, 2, 1 << 32, u64::MAX]);
     (Ask { id, skip, unasked }, room)

@@ -148,22 +148,25 @@ impl Check<'_> {
         Ok(got)
     }
 
-    /// "A STATUS that the desk wrote reads back with its fields and holes."
+    /// "A STATUS that the desk wrote reads back with its fields and holes", and with the timestamp.
     fn read_back(&mut self, held: &Held, ask: Ask, status: &[u8]) -> Step {
         let table = held.table.as_ref().expect("a STATUS was written");
         let transfer = &table.transfers[&ask.id];
         let holes = &transfer.received.holes()[ask.skip as usize..];
-        let (d, holes_at) = (transfer.width, 8 + 2 * transfer.width);
+        let stamped = transfer.timestamp.is_some();
+        let stamp = if stamped { 16 } else { 0 };
+        let (d, holes_at) = (transfer.width, 8 + stamp + 2 * transfer.width);
         let written = (status.len() - holes_at) / (2 * d);
         let incomplete = ask.skip > 0 || written < holes.len();
         let unasked = ask.unasked != 0 || transfer.state().complete;
         let width_bits = u64::from(d.ilog2()) - 1;
         let want = Packet {
             kind: 4,
-            flags: width_bits << 22 | u64::from(incomplete) << 17 | u64::from(unasked) << 16,
+            flags: width_bits << 22 | u64::from(stamped) << 19 | u64::from(incomplete) << 17 | u64::from(unasked) << 16,
             id: ask.id,
             width: d as u64,
             timestamp_at: 8,
+            timestamp_len: stamp as u64,
             progress: transfer.received.lowest_missing(),
             in_response_to: in_response_to(transfer.state(), transfer.length),
             holes_at: holes_at as u64,
@@ -174,6 +177,8 @@ impl Check<'_> {
         require(read == want, || {
             format!("the STATUS reads otherwise\n  {read:?}\n  {want:?}\n{}", describe_packet(status))
         })?;
+        let octets = transfer.timestamp.is_none_or(|octets| status[8..24] == octets);
+        require(octets, || format!("the STATUS has another timestamp\n{}", describe_packet(status)))?;
         for (index, &(start, end)) in holes[..written].iter().enumerate() {
             let hole = self.read_hole(status, index as u64)?;
             require((hole.number, hole.start, hole.end) == (0, start, end), || {

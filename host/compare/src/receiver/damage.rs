@@ -120,11 +120,30 @@ pub const ALL: &[Damage] = &[
             set(area, side(i, next), one);
         }
     },
-    // Unused words: all of them, the next head, the next transfer's runs, and an open transfer's next ones.
+    // 9: whether a timestamp is kept; its octets, which may be any; and a timestamp more or less.
+    |area, rng| {
+        let i = transfer(area, rng);
+        set(
+            area,
+            stamped(i),
+            rng.pick(&[2, 3, 16, 255, 256, 1 << 32, 1 + (1 << 32), 1 << 56, 1 + (1 << 63), u64::MAX]),
+        );
+    },
+    |area, rng| {
+        let i = transfer(area, rng);
+        let any = rng.any();
+        set(area, half(i, rng.place(0, 1)), rng.pick(&[0, 1, 1 << 56, any]));
+    },
+    |area, rng| {
+        let i = transfer(area, rng);
+        set(area, stamped(i), rng.below(2));
+    },
+    // Unused words: all of them, the next head, the next transfer's runs and timestamp, and an open transfer's next runs.
     |area, rng| fill_unused(area, rng),
     |area, rng| {
         let i = (get(area, COUNT) as usize).min(15);
-        let word = rng.pick(&[id(i), width(i), length(i), run_count(i), start(i, 0), stop(i, 0)]);
+        let head = rng.pick(&[id(i), width(i), length(i), run_count(i), stamped(i)]);
+        let word = rng.pick(&[head, head, start(i, 0), stop(i, 0), half(i, 0), half(i, 1)]);
         set(area, word, rng.pick(&[0, 1, 2, 8, 1 << 56, u64::MAX]));
     },
     |area, rng| {
@@ -159,6 +178,8 @@ pub const ALL: &[Damage] = &[
             width: rng.pick(&[2, 4, 8, 16]),
             length: rng.between(65_000, 66_000),
             runs: vec![(1, 2), (4, 65_000)],
+            stamped: rng.below(3),
+            halves: [rng.any(), rng.any()],
         };
         store_at(i, &new, area);
         set(area, COUNT, i as u64 + 1);

@@ -2,10 +2,11 @@
 
 use std::collections::BTreeSet;
 
+use paper::layout::Timestamp;
 use paper::received::Received;
 use paper::table::{Table, Transfer};
 
-use crate::packets::{last, with_entry_width, with_width, Data, Ending, Metadata, Start, Upper};
+use crate::packets::{last, with_entry_width, with_width, Data, Ending, Metadata, Start, Upper, TIMESTAMP};
 use crate::rng::Rng;
 
 pub const END_OF_DATA: u32 = 1 << (31 - 16);
@@ -69,15 +70,47 @@ pub fn opening(rng: &mut Rng, file: File) -> Metadata {
     packet
 }
 
-/// DATA with `len` octets; timestamp and flags without a rule are random.
+/// DATA with `len` octets; one in four has a timestamp, and flags without a rule are random.
 pub fn recording(rng: &mut Rng, id: u32, code: u32, offset: u64, len: usize, end_of_data: bool) -> Data {
-    let stamped = rng.one_in(4);
     let flags = with_width(rng.any() as u32 & 0x0007_7FFF, code);
-    let flags = flags | if stamped { 1 << (31 - 12) } else { 0 } | if end_of_data { END_OF_DATA } else { 0 };
-    let timestamp = rng.octets(if stamped { 16 } else { 0 });
+    let flags = flags | if end_of_data { END_OF_DATA } else { 0 };
     let payload = vec![rng.any() as u8; len];
     let start = Start { first: 0x43, flags, id };
-    Data { start, timestamp, offset, payload, upper: Upper::default(), ending: Ending::Whole }
+    let packet = Data { start, timestamp: vec![], offset, payload, upper: Upper::default(), ending: Ending::Whole };
+    match rng.one_in(4) {
+        true => stamped(packet, timestamp(rng)),
+        false => packet,
+    }
+}
+
+/// The same with this timestamp, and without one.
+pub fn stamped(mut packet: Data, timestamp: Timestamp) -> Data {
+    packet.start.flags |= TIMESTAMP;
+    packet.timestamp = timestamp.to_vec();
+    packet
+}
+
+pub fn bare(mut packet: Data) -> Data {
+    packet.start.flags &= !TIMESTAMP;
+    packet.timestamp.clear();
+    packet
+}
+
+/// Any sixteen octets: all zero, few that aren't, or random.
+pub fn timestamp(rng: &mut Rng) -> Timestamp {
+    let octets = match rng.below(6) {
+        0 => 0,
+        1 => 1 << rng.below(128),
+        2 => u128::MAX,
+        3 => u128::from(rng.any()) << rng.pick(&[0, 64]),
+        _ => u128::from(rng.any()) << 64 | u128::from(rng.any()),
+    };
+    octets.to_be_bytes()
+}
+
+/// One that a transfer keeps, or none.
+pub fn kept(rng: &mut Rng) -> Option<Timestamp> {
+    rng.one_in(2).then(|| timestamp(rng))
 }
 
 /// The most octets of payload that a packet holds, of any width and with a timestamp.
@@ -104,7 +137,8 @@ fn transfer(rng: &mut Rng, file: File) -> Transfer {
         3 => rng.place(0, most),
         _ => most,
     };
-    Transfer { width: 2 << file.code, length: file.length, received: received(rng, file.length, runs.min(most)) }
+    let received = received(rng, file.length, runs.min(most));
+    Transfer { width: 2 << file.code, length: file.length, received, timestamp: kept(rng) }
 }
 
 /// `count` runs below `length`: close together at some place, or anywhere.

@@ -89,7 +89,7 @@ pub fn fill_unused(area: &mut [u8], rng: &mut Rng) {
     words::store(&used, area);
 }
 
-/// A transfer as it could be left in an unused place: an Id that is likely to be asked for, and 64 runs.
+/// A transfer as it could be left in an unused place: an Id that is likely to be asked for, 64 runs, and a timestamp or none.
 fn likely(used: &[Entry], rng: &mut Rng) -> Entry {
     let id = match used {
         [first, ..] if rng.one_in(2) => first.id ^ rng.below(64),
@@ -97,5 +97,6 @@ fn likely(used: &[Entry], rng: &mut Rng) -> Entry {
     };
     let base = rng.between(0, 300);
     let runs = (0..words::RUNS as u64).map(|run| (base + 3 * run, base + 3 * run + rng.between(1, 2))).collect();
-    Entry { id, width: rng.pick(&[2, 4, 8, 16]), length: rng.between(1_000, 65_535), runs }
+    let (stamped, halves) = (rng.below(2), [rng.any(), rng.any()]);
+    Entry { id, width: rng.pick(&[2, 4, 8, 16]), length: rng.between(1_000, 65_535), runs, stamped, halves }
 }

@@ -7,7 +7,7 @@ use paper::table::{Table, Transfer};
 use crate::check::{require, Check, Step};
 use crate::faults;
 use crate::packets::{last, with_entry_width, with_width, Beacon, Ending};
-use crate::receiver::files::{opening, recording, File};
+use crate::receiver::files::{opening, recording, timestamp, File};
 use crate::receiver::held::{fill_unused, Held};
 use crate::receiver::pass::empty;
 use crate::receiver::{words, Ask};
@@ -33,7 +33,7 @@ pub fn one(id: u32, width: usize, length: u64, runs: &[(u64, u64)]) -> Table {
     for &(start, stop) in runs {
         received.add(start, stop);
     }
-    Table { transfers: [(u64::from(id), Transfer { width, length, received })].into() }
+    Table { transfers: [(u64::from(id), Transfer { received, ..Transfer::new(width, length) })].into() }
 }
 
 /// Every length at a limit, at each width: opened, opened again, opened otherwise, recorded to and closed.
@@ -180,30 +180,34 @@ fn ends_of_numbers(check: &mut Check) -> Step {
     Ok(())
 }
 
-/// Every k and every room at a limit, at each width, for transfers with no hole up to 64.
+/// Every k and every room at a limit, at each width, with and without a timestamp, for transfers with no hole up to 64.
 fn statuses(check: &mut Check) -> Step {
-    for code in 0..4 {
+    for (code, stamp) in (0..4).flat_map(|code| [(code, 0), (code, 16)]) {
         let d = 2usize << code;
         for holes in [0, 1, 2, 3, 63, 64] {
             let runs: Vec<_> = (0..holes).map(|hole| (3 * hole + 1, 3 * hole + 2)).collect();
             let complete = [(0, 200)];
-            let held = match (holes, check.rng.one_in(2)) {
+            let mut held = match (holes, check.rng.one_in(2)) {
                 (0, true) => one(9, d, 200, &complete),
                 (0, false) => one(9, d, 200, &[(0, 7)]),
                 _ => one(9, d, 200, &runs),
             };
+            let kept = (stamp > 0).then(|| timestamp(&mut check.rng));
+            held.transfers.get_mut(&9).expect("it is open").timestamp = kept;
             let held = Held::holding(held, &mut check.rng);
             for skip in (0..=holes + 2).chain([1 << 32, 1 << 62, u64::MAX]) {
                 if holes > 10 && skip > 3 && skip < holes - 2 && !check.rng.one_in(8) {
                     continue;
                 }
                 for written in 0..=holes as usize + 1 {
-                    for room in [8 + 2 * d + 2 * d * written - 1, 8 + 2 * d + 2 * d * written] {
+                    let size = 8 + stamp + 2 * d + 2 * d * written;
+                    for room in [size - 1, size] {
                         let unasked = check.rng.pick(&[0, 1, 2, u64::MAX]);
                         check.write_status(&held, Ask { id: 9, skip, unasked }, room)?;
                     }
                 }
-                for room in [0, 1, 7, 8, 9] {
+                for room in [0, 1, 7, 8, 9, 8 + 2 * d - 1, 8 + 2 * d, 8 + 4 * d, 24 + 2 * d - 1, 24 + 2 * d, 24 + 4 * d]
+                {
                     check.write_status(&held, Ask { id: 9, skip, unasked: 0 }, room)?;
                 }
                 check.write_status(&held, Ask { id: 10, skip, unasked: 0 }, 100)?;

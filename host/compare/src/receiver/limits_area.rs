@@ -5,7 +5,7 @@ use paper::table::{Table, Transfer};
 
 use crate::check::{require, Check, Step};
 use crate::receiver::damage;
-use crate::receiver::files::{files, opening, received, recording, table, File};
+use crate::receiver::files::{files, kept, opening, received, recording, table, File};
 use crate::receiver::held::{fill_unused, Held};
 use crate::receiver::pass::any_call;
 use crate::receiver::words::OCTETS;
@@ -114,7 +114,8 @@ fn transfers_moved(check: &mut Check) -> Step {
         for i in 0..open {
             let runs = check.rng.pick(&[0, 1, 2, 3, 40, 63, 64]);
             let received = received(&mut check.rng, 400, runs);
-            table.transfers.insert(10 * i + 10, Transfer { width: 2, length: 400, received });
+            let timestamp = kept(&mut check.rng);
+            table.transfers.insert(10 * i + 10, Transfer { received, timestamp, ..Transfer::new(2, 400) });
         }
         let held = Held::holding(table, &mut check.rng);
         for place in 0..=open {
@@ -145,7 +146,8 @@ fn runs_moved(check: &mut Check) -> Step {
         }
         let others = [(3, 5), (12, 64)].map(|(id, runs)| {
             let received = received(&mut check.rng, 400, runs);
-            (id, Transfer { width: 2, length: 400, received })
+            let timestamp = kept(&mut check.rng);
+            (id, Transfer { received, timestamp, ..Transfer::new(2, 400) })
         });
         table.transfers.extend(others);
         let held = Held::holding(table, &mut check.rng);
@@ -156,7 +158,7 @@ fn runs_moved(check: &mut Check) -> Step {
                 let packet = recording(&mut check.rng, 9, 1, offset, len as usize, false).octets(&mut check.rng);
                 check.record(&mut recorded, &packet)?;
                 let seen = refilled(check, &recorded);
-                check.write_status(&seen, Ask { id: 9, skip: 0, unasked: 0 }, 2_088)?;
+                check.write_status(&seen, Ask { id: 9, skip: 0, unasked: 0 }, 2_104)?;
             }
         }
     }

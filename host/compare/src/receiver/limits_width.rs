@@ -5,7 +5,7 @@ use paper::table::Table;
 use crate::check::{require, Check, Step};
 use crate::faults::{self, upper};
 use crate::packets::{with_entry_width, with_width};
-use crate::receiver::files::{opening, recording, File};
+use crate::receiver::files::{opening, recording, timestamp, File};
 use crate::receiver::held::Held;
 use crate::receiver::limits::one;
 use crate::receiver::{words, Ask};
@@ -35,7 +35,7 @@ fn mixed(check: &mut Check) -> Step {
             let packet = opening(&mut check.rng, File { id, code, length: 300 + round }).octets(&mut check.rng);
             let number = check.open(&mut held, &packet)?.number;
             require(number == if id == code { 0 } else { 18 }, || format!("METADATA of {code} for {id}: {number}"))?;
-            for room in [71, 72, 8 + 6 * (2 << id), 2_088] {
+            for room in [71, 72, 8 + 6 * (2 << id), 24 + 6 * (2 << id), 2_104] {
                 check.write_status(&held, Ask { id: id.into(), skip: 0, unasked: 0 }, room)?;
             }
             check.transfer(&held, id.into())?;
@@ -67,13 +67,16 @@ fn widths_in_areas(check: &mut Check) -> Step {
     Ok(())
 }
 
-/// 64 holes at each width: the longest STATUS of all has 2,088 octets.
+/// 64 holes at each width, with and without a timestamp: the longest STATUS of all has 2,104 octets.
 fn longest_status(check: &mut Check) -> Step {
-    for width in [2, 4, 8, 16] {
+    for (width, stamp) in [2, 4, 8, 16].into_iter().flat_map(|width| [(width, 0), (width, 16)]) {
         let runs: Vec<_> = (0..64).map(|run| (3 * run + 1, 3 * run + 2)).collect();
-        let held = Held::holding(one(9, width, 200, &runs), &mut check.rng);
-        let longest = 8 + 2 * width + 2 * width * 64;
-        for room in [longest - 1, longest, longest + 1, 2_087, 2_088] {
+        let mut table = one(9, width, 200, &runs);
+        let kept = (stamp > 0).then(|| timestamp(&mut check.rng));
+        table.transfers.get_mut(&9).expect("it is open").timestamp = kept;
+        let held = Held::holding(table, &mut check.rng);
+        let longest = 8 + stamp + 2 * width + 2 * width * 64;
+        for room in [longest - 1, longest, longest + 1, 2_103, 2_104] {
             let written = check.write_status(&held, Ask { id: 9, skip: 0, unasked: 0 }, room)?;
             let want = if room < longest { longest - 2 * width } else { longest };
             require(written.size as usize == want, || format!("{} octets into {room}, not {want}", written.size))?;

@@ -7,6 +7,7 @@ pub mod files;
 pub mod held;
 pub mod limits;
 pub mod limits_area;
+pub mod limits_stamp;
 pub mod limits_width;
 pub mod orders;
 pub mod pass;
@@ -15,6 +16,7 @@ pub mod wrong;
 pub mod wrong_areas;
 pub mod wrong_calls;
 pub mod wrong_counts;
+pub mod wrong_stamps;
 
 use paper::area;
 

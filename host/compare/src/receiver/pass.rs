@@ -9,6 +9,7 @@ use crate::packets::Ending;
 use crate::random::{extend, flip, senseless_packet, spoil, valid_packet};
 use crate::receiver::files::{file, files, opening, recording, table, File};
 use crate::receiver::held::Held;
+use crate::receiver::words::OCTETS;
 use crate::receiver::{aim, damage, orders};
 use crate::rng::Rng;
 
@@ -101,7 +102,7 @@ fn step(check: &mut Check, held: &mut Held, files: &[File]) -> Step {
         }
         _ if rng.one_in(10) => drop(check.fresh(held)?),
         _ => {
-            let mut short = held.changed(rng, |area, rng| area.truncate(rng.place(0, 16_903)));
+            let mut short = held.changed(rng, |area, rng| area.truncate(rng.place(0, OCTETS - 1)));
             check.fresh(&mut short)?;
         }
     }

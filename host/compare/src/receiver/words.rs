@@ -4,8 +4,8 @@
 use std::ops::Range;
 
 /// Words and octets of the layout, and places for transfers and for the runs of each.
-pub const WORDS: usize = 2_113;
-pub const OCTETS: usize = 16_904;
+pub const WORDS: usize = 2_161;
+pub const OCTETS: usize = 17_288;
 pub const TRANSFERS: usize = 16;
 pub const RUNS: usize = 64;
 
@@ -14,28 +14,37 @@ pub const COUNT: usize = 0;
 
 /// The head of transfer i, by its fields.
 pub fn id(i: usize) -> usize {
-    1 + 4 * i
+    1 + 5 * i
 }
 
 pub fn width(i: usize) -> usize {
-    2 + 4 * i
+    2 + 5 * i
 }
 
 pub fn length(i: usize) -> usize {
-    3 + 4 * i
+    3 + 5 * i
 }
 
 pub fn run_count(i: usize) -> usize {
-    4 + 4 * i
+    4 + 5 * i
+}
+
+pub fn stamped(i: usize) -> usize {
+    5 + 5 * i
 }
 
 /// Run j of transfer i.
 pub fn start(i: usize, j: usize) -> usize {
-    65 + RUNS * i + j
+    81 + RUNS * i + j
 }
 
 pub fn stop(i: usize, j: usize) -> usize {
-    1_089 + RUNS * i + j
+    1_105 + RUNS * i + j
+}
+
+/// Half h of its timestamp: the first eight octets, and the last.
+pub fn half(i: usize, h: usize) -> usize {
+    2_129 + 2 * i + h
 }
 
 pub fn get(area: &[u8], word: usize) -> u64 {
@@ -63,6 +72,10 @@ pub struct Entry {
     pub width: u64,
     pub length: u64,
     pub runs: Vec<(u64, u64)>,
+    /// 1 where a timestamp is kept, 0 where none is.
+    pub stamped: u64,
+    /// The two words of the timestamp: stored where the word above is 1, and read always.
+    pub halves: [u64; 2],
 }
 
 /// The transfers that the counts speak of; none where there is no room for so many transfers or runs.
@@ -74,6 +87,8 @@ pub fn entries(area: &[u8]) -> Option<Vec<Entry>> {
             width: get(area, width(i)),
             length: get(area, length(i)),
             runs: (0..count(area, run_count(i), RUNS)?).map(run).collect(),
+            stamped: get(area, stamped(i)),
+            halves: [0, 1].map(|h| get(area, half(i, h))),
         })
     };
     (0..count(area, COUNT, TRANSFERS)?).map(entry).collect()
@@ -98,6 +113,11 @@ pub fn store_at(i: usize, entry: &Entry, area: &mut [u8]) {
     set(area, width(i), entry.width);
     set(area, length(i), entry.length);
     set(area, run_count(i), entry.runs.len() as u64);
+    set(area, stamped(i), entry.stamped);
+    if entry.stamped == 1 {
+        set(area, half(i, 0), entry.halves[0]);
+        set(area, half(i, 1), entry.halves[1]);
+    }
     for (j, &run) in entry.runs.iter().enumerate() {
         set(area, start(i, j), run.0);
         set(area, stop(i, j), run.1);
@@ -115,6 +135,8 @@ pub fn describe(area: &[u8]) -> String {
         let runs = (0..count.min(RUNS as u64) as usize).map(|j| (get(area, start(i, j)), get(area, stop(i, j))));
         let runs: Vec<_> = runs.map(|(start, stop)| format!("{start:#x}..{stop:#x}")).collect();
         lines.push(format!("    Id {id:#x}, width {width}, length {length:#x}, {count} runs: {}", runs.join(", ")));
+        let octets: String = area[8 * half(i, 0)..][..16].iter().map(|octet| format!("{octet:02x}")).collect();
+        lines.push(format!("      timestamp: {:#x}, {octets}", get(area, stamped(i))));
     }
     lines.join("\n")
 }

@@ -183,6 +183,68 @@ wrong! {
     /// A transfer of 128 bits has its STATUS in 64.
     StatusNarrower,
 
+    // The timestamp: what is kept.
+    /// A refused packet's is kept.
+    StampOnRefusal,
+    /// Sixteen zero octets are none.
+    ZerosForNone,
+    /// The first is kept, and not the last.
+    FirstStampKept,
+    /// A repeat does not renew it.
+    RepeatLeavesStamp,
+    /// DATA without one forgets it.
+    BareForgetsStamp,
+    /// It is kept for another Id: that of a neighbour in the table.
+    StampOfNeighbour,
+    /// Its last octet is lost.
+    LastOctetOfStamp,
+    /// "Already open" forgets it.
+    AgainForgetsStamp,
+    /// An Id that is closed and opened again has the one that it had.
+    ReopenedKeepsStamp,
+    /// Bit 12 of METADATA, which says something else there, is taken for one.
+    EndedForStamp,
+
+    // What is sent of it.
+    /// Bit 12 is set where none is kept.
+    StampBitAlways,
+    /// Bit 12 is clear where one is sent.
+    StampBitClear,
+    /// None is sent.
+    NeverSent,
+    /// Sixteen zero octets are not sent.
+    ZerosNotSent,
+    /// Sixteen zero octets are sent where none is kept.
+    ZerosSent,
+    /// The first open transfer's is sent.
+    OthersStampSent,
+    /// Its halves are sent the other way round.
+    HalvesSentSwapped,
+    /// It stands after Progress and In-Response-To.
+    StampAfterFields,
+    /// Its place is left as it was.
+    StampLeft,
+    /// Its last octet's place is left as it was.
+    LastStampOctetLeft,
+    /// The octet after a STATUS with one is changed.
+    OctetAfterStamp,
+    /// 20 does not count it.
+    StampUncounted,
+    /// The holes that fit do not count it.
+    HolesForgetStamp,
+    /// Room for one is asked for where none is kept.
+    StampCountedAlways,
+
+    // What is listed of it.
+    /// None is listed.
+    StampUnlisted,
+    /// A transfer that is found by its Id has none.
+    FoundUnstamped,
+    /// Sixteen zero octets are listed as none.
+    ZerosUnlisted,
+    /// One is listed where there are runs.
+    StampByRuns,
+
     // The area.
     /// The reader's refusals before 22.
     PacketBeforeArea,
@@ -226,6 +288,18 @@ wrong! {
     LengthHighestFirst,
     /// Heads stand by their fields: first all Ids, then all widths.
     HeadsByField,
+    /// The halves of a timestamp stand the other way round.
+    HalvesStoredSwapped,
+    /// The octets of a timestamp are stored as those of two numbers: in each half the last comes first.
+    HalvesTurned,
+    /// Timestamps stand by their halves: first all first ones, then all last ones.
+    StampsByHalf,
+    /// 2 says that a timestamp is kept.
+    TwoTaken,
+    /// A number over 1 says that none is kept.
+    OthersTakenForNone,
+    /// The lowest octet of the word alone says whether one is kept.
+    StampedByOctet,
 
     // The places that nothing uses.
     /// The head after the last open transfer must be zero.
@@ -238,6 +312,8 @@ wrong! {
     StrayRowRefused,
     /// The last word must be zero where it isn't used.
     LastWordRefused,
+    /// The words of a timestamp must be zero where none is kept.
+    StrayHalvesRefused,
     /// An Id is found in a head without a transfer.
     UnusedIdFound,
     /// Heads without a transfer are listed.
@@ -254,6 +330,14 @@ wrong! {
     JoinedCleared,
     /// All run places of an opened transfer are cleared.
     OpenedCleared,
+    /// The words of an opened transfer's timestamp are cleared.
+    OpenedStampCleared,
+    /// Those that closing leaves unused are cleared.
+    ClosedStampCleared,
+    /// Opening moves those of the transfers behind, also where none is kept.
+    HalvesMovedUp,
+    /// Closing moves them too.
+    HalvesMovedDown,
     /// Opening moves all 64 places of the transfers behind.
     WholeMovedUp,
     /// Closing moves them all.
@@ -275,4 +359,13 @@ pub const OF_ORDERS: &[Wrong] = &[
     Wrong::RoomBeforeJoining,
     Wrong::RecordedOnRefusal,
     Wrong::AgainForgets,
+    Wrong::StampOnRefusal,
+    Wrong::ZerosForNone,
+    Wrong::FirstStampKept,
+    Wrong::RepeatLeavesStamp,
+    Wrong::BareForgetsStamp,
+    Wrong::StampOfNeighbour,
+    Wrong::LastOctetOfStamp,
+    Wrong::AgainForgetsStamp,
+    Wrong::EndedForStamp,
 ];

@@ -5,7 +5,7 @@ use std::ops::Range;
 
 use paper::area::take_up;
 
-use crate::receiver::words::{self, entries, get, set, Entry, COUNT, OCTETS, RUNS, TRANSFERS, WORDS};
+use crate::receiver::words::{self, entries, get, set, Entry, OCTETS, RUNS, TRANSFERS, WORDS};
 use crate::receiver::wrong::Wrong::{self, *};
 
 impl Wrong {
@@ -13,19 +13,23 @@ impl Wrong {
     pub fn laid_out<T>(self, area: &mut [u8], call: impl FnOnce(&mut [u8]) -> T) -> T {
         let other: fn(usize) -> usize = match self {
             HeadsByField => by_field,
+            HalvesStoredSwapped => other_half,
+            StampsByHalf => by_half,
             _ => |word| word,
         };
-        if !matches!(self, HighestFirst | HeadsByField) || area.len() < OCTETS {
+        let otherwise = matches!(self, HighestFirst | HeadsByField | HalvesStoredSwapped | StampsByHalf | HalvesTurned);
+        if !otherwise || area.len() < OCTETS {
             return call(area);
         }
-        let turned = |number: u64| if self == HighestFirst { number.swap_bytes() } else { number };
+        let turns = |word: usize| self == HighestFirst || self == HalvesTurned && word >= words::half(0, 0);
+        let turned = |word: usize, number: u64| if turns(word) { number.swap_bytes() } else { number };
         let mut seen = area.to_vec();
         for word in 0..WORDS {
-            set(&mut seen, word, turned(get(area, other(word))));
+            set(&mut seen, word, turned(word, get(area, other(word))));
         }
         let answer = call(&mut seen);
         for word in 0..WORDS {
-            set(area, other(word), turned(get(&seen, word)));
+            set(area, other(word), turned(word, get(&seen, word)));
         }
         answer
     }
@@ -47,7 +51,11 @@ impl Wrong {
             StrayHeadRefused => stray(words::id(found.len())..words::id(TRANSFERS)),
             StrayRunRefused => found.iter().enumerate().any(|(i, entry)| rows(i, entry.runs.len())),
             StrayRowRefused => (found.len()..TRANSFERS).any(|i| rows(i, 0)),
-            LastWordRefused => found.get(15).is_none_or(|last| last.runs.len() < RUNS) && stray(WORDS - 1..WORDS),
+            LastWordRefused => found.get(15).is_none_or(|last| last.stamped == 0) && stray(WORDS - 1..WORDS),
+            StrayHalvesRefused => {
+                let bare = |(i, entry): (usize, &Entry)| entry.stamped == 0 && stray(halves(i));
+                found.iter().enumerate().any(bare)
+            }
             _ => false,
         }
     }
@@ -65,14 +73,14 @@ impl Wrong {
         }
         let place = old.iter().zip(&new).position(|(old, new)| old != new).unwrap_or(old.len().min(new.len()));
         match new.len().cmp(&old.len()) {
-            std::cmp::Ordering::Less => self.leave_closed(before, area, place, &old),
+            std::cmp::Ordering::Less => self.leave_closed(before, area, place, &old, &new),
             std::cmp::Ordering::Greater => self.leave_opened(before, area, place, &new),
             std::cmp::Ordering::Equal => self.leave_recorded(before, area, place, &old[place], &new[place]),
         }
     }
 
     /// The transfer at a place was closed.
-    fn leave_closed(self, before: &[u8], area: &mut [u8], place: usize, old: &[Entry]) {
+    fn leave_closed(self, before: &[u8], area: &mut [u8], place: usize, old: &[Entry], new: &[Entry]) {
         let (last, runs) = (old.len() - 1, old[old.len() - 1].runs.len());
         let behind = match self {
             WholeMovedDown => old.len(),
@@ -82,6 +90,8 @@ impl Wrong {
                 clear(area, words::start(last, 0)..words::start(last, runs));
                 return clear(area, words::stop(last, 0)..words::stop(last, runs));
             }
+            ClosedStampCleared if old[last].stamped == 1 => return clear(area, halves(last)),
+            HalvesMovedDown => return (place..last).for_each(|i| copy_halves(before, i + 1, area, i)),
             _ => return,
         };
         area.copy_from_slice(before);
@@ -89,13 +99,15 @@ impl Wrong {
             words::copy(area, side(place + 1, 0)..side(behind, 0), side(place, 0));
         }
         words::copy(area, words::id(place + 1)..words::id(behind), words::id(place));
-        set(area, COUNT, last as u64);
+        words::store(new, area);
     }
 
     /// One was opened there.
     fn leave_opened(self, before: &[u8], area: &mut [u8], place: usize, new: &[Entry]) {
         match self {
             LengthHighestFirst => words::change(area, words::length(place), u64::swap_bytes),
+            OpenedStampCleared => clear(area, halves(place)),
+            HalvesMovedUp => (place + 1..new.len()).for_each(|i| copy_halves(before, i - 1, area, i)),
             OpenedCleared => {
                 clear(area, words::start(place, 0)..words::start(place, RUNS));
                 clear(area, words::stop(place, 0)..words::stop(place, RUNS));
@@ -149,11 +161,39 @@ fn clear(area: &mut [u8], words: Range<usize>) {
     area[8 * words.start..8 * words.end].fill(0);
 }
 
+/// The words of the timestamp at a place.
+fn halves(i: usize) -> Range<usize> {
+    words::half(i, 0)..words::half(i + 1, 0)
+}
+
+/// Both words of one place to another, of another area.
+fn copy_halves(from: &[u8], at: usize, to: &mut [u8], place: usize) {
+    for h in [0, 1] {
+        set(to, words::half(place, h), get(from, words::half(at, h)));
+    }
+}
+
 /// Where a word of a head stands when heads stand by their fields.
 fn by_field(word: usize) -> usize {
     match word {
-        1..=64 => 1 + TRANSFERS * ((word - 1) % 4) + (word - 1) / 4,
+        1..=80 => 1 + TRANSFERS * ((word - 1) % 5) + (word - 1) / 5,
         _ => word,
+    }
+}
+
+/// Where a half of a timestamp stands when the other comes first.
+fn other_half(word: usize) -> usize {
+    match word.checked_sub(words::half(0, 0)) {
+        Some(half) => words::half(half / 2, 1 - half % 2),
+        None => word,
+    }
+}
+
+/// Where it stands when timestamps stand by their halves.
+fn by_half(word: usize) -> usize {
+    match word.checked_sub(words::half(0, 0)) {
+        Some(half) => words::half(0, 0) + TRANSFERS * (half % 2) + half / 2,
+        None => word,
     }
 }
 

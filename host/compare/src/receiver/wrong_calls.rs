@@ -10,6 +10,7 @@ use crate::receiver::words::{self, entries, store, Entry, OCTETS};
 use crate::receiver::wrong::Wrong::{self, *};
 use crate::receiver::wrong_areas::unused_heads;
 use crate::receiver::wrong_counts::{forget_all_repeats, forget_repeats};
+use crate::receiver::wrong_stamps::forget_closed;
 use crate::receiver::{Ask, Receiver};
 use crate::wrong_width::{wide_descriptors, with_upper_cleared};
 
@@ -28,6 +29,7 @@ impl Receiver for Wrong {
             }
             FreshTouchesShort if right.number == 20 && !area.is_empty() => area[0] ^= 1,
             RepeatsListed => forget_all_repeats(),
+            ReopenedKeepsStamp => forget_closed(),
             _ => self.clear_past(area, right.number),
         }
         right
@@ -86,7 +88,7 @@ impl Receiver for Wrong {
             (EntryWidth, None) if right.number == 0 => {
                 change_entry(area, read.id, |entry| entry.width = 2 << (read.properties >> 6 & 3));
             }
-            _ => {}
+            _ => self.stamp_opened(area, packet, &read, right),
         }
         right
     }
@@ -128,7 +130,10 @@ impl Receiver for Wrong {
             (RecordedFourOfAny, _) if right.number == 1 && (4..8).contains(&packet.len()) && packet[0] >> 6 != 1 => {
                 refused(3, 0)
             }
-            (_, Some(transfer)) => return self.record_to(area, &before, packet, transfer, right),
+            (_, Some(transfer)) => {
+                self.stamp_recorded(area, &before, packet, &read, right);
+                return self.record_to(area, &before, packet, transfer, right);
+            }
             _ => return right,
         };
         area.copy_from_slice(&before);
@@ -173,6 +178,7 @@ impl Receiver for Wrong {
                 return Done::default()
             }
             RepeatsListed => forget_repeats(id),
+            _ if right.number == 0 => self.stamp_closed(&before, id),
             _ => {}
         }
         right
@@ -192,7 +198,10 @@ impl Receiver for Wrong {
         let right = self.laid_out(&mut area.to_vec(), |area| Paper.write_status(area, taken, out));
         let table = take_up(area).unwrap_or_default();
         match table.transfers.get(&ask.id) {
-            Some(transfer) => self.status_of(transfer, ask, right, &before, out),
+            Some(transfer) => {
+                let sent = self.stamp_sent(&table, transfer, ask, right, &before, out);
+                sent.unwrap_or_else(|| self.status_of(transfer, ask, right, &before, out))
+            }
             None => right,
         }
     }
@@ -213,7 +222,7 @@ impl Receiver for Wrong {
                 let holes = take_up(area).unwrap_or_default().transfers[&right.id].received.holes().len();
                 Listed { runs: holes as u64, ..right }
             }
-            _ => self.listed(right),
+            _ => self.stamp_listed(area, self.listed(right), false),
         }
     }
 
@@ -230,7 +239,7 @@ impl Receiver for Wrong {
                 Paper.transfer(area, table.transfers.range(..id).count() as u64)
             }
             FoundUncounted => Listed { received: 0, ..right },
-            _ => self.listed(right),
+            _ => self.stamp_listed(area, self.listed(right), true),
         }
     }
 
@@ -362,14 +371,17 @@ impl Wrong {
     /// Writing STATUS for an open transfer: what is wrong with the answer, or with the octets.
     fn status_of(self, transfer: &Transfer, ask: Ask, right: Written, before: &[u8], out: &mut [u8]) -> Written {
         let (d, holes) = (transfer.width, transfer.received.holes());
-        let (size, fixed) = (right.size as usize, 8 + 2 * transfer.width);
+        let stamp = transfer.timestamp.map_or(vec![], |octets| octets.to_vec());
+        let (size, fixed) = (right.size as usize, 8 + stamp.len() + 2 * transfer.width);
         let accepted = right.number == 0;
         let all_fit = accepted && (size - fixed) / (2 * d) == holes.len() - ask.skip as usize;
         let mut without_holes = |room: usize, number: u64| {
             let applies = right.number == number && out.len() >= room;
             applies.then(|| {
-                let mut written = vec![0x44, ((d.ilog2() as u8 - 1) << 6) | 2 | u8::from(ask.unasked != 0), 0, 0];
+                let flags = ((d.ilog2() as u8 - 1) << 6) | u8::from(!stamp.is_empty()) << 3 | 2;
+                let mut written = vec![0x44, flags | u8::from(ask.unasked != 0), 0, 0];
                 written.extend((ask.id as u32).to_be_bytes());
+                written.extend(&stamp);
                 written.extend(descriptor(transfer.received.lowest_missing(), d));
                 written.extend(descriptor(transfer.received.edge(), d));
                 out[..fixed].copy_from_slice(&written);
@@ -401,7 +413,7 @@ impl Wrong {
             EdgeLessOne if accepted => respond(out, transfer.received.edge().saturating_sub(1)),
             EmptyWraps if accepted && transfer.length == 0 => respond(out, u64::MAX),
             LastOctetWhenUnasked if accepted && ask.unasked != 0 => respond(out, transfer.length.saturating_sub(1)),
-            ProgressAfterSkip if accepted && ask.skip > 0 => out.copy_within(fixed..fixed + d, 8),
+            ProgressAfterSkip if accepted && ask.skip > 0 => out.copy_within(fixed..fixed + d, fixed - 2 * d),
             BufferTouched if right.number == 20 && !out.is_empty() => out[0] ^= 0x44,
             OctetAfter if accepted && out.len() > size => out[size] = 0,
             UpperLeft if accepted => {
@@ -410,11 +422,13 @@ impl Wrong {
                 }
             }
             StatusNarrower if accepted && d == 16 => {
-                let narrow: Vec<u8> = out[8..size].chunks(16).flat_map(|wide| wide[8..].to_vec()).collect();
-                out[8 + narrow.len()..].copy_from_slice(&before[8 + narrow.len()..]);
+                let from = 8 + stamp.len();
+                let narrow: Vec<u8> = out[from..size].chunks(16).flat_map(|wide| wide[8..].to_vec()).collect();
+                let end = from + narrow.len();
+                out[end..].copy_from_slice(&before[end..]);
                 out[1] ^= 0x40;
-                out[8..8 + narrow.len()].copy_from_slice(&narrow);
-                return Written { size: 8 + narrow.len() as u64, ..right };
+                out[from..end].copy_from_slice(&narrow);
+                return Written { size: end as u64, ..right };
             }
             _ => {}
         }
@@ -457,6 +471,9 @@ impl Wrong {
             OtherWidthTaken if ![2, 4, 8, 16].contains(&entry.width) => entry.width = 8,
             LongIdTaken => entry.id %= 1 << 32,
             RunsNotJudged => entry.runs.clear(),
+            TwoTaken if entry.stamped == 2 => entry.stamped = 1,
+            OthersTakenForNone if entry.stamped > 1 => entry.stamped = 0,
+            StampedByOctet => entry.stamped %= 256,
             _ => {}
         }
     }

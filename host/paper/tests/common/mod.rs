@@ -23,6 +23,13 @@ pub fn data(id: u32, width: usize, offset: u64, len: usize) -> Vec<u8> {
     [&start(3, width, id)[..], &u128::from(offset).to_be_bytes()[16 - width..], &vec![0x61; len]].concat()
 }
 
+/// DATA with this timestamp (bit 12) put in.
+pub fn stamped(data: &[u8], timestamp: [u8; 16]) -> Vec<u8> {
+    let mut packet = [&data[..8], &timestamp, &data[8..]].concat();
+    packet[1] |= 0x08;
+    packet
+}
+
 /// The same with end of data (bit 16).
 pub fn last_data(id: u32, width: usize, offset: u64, len: usize) -> Vec<u8> {
     let mut packet = data(id, width, offset, len);

@@ -150,13 +150,13 @@ extern "C" {
 #define SARATOGA_REFUSED_SIZE 9          /* 0x09: size above what the packet's width, or the marks, can hold */
 #define SARATOGA_REFUSED_NO_PAYLOAD 10   /* 0x01: DATA with no payload */
 #define SARATOGA_REFUSED_HOLES 11        /* 0x00: hole list not allowed, or a hole or a plan asked of a failure STATUS */
-#define SARATOGA_REFUSED_NOT_OPEN 12     /* 0x06: Id not open, or not the one that the marks are of */
-#define SARATOGA_REFUSED_OTHER_WIDTH 13  /* 0x09: DATA of another descriptor width than the transfer's */
+#define SARATOGA_REFUSED_NOT_OPEN 12     /* 0x06: Id not open, of two areas in either; or not the one that the marks are of */
+#define SARATOGA_REFUSED_OTHER_WIDTH 13  /* 0x09: DATA, or a transfer to merge, of another width than the transfer's */
 #define SARATOGA_REFUSED_PAST_END 14     /* 0x09: offset plus payload length above the transfer's length */
 #define SARATOGA_REFUSED_EARLY_END 15    /* 0x01: end of data set, and offset plus payload length not that length */
 #define SARATOGA_REFUSED_RUNS 16         /* 0x03: more than 64 runs would be received */
 #define SARATOGA_REFUSED_TABLE_FULL 17   /* 0x03: a new Id, and 16 are open */
-#define SARATOGA_REFUSED_OPEN_OTHER 18   /* 0x09: Id open with another width or length */
+#define SARATOGA_REFUSED_OPEN_OTHER 18   /* 0x09: Id open with another width or length; to be merged, another length */
 #define SARATOGA_REFUSED_INDEX 19        /* 0x00: no hole has that index, or that many can't be skipped */
 #define SARATOGA_REFUSED_BUFFER 20       /* 0x00: buffer, marks or area to be made fresh too small, or too few records */
 #define SARATOGA_REFUSED_FIELD 21        /* 0x00: a field over its bits, failure code 0, or a largest payload not 1 to 65,000 */
@@ -511,6 +511,13 @@ struct saratoga_listed {
     uint64_t stamped;  /* 1 where a timestamp is kept, which its STATUS carries, else 0 */
 };
 
+/* A merged transfer: edge and completeness of the first area's transfer afterwards. */
+struct saratoga_merged {
+    uint64_t number, code;
+    uint64_t edge;
+    uint64_t complete; /* 1 where every octet was received by either, else 0 */
+};
+
 /*
  * Makes the area hold a table with nothing open, whatever it held before: SARATOGA_AREA_OCTETS octets are written.
  *
@@ -546,6 +553,23 @@ struct saratoga_recorded saratoga_record(uint8_t *area, size_t area_len, const u
  */
 struct saratoga_recorded saratoga_try_record(const uint8_t *area, size_t area_len, const uint8_t *packet,
                                              size_t packet_len);
+
+/*
+ * Merges what a second receiver got of a transfer into the first's: afterwards the first area holds exactly the offsets
+ * received by either (R15.1 to R15.4). Its Id, width, length and timestamp stay as they are, and so do its other
+ * transfers; where it kept no timestamp, it keeps none. The second area is only read. The two areas must not overlap. Edge,
+ * holes and completeness are from then on those of the joined set, and the first goes on as before: it may record more, or
+ * be merged with a third.
+ *
+ * The library sees widths and lengths, no payload and no path. Make sure that both transfers are of one file, and have the
+ * octets that the first lacks on its disk BEFORE they are merged, as with saratoga_record; saratoga-merge does so with the
+ * directories of two plants (docs/LINK.md).
+ *
+ * Order of refusals (R15.2): 22 (the first area), 22 (the second), 12 (the Id is not open in both; also for any id over 32
+ * bits), 13 (the widths differ), 18 (the lengths differ), 16 (the joined set has more than 64 runs, however many each has).
+ */
+struct saratoga_merged saratoga_merge(uint8_t *first, size_t first_len, const uint8_t *second, size_t second_len,
+                                      uint64_t id);
 
 /*
  * Closes a transfer: its Id is no longer open, and what was received is forgotten, the timestamp too. Its place can be

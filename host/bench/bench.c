@@ -18,10 +18,10 @@
 #include "receivers.h"
 
 enum { AREA = SARATOGA_AREA_OCTETS, PAYLOAD = 1000, ROOM = SARATOGA_STATUS_OCTETS };
-enum { CALLS = 256, PART = 16, REPEATS_MOST = 1001, CASES_MOST = 48, PIECES_MOST = 32000 };
+enum { CALLS = 256, PART = 16, REPEATS_MOST = 1001, CASES_MOST = 56, PIECES_MOST = 32000 };
 enum { MARKS = SARATOGA_BITMAP_OCTETS, MARKED_PAYLOAD = 100 };
 enum receiver { OURS, MEMORY, PLAIN_AREA, MAP, RECEIVERS };
-enum operation { READ, OPEN, RECORD, STATUS, CLOSE, PLAN, CHECK, MARK_RECORD, MARK_STATUS };
+enum operation { READ, OPEN, RECORD, STATUS, CLOSE, PLAN, CHECK, MARK_RECORD, MARK_STATUS, MERGE };
 
 static const char *const receiver_names[RECEIVERS] = {"ours", "A", "B", "C"};
 
@@ -46,6 +46,7 @@ struct bench_case {
     enum operation operation;
     int few_runs;                    /* one open transfer with at most 8 runs */
     struct saratoga_bitmap transfer; /* of the marks */
+    uint8_t second[AREA];            /* what is merged into the table's area */
     struct tables start;
     struct call calls[CALLS];
     size_t count;
@@ -332,6 +333,21 @@ static void compare_marks_status(struct tables *t, struct saratoga_bitmap transf
     same_marks("STATUS with marks", t, ours.number);
 }
 
+/* Merges into the areas of ours and (B). */
+static void compare_merge(uint8_t *ours, uint8_t *plain, const uint8_t *second, size_t second_len, uint64_t id)
+{
+    static uint8_t before[AREA];
+    struct saratoga_merged a, b;
+    memcpy(before, second, AREA);
+    a = saratoga_merge(ours, AREA, second, second_len, id);
+    b = area_merge(plain, AREA, second, second_len, id);
+    same("merge", "B", &a, &b, sizeof a);
+    same("merge", "B: area", ours, plain, AREA);
+    same("merge", "what it was before: second area", second, before, AREA);
+    refusals_seen[a.number] = 1;
+    compared++;
+}
+
 /* A word of an area: the lowest octet first. */
 static void put_word(uint8_t *area, size_t word, uint64_t number)
 {
@@ -394,6 +410,21 @@ static void compare_damaged(const struct tables *t, const uint8_t *packet, size_
     same("close, damaged", "B", &e, &f, sizeof e);
     same("close, damaged", "B: area", ours, plain, AREA);
     compared += 3;
+}
+
+/* The table as it is and as it was some calls ago, merged in either direction; now and then one of them is damaged. */
+static void compare_random_merge(const struct tables *t)
+{
+    static uint8_t earlier[AREA], ours[AREA], plain[AREA], second[AREA];
+    int back = below(2) == 0;
+    memcpy(ours, back ? earlier : t->ours, AREA);
+    memcpy(second, back ? t->ours : earlier, AREA);
+    if (below(10) == 0)
+        damage(below(2) ? ours : second);
+    memcpy(plain, ours, AREA);
+    compare_merge(ours, plain, second, below(30) ? AREA : AREA - 1, below(20));
+    if (below(15) == 0)
+        memcpy(earlier, t->ours, AREA);
 }
 
 /* A packet for one of 18 Ids, of which each has a width and a length of its own; or a BEACON. Some are wrong. */
@@ -493,6 +524,8 @@ static void compare_random(unsigned long calls)
         size_t choice = below(100), size;
         if (below(5) == 0)
             compare_random_marks(t, &transfer, packet);
+        if (below(8) == 0)
+            compare_random_merge(t);
         if (choice < 12) {
             size = random_packet(packet, OPEN);
             compare_open(t, packet, size);
@@ -725,6 +758,26 @@ static void plan_case(enum operation operation, size_t holes)
     }
 }
 
+/*
+ * Two areas with the same transfers, of `runs` runs each, those of the second `apart` octets behind the first's: over them, touching
+ * them, or between them, where 64 and 64 are refused with 16. With one open it is merged again and again; with 16, each once.
+ */
+static void merge_case(size_t transfers, size_t runs, uint64_t apart, const char *how)
+{
+    char name[64];
+    struct bench_case *c, *other;
+    size_t i;
+    snprintf(name, sizeof name, "merge, %d and %d runs%s, %d open", (int)runs, (int)runs, how, (int)transfers);
+    other = new_case("", MERGE);
+    open_with_runs(other, 8, transfers, runs, apart, 0);
+    case_count--; /* it is only what the case needs as its second area */
+    c = new_case(name, MERGE);
+    open_with_runs(c, 8, transfers, runs, 0, 0);
+    memcpy(c->second, other->start.plain, AREA);
+    for (i = 0; i < (transfers == 1 ? CALLS : transfers); i++)
+        new_call(c, id_of(7 * i % transfers));
+}
+
 static void make_cases(void)
 {
     static const size_t holes[3] = {1, 64, 16000};
@@ -756,6 +809,13 @@ static void make_cases(void)
         marks_case(i < 3 ? MARK_RECORD : MARK_STATUS, runs[i % 3], 0);
     marks_case(MARK_RECORD, 8, 1);
     marks_case(MARK_STATUS, 8, 1);
+    merge_case(1, 1, 2 * PAYLOAD, "");
+    merge_case(1, 32, 2 * PAYLOAD, "");
+    merge_case(1, 64, PAYLOAD / 2, " over");
+    merge_case(1, 64, 2 * PAYLOAD, ": 16");
+    merge_case(16, 1, 2 * PAYLOAD, "");
+    merge_case(16, 32, 2 * PAYLOAD, "");
+    merge_case(16, 64, PAYLOAD, " touch");
 }
 
 static void compare_case(const struct bench_case *c, struct tables *t)
@@ -793,6 +853,9 @@ static void compare_case(const struct bench_case *c, struct tables *t)
             break;
         case MARK_STATUS:
             compare_marks_status(t, c->transfer, MARKS, 0, 0, ROOM);
+            break;
+        case MERGE:
+            compare_merge(t->ours, t->plain, c->second, AREA, call->id);
         }
     }
 }
@@ -836,6 +899,7 @@ static void compare_case(const struct bench_case *c, struct tables *t)
             break;                                                                                                          \
         case MARK_RECORD: /* by runners of their own */                                                                     \
         case MARK_STATUS:                                                                                                   \
+        case MERGE:                                                                                                         \
             break;                                                                                                          \
         }                                                                                                                   \
         return sum;                                                                                                         \
@@ -863,6 +927,19 @@ RUNNER(map, plain, t->map)
 MARKS_RUNNER(saratoga_bitmap, t->our_marks)
 MARKS_RUNNER(marks, t->plain_marks)
 
+#define MERGE_RUNNER(receiver, area)                                                                           \
+    static uint64_t receiver##_merge_run(const struct bench_case *c, struct tables *t, size_t from, size_t to) \
+    {                                                                                                          \
+        const struct call *call = c->calls + from, *end = c->calls + to;                                       \
+        uint64_t sum = 0;                                                                                      \
+        for (; call < end; call++)                                                                             \
+            sum += receiver##_merge(area, AREA, c->second, AREA, call->id).edge;                               \
+        return sum;                                                                                            \
+    }
+
+MERGE_RUNNER(saratoga, t->ours)
+MERGE_RUNNER(area, t->plain)
+
 static int over_marks(const struct bench_case *c)
 {
     return c->operation == MARK_RECORD || c->operation == MARK_STATUS;
@@ -874,6 +951,8 @@ static uint64_t run(const struct bench_case *c, struct tables *t, enum receiver 
         saratoga_run, memory_run, area_run, map_run};
     if (over_marks(c))
         return receiver == OURS ? saratoga_bitmap_marks_run(c, t, from, to) : marks_marks_run(c, t, from, to);
+    if (c->operation == MERGE)
+        return receiver == OURS ? saratoga_merge_run(c, t, from, to) : area_merge_run(c, t, from, to);
     return runners[receiver](c, t, from, to);
 }
 
@@ -885,10 +964,10 @@ static int without_table(const struct bench_case *c)
     return c->operation == READ || c->operation == PLAN || c->operation == CHECK;
 }
 
-/* Over marks there are ours and (B). */
+/* Over marks and of two areas there are ours and (B). */
 static int measured(const struct bench_case *c, enum receiver receiver)
 {
-    return over_marks(c) ? receiver == OURS || receiver == PLAIN_AREA : !without_table(c) || receiver <= MEMORY;
+    return over_marks(c) || c->operation == MERGE ? receiver == OURS || receiver == PLAIN_AREA : !without_table(c) || receiver <= MEMORY;
 }
 
 static double now(void)
@@ -973,7 +1052,7 @@ static void print_time(double time)
 
 static void measure(size_t repeats)
 {
-    double clock, worst_record = 0, worst_read = 0, worst_few = 0, worst_plan = 0, worst_marks = 0;
+    double clock, worst_record = 0, worst_read = 0, worst_few = 0, worst_plan = 0, worst_marks = 0, worst_merge = 0;
     struct tables *t = allocated(sizeof *t);
     size_t i, k, r;
     make_tables(t);
@@ -1011,6 +1090,8 @@ static void measure(size_t repeats)
             worst_plan = ratio[MEMORY];
         if (over_marks(cases[i]) && ratio[PLAIN_AREA] > worst_marks)
             worst_marks = ratio[PLAIN_AREA];
+        if (cases[i]->operation == MERGE && ratio[PLAIN_AREA] > worst_merge)
+            worst_merge = ratio[PLAIN_AREA];
     }
     printf("aim: reading DATA at most 1.2 times plain C: %.2f, %s\n", worst_read, worst_read <= 1.2 ? "met" : "not met");
     printf("aim: plans and their check at most 1.5 times plain C: %.2f, %s\n", worst_plan,
@@ -1020,6 +1101,7 @@ static void measure(size_t repeats)
            worst_few <= 1.5 ? "met" : "not met");
     printf("aim: recording and STATUS with marks at most 1.5 times (B): %.2f, %s\n", worst_marks,
            worst_marks <= 1.5 ? "met" : "not met");
+    printf("aim: merging at most 1.5 times (B): %.2f, %s\n", worst_merge, worst_merge <= 1.5 ? "met" : "not met");
 }
 
 /* For callgrind. */

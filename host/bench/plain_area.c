@@ -272,6 +272,66 @@ struct saratoga_recorded area_record(uint8_t *area, size_t area_len, const uint8
                                       .adds = adds};
 }
 
+/*
+ * Joins the runs of the two places in `starts` and `stops`, which have room for RUNS. How many there are; RUNS + 1 where they are more.
+ */
+static size_t join_runs(const uint8_t *first, size_t one, const uint8_t *second, size_t two, uint64_t *starts, uint64_t *stops)
+{
+    size_t left = head(first, one, COUNT), right = head(second, two, COUNT), i = 0, j = 0, count = 0;
+    size_t at = RUNS * one, other = RUNS * two;
+    while (i < left || j < right) {
+        uint64_t start, stop;
+        if (j == right || (i < left && word(first, STARTS + at + i) <= word(second, STARTS + other + j))) {
+            start = word(first, STARTS + at + i);
+            stop = word(first, STOPS + at + i++);
+        } else {
+            start = word(second, STARTS + other + j);
+            stop = word(second, STOPS + other + j++);
+        }
+        if (count > 0 && start <= stops[count - 1]) {
+            if (stop > stops[count - 1])
+                stops[count - 1] = stop;
+        } else if (count == RUNS) {
+            return RUNS + 1;
+        } else {
+            starts[count] = start;
+            stops[count++] = stop;
+        }
+    }
+    return count;
+}
+
+static struct saratoga_merged not_merged(unsigned number)
+{
+    return (struct saratoga_merged){.number = number, .code = code_of(number)};
+}
+
+struct saratoga_merged area_merge(uint8_t *first, size_t first_len, const uint8_t *second, size_t second_len, uint64_t id)
+{
+    uint64_t starts[RUNS], stops[RUNS];
+    size_t one, two, count, i;
+    if (!area_allowed(first, first_len) || !area_allowed(second, second_len))
+        return not_merged(22);
+    one = place_of(first, id);
+    two = place_of(second, id);
+    if (one == word(first, 0) || two == word(second, 0))
+        return not_merged(12);
+    if (head(first, one, WIDTH) != head(second, two, WIDTH))
+        return not_merged(13);
+    if (head(first, one, LENGTH) != head(second, two, LENGTH))
+        return not_merged(18);
+    count = join_runs(first, one, second, two, starts, stops);
+    if (count > RUNS)
+        return not_merged(16);
+    for (i = 0; i < count; i++) {
+        put_word(first, STARTS + RUNS * one + i, starts[i]);
+        put_word(first, STOPS + RUNS * one + i, stops[i]);
+    }
+    put_head(first, one, COUNT, count);
+    return (struct saratoga_merged){.edge = edge_at(first, one),
+                                    .complete = head(first, one, LENGTH) <= progress_at(first, one)};
+}
+
 struct saratoga_done area_close(uint8_t *area, size_t area_len, uint64_t id)
 {
     size_t place, open;

@@ -36,6 +36,7 @@ struct saratoga_written memory_write_status(const struct memory_table *table, ui
 struct saratoga_done area_fresh(uint8_t *area, size_t area_len);
 struct saratoga_opened area_open(uint8_t *area, size_t area_len, const uint8_t *packet, size_t packet_len);
 struct saratoga_recorded area_record(uint8_t *area, size_t area_len, const uint8_t *packet, size_t packet_len);
+struct saratoga_merged area_merge(uint8_t *first, size_t first_len, const uint8_t *second, size_t second_len, uint64_t id);
 struct saratoga_done area_close(uint8_t *area, size_t area_len, uint64_t id);
 struct saratoga_written area_write_status(const uint8_t *area, size_t area_len, uint64_t id, uint64_t skip,
                                           uint64_t unasked, uint8_t *out, size_t out_len);

@@ -98,6 +98,26 @@ static void a_65th_run(void)
 }
 static void no_table(void) { use_full(); area[0] = 17; make_data(80, 0, 5); }
 
+/* A second area, with one octet after each run of the first, or a run over all of them, or 64 runs more; or with no table. */
+static uint8_t second[AREA];
+static void use_second(uint64_t from, uint64_t octets, uint64_t runs)
+{
+    uint64_t run;
+    use_full();
+    memcpy(second, area, AREA);
+    saratoga_close(second, AREA, 80);
+    make_metadata(80);
+    accepted(saratoga_open(second, AREA, packet, size).number);
+    for (run = 0; run < runs; run++) {
+        make_data(80, GAP * run + from, octets);
+        accepted(saratoga_record(second, AREA, packet, size).number);
+    }
+}
+static void beside_each(void) { use_second(10 + PAYLOAD, 1, RUNS); }
+static void over_all(void) { use_second(0, 1900, 1); }
+static void too_many(void) { use_second(10 + PAYLOAD + 2, 1, RUNS); }
+static void no_second(void) { use_second(0, 1, 1); second[0] = 17; }
+
 /* Marks with 63 runs, or with 64, and the transfer that they are of. */
 static uint8_t marks[SARATOGA_BITMAP_OCTETS];
 static struct saratoga_bitmap page;
@@ -154,6 +174,8 @@ static void no_hole(void) { saratoga_transfer_hole(area, AREA, 160, RUNS); }
 static void close_first(void) { saratoga_close(area, AREA, 10); }
 static void close_last(void) { saratoga_close(area, AREA, 160); }
 static void close_none(void) { saratoga_close(area, AREA, 11); }
+static void merge(void) { saratoga_merge(area, AREA, second, AREA, 80); }
+static void merge_none(void) { saratoga_merge(area, AREA, second, AREA, 11); }
 static void bitmap_open(void) { saratoga_bitmap_open(marks, sizeof marks, packet, size); }
 static void bitmap_record(void) { saratoga_bitmap_record(page, marks, sizeof marks, packet, size); }
 static void bitmap_status(void) { saratoga_bitmap_status(page, marks, sizeof marks, 0, 1, out, sizeof out); }
@@ -215,6 +237,11 @@ static const struct way {
     {"saratoga_close", use_full, close_last},
     {"saratoga_close", use_full, close_none},
     {"saratoga_close", no_table, close_first},
+    {"saratoga_merge", beside_each, merge},
+    {"saratoga_merge", over_all, merge},
+    {"saratoga_merge", too_many, merge},
+    {"saratoga_merge", over_all, merge_none},
+    {"saratoga_merge", no_second, merge},
     {"saratoga_bitmap_open", marks_opened, bitmap_open},
     {"saratoga_bitmap_open", for_data, bitmap_open},
     {"saratoga_bitmap_record", marks_in_front, bitmap_record},

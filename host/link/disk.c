@@ -17,8 +17,11 @@ static int directory_changed;      /* a file was made or renamed in it and that 
 static int lacking;                /* there was no room, and that was told */
 static uint64_t lost, lost_since_saved;
 
+/* Opens the directory that the options name; one that was open before is left. */
 void open_directory(void)
 {
+    if (directory >= 0)
+        close(directory);
     directory = open(options.directory, O_RDONLY | O_DIRECTORY | O_CLOEXEC);
     if (directory < 0)
         die("%s: %s", options.directory, strerror(errno));

@@ -93,3 +93,30 @@ def page(length, seed):
 def records(packets):
     """A pass of these packets."""
     return b"".join(record(b"P", packet) for packet in packets)
+
+
+def after_the_cut(disk, place, target, how, chance):
+    """Makes `target` the directory as a power cut leaves it. `how`: which of the things not forced to disk are there
+    all the same: "none", "names" (of files, not their octets), "octets" (not names), or "some"."""
+    def lines(name):
+        path = os.path.join(disk, name)
+        return content(path).decode().splitlines() if os.path.exists(path) else []
+
+    names = {}
+    for line in lines("names"):
+        inode, name = line.split()
+        names[name] = inode
+    for line in lines("changes"):
+        if how == "names" or (how == "some" and chance.random() < 0.5):
+            what, inode, name, *new = line.split()
+            names.pop(name, None)
+            names[new[0] if what == "rename" else name] = inode
+    now = {str(os.stat(os.path.join(place, name)).st_ino): content(place, name) for name in os.listdir(place)}
+    os.mkdir(target)
+    for name, inode in names.items():
+        kept = os.path.join(disk, "octets-" + inode)
+        octets = content(kept) if os.path.exists(kept) else b""
+        if inode in now and (how == "octets" or (how == "some" and chance.random() < 0.5)):
+            octets = now[inode]
+        with open(os.path.join(target, name), "wb") as file:
+            file.write(octets)

@@ -27,6 +27,7 @@
 #include <stdlib.h>
 #include <string.h>
 
+const char *const program_name = "saratoga-link";
 struct options options = {.directory = ".", .force = 1, .largest = UINT64_C(1) << 30, .most_kept = 10000};
 volatile sig_atomic_t stopped;
 

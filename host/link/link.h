@@ -58,6 +58,7 @@ struct options {
     uint8_t peers[MOST_PEERS][16]; /* IPv6 addresses; IPv4 as ::ffff:a.b.c.d */
 };
 extern struct options options;
+extern const char *const program_name;
 extern volatile sig_atomic_t stopped;
 
 /* How much work a pass makes: the recordings that were accepted, and the runs that they absorbed. */
@@ -157,6 +158,7 @@ int end_transfer(uint64_t number, struct transfer *t, const char *why);
 int deliver(uint64_t number, struct transfer *t);
 void deliver_what_waits(void);
 int read_area(uint8_t octets[SARATOGA_AREA_OCTETS]);
+const char *fault_of(struct transfer *t, const struct saratoga_listed *one);
 void take_up(void);
 
 /* dispatch.c */

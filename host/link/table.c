@@ -258,7 +258,7 @@ int read_area(uint8_t octets[SARATOGA_AREA_OCTETS])
 }
 
 /* What is wrong with the files of a transfer that the area holds; NULL where nothing is. */
-static const char *fault_of(struct transfer *t, const struct saratoga_listed *one)
+const char *fault_of(struct transfer *t, const struct saratoga_listed *one)
 {
     char part[NAME_OCTETS], page[NAME_OCTETS];
     if (find_files(t) != 0 || !meta_is_of(t->meta, t->meta_len, one))

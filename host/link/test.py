@@ -19,7 +19,7 @@ import threading
 import time
 
 sys.dont_write_bytecode = True
-from harness import (AREA_HEAD, POWERCUT, SOURCES, WRAPPED, build, check, content, holds, page, records,  # noqa: E402
+from harness import (AREA_HEAD, POWERCUT, SOURCES, WRAPPED, after_the_cut, build, check, content, holds, page, records,  # noqa: E402
                      run, stamps, stem, stored)
 from packets import END_OF_DATA, TIMESTAMP, UNASKED, WANTED, data, failure, metadata, record, success  # noqa: E402
 import plant  # noqa: E402
@@ -419,33 +419,6 @@ def cut_while_an_id_is_used_again(program, place):
 
 
 # Power cuts: what was not forced to disk may be lost, or not.
-
-
-def after_the_cut(disk, place, target, how, chance):
-    """Makes `target` the directory as a power cut leaves it. `how`: which of the things not forced to disk are there
-    all the same: "none", "names" (of files, not their octets), "octets" (not names), or "some"."""
-    def lines(name):
-        path = os.path.join(disk, name)
-        return content(path).decode().splitlines() if os.path.exists(path) else []
-
-    names = {}
-    for line in lines("names"):
-        inode, name = line.split()
-        names[name] = inode
-    for line in lines("changes"):
-        if how == "names" or (how == "some" and chance.random() < 0.5):
-            what, inode, name, *new = line.split()
-            names.pop(name, None)
-            names[new[0] if what == "rename" else name] = inode
-    now = {str(os.stat(os.path.join(place, name)).st_ino): content(place, name) for name in os.listdir(place)}
-    os.mkdir(target)
-    for name, inode in names.items():
-        kept = os.path.join(disk, "octets-" + inode)
-        octets = content(kept) if os.path.exists(kept) else b""
-        if inode in now and (how == "octets" or (how == "some" and chance.random() < 0.5)):
-            octets = now[inode]
-        with open(os.path.join(target, name), "wb") as file:
-            file.write(octets)
 
 
 def power_cuts(program, plain, place, make=two_transfers):

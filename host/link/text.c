@@ -34,7 +34,7 @@ void die(const char *form, ...)
 {
     va_list arguments;
     fflush(stdout);
-    fputs("saratoga-link: ", stderr);
+    fprintf(stderr, "%s: ", program_name);
     va_start(arguments, form);
     vfprintf(stderr, form, arguments);
     va_end(arguments);
@@ -46,7 +46,7 @@ void warn(const char *form, ...)
 {
     va_list arguments;
     flush_output();
-    fputs("saratoga-link: ", stderr);
+    fprintf(stderr, "%s: ", program_name);
     va_start(arguments, form);
     vfprintf(stderr, form, arguments);
     va_end(arguments);

@@ -93,6 +93,16 @@ def close_record(ident):
     return record(b"C", struct.pack(">I", ident))
 
 
+def table_record(which):
+    """The table, 0 or 1, that the records after it use."""
+    return record(b"T", bytes([which]))
+
+
+def merge_record(ident):
+    """Merges the other table's transfer into the chosen table's."""
+    return record(b"M", struct.pack(">Q", ident))
+
+
 def time_record(nanoseconds):
     """The time of the record after it, since the start of 1970."""
     return record(b"W", struct.pack(">Q", nanoseconds))

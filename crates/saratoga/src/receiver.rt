@@ -1,10 +1,13 @@
-// The transfer table in a lent area: made fresh, opened, recorded, closed, its STATUS written, listed, and looked up by Id.
+// The transfer table in a lent area: made fresh, opened, recorded, merged with another, closed, its STATUS written, listed, and looked up by Id.
 ghost use mathlib.Core.Path.{_≡_};
 ghost use Rattle.area.specs.Operations.{freshArea, openArea, recordArea, closeArea, areaStatusWritten, areaStatusBuffer};
 ghost use Rattle.area_status.specs.Listing.{listedArea};
 ghost use Rattle.area_status.specs.ById.{foundArea, holeArea};
 ghost use Rattle.answers.specs.Answers.{isUnasked, writtenAnswer, holeAnswer, recordedAnswer};
 ghost use Rattle.answer_table.specs.TableAnswers.{doneAnswer, openedAnswer, listedAnswer};
+ghost use Rattle.area_merge.specs.Merge.{mergeArea};
+ghost use Rattle.answer_merge.specs.MergeAnswers.{mergedAnswer};
+use answer_merge::MergedAnswer;
 use answer_table::DoneAnswer;
 use answer_table::ListedAnswer;
 use answer_table::OpenedAnswer;
@@ -40,6 +43,14 @@ pub extern "C" fn saratoga_try_record(area: &[u8], packet: &[u8]) -> RecordedAns
     ensures { λ r. ⌜ r ≡ recordedAnswer (recordArea (now (area .entry)) (now (packet .entry)) .answer) ⌝ }
 {
     answer_table::try_record(area, packet)
+}
+
+#[no_mangle]
+pub extern "C" fn saratoga_merge(first: &mut [u8], second: &[u8], id: u64) -> MergedAnswer
+    ensures { λ r. ⌜ (r ≡ mergedAnswer (mergeArea (now (first .entry)) (now (second .entry)) id .answer))
+        × (now (first .exit) ≡ mergeArea (now (first .entry)) (now (second .entry)) id .area) ⌝ }
+{
+    answer_merge::merge(first, second, id)
 }
 
 #[no_mangle]

@@ -116,6 +116,16 @@ pub struct Recorded {
     pub adds: u64,
 }
 
+/// `struct saratoga_merged`
+#[repr(C)]
+#[derive(Clone, Copy, Debug, Default, PartialEq, Eq)]
+pub struct Merged {
+    pub number: u64,
+    pub code: u64,
+    pub edge: u64,
+    pub complete: u64,
+}
+
 /// `struct saratoga_bitmap_opened`
 #[repr(C)]
 #[derive(Clone, Copy, Debug, Default, PartialEq, Eq)]
@@ -203,6 +213,15 @@ impl From<Result<table::Recorded, Refusal>> for Recorded {
                 ..Recorded::default()
             },
             Err(refusal) => Recorded { number: refusal.number(), code: refusal.code(), ..Recorded::default() },
+        }
+    }
+}
+
+impl From<Result<table::State, Refusal>> for Merged {
+    fn from(answer: Result<table::State, Refusal>) -> Merged {
+        match answer {
+            Ok(state) => Merged { edge: state.edge, complete: state.complete.into(), ..Merged::default() },
+            Err(refusal) => Merged { number: refusal.number(), code: refusal.code(), ..Merged::default() },
         }
     }
 }

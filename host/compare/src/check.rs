@@ -9,6 +9,7 @@ use crate::answer::{Hole, Packet, Written};
 use crate::bitmap::BitmapReceiver;
 use crate::codec::{Codec, Paper};
 use crate::lent::Lent;
+use crate::merge::Merger;
 use crate::plan::Planner;
 use crate::receiver::Receiver;
 use crate::rng::Rng;
@@ -25,12 +26,13 @@ pub enum Stop {
 
 pub type Step = Result<(), Stop>;
 
-/// A codec, a receiver with a table and one with marks, and a planner under test, with the counts of the run.
+/// A codec, a receiver with a table and one with marks, a planner and a merging under test, with the counts of the run.
 pub struct Check<'a> {
     pub codec: &'a dyn Codec,
     pub receiver: &'a dyn Receiver,
     pub bitmaps: &'a dyn BitmapReceiver,
     pub planner: &'a dyn Planner,
+    pub merger: &'a dyn Merger,
     /// The receivers' calls aren't compared with the paper's: what they do is judged by the caller alone.
     pub alone: bool,
     pub rng: Rng,
@@ -50,6 +52,7 @@ impl<'a> Check<'a> {
             receiver: &Paper,
             bitmaps: &Paper,
             planner: &Paper,
+            merger: &Paper,
             alone: false,
             rng: Rng::new(seed),
             tally: Tally::default(),

@@ -1,4 +1,4 @@
-//! The archive's functions: the declarations of include/saratoga.h, and a codec, two receivers and a planner that call
+//! The archive's functions: the declarations of include/saratoga.h, and a codec, two receivers, a planner and a merging that call
 //! them. Nothing checks these against the header but host/ctest, which compiles it.
 
 use std::ptr::NonNull;
@@ -7,6 +7,7 @@ use paper::write::{BeaconFields, DataFields, MetadataFields};
 
 use crate::answer::{Hole, Packet, Written};
 use crate::codec::Codec;
+use crate::{answer::Merged, merge::Merger};
 use crate::{
     answer::{Bitmap, BitmapOpened, BitmapRecorded},
     bitmap::BitmapReceiver,
@@ -117,6 +118,10 @@ extern "C" {
     ) -> Written;
 }
 
+extern "C" {
+    fn saratoga_merge(first: *mut u8, first_len: usize, second: *const u8, second_len: usize, id: u64) -> Merged;
+}
+
 /// The slice's start. An empty slice gets an address that nothing may be read from.
 fn start<T>(items: &[T]) -> *const T {
     match items {
@@ -132,7 +137,7 @@ fn start_mut<T>(items: &mut [T]) -> *mut T {
     }
 }
 
-/// The codec, the receivers and the planner in the archive.
+/// The codec, the receivers, the planner and the merging in the archive.
 pub struct Archive;
 
 // Each call is sound: a slice is valid for its length, and what is written is borrowed alone, so overlaps nothing.
@@ -240,6 +245,13 @@ impl Planner for Archive {
 
     fn check_plan(&self, status: &[u8], largest: u64, pieces: &[Piece]) -> Checked {
         unsafe { saratoga_check_plan(start(status), status.len(), largest, start(pieces), pieces.len()) }
+    }
+}
+
+impl Merger for Archive {
+    fn merge(&self, first: &mut [u8], second: &mut [u8], id: u64) -> Merged {
+        // The second is lent as one that may be written (see `Merger`): what it holds afterwards is compared.
+        unsafe { saratoga_merge(start_mut(first), first.len(), start_mut(second), second.len(), id) }
     }
 }
 

@@ -6,6 +6,7 @@ use std::time::Instant;
 use crate::bitmap::{self, BitmapReceiver};
 use crate::check::{Check, Step, Stop};
 use crate::codec::{Codec, Paper};
+use crate::merge::{self, Merger};
 use crate::plan::{self, Planner};
 use crate::receiver::{self, orders, pass, Receiver};
 use crate::tally::Tally;
@@ -78,6 +79,23 @@ pub fn bitmaps(receiver: &dyn Receiver, bitmaps: &dyn BitmapReceiver, seed: u64,
     })
 }
 
+/// Compares `merger` with the paper's, on areas that `receiver` is compared on too.
+pub fn merges(receiver: &dyn Receiver, merger: &dyn Merger, seed: u64, end: End) -> Result<Agreed, String> {
+    run(Check { receiver, merger, ..Check::new(seed) }, seed, |check| {
+        for _ in 0..50 {
+            merge::cases::case(check)?;
+        }
+        merge::limits::run(check)?;
+        merge::limits_area::run(check)?;
+        until(check, end, merge::cases::case)
+    })
+}
+
+/// Tries the laws of merging on `merger`, without the paper's answers.
+fn laws_alone(merger: &dyn Merger, seed: u64, end: End) -> Result<Agreed, String> {
+    run(Check { merger, alone: true, ..Check::new(seed) }, seed, |check| until(check, end, merge::laws::trial))
+}
+
 /// Tries the two orders on `receiver`, without the paper's answers.
 fn orders_alone(receiver: &dyn Receiver, seed: u64, end: End) -> Result<Agreed, String> {
     run(Check { receiver, alone: true, ..Check::new(seed) }, seed, |check| until(check, end, orders::trial))
@@ -132,6 +150,18 @@ pub fn self_check(seed: u64, calls: u64) -> Result<usize, String> {
         found("receiver with marks beside the table", wrong, both_alone(wrong, seed, end), seed)?;
     }
     Ok(wrong::ALL.len() + receiver::wrong::ALL.len() + plan::wrong::ALL.len() + bitmap::wrong::ALL.len())
+}
+
+/// The same for merging.
+pub fn self_check_merges(seed: u64, calls: u64) -> Result<usize, String> {
+    let end = End::after(calls);
+    for wrong in merge::wrong::ALL {
+        found("merging", wrong, merges(&Paper, wrong, seed, end), seed)?;
+    }
+    for wrong in merge::wrong::OF_LAWS {
+        found("merging by its laws", wrong, laws_alone(wrong, seed, end), seed)?;
+    }
+    Ok(merge::wrong::ALL.len())
 }
 
 fn found(what: &str, wrong: &dyn Debug, outcome: Result<Agreed, String>, seed: u64) -> Result<(), String> {

@@ -29,9 +29,10 @@ pub enum Function {
     BitmapOpen,
     BitmapRecord,
     BitmapStatus,
+    Merge,
 }
 
-const COLUMNS: usize = 21;
+const COLUMNS: usize = 22;
 /// 0, accepted, to 26.
 const ROWS: usize = 27;
 /// The numbers of a refusal; 23 to 25 are none.
@@ -60,6 +61,7 @@ const NAMES: [(&str, &str); COLUMNS] = [
     ("saratoga_bitmap_open", "bm_open"),
     ("saratoga_bitmap_record", "bm_record"),
     ("saratoga_bitmap_status", "bm_status"),
+    ("saratoga_merge", "merge"),
 ];
 
 /// The conditions of a plan, as they are told of.
@@ -95,10 +97,11 @@ const CAN_OCCUR: [&[usize]; COLUMNS] = [
     &[0, 1, 2, 3, 4, 5, 6, 7, 8, 9, 20],
     &[0, 1, 2, 3, 4, 5, 6, 10, 12, 13, 14, 15, 16, 20, 22],
     &[0, 12, 19, 20, 22],
+    &[0, 12, 13, 16, 18, 22],
 ];
 
-/// The functions of each comparison: those on packets, those on areas, those on plans, those on marks.
-const PARTS: [Range<usize>; 4] = [0..6, 6..15, 15..18, 18..COLUMNS];
+/// The functions of each comparison: those on packets, those on areas, those on plans, those on marks, and merging.
+const PARTS: [Range<usize>; 5] = [0..6, 6..15, 15..18, 18..21, 21..COLUMNS];
 const ON_PLANS: usize = 2;
 
 #[derive(Clone, Default)]

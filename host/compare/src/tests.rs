@@ -1,11 +1,16 @@
-//! The comparisons themselves: they find every wrong codec, receiver and planner, and agree with right ones.
+//! The comparisons themselves: they find every wrong codec, receiver, planner and merging, and agree with right ones.
 
 use crate::codec::Paper;
-use crate::run::{bitmaps, packets, plans, receiver, self_check, End};
+use crate::run::{bitmaps, merges, packets, plans, receiver, self_check, self_check_merges, End};
 
 #[test]
 fn wrong_ones_are_found() {
     self_check(1, 1_000_000).unwrap();
+}
+
+#[test]
+fn wrong_mergings_are_found() {
+    self_check_merges(1, 300_000).unwrap();
 }
 
 #[test]
@@ -23,4 +28,7 @@ fn the_paper_agrees_with_itself() {
     let marks = bitmaps(&Paper, &Paper, 1, End::after(40_000)).unwrap_or_else(|what| panic!("{what}"));
     assert_eq!(marks.tally.missing(3), Vec::<String>::new());
     assert!(marks.calls >= 40_000);
+    let merges = merges(&Paper, &Paper, 1, End::after(100_000)).unwrap_or_else(|what| panic!("{what}"));
+    assert_eq!(merges.tally.missing(4), Vec::<String>::new());
+    assert!(merges.calls >= 100_000);
 }

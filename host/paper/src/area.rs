@@ -5,7 +5,7 @@ use crate::layout::{largest, Timestamp};
 use crate::read::Hole;
 use crate::received::Received;
 use crate::refusal::Refusal;
-use crate::table::{Listed, Opened, Recorded, Table, Transfer, MAX_RUNS, MAX_TRANSFERS};
+use crate::table::{Listed, Opened, Recorded, State, Table, Transfer, MAX_RUNS, MAX_TRANSFERS};
 
 // The words of the layout: the number of open transfers, a head for each, the starts of their runs, the stops, and the timestamps.
 const COUNT: usize = 0;
@@ -120,6 +120,12 @@ pub fn record(area: &mut [u8], packet: &[u8]) -> Result<Recorded, Refusal> {
 /// What recording would answer, the area only read.
 pub fn try_record(area: &[u8], packet: &[u8]) -> Result<Recorded, Refusal> {
     take_up(area)?.try_record(packet)
+}
+
+/// Merging: "Lay the record of an open transfer on a second desk over the same Id on a first". "the second is unchanged". 22 for
+/// either area "comes before all".
+pub fn merge(first: &mut [u8], second: &[u8], id: u64) -> Result<State, Refusal> {
+    change(first, |table| table.merge(&take_up(second)?, id))
 }
 
 /// Closing.

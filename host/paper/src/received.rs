@@ -25,6 +25,13 @@ impl Received {
         self.runs.insert(first, after);
     }
 
+    /// "exactly the octets received by either"
+    pub fn with(&self, other: &Received) -> Received {
+        let mut either = self.clone();
+        other.runs().for_each(|(start, stop)| either.add(start, stop));
+        either
+    }
+
     /// "how many stored runs the packet swallowed: those that overlap or touch it"
     pub fn absorbed(&self, start: u64, end: u64) -> usize {
         let overlaps = |(run, stop): (u64, u64)| run < end && start < stop;

@@ -149,6 +149,27 @@ impl Table {
         self.clone().record(packet)
     }
 
+    /// Document 02: "Lay the record of an open transfer on a second desk over the same Id on a first: the first then holds exactly the
+    /// octets received by either". "an Id missing on either desk is 12, tested before" the others, "Widths and L must agree (13,
+    /// then 18)", "more than 64 runs in the joined set is 16, tested last". "The first desk's timestamp stays."
+    pub fn merge(&mut self, second: &Table, id: u64) -> Result<State, Refusal> {
+        let first = self.transfers.get_mut(&id).ok_or(Refusal::NotOpen)?;
+        let second = second.transfers.get(&id).ok_or(Refusal::NotOpen)?;
+        if first.width != second.width {
+            return Err(Refusal::OtherWidth);
+        }
+        if first.length != second.length {
+            return Err(Refusal::OpenOther);
+        }
+        // "in the joined set": on the way to it there may be as many runs as there are.
+        let joined = first.received.with(&second.received);
+        if joined.run_count() > MAX_RUNS {
+            return Err(Refusal::Runs);
+        }
+        first.received = joined;
+        Ok(first.state())
+    }
+
     /// "**Closing** removes an Id; its place is used again." "Closing: 12."
     pub fn close(&mut self, id: u64) -> Result<(), Refusal> {
         self.transfers.remove(&id).map(drop).ok_or(Refusal::NotOpen)

@@ -1,4 +1,4 @@
-//! What each record does to the table, and its lines, still without the record's number.
+//! What each record does to the tables, and its lines, still without the record's number.
 
 use paper::layout::{status_wanted, word_bits, BEACON, DATA, MAX_PACKET, METADATA};
 use paper::plan::{self, Piece};
@@ -13,9 +13,22 @@ use crate::record::{Record, PIECES};
 /// A line, or the refusal that is printed in its stead.
 type Line = Result<String, Refusal>;
 
+/// The two tables, and which of them the records use.
+#[derive(Default)]
+pub struct Tables {
+    both: [Table; 2],
+    chosen: usize,
+}
+
 /// The lines of a record: one, for `P` sometimes a second, and for `W` none.
-pub fn lines(table: &mut Table, record: &Record) -> Vec<String> {
+pub fn lines(tables: &mut Tables, record: &Record) -> Vec<String> {
     let body = &record.body[..];
+    match record.kind {
+        b'T' => return vec![choose(tables, body)],
+        b'M' => return vec![merge(tables, body)],
+        _ => {}
+    }
+    let table = &mut tables.both[tables.chosen];
     match record.kind {
         b'F' => vec![fresh(table, body)],
         b'O' => vec![print(open(table, body))],
@@ -92,6 +105,22 @@ fn close(table: &mut Table, body: &[u8]) -> String {
     let Some(&id) = exactly::<4>(body) else { return bad_length() };
     let id = u32::from_be_bytes(id);
     print(table.close(u64::from(id)).map(|()| format!("close id={id}")))
+}
+
+/// `T`: chooses the table that later records use, by one octet, 0 or 1.
+fn choose(tables: &mut Tables, body: &[u8]) -> String {
+    let Some(&[which @ 0..=1]) = exactly::<1>(body) else { return bad_length() };
+    tables.chosen = which.into();
+    format!("table {which}")
+}
+
+/// `M`: merges the other table's transfer into the chosen table's. The Id 8.
+fn merge(tables: &mut Tables, body: &[u8]) -> String {
+    let Some(&id) = exactly::<8>(body) else { return bad_length() };
+    let id = u64::from_be_bytes(id);
+    let [zero, one] = &mut tables.both;
+    let (first, second) = if tables.chosen == 0 { (zero, one) } else { (one, zero) };
+    print(first.merge(second, id).map(|state| line::merge(id, state)))
 }
 
 /// `W`: the time of the record after it, 8 octets. It has no line.

@@ -9,12 +9,11 @@ mod record;
 
 use std::io::{self, Read, Write};
 
-use paper::table::Table;
 use record::Next;
 
 /// Reads records until the input ends and prints each one's lines, which begin with its number, from 1.
 pub fn replay(mut input: impl Read, mut output: impl Write) -> io::Result<()> {
-    let mut table = Table::default();
+    let mut tables = answer::Tables::default();
     for number in 1u64.. {
         let record = match record::next(&mut input)? {
             Next::Record(record) => record,
@@ -24,7 +23,7 @@ pub fn replay(mut input: impl Read, mut output: impl Write) -> io::Result<()> {
             }
             Next::End => break,
         };
-        for line in answer::lines(&mut table, &record) {
+        for line in answer::lines(&mut tables, &record) {
             writeln!(output, "{number} {line}")?;
         }
     }

@@ -25,6 +25,10 @@ pub fn record(data: &Data, recorded: Recorded) -> String {
     format!("record id={id} offset={offset} length={length} {state} absorbed={}", recorded.absorbed)
 }
 
+pub fn merge(id: u64, merged: State) -> String {
+    format!("merge id={id} {}", state(merged))
+}
+
 fn state(state: State) -> String {
     format!("edge={} complete={}", state.edge, u8::from(state.complete))
 }

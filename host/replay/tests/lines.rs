@@ -532,7 +532,7 @@ fn longest_packets() {
 
 #[test]
 fn every_other_kind_is_unknown() {
-    for kind in (0..=255).filter(|kind| !b"FODRSCPWLK".contains(kind)) {
+    for kind in (0..=255).filter(|kind| !b"FODRSCPWLKTM".contains(kind)) {
         let pass = [record(kind, b"F\0\0\0\0"), record(b'F', &[])].concat();
         assert_eq!(printed(&pass), format!("1 unknown kind {kind:02x}\n2 fresh\n"));
     }
@@ -585,4 +585,76 @@ fn cut_short_comes_before_all_else() {
             }
         }
     }
+}
+
+/// Two plants hear page 611. Table 0 is chosen at the start; each record uses the chosen one, and `M` merges the other into it.
+#[test]
+fn two_tables() {
+    let open = "open id=7 width=16 length=3000 edge=0 complete=0 new";
+    let other = "42400000 00000007  0040 00000bb8 00000000 00000000  61 00";
+    let longer = "42000000 00000007  0000 0bb9 00000000 00000000  61 00";
+    let id = "0000000000000007";
+    check_octets(&[
+        ('O', hex(PAGE), &[open]),
+        ('D', data(0, 0, 1_000), &["record id=7 offset=0 length=1000 edge=1000 complete=0 absorbed=0"]),
+        ('M', hex(id), &["refused 12 code=6"]),
+        ('T', hex("01"), &["table 1"]),
+        ('M', hex(id), &["refused 12 code=6"]),
+        ('C', hex("00000007"), &["refused 12 code=6"]),
+        ('O', hex(PAGE), &[open]),
+        ('M', hex(id), &["merge id=7 edge=1000 complete=0"]),
+        ('D', data(0, 2_000, 1_000), &["record id=7 offset=2000 length=1000 edge=3000 complete=0 absorbed=0"]),
+        ('T', hex("00"), &["table 0"]),
+        ('S', hex("00000007 0000000000000000 00 0000ffff"), &["status 440000000000000703e803e8"]),
+        ('M', hex(id), &["merge id=7 edge=3000 complete=0"]),
+        ('S', hex("00000007 0000000000000000 00 0000ffff"), &["status 440000000000000703e80bb803e807d0"]),
+        ('D', data(0, 1_000, 1_000), &["record id=7 offset=1000 length=1000 edge=3000 complete=1 absorbed=2"]),
+        ('T', hex("01"), &["table 1"]),
+        ('M', hex(id), &["merge id=7 edge=3000 complete=1"]),
+        // `F` makes the chosen one fresh, and no other.
+        ('F', vec![], &["fresh"]),
+        ('M', hex(id), &["refused 12 code=6"]),
+        ('O', hex(other), &["open id=7 width=32 length=3000 edge=0 complete=0 new"]),
+        ('M', hex(id), &["refused 13 code=9"]),
+        ('C', hex("00000007"), &["close id=7"]),
+        ('O', hex(longer), &["open id=7 width=16 length=3001 edge=0 complete=0 new"]),
+        ('M', hex(id), &["refused 18 code=9"]),
+        ('M', hex("0000000100000007"), &["refused 12 code=6"]),
+        ('T', hex("00"), &["table 0"]),
+        ('O', hex(PAGE), &["open id=7 width=16 length=3000 edge=3000 complete=1 already-open"]),
+        // Bodies of another length, and an octet that names no table.
+        ('T', vec![], &["bad length"]),
+        ('T', hex("02"), &["bad length"]),
+        ('T', hex("0001"), &["bad length"]),
+        ('M', hex("00000007"), &["bad length"]),
+        ('M', hex("000000000000000700"), &["bad length"]),
+        ('M', vec![], &["bad length"]),
+    ]);
+}
+
+/// 64 runs and one more: 16, and nothing is merged.
+#[test]
+fn more_runs_than_there_is_room_for() {
+    let mut pass = record(b'O', &hex(PAGE));
+    for run in 0..64 {
+        pass.extend(record(b'D', &data(0, 4 * run, 1)));
+    }
+    pass.extend(record(b'T', &[1]));
+    pass.extend(record(b'O', &hex(PAGE)));
+    pass.extend(record(b'D', &data(0, 2, 1)));
+    pass.extend(record(b'M', &[0, 0, 0, 0, 0, 0, 0, 7]));
+    pass.extend(record(b'D', &data(0, 0, 253)));
+    pass.extend(record(b'M', &[0, 0, 0, 0, 0, 0, 0, 7]));
+    let lines = printed(&pass);
+    let last: Vec<&str> = lines.lines().rev().take(5).collect();
+    assert_eq!(
+        last,
+        [
+            "71 merge id=7 edge=253 complete=0",
+            "70 record id=7 offset=0 length=253 edge=253 complete=0 absorbed=1",
+            "69 refused 16 code=3",
+            "68 record id=7 offset=2 length=1 edge=3 complete=0 absorbed=0",
+            "67 open id=7 width=16 length=3000 edge=0 complete=0 new",
+        ]
+    );
 }

@@ -307,6 +307,25 @@ class Program(unittest.TestCase):
         self.assertEqual((told, status), ("marks: standard input: cut short: the pass ends inside its last record\n", 1))
         self.assertEqual(out.count(b"record "), 5)
 
+    def test_two_tables(self):
+        """A merge sets the marks of either, and is refused as the table refuses it."""
+        octets = [record(b"O", metadata(7, 16, 30)), record(b"D", data(7, 16, 0, b"a" * 10)), record(b"M", bytes(7) + b"\7"),
+                  record(b"T", b"\1"), record(b"O", metadata(7, 16, 30)), record(b"D", data(7, 16, 10, b"b" * 5)),
+                  record(b"D", data(7, 16, 20, b"b" * 10)), record(b"T", b"\0"), record(b"M", bytes(7) + b"\7"),
+                  record(b"M", bytes(7) + b"\x08"), record(b"T", b"\2"), record(b"T", b"\1"), record(b"F"),
+                  record(b"O", metadata(7, 16, 31)), record(b"M", bytes(7) + b"\7"), record(b"C", bytes(3) + b"\7"),
+                  record(b"O", metadata(7, 32, 30)), record(b"M", bytes(7) + b"\7")]
+        lines = self.run_with("--pass", octets=b"".join(octets))[0].decode().splitlines()
+        told = [line for line in lines if line.startswith("record")]
+        self.assertEqual(told[2], "record 3: refused 12")
+        self.assertEqual(told[3], "record 4: table 1")
+        self.assertTrue(told[8].startswith("record 9: table 1 merged into table 0; 25 of 30 octets received, in 2 runs; edge 30; "), told[8])
+        self.assertIn("record 15: refused 18", told)
+        self.assertIn("record 18: refused 13", told)
+        self.assertEqual(lines[-1], "ignored: M records 1, T records 1")
+        both = self.run_with("--pass", "--record", "9", octets=b"".join(octets))[0].decode()
+        self.assertIn("###############.....##########", both)
+
     def test_messages(self):
         name = self.file("short", bytes(8191))
         self.assertEqual(self.run_with(name), (b"", f"marks: {name}: 8,191 octets, and marks have 8,192\n", 1))

@@ -33,7 +33,10 @@ EVERY_LINE = """\
 15 beacon flags=000000 largest-width=16 bundles=0 streams=0 send=cannot receive=cannot free-width= free= endpoint=
 16 plan count=2 pieces=1000+400,1400+200
 17 check passes=1
-18 cut short
+18 table 1
+19 open id=7 width=16 length=3000 edge=0 complete=0 new
+20 table 0
+21 cut short
 """
 
 LATE = """\
@@ -46,6 +49,24 @@ LATE = """\
 6 open id=9 width=32 length=70000 edge=0 complete=0 new
 7 record id=9 offset=10 length=10 edge=20 complete=0 absorbed=0
 8 refused 12 code=6
+"""
+
+
+TWO_TABLES = """\
+1 open id=7 width=16 length=3000 edge=0 complete=0 new
+2 record id=7 offset=0 length=1000 edge=1000 complete=0 absorbed=0
+3 table 1
+4 open id=7 width=16 length=3000 edge=0 complete=0 new
+5 record id=7 offset=900 length=600 edge=1500 complete=0 absorbed=0
+6 record id=7 offset=2000 length=1000 edge=3000 complete=0 absorbed=0
+7 table 0
+8 merge id=7 edge=3000 complete=0
+9 merge id=7 edge=3000 complete=0
+10 record id=7 offset=1500 length=500 edge=3000 complete=1 absorbed=2
+11 table 1
+12 merge id=7 edge=3000 complete=1
+13 fresh
+14 open id=7 width=16 length=9 edge=0 complete=0 new
 """
 
 
@@ -74,9 +95,50 @@ def tips(svg):
 class Drawn(unittest.TestCase):
     def test_every_line_of_replay_is_taken(self):
         svg = drawing(EVERY_LINE)
-        self.assertIn("18 records; 1 transfer, 0 complete; 1 refused (14); the pass is cut short", texts(svg))
+        self.assertIn("21 records; 2 transfers, 0 complete; 1 refused (14); the pass is cut short", texts(svg))
         self.assertIn("NOT complete: 1,000 of 3,000 octets received, nothing from 1,000 on", texts(svg))
         self.assertIn("closed", texts(svg))
+
+    def test_two_tables_and_what_is_merged(self):
+        svg = drawing(TWO_TABLES)
+        told = texts(svg)
+        self.assertIn("14 records; 3 transfers, 2 complete", told)
+        self.assertIn("Transfer 7: 3,000 octets, width 16", told)
+        self.assertIn("Transfer 7 of table 1: 3,000 octets, width 16", told)
+        self.assertIn("Transfer 7 of table 1, opened again (2): 9 octets, width 16", told)
+        self.assertIn("complete at record 10", told)
+        self.assertIn("complete at record 12", told)
+        self.assertIn("Record 8: transfer 7 of table 1 merged into table 0: 1,000 and 1,600 octets are 2,500 of 3,000", told)
+        self.assertIn("Record 9: transfer 7 of table 1 merged into table 0: 2,500 and 1,600 octets are 2,500 of 3,000", told)
+        self.assertIn("Record 12: transfer 7 of table 0 merged into table 1: 1,600 and 3,000 octets are 3,000, complete", told)
+        self.assertEqual(told.count("joined"), 3)
+        # Three rows: what the first had, what the other had, and both; of the panel, what the merge brought.
+        shown = tips(svg)
+        for tip in ("table 0: 0 to 1,000", "table 1: 900 to 1,500", "table 1: 2,000 to 3,000", "joined: 0 to 1,500", "joined: 2,000 to 3,000",
+                    "record 8: 1,000 to 1,500", "record 8: 2,000 to 3,000", "merged at record 8", "merged at record 12"):
+            self.assertIn(tip, shown)
+        self.assertFalse(any(tip.endswith(" again") for tip in shown))
+        self.assertIn("merge", told)
+        self.assertNotIn("merge", texts(drawing(LATE)))
+
+    def test_merges_that_do_not_follow(self):
+        lines = TWO_TABLES.split("\n")
+        for number, wrong, told in (
+                (8, "8 merge id=7 edge=3000 complete=1", "line 8: edge=3000 complete=1, but the records so far give"),
+                (8, "8 merge id=7 edge=1500 complete=0", "line 8: edge=1500 complete=0"),
+                (8, "8 merge id=9 edge=1 complete=0", "line 8: transfer 9, which no line before opened"),
+                (3, "3 merge id=7 edge=1000 complete=0", "line 3: transfer 7 is merged, and no line before opened it in table 1"),
+                (3, "3 table 2", "line 3: table is followed by 0 or 1"),
+                (4, "4 open id=7 width=32 length=3000 edge=0 complete=0 new", "line 8: transfer 7 is merged, and has another width")):
+            with self.assertRaises(passplot.Wrong) as raised:
+                passplot.read(lines[:number - 1] + [wrong] + lines[number:])
+            self.assertIn(told, str(raised.exception))
+
+    def test_many_merges_are_drawn_as_far_as_there_is_room(self):
+        lines = TWO_TABLES.split("\n")[:8] + [f"{record} merge id=7 edge=3000 complete=0" for record in range(9, 60)]
+        told = texts(drawing("\n".join(lines)))
+        self.assertEqual(told.count("joined"), passplot.MOST_MERGES)
+        self.assertIn("and 28 merges more", told)
 
     def test_holes_pieces_repeats_and_completion(self):
         svg = drawing(LATE)

@@ -1,0 +1,2 @@
+pub mod MergeAnswers
+pub mod Reported

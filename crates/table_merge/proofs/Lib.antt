@@ -1,0 +1,4 @@
+pub mod LimitLaws
+pub mod MergeLaws
+pub mod AnswerLaws
+pub mod MergingLaws

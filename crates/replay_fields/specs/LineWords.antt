@@ -218,3 +218,11 @@ w-pieces = 32 ∷ 112 ∷ 105 ∷ 101 ∷ 99 ∷ 101 ∷ 115 ∷ 61 ∷ []
 -- " check passes="
 abbrev pub w-check : List ℕ
 w-check = 32 ∷ 99 ∷ 104 ∷ 101 ∷ 99 ∷ 107 ∷ 32 ∷ 112 ∷ 97 ∷ 115 ∷ 115 ∷ 101 ∷ 115 ∷ 61 ∷ []
+
+-- " table "
+abbrev pub w-table : List ℕ
+w-table = 32 ∷ 116 ∷ 97 ∷ 98 ∷ 108 ∷ 101 ∷ 32 ∷ []
+
+-- " merge id="
+abbrev pub w-merge : List ℕ
+w-merge = 32 ∷ 109 ∷ 101 ∷ 114 ∷ 103 ∷ 101 ∷ 32 ∷ 105 ∷ 100 ∷ 61 ∷ []

@@ -11,6 +11,6 @@ use Rattle.replay_lines.specs.Lines.{plainLine}
 abbrev pub numberAt : ℕ → ℕ → List ℕ → ℕ
 numberAt at n s = beValue (take n (drop at s))
 
--- the line of a body whose length is not that of its kind: another one for `F`, `S`, `C` and `W`, one that is too short for `L` and `K`
+-- the line of a body whose length is not that of its kind: another one for `F`, `S`, `C`, `W`, `T` and `M`, one that is too short for `L` and `K`
 abbrev pub badLine : ℕ → List ℕ
 badLine n = plainLine n w-bad

@@ -5,7 +5,7 @@ use mathlib.Core.List.{List}
 use Rattle.text.specs.Added.{Added}
 use Rattle.replay_steps.specs.Records.{recordLines, areaAfter}
 
-pub of-kind : (n : ℕ) (body area room : List ℕ) {k j : ℕ} {o p l : List ℕ} {r : ℕ} → k ≡ j
-    → (Added o 0 (recordLines n j body area room) p r) × (l ≡ areaAfter j body area)
-    → (Added o 0 (recordLines n k body area room) p r) × (l ≡ areaAfter k body area)
-of-kind n body area room e h = rw e h
+pub of-kind : (n : ℕ) (body area other room : List ℕ) {k j : ℕ} {o p l : List ℕ} {r : ℕ} → k ≡ j
+    → (Added o 0 (recordLines n j body area other room) p r) × (l ≡ areaAfter j body area other)
+    → (Added o 0 (recordLines n k body area other room) p r) × (l ≡ areaAfter k body area other)
+of-kind n body area other room e h = rw e h

@@ -1,3 +1,4 @@
 pub mod CaseLaws
 pub mod RoomLaws
+pub mod TableLaws
 pub mod Examples

@@ -1,46 +1,49 @@
--- R14.1, R14.2: what a record gets: its lines, and the area after it (docs/REPLAY.md). `room` is the buffer that is lent for STATUS, as it stands before.
+-- R14.1, R14.2: what a record gets: its lines, and the areas after it (docs/REPLAY.md). `area` holds the chosen table and `other` the other one; `room` is
+-- the buffer that is lent for STATUS, as it stands before. replay_merge: `chosenAfter` says which table is chosen next.
 -- Assumes nothing.
 use Prim.Native.Nat.{ℕ}
 use mathlib.Core.Bool.{cond}
 use mathlib.Core.List.{List}
 use lib.Dec.{eqb}
 use Rattle.packet.specs.Read.{readPacket}
-use Rattle.packet_data.specs.Data.{readData}
-use Rattle.packet_metadata.specs.Metadata.{readMetadata}
-use Rattle.area.specs.Operations.{openArea, recordArea}
-use Rattle.replay_lines.specs.Lines.{plainLine, unknownLine}
+use Rattle.replay_lines.specs.Lines.{plainLine}
 use Rattle.replay_fields.specs.LineWords.{w-cut}
-use Rattle.replay_plan.specs.PlanRecords.{planLines, checkLines}
-use Rattle.replay_answers.specs.AnswerLines.{openText, recordText, readText}
+use Rattle.replay_merge.specs.MergeLines.{mergeLines, mergeAfter}
 use Rattle.replay_status.specs.StatusLines.{statusLines}
 use Rattle.replay_deliver.specs.Deliver.{deliverLines, deliverArea}
-use Rattle.replay_records.specs.Kinds.{freshLines, freshAfter, closeLines, closeAfter, timeLines}
+use Rattle.replay_kinds.specs.ByKind.{oneTableLines, oneTableAfter}
 
 -- the last line, where the input ends inside a record
 abbrev pub cutLine : ℕ → List ℕ
 cutLine n = plainLine n w-cut
 
--- the lines of a record, by its kind: `F` 46, `O` 4f, `D` 44, `R` 52, `S` 53, `C` 43, `P` 50, `W` 57, `L` 4c, `K` 4b (hex)
-unfoldable pub recordLines : ℕ → ℕ → List ℕ → List ℕ → List ℕ → List ℕ
-recordLines n kind body area room =
-    cond (eqb kind 0x46) (freshLines n body area)
-    (cond (eqb kind 0x4f) (openText n (readMetadata body) (openArea area body .answer))
-    (cond (eqb kind 0x44) (recordText n (readData body) (recordArea area body .answer))
-    (cond (eqb kind 0x52) (readText n body (readPacket body))
+-- the lines of a record, by its kind: `M` 4d, `S` 53, `P` 50 (hex), and the others by the chosen table alone
+unfoldable pub recordLines : ℕ → ℕ → List ℕ → List ℕ → List ℕ → List ℕ → List ℕ
+recordLines n kind body area other room =
+    cond (eqb kind 0x4d) (mergeLines n body area other)
     (cond (eqb kind 0x53) (statusLines n body area room)
-    (cond (eqb kind 0x43) (closeLines n body area)
     (cond (eqb kind 0x50) (deliverLines n body (readPacket body) area room)
-    (cond (eqb kind 0x57) (timeLines n body)
-    (cond (eqb kind 0x4c) (planLines n body)
-    (cond (eqb kind 0x4b) (checkLines n body)
-    (unknownLine n kind))))))))))
+    (oneTableLines n kind body area)))
 
--- the area after it: `R`, `S`, `W`, `L`, `K` and a kind that there is not leave it
-unfoldable pub areaAfter : ℕ → List ℕ → List ℕ → List ℕ
-areaAfter kind body area =
-    cond (eqb kind 0x46) (freshAfter body area)
-    (cond (eqb kind 0x4f) (openArea area body .area)
-    (cond (eqb kind 0x44) (recordArea area body .area)
-    (cond (eqb kind 0x43) (closeAfter body area)
+-- the area of the chosen table after it
+unfoldable pub areaAfter : ℕ → List ℕ → List ℕ → List ℕ → List ℕ
+areaAfter kind body area other =
+    cond (eqb kind 0x4d) (mergeAfter body area other)
     (cond (eqb kind 0x50) (deliverArea body (readPacket body) area)
-    area))))
+    (oneTableAfter kind body area))
+
+-- ---- the areas of table 0 and of table 1
+
+-- the area of the chosen table, and that of the other one
+unfoldable pub chosenOf : ℕ → List ℕ → List ℕ → List ℕ
+chosenOf chosen zero one = cond (eqb chosen 0) zero one
+
+unfoldable pub otherOf : ℕ → List ℕ → List ℕ → List ℕ
+otherOf chosen zero one = cond (eqb chosen 0) one zero
+
+-- both after a record: that of the table that is not chosen stays
+unfoldable pub zeroAfter : ℕ → ℕ → List ℕ → List ℕ → List ℕ → List ℕ
+zeroAfter chosen kind body zero one = cond (eqb chosen 0) (areaAfter kind body zero one) zero
+
+unfoldable pub oneAfter : ℕ → ℕ → List ℕ → List ℕ → List ℕ → List ℕ
+oneAfter chosen kind body zero one = cond (eqb chosen 0) one (areaAfter kind body one zero)

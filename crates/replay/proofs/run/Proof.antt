@@ -30,4 +30,4 @@ pub run-spec : {M : Type 1} → statement M
 run-spec =
     tie.close
     (tie.spec
-    (λ c. sized 17288 0) (λ c. sized 131088 0) (λ c. sized 65535 0) (λ c. sized 524288 0) replay-requires (λ c. search needs))
+    (λ c. sized 17288 0) (λ c. sized 17288 0) (λ c. sized 131088 0) (λ c. sized 65535 0) (λ c. sized 524288 0) replay-requires (λ c. search needs))

@@ -18,14 +18,14 @@ kept c =
 
 slice-aggregate-tell : tie.Need-slice-aggregate-tell
 slice-aggregate-tell c =
-    let kind-place = c .before .before .before in let next = kind-place .before .before .before .before .next in
+    let kind-place = c .before .before .before .before in let next = kind-place .before .before .before .before .next in
     sym (length-take-le (kind-place .kind .given .0 .1 .0) (next .last .1 .0) (kept kind-place))
 
 tell-requires : tie.Need-tell-requires
 tell-requires c κs =
-    let kind-place = c .before .before .before .before .before in
+    let kind-place = c .before .before .before .before .before .before in
     let next-place = kind-place .before .before .before .before in
-    let start = next-place .before .before .before .before .before .before in let next = next-place .next in
+    let start = next-place .before .before .before .before .before .before .before in let next = next-place .next in
     record {
       body-fits = omega (arith, kept kind-place, length-take-le (kind-place .kind .given .0 .1 .0) (next .last .1 .0) (kept kind-place), next .kept .1 .0, start .pre .body-fits);
       lent-fits = start .pre .lent-fits;
@@ -36,6 +36,6 @@ pub step-spec : {M : Type 1} → statement M
 step-spec =
     tie.close
     (tie.spec
-    (λ c κs. search needs) (λ c. search needs) (λ c. search needs) (λ c κs. search needs) (λ c. search needs) (λ c. kept (c .before .before))
+    (λ c κs. search needs) (λ c. search needs) (λ c. search needs) (λ c κs. search needs) (λ c. search needs) (λ c. kept (c .before .before .before))
     slice-aggregate-tell tell-requires (λ c. search needs) (λ c. search needs) (λ c. search needs) (λ c. search needs) (λ c. search needs)
-    (λ c. search needs) (λ c. search needs) (λ c. search needs) (λ c. search needs) (λ c. search needs))
+    (λ c. search needs) (λ c. search needs) (λ c. search needs) (λ c. search needs) (λ c. search needs) (λ c. search needs))

@@ -1,0 +1,4 @@
+pub mod TableLaws
+pub mod MergedLaws
+pub mod LengthLaws
+pub mod Examples

@@ -1,2 +1,8 @@
 pub mod AcceptedLaws
+pub mod ReceivedLaws
+pub mod OrderLaws
+pub mod ItselfLaws
+pub mod GroupLaws
+pub mod PacketLaws
+pub mod RoomLaws
 pub mod SumLaws

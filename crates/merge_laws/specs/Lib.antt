@@ -1,1 +1,3 @@
 pub mod Sum
+pub mod Laws
+pub mod Room

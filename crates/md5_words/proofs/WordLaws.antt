@@ -76,6 +76,10 @@ four-read s h o = record {
   d = low-part-lt s 12 4 o (omega arith);
 }
 
+pub length-words : (v : List ℕ) → length (wordOctets v) ≡ 16
+unfolding wordOctets leDigits
+length-words v = refl
+
 -- four words read back from their octets
 pub words-back : (v r : List ℕ) → Four v → wordsAt (wordOctets v ++ r) 0 4 ≡ v
 unfolding wordOctets wordAt leDigits

@@ -3,7 +3,7 @@
 -- Assumes nothing.
 use Prim.Native.Nat.{ℕ, _+_, _-_, _*_, _/_, _%_, _^_, _≤_, _<_}
 use mathlib.Core.Path.{_≡_, sym, ap, _∙_}
-use mathlib.Core.List.{List, _++_, append-assoc, append-nil}
+use mathlib.Core.List.{List, _++_, append-assoc}
 use native.Mathlib.Omega.{arith}
 use lib.ListN.{length, take, drop, length-append, length-drop, length-replicate, take-append-drop}
 use lib.Seq.{length-take-le, take-all}
@@ -14,7 +14,7 @@ use Rattle.md5_words.specs.Words.{wordOctets}
 use Rattle.md5_blocks.specs.Md5.{run, leftOf, zeros}
 use Rattle.md5_blocks.proofs.BlockLaws.{run-append, run-short, left-append, left-short}
 use Rattle.md5_state.specs.State.{stateOctets, stateOf, wordsOf, countOf, begunOf, fed}
-use Rattle.md5_state.proofs.StateLaws.{begun-length, zero-filled}
+use Rattle.md5_state.proofs.StateLaws.{begun-length, zero-filled, zero-covered}
 
 -- what is stored, where the block is t and zeros
 stored : (s v t b r : List ℕ) (m : ℕ) → b ≡ t ++ zeros (64 - length t) → r ≡ put 0 (wordOctets v ++ (beDigits 8 m ++ b)) s
@@ -66,12 +66,7 @@ module _ (s p v r b1 b2 : List ℕ) (n m : ℕ) (hs : stateOctets ≤ length s) 
 
     block-is : b2 ≡ begunOf s ++ first
     unfolding first
-    block-is =
-        let z : 64 - length (begunOf s ++ first) ≡ 0 = omega (arith, block-length) in
-        filled first (omega (arith, first-length)) e2
-        ∙ zero-filled (begunOf s ++ first) 64 (omega (arith, block-length))
-        ∙ ap (λ (k : ℕ). (begunOf s ++ first) ++ zeros k) z
-        ∙ append-nil (begunOf s ++ first)
+    block-is = filled first (omega (arith, first-length)) e2 ∙ zero-covered (begunOf s ++ first) 64 block-length
 
     rest-is : rest ≡ drop (64 - n % 64) p
     rest-is = et ∙ take-all (length p - (64 - n % 64)) (drop (64 - n % 64) p) (simp length-drop (omega arith))

@@ -1,8 +1,8 @@
 -- Storing a state part by part, and the block begun as the octets that it says it has.
 -- Assumes nothing.
 use Prim.Native.Nat.{ℕ, _+_, _-_, _%_, _≤_, _<_}
-use mathlib.Core.Path.{_≡_, refl, sym, ap, _∙_}
-use mathlib.Core.List.{List, _++_, append-assoc}
+use mathlib.Core.Path.{_≡_, sym, ap, _∙_}
+use mathlib.Core.List.{List, _++_, append-assoc, append-nil}
 use native.Mathlib.Omega.{arith}
 use borrow.Author.Tests.{lt-ltb, le-ltb, ltb-false}
 use lib.ListN.{length, take, drop, length-append, length-drop, length-replicate, replicate-append-replicate}
@@ -72,3 +72,9 @@ unfolding put
 zero-filled t m h =
     let z : 0 + length t ≡ length t = omega arith in
     ap (λ (l : List ℕ). t ++ l) (ap (λ (j : ℕ). drop j (zeros m)) z ∙ drop-zeros (length t) m h)
+
+-- as many octets as there are zeros
+pub zero-covered : (t : List ℕ) (m : ℕ) → length t ≡ m → put 0 t (zeros m) ≡ t
+zero-covered t m e =
+    let z : m - length t ≡ 0 = omega arith in
+    zero-filled t m (omega arith) ∙ ap (λ (k : ℕ). t ++ zeros k) z ∙ append-nil t

@@ -4,7 +4,7 @@ use Prim.Native.Nat.{ℕ, suc, _+_, _-_, _*_, _%_, _^_, _≤_, _<_}
 use mathlib.Core.Path.{_≡_, sym, ap, _∙_}
 use mathlib.Core.List.{List, _∷_, _++_, append-assoc}
 use native.Mathlib.Omega.{arith}
-use borrow.Author.Tests.{ltb-false}
+use borrow.Author.Tests.{le-ltb, ltb-false}
 use lib.ListN.{length, take, drop, set, length-append, length-replicate, replicate-append-replicate}
 use lib.Seq.{take-at, set-at}
 use Rattle.octets.specs.Numbers.{leDigits}
@@ -13,7 +13,7 @@ use Rattle.octets.proofs.LowFirstLaws.{length-low-digits}
 use Rattle.refusals.proofs.RefusalLaws.{first-none, rest-none, failed}
 use Rattle.md5_blocks.specs.Md5.{run, zeros, padding}
 use Rattle.md5_state.specs.State.{stateOctets, stateRefusal, wordsOf, countOf, begunOf, lastWords}
-use Rattle.md5_state.proofs.StateLaws.{begun-length, zero-filled, state-long}
+use Rattle.md5_state.proofs.StateLaws.{begun-length, zero-filled, state-long, state-fine}
 use Rattle.md5_digest.specs.End.{digestOctets, endRefusal}
 
 -- s is a state of n octets. Of a buffer of 128 zeros b1 has the block begun, and after it comes 0x80; the number of bits stands at `at`
@@ -75,3 +75,7 @@ end-fine s out e = (
   state-long s (first-none (stateRefusal s) _ e),
   ltb-false (length out) 16 (failed _ 19 (rest-none (stateRefusal s) _ e)),
 )
+
+pub end-accepted : (s out : List ℕ) → stateOctets ≤ length s → digestOctets ≤ length out → endRefusal s out ≡ 0
+unfolding endRefusal
+end-accepted s out h g = rw (state-fine s h, le-ltb (length out) 16 g)

@@ -1,10 +1,13 @@
 -- Storing a state part by part, and the block begun as the octets that it says it has.
 -- Assumes nothing.
 use Prim.Native.Nat.{ℕ, _+_, _-_, _%_, _≤_, _<_}
-use mathlib.Core.Path.{_≡_, sym, ap, _∙_}
+use mathlib.Core.Path.{_≡_, refl, sym, ap, _∙_}
+use mathlib.Core.Bool.{Bool, true, false}
+use mathlib.Core.Logic.{_⊎_, inl, inr}
 use mathlib.Core.List.{List, _++_, append-assoc, append-nil}
 use native.Mathlib.Omega.{arith}
-use borrow.Author.Tests.{lt-ltb, le-ltb, ltb-false}
+use lib.Dec.{ltb}
+use borrow.Author.Tests.{lt-ltb, le-ltb, ltb-true, ltb-false}
 use lib.ListN.{length, take, drop, length-append, length-drop, length-replicate, replicate-append-replicate}
 use lib.Seq.{length-take-le, drop-at}
 use Rattle.octets.specs.Numbers.{beDigits}
@@ -56,6 +59,13 @@ state-short s h = rw (lt-ltb (length s) 88 h)
 pub state-long : (s : List ℕ) → stateRefusal s ≡ 0 → stateOctets ≤ length s
 unfolding stateRefusal
 state-long s e = ltb-false (length s) 88 (failed _ 19 e)
+
+pub long-or-short : (s : List ℕ) → (stateOctets ≤ length s) ⊎ (length s < stateOctets)
+long-or-short s = go (ltb (length s) stateOctets) refl
+  where
+    go : (b : Bool) → ltb (length s) stateOctets ≡ b → (stateOctets ≤ length s) ⊎ (length s < stateOctets)
+    go true e = inr (ltb-true (length s) stateOctets e)
+    go false e = inl (ltb-false (length s) stateOctets e)
 
 -- ---- buffers of zeros
 

@@ -3,6 +3,7 @@
 use Prim.Native.Nat.{ℕ, suc, _+_, _-_, _*_, _%_, _^_, _≤_, _<_}
 use mathlib.Core.Path.{_≡_, sym, ap, _∙_}
 use mathlib.Core.List.{List, _∷_, _++_, append-assoc}
+use mathlib.Core.Logic.{_⊎_, _↔_}
 use native.Mathlib.Omega.{arith}
 use borrow.Author.Tests.{le-ltb, ltb-false}
 use lib.ListN.{length, take, drop, set, length-append, length-replicate, replicate-append-replicate}
@@ -11,6 +12,7 @@ use Rattle.octets.specs.Numbers.{leDigits}
 use Rattle.octets.specs.Put.{put}
 use Rattle.octets.proofs.LowFirstLaws.{length-low-digits}
 use Rattle.refusals.proofs.RefusalLaws.{first-none, rest-none, failed}
+use Rattle.refusals.proofs.ReasonLaws.{given, below, sole, alone, _or_}
 use Rattle.md5_blocks.specs.Md5.{run, zeros, padding}
 use Rattle.md5_state.specs.State.{stateOctets, stateRefusal, wordsOf, countOf, begunOf, lastWords}
 use Rattle.md5_state.proofs.StateLaws.{begun-length, zero-filled, state-long, state-fine}
@@ -79,3 +81,8 @@ end-fine s out e = (
 pub end-accepted : (s out : List ℕ) → stateOctets ≤ length s → digestOctets ≤ length out → endRefusal s out ≡ 0
 unfolding endRefusal
 end-accepted s out h g = rw (state-fine s h, le-ltb (length out) 16 g)
+
+-- R9.20: no other number is given
+pub end-twenty-iff : (s out : List ℕ) → (endRefusal s out ≡ 20) ↔ ((length s < stateOctets) ⊎ (length out < digestOctets))
+unfolding endRefusal stateRefusal
+end-twenty-iff s out = given (alone (sole (below (length s) stateOctets) or sole (below (length out) digestOctets))) 20

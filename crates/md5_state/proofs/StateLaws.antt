@@ -3,7 +3,7 @@
 use Prim.Native.Nat.{ℕ, _+_, _-_, _%_, _≤_, _<_}
 use mathlib.Core.Path.{_≡_, refl, sym, ap, _∙_}
 use mathlib.Core.Bool.{Bool, true, false}
-use mathlib.Core.Logic.{_⊎_, inl, inr}
+use mathlib.Core.Logic.{_⊎_, inl, inr, _↔_}
 use mathlib.Core.List.{List, _++_, append-assoc, append-nil}
 use native.Mathlib.Omega.{arith}
 use lib.Dec.{ltb}
@@ -14,6 +14,7 @@ use Rattle.octets.specs.Numbers.{beDigits}
 use Rattle.octets.specs.Put.{put}
 use Rattle.octets.proofs.PutLaws.{put-next}
 use Rattle.refusals.proofs.RefusalLaws.{failed}
+use Rattle.refusals.proofs.ReasonLaws.{given, one, below}
 use Rattle.md5_words.specs.Words.{wordOctets}
 use Rattle.md5_words.proofs.WordLaws.{length-words}
 use Rattle.md5_blocks.specs.Md5.{zeros}
@@ -59,6 +60,11 @@ state-short s h = rw (lt-ltb (length s) 88 h)
 pub state-long : (s : List ℕ) → stateRefusal s ≡ 0 → stateOctets ≤ length s
 unfolding stateRefusal
 state-long s e = ltb-false (length s) 88 (failed _ 19 e)
+
+-- R9.20
+pub twenty-iff : (s : List ℕ) → (stateRefusal s ≡ 20) ↔ (length s < stateOctets)
+unfolding stateRefusal
+twenty-iff s = given (one 20 (below (length s) stateOctets)) 20
 
 pub long-or-short : (s : List ℕ) → (stateOctets ≤ length s) ⊎ (length s < stateOctets)
 long-or-short s = go (ltb (length s) stateOctets) refl

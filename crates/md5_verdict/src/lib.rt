@@ -56,10 +56,9 @@ fn agrees(packet: &[u8], state: &[u8]) -> bool
 fn verdict_refusal(packet: &[u8], state: &[u8]) -> u64
     ensures { λ r. ⌜ r ≡ verdictRefusal (now (packet .entry)) (now (state .entry)) ⌝ }
 {
-    refusals::first(
-        md5_state::state_refusal(state),
-        packet_metadata::metadata_refusal(packet),
-    )
+    let short = md5_state::state_refusal(state);
+    let unread = packet_metadata::metadata_refusal(packet);
+    refusals::first(short, unread)
 }
 
 // The verdict on a packet that has to be METADATA, by what was added to the state.

@@ -23,7 +23,7 @@ returns c =
     let a = start .args in
     add-short (now (a .state)) (now (a .part)) (words .four-words .result) _ _ _ (counted .count .result) (added .wrapping-add-u64 .result) (start .pre)
     (counted .count .ensures) (words .four-words .ensures) (added .wrapping-add-u64 .ensures) (copied .copy-begun .ensures)
-    (test .if1 .taken) (filled .copy-into .ensures) (stored .store .ensures)
+    (omega (arith, test .if1 .taken)) (filled .copy-into .ensures) (stored .store .ensures)
 
 slice-aggregate-copy-into-3 : tie.Need-slice-aggregate-copy-into-3
 slice-aggregate-copy-into-3 c = sym (length-take-le _ _ (omega arith))
@@ -48,7 +48,7 @@ returns-2 c =
     add-long (now (a .state)) (now (a .part)) (words .four-words .result) _ _ _ (counted .count .result) (added .wrapping-add-u64 .result) (start .pre)
     (counted .count .ensures) (words .four-words .ensures) (added .wrapping-add-u64 .ensures) (copied .copy-begun .ensures)
     (block .run-blocks .result) (rest .run-blocks2 .result) _ _
-    (test .if1 .left) (filled .copy-into2 .ensures) (block .run-blocks .ensures) refl (rest .run-blocks2 .ensures)
+    (omega (arith, test .if1 .left)) (filled .copy-into2 .ensures) (block .run-blocks .ensures) refl (rest .run-blocks2 .ensures)
     (last .copy-into3 .ensures) (stored .store2 .ensures)
 
 pub feed-spec : {M : Type 1} → statement M

@@ -189,7 +189,7 @@ digest-fed m =
     ∙ ap (λ (l : List ℕ). run start (l ++ (m ++ padding (countOf (fed begun m))))) begun-none
     ∙ ap (λ (l : List ℕ). run start (m ++ l)) p)
 
--- ---- octets past a state
+-- ---- R16.8: octets past a state are not looked at
 
 module _ (b r : List ℕ) (hb : length b ≡ stateOctets) where
   pub front-words : wordsOf (b ++ r) ≡ wordsOf b

@@ -24,7 +24,7 @@ use Rattle.md5_verdict.specs.declared.Verdict.the-variants.{Refused}
 use Rattle.md5_parts.specs.Parts.{addAll, joined, TwoAreOne, CutsDoNotMatter}
 use Rattle.md5_parts.proofs.FedLaws.{length-fed, fed-two, front-words, front-fed, front-digest, length-begun, begun-four, begun-fed-none, digest-fed, four-of}
 
--- ---- a state, and what is lent past it
+-- ---- R16.8: a state, and what is lent past it, which stays
 
 put-front : (b s : List ℕ) → length b ≡ stateOctets → put 0 b s ≡ b ++ drop stateOctets s
 unfolding put
@@ -35,11 +35,11 @@ unfolding addState
 add-none s p h = rw (state-short s h)
 
 module _ (s : List ℕ) (h : stateOctets ≤ length s) where
-  add-is : (p : List ℕ) → addState s p ≡ fed s p ++ drop stateOctets s
+  pub add-is : (p : List ℕ) → addState s p ≡ fed s p ++ drop stateOctets s
   unfolding addState
   add-is p = rw (state-fine s h) (put-front (fed s p) s (length-fed s h p))
 
-  begin-is : beginState s ≡ begun ++ drop stateOctets s
+  pub begin-is : beginState s ≡ begun ++ drop stateOctets s
   unfolding beginState
   begin-is = rw (state-fine s h) (put-front begun s length-begun)
 

@@ -102,7 +102,7 @@ extern "C" {
 
 /*
  * The checksum of METADATA, in bits 24 to 31 of `flags`: its type (bits 28 to 31) with its length in 32-bit words (bits 24
- * to 27). No checksum is computed or compared here.
+ * to 27). Reading and opening compare none; of an MD5, saratoga_check_md5 says whether it is that of a file.
  */
 #define SARATOGA_CHECKSUM_TYPE_MASK UINT64_C(0x0F)
 #define SARATOGA_CHECKSUM_WORDS_MASK UINT64_C(0xF0)

@@ -5,11 +5,11 @@ use mathlib.Core.Path.{_≡_, refl, sym, ap, _∙_}
 use mathlib.Core.List.{List, [], _∷_, _++_, append-assoc}
 use native.Mathlib.Nat.{zero-add}
 use native.Mathlib.Omega.{arith}
-use lib.ListN.{length, getD, take, drop, length-append, length-drop, length-replicate}
+use lib.ListN.{length, take, drop, length-append, length-drop, length-replicate}
 use lib.Seq.{take-at, drop-at, drop-drop, take-append-le, drop-append-le}
 use Rattle.octets.specs.Numbers.{beValue, beDigits, leDigits, Octets}
 use Rattle.octets.proofs.NumberLaws.{value-digits}
-use Rattle.md5_words.specs.Words.{wordAt, wordsAt, wordOctets}
+use Rattle.md5_words.specs.Words.{wordsAt, wordOctets}
 use Rattle.md5_words.proofs.WordLaws.{Four, four-read, words-append, words-back, length-words}
 use Rattle.md5_rounds.specs.Rounds.{compressed, summed, first, second, third, fourth, roundOf}
 use Rattle.md5_blocks.specs.Md5.{start, afterBlock, blocks, run, leftOf, zeros, padding, md5}
@@ -175,13 +175,20 @@ begun-long = omega (arith, length-begun)
 
 pub begun-fed-none : begun ≡ fed begun []
 unfolding begun fed blocks
-begun-fed-none = same-state (sym (ap (λ (l : List ℕ). run l (begunOf begun ++ [])) begun-words ∙ ap (λ (l : List ℕ). run start (l ++ [])) begun-none)) (sym (ap (λ (k : ℕ). (k + 0) % 2 ^ 64) begun-count)) (sym (ap (λ (l : List ℕ). leftOf (l ++ [])) begun-none))
+begun-fed-none =
+    same-state
+    (sym (ap (λ (l : List ℕ). run l (begunOf begun ++ [])) begun-words ∙ ap (λ (l : List ℕ). run start (l ++ [])) begun-none))
+    (sym (ap (λ (k : ℕ). (k + 0) % 2 ^ 64) begun-count))
+    (sym (ap (λ (l : List ℕ). leftOf (l ++ [])) begun-none))
 
 -- R16.9, R16.11: the digest once a message was added whole
 pub digest-fed : (m : List ℕ) → digestOf (fed begun m) ≡ md5 m
 unfolding digestOf lastWords md5 n
 digest-fed m =
-    let k : countOf (fed begun m) ≡ length m % 2 ^ 64 = count-fed begun begun-long m ∙ ap (λ (i : ℕ). (i + length m) % 2 ^ 64) begun-count ∙ ap (λ (i : ℕ). i % 2 ^ 64) (zero-add (length m)) in
+    let k : countOf (fed begun m) ≡ length m % 2 ^ 64 =
+    count-fed begun begun-long m
+    ∙ ap (λ (i : ℕ). (i + length m) % 2 ^ 64) begun-count
+    ∙ ap (λ (i : ℕ). i % 2 ^ 64) (zero-add (length m)) in
     let p : padding (countOf (fed begun m)) ≡ padding (length m) = ap (λ (i : ℕ). padding i) k ∙ padding-mod (length m) in
     ap (λ (l : List ℕ). wordOctets l)
     (run-on begun begun-long m begun-four (padding (countOf (fed begun m)))

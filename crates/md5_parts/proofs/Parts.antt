@@ -7,21 +7,16 @@ use mathlib.Core.List.{List, [], _∷_, _++_, append-assoc, append-nil}
 use native.Mathlib.Omega.{arith}
 use lib.ListN.{length, drop, length-append}
 use lib.Seq.{drop-at}
-use Rattle.octets.specs.Numbers.{Octets}
 use Rattle.octets.specs.Put.{put}
-use Rattle.refusals.specs.Refusals.{answered}
-use Rattle.refusals.specs.declared.Written.the-variants.{Size}
-use Rattle.packet_metadata.specs.Metadata.{metadataRefusal}
 use Rattle.md5_words.proofs.WordLaws.{Four}
 use Rattle.md5_blocks.specs.Md5.{md5}
-use Rattle.md5_state.specs.State.{stateOctets, stateRefusal, wordsOf, begun, fed, digestOf}
+use Rattle.md5_state.specs.State.{stateOctets, wordsOf, begun, fed, digestOf}
 use Rattle.md5_state.proofs.StateLaws.{state-fine, state-short, long-or-short}
 use Rattle.md5_feed.specs.Feed.{beginState, addState}
-use Rattle.md5_digest.specs.End.{digestOctets, endRefusal, digestWritten, digestBuffer}
+use Rattle.md5_digest.specs.End.{digestWritten, digestBuffer}
 use Rattle.md5_digest.proofs.EndLaws.{end-accepted}
-use Rattle.md5_verdict.specs.Verdict.{verdictOf, verdictRefusal, checkMd5}
-use Rattle.md5_verdict.specs.declared.Verdict.the-variants.{Refused}
-use Rattle.md5_parts.specs.Parts.{addAll, joined, TwoAreOne, CutsDoNotMatter}
+use Rattle.md5_verdict.specs.Verdict.{verdictRefusal, checkMd5}
+use Rattle.md5_parts.specs.Parts.{addAll, joined, TwoAreOne, WholeMessage, CutsDoNotMatter}
 use Rattle.md5_parts.proofs.FedLaws.{length-fed, fed-two, front-words, front-fed, front-digest, length-begun, begun-four, begun-fed-none, digest-fed, four-of}
 
 -- ---- R16.8: a state, and what is lent past it, which stays
@@ -106,10 +101,13 @@ module _ (s : List ℕ) (ps : List (List ℕ)) (h : stateOctets ≤ length s) wh
       ∙ front-digest (fed begun (joined ps)) r (length-fed begun (omega (arith, length-begun)) (joined ps))
       ∙ digest-fed (joined ps)
 
-  pub cuts-do-not-matter : CutsDoNotMatter s ps
+  whole-message : WholeMessage s ps
   unfolding digestWritten digestBuffer checkMd5 verdictRefusal
-  cuts-do-not-matter = record {
+  whole-message = record {
     size = λ out g. rw (end-accepted (addAll (beginState s) ps) out long g);
     digest = λ out g. rw (end-accepted (addAll (beginState s) ps) out long g, digest-is);
     verdict = λ packet. rw (state-fine (addAll (beginState s) ps) long, digest-is);
   }
+
+pub cuts-do-not-matter : CutsDoNotMatter
+cuts-do-not-matter s ps h = whole-message s ps h

@@ -30,10 +30,15 @@ joined (p ∷ ps) = p ++ joined ps
 abbrev pub TwoAreOne : Type 0
 TwoAreOne = (s p q : List ℕ) → Octets s → addState (addState s p) q ≡ addState s (p ++ q)
 
--- R16.11: from beginning, with these parts
-pub record CutsDoNotMatter (s : List ℕ) (ps : List (List ℕ)) : Type 0 where
+-- what is told after these parts were added from the beginning, where s was lent for the state
+pub record WholeMessage (s : List ℕ) (ps : List (List ℕ)) : Type 0 where
   -- the digest that is written is that of the whole message; the octets after it stay
   pub size : (out : List ℕ) → digestOctets ≤ length out → digestWritten (addAll (beginState s) ps) out ≡ Size digestOctets
   pub digest : (out : List ℕ) → digestOctets ≤ length out → digestBuffer (addAll (beginState s) ps) out ≡ put 0 (md5 (joined ps)) out
   -- and the verdict on any octets is that by the digest of the whole message
-  pub verdict : (packet : List ℕ) → checkMd5 packet (addAll (beginState s) ps) ≡ answered Refused (metadataRefusal packet) (verdictOf packet (md5 (joined ps)))
+  pub verdict : (packet : List ℕ)
+      → checkMd5 packet (addAll (beginState s) ps) ≡ answered Refused (metadataRefusal packet) (verdictOf packet (md5 (joined ps)))
+
+-- R16.11: in lent octets of any content that are long enough, for any list of parts
+abbrev pub CutsDoNotMatter : Type 0
+CutsDoNotMatter = (s : List ℕ) (ps : List (List ℕ)) → stateOctets ≤ length s → WholeMessage s ps

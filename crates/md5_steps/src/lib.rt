@@ -1,6 +1,6 @@
 // One step of MD5: the four words after it, by value.
 ghost use mathlib.Core.Path.{_≡_};
-ghost use Prim.Native.Nat.{_+_, _<_};
+ghost use Prim.Native.Nat.{_<_};
 ghost use Rattle.md5_steps.specs.Steps.{mixF, mixG, mixH, mixI, rotl, turned, step};
 
 // y's bit where x has a 1, and elsewhere z's: by two operations once x is known, which the definition's way would not be.

@@ -1,6 +1,6 @@
 -- Octets that are the same, and the verdict by what is known of a packet.
 -- Assumes nothing.
-use Prim.Native.Nat.{ℕ, zero, suc, _+_, _*_, _≤_, _<_}
+use Prim.Native.Nat.{ℕ, zero, suc, _≤_, _<_}
 use mathlib.Core.Path.{_≡_, refl, sym, ap, _∙_}
 use mathlib.Core.Bool.{Bool, true, false, not, _&&_}
 use mathlib.Core.List.{List, [], _∷_}
@@ -14,7 +14,6 @@ use Rattle.refusals.proofs.RefusalLaws.{first-none, rest-none}
 use Rattle.header.specs.FirstWord.{sumWords}
 use Rattle.header.specs.Start.{wordOf}
 use Rattle.packet_metadata.specs.Checksum.{pairAllowed, pairRefusal}
-use Rattle.packet_metadata.specs.Metadata.{metadataRefusal}
 use Rattle.packet_metadata.proofs.MetadataLaws.{MetadataFine, metadata-fine}
 use Rattle.md5_state.specs.State.{stateOctets, stateRefusal}
 use Rattle.md5_state.proofs.StateLaws.{state-long}

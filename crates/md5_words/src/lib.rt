@@ -2,7 +2,6 @@
 ghost use mathlib.Core.Path.{_≡_};
 ghost use Prim.Native.Nat.{_+_, _*_, _^_, _≤_, _<_};
 ghost use lib.ListN.{length};
-ghost use Rattle.octets.specs.Numbers.{leDigits};
 ghost use Rattle.octets.specs.Put.{put};
 ghost use Rattle.md5_words.specs.Words.{wordAt, wordsAt, wordOctets};
 

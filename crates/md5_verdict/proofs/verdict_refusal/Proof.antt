@@ -1,5 +1,5 @@
 -- `md5_verdict::verdict_refusal` meets its contract. Assumes nothing.
-use mathlib.Core.Path.{_≡_, _∙_}
+use mathlib.Core.Path.{_∙_}
 use borrow.Author.Needs.{needs}
 use Rattle.md5_verdict.specs.Verdict.{verdictRefusal}
 use Rattle.md5_verdict.proofs.verdict_refusal.Statement.{statement}

@@ -1,6 +1,5 @@
 -- `md5_words::decode` meets its contract: each word is what `word` ensures. Assumes nothing.
 use native.Mathlib.Omega.{arith}
-use borrow.Author.Needs.{needs}
 use Rattle.md5_words.proofs.decode.Statement.{statement}
 use Rattle.md5_words.proofs.decode.Tie as tie
 

@@ -15,7 +15,8 @@ PREFIX ?= /usr/local
 VERSION = 0.1
 ARCHIVE = target/staticlib/libsaratoga.a
 PLAN_SOURCES = $(addprefix host/plan/,plan.c input.c reason.c)
-LINK_SOURCES = $(addprefix host/link/,link.c source.c dispatch.c table.c store.c disk.c meta.c onair.c control.c text.c)
+LINK_SOURCES = $(addprefix host/link/,link.c source.c dispatch.c table.c store.c disk.c meta.c check.c sheet.c onair.c control.c \
+	text.c)
 BENCH_FLAGS = -O2 -Wall -Wextra -Iinclude
 
 PASS ?= host/passes/page611.pass

@@ -1,5 +1,6 @@
 """Tests of the link program as a plant uses it: Ids used again, files taken away, a full table, a full disk, and
 packets and files that mean harm. Run by test.py; each function takes the program and an empty directory."""
+import hashlib
 import os
 import random
 import resource
@@ -331,16 +332,16 @@ def two_senders(program, place):
 def what_is_known(program, place):
     evil = b"../../etc/passwd\n\x1b]0;x\x07 %s%n\\\x7f\x80\xff\r"
     shown = "../../etc/passwd\\x0a\\x1b]0;x\\x07\\x20%s%n\\x5c\\x7f\\x80\\xff\\x0d"
-    digest = bytes(range(16))
+    digest = hashlib.md5(b"12345").digest()
     packet = metadata(31, 32, 5, evil, flags=0x42, checksum=digest, mtime=847944000, ctime=2**32 - 1)
     lines, told, status = run(program, place, "-", octets=records([packet, data(31, 32, 0, b"12345")]))
     check((told, status) == ("", 0) and harmless(lines), (lines, told))
     known = f"mtime=2026-11-14T04:00:00Z ctime=2136-02-07T06:28:15Z checksum=2:{digest.hex()} path={shown}"
-    check(f"2 complete id=31 length=5 file=0000001f.page recordings=1 absorbed=0 runs=1 {known}" in lines, lines)
+    check(f"2 complete id=31 length=5 file=0000001f.page recordings=1 absorbed=0 runs=1 md5=agrees {known}" in lines, lines)
     check(content(place, "0000001f.meta").decode() == "saratoga-meta 1\nid=31\nwidth=32\nlength=5\nproperties=0040\n" +
           known.replace(" ", "\n") + "\n", content(place, "0000001f.meta"))
     check(run(program, place, "-q", "-")[0] ==
-          [f"0 complete id=31 length=5 file=0000001f.page recordings=0 absorbed=0 runs=1 {known}"], "restarted")
+          [f"0 complete id=31 length=5 file=0000001f.page recordings=0 absorbed=0 runs=1 md5=agrees {known}"], "restarted")
     # The longest path, each octet of it to be escaped, and the longest checksum.
     packet = metadata(32, 64, 0, b"\xff" * 1023, flags=0xFF, checksum=b"\xfe" * 60, mtime=2**32 - 1, ctime=2**32 - 1)
     lines, told, status = run(program, place, "-", octets=records([packet, packet]))

@@ -87,7 +87,7 @@ def stamped(lines):
 
 # Passes.
 
-META = "mtime=2000-01-01T00:00:00Z ctime=2000-01-01T00:00:00Z checksum=none path=page611.pla"
+META = "md5=not-checked mtime=2000-01-01T00:00:00Z ctime=2000-01-01T00:00:00Z checksum=none path=page611.pla"
 
 
 def passes(program, place):
@@ -126,8 +126,8 @@ def passes(program, place):
     got = run(program, place, "-", octets=passed)
     check(got == (expected, "", 0), got)
     check(content(place, "00000007.page") == text, "the page isn't the original")
-    check(sorted(os.listdir(place)) == ["00000007.meta", "00000007.page", "00000009.meta", "00000009.page",
-                                         "area", "lock"], os.listdir(place))
+    check(sorted(os.listdir(place)) == ["00000007.meta", "00000007.page", "00000007.sheet", "00000009.meta", "00000009.page",
+                                         "00000009.sheet", "area", "lock"], os.listdir(place))
 
     # Taken up: what was complete is reported again, unless it was taken away.
     os.remove(os.path.join(place, "00000009.page"))

@@ -26,9 +26,18 @@ def check(holds, what):
         raise AssertionError(what)
 
 
+COMPILER = [os.environ.get("CC", "cc"), "-std=c99", "-Wall", "-Wextra", "-Werror", "-pedantic", "-O1", "-g",
+            "-I" + os.path.join(ROOT, "include"), "-I" + PLACE]
+
+
 def build(sources, out, *options):
-    subprocess.run([os.environ.get("CC", "cc"), "-std=c99", "-Wall", "-Wextra", "-Werror", "-pedantic", "-O1", "-g",
-                    *options, "-I" + os.path.join(ROOT, "include"), "-I" + PLACE, *sources, ARCHIVE, "-o", out], check=True)
+    """A program from sources, or from what compiled() made of them."""
+    subprocess.run([*COMPILER, *options, *sources, ARCHIVE, "-o", out], check=True)
+    return out
+
+
+def compiled(source, out, *options):
+    subprocess.run([*COMPILER, *options, "-c", source, "-o", out], check=True)
     return out
 
 

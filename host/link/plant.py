@@ -147,7 +147,7 @@ def no_mixture(place, originals):
     """Each page is one of the files, and so is what was set aside, as far as it came."""
     for name in os.listdir(place):
         known = originals[int(name[:8], 16)] if name.endswith((".page", ".aside")) else None
-        files = [known] if isinstance(known, bytes) else list((known or {}).values())
+        files = [known] if isinstance(known, bytes) else known[:1] if isinstance(known, tuple) else list((known or {}).values())
         if name.endswith(".page"):
             check(content(place, name) in files, f"{name} is a mixture")
         if name.endswith(".aside"):
@@ -490,24 +490,29 @@ def work_without_room(program, place):
 
 
 def no_room_for_a_name(program, place):
-    """`program` is built with nospace.c. A complete page waits for its name, and isn't said to be complete before."""
+    """`program` is built with nospace.c. A complete page waits for its sheet and its name, and isn't said to be complete before;
+    and so does one that differs from its checksum."""
     text, marker = page(100, 33), os.path.join(os.path.dirname(place), "nospace")
-    for calls in ("p", "d"):
-        here = os.path.join(place, calls)
+    for calls, differs in (("p", 0), ("d", 0), ("h", 0), ("d", 1)):
+        here = os.path.join(place, f"{calls}{differs}")
         os.mkdir(here)
         link = Link(program, here, NOSPACE=marker)
-        link.quiet_send(metadata(7, 16, 100), data(7, 16, 0, text[:20], WANTED))
+        link.quiet_send(metadata(7, 16, 100, flags=0x42, checksum=bytes(16)) if differs else metadata(7, 16, 100),
+                        data(7, 16, 0, text[:20], WANTED))
         with open(marker, "w", encoding="ascii") as file:
             file.write(calls)
-        for _ in range(3):
+        for _ in range(2):
             check(link.send(data(7, 16, 20, text[20:], WANTED)) is None, "complete without a name")
-        check(not any(" complete id=7 " in line for line in link.lines), link.lines)
+        check(not any(" complete id=7 " in line or " differs id=7 " in line for line in link.lines), link.lines)
         check(link.send(metadata(7, 16, 100, b"other")) is None, "ended while its page waits")
         os.remove(marker)
-        link.wait(lambda: any(" complete id=7 " in line for line in link.lines))
-        check(is_complete(link.send(data(7, 16, 20, text[20:], WANTED)), 100), link.lines)
-        check(link.end() == 0 and content(here, "00000007.page") == text, link.told)
+        said, name, status = (" differs id=7 ", "00000007.differs", 3) if differs else (" complete id=7 ", "00000007.page", 0)
+        link.wait(lambda: any(said in line for line in link.lines))
+        answer = link.send(data(7, 16, 20, text[20:], WANTED))
+        check(answer == bytes.fromhex("4400000600000007") if differs else is_complete(answer, 100), link.lines)
+        check(link.end() == status and content(here, name) == text, link.told)
         check(sum("can't be stored" in line for line in link.told) == 1, link.told)
+        check(sum(said in line for line in link.lines) == 1 and sum("ERROR" in line for line in link.told) == 2 * differs, link.told)
 
 
 def limits(program, place):

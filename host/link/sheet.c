@@ -99,13 +99,14 @@ static void add_missing(const struct saratoga_listed *one)
         line("Missing", "none");
         return;
     }
-    line("Missing", "%s octets, from the first offset up to, not including, the second:", grouped(number, one->length - one->received));
+    line("Missing", "%s octets (10-20 stands for 10 to 19):", grouped(number, one->length - one->received));
     for (uint64_t i = 0, more = 1; more; i++) {
         struct saratoga_hole hole = saratoga_transfer_hole(area, sizeof area, one->id, i);
         more = hole.number == 0;
         if (!more && one->edge == one->length)
             break;
-        int done = snprintf(stretch, sizeof stretch, "%" PRIu64 "-%" PRIu64, more ? hole.start : one->edge, more ? hole.end : one->length);
+        int done = snprintf(stretch, sizeof stretch, "%" PRIu64 "-%" PRIu64, more ? hole.start : one->edge,
+                            more ? hole.end : one->length);
         if (length > 0 && length + 2 + (size_t)done > WIDE) {
             line("", "%s", row);
             length = 0;
@@ -129,7 +130,7 @@ static void add_checksum(const struct transfer *t, const struct saratoga_listed 
     else if (type != (SARATOGA_CHECKSUM_MD5 & SARATOGA_CHECKSUM_TYPE_MASK))
         line("Checksum", "of type %" PRIu64 ", which is no MD5: not checked", type);
     else if (!t->checked)
-        line("Checksum", "MD5 %s: not checked%s", given, one != NULL && one->complete ? "" : ", octets are missing");
+        line("Checksum", "MD5 %s: not checked%s", given, one != NULL && one->complete ? "" : ", not complete");
     else
         line("Checksum", "MD5 %s: %s", given, verdict_text(t->verdict));
     if (t->checked && t->verdict == SARATOGA_DIFFERS)
@@ -145,10 +146,10 @@ static void add_headline(const struct transfer *t, const struct saratoga_listed 
         second = "Which octets were received is no longer known.";
     } else if (one->complete && closed) {
         first = "DO NOT PRINT: THE FILE IS GONE, OR WAS CHANGED.";
-        second = "Every octet was received, but the file isn't there as it was received.";
+        second = "Every octet was received, but the file isn't what was received.";
     } else if (one->complete && t->verdict == SARATOGA_DIFFERS) {
         first = "DO NOT PRINT: THE CHECKSUM DIFFERS.";
-        second = "Every octet was received, but they aren't those that the checksum is of.";
+        second = "Every octet was received, but the checksum is of others.";
     } else if (one->complete && t->verdict == SARATOGA_AGREES) {
         first = "THE PAGE ARRIVED WHOLE.";
         second = "Every octet was received, and the checksum agrees.";
@@ -181,14 +182,17 @@ static void compose(const struct transfer *t, const struct saratoga_listed *one,
     add_path(packet + read.path_at, (size_t)read.path_len, meta);
     line("Length", "%s octets", grouped(octets, read.size));
     line("File", "%s", file);
-    line("Transfer", "%" PRIu64 ", %s%s", t->id, why != NULL ? CLOSED : one->complete ? "complete" : "open", why != NULL ? why : "");
+    line("Transfer", "%" PRIu64 ", %s%s", t->id, why != NULL ? CLOSED : one->complete ? "complete" : "open",
+         why != NULL ? why : "");
     add_headline(t, one, why != NULL);
     if (one != NULL)
         add_missing(one);
     add_checksum(t, one, packet, &read);
     if (one != NULL)
-        line("Recordings", "%" PRIu64 ", which absorbed %" PRIu64 " runs and left %" PRIu64 "%s", t->work.recordings, t->work.absorbed,
-             one->runs, t->opened_here ? "" : "; counted since the program last began");
+        line("Recordings", "%" PRIu64 ", which absorbed %" PRIu64 " runs and left %" PRIu64, t->work.recordings,
+             t->work.absorbed, one->runs);
+    if (one != NULL && !t->opened_here)
+        line("", "counted since the program last began");
     line("Began", "%s", date_of_file(began, meta));
     if (why == NULL && one->complete) {
         char name[NAME_OCTETS];

@@ -339,7 +339,8 @@ def given_up(program, place):
         os.rename(name + ".page", name + now)
         os.truncate(name + now, 99)
         check(run(program, place, "-")[2] == 0, "it ends")
-        has(sheet(place, f"{number:08x}.sheet"), headline="DO NOT PRINT: THE FILE IS GONE, OR WAS CHANGED.",
+        has(sheet(place, f"{number:08x}.sheet"), headline="DO NOT PRINT: THE TRANSFER WAS CLOSED.",
+            reason="Every octet was received; the file is gone, changed or given up.",
             transfer=f"{number}, closed: faulty", file=f"{number:08x}." + ("aside" if number else "page"))
     # A file that goes while its transfer is open.
     link = Link(program, place)

@@ -46,8 +46,8 @@ static void tell_difference(const struct transfer *t)
     name_of(differs, t, "differs");
     name_of(sheet, t, "sheet");
     differing++;
-    warn("ERROR: transfer %" PRIu64 " is complete, but its octets aren't those that its MD5 checksum is of. It is NOT handed on, "
-         "and kept as %s/%s; it must be sent again. See %s",
+    warn("ERROR: transfer %" PRIu64 " is complete, but its octets aren't those that its MD5 checksum is of. It is NOT "
+         "handed on, and kept as %s/%s; it must be sent again. See %s",
          t->id, options.directory, differs, sheet);
 }
 
@@ -84,7 +84,7 @@ int exit_status(void)
 {
     if (differing == 0)
         return output_was_lost();
-    warn("ERROR: %" PRIu64 " complete %s NOT handed on: the MD5 checksum differs. See the .differs and .sheet files in %s", differing,
-         differing == 1 ? "file was" : "files were", options.directory);
+    warn("ERROR: %" PRIu64 " complete %s NOT handed on: the MD5 checksum differs. See the .differs and .sheet files in %s",
+         differing, differing == 1 ? "file was" : "files were", options.directory);
     return STATUS_DIFFERS;
 }

@@ -512,7 +512,8 @@ def no_room_for_a_name(program, place):
         check(answer == bytes.fromhex("4400000600000007") if differs else is_complete(answer, 100), link.lines)
         check(link.end() == status and content(here, name) == text, link.told)
         check(sum("can't be stored" in line for line in link.told) == 1, link.told)
-        check(sum(said in line for line in link.lines) == 1 and sum("ERROR" in line for line in link.told) == 2 * differs, link.told)
+        check(sum(said in line for line in link.lines) == 1, link.lines)
+        check(sum("ERROR" in line for line in link.told) == 2 * differs, link.told)
 
 
 def limits(program, place):
@@ -651,8 +652,8 @@ def traps(program, place):
         file.write(b"precious")
     text = page(20, 32)
     packets = records([metadata(7, 16, 20), data(7, 16, 0, text)])
-    for number_of, name in enumerate(("00000007.part", "00000007.page", "00000007.meta", "00000007.aside", "area.new",
-                                      "area", "lock", "close")):
+    for number_of, name in enumerate(("00000007.part", "00000007.page", "00000007.meta", "00000007.aside", "00000007.differs",
+                                      "00000007.sheet", "00000007.sheet.new", "area.new", "area", "lock", "close")):
         here = f"{inside}{number_of}"
         os.mkdir(here)
         os.symlink(outside, os.path.join(here, name))

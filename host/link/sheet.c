@@ -141,12 +141,10 @@ static void add_checksum(const struct transfer *t, const struct saratoga_listed 
 static void add_headline(const struct transfer *t, const struct saratoga_listed *one, int closed)
 {
     const char *first = "DO NOT PRINT: THE PAGE IS NOT COMPLETE.", *second = "Octets are missing.";
-    if (one == NULL) {
+    if (one == NULL || (one->complete && closed)) {
         first = "DO NOT PRINT: THE TRANSFER WAS CLOSED.";
-        second = "Which octets were received is no longer known.";
-    } else if (one->complete && closed) {
-        first = "DO NOT PRINT: THE FILE IS GONE, OR WAS CHANGED.";
-        second = "Every octet was received, but the file isn't what was received.";
+        second = one == NULL ? "Which octets were received is no longer known."
+                             : "Every octet was received; the file is gone, changed or given up.";
     } else if (one->complete && t->verdict == SARATOGA_DIFFERS) {
         first = "DO NOT PRINT: THE CHECKSUM DIFFERS.";
         second = "Every octet was received, but the checksum is of others.";
@@ -163,20 +161,42 @@ static void add_headline(const struct transfer *t, const struct saratoga_listed 
     line("", "");
 }
 
+static void add_work(const struct transfer *t, const struct saratoga_listed *one)
+{
+    line("Recordings", "%" PRIu64 ", which absorbed %" PRIu64 " runs and left %" PRIu64, t->work.recordings,
+         t->work.absorbed, one->runs);
+    if (!t->opened_here)
+        line("", "counted since the program last began");
+}
+
+/*
+ * It began when .meta was written, and a complete file ended when its last octet was, also where programs were started since.
+ * What is closed ends now.
+ */
+static void add_times(const struct transfer *t, int closed, int complete)
+{
+    char name[NAME_OCTETS], began[32], ended[32], now[32];
+    date(now, time(NULL));
+    name_of(name, t, "meta");
+    line("Began", "%s", date_of_file(began, name));
+    name_of_file(name, t);
+    line("Ended", "%s", closed ? now : complete ? date_of_file(ended, name) : "not yet");
+    line("Written", "%s", now);
+}
+
 /*
  * Makes the sheet of a transfer, in memory. `one` is NULL where the table doesn't hold it any more, `why` where it isn't
  * closed. `file` is the name that its octets have, or get next. Without METADATA there is no sheet.
  */
 static void compose(const struct transfer *t, const struct saratoga_listed *one, const char *why, const char *file)
 {
-    char meta[NAME_OCTETS], octets[32], began[32], ended[32], now[32];
+    char meta[NAME_OCTETS], octets[32];
     uint8_t packet[SARATOGA_METADATA_OCTETS];
     struct saratoga_packet read = saratoga_read(packet, meta_packet(packet, t->meta, t->meta_len));
     sheet_len = 0;
     if (read.number != 0)
         return;
     name_of(meta, t, "meta");
-    date(now, time(NULL));
     line("PAGE SHEET", "");
     line("", "");
     add_path(packet + read.path_at, (size_t)read.path_len, meta);
@@ -189,18 +209,8 @@ static void compose(const struct transfer *t, const struct saratoga_listed *one,
         add_missing(one);
     add_checksum(t, one, packet, &read);
     if (one != NULL)
-        line("Recordings", "%" PRIu64 ", which absorbed %" PRIu64 " runs and left %" PRIu64, t->work.recordings,
-             t->work.absorbed, one->runs);
-    if (one != NULL && !t->opened_here)
-        line("", "counted since the program last began");
-    line("Began", "%s", date_of_file(began, meta));
-    if (why == NULL && one->complete) {
-        char name[NAME_OCTETS];
-        name_of_file(name, t);
-        date_of_file(ended, name);
-    }
-    line("Ended", "%s", why != NULL ? now : one->complete ? ended : "not yet");
-    line("Written", "%s", now);
+        add_work(t, one);
+    add_times(t, why != NULL, one != NULL && one->complete);
     line("", "");
     line("Signed", "______________________________    Date  ________________");
 }

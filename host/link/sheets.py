@@ -3,6 +3,7 @@ program and an empty directory."""
 import calendar
 import hashlib
 import os
+import random
 import re
 import time
 
@@ -105,7 +106,8 @@ def agrees(program, place):
         last = lines[-1]
         check((told, status) == ("", 0) and last.split(" ", 1)[1].startswith(
             f"complete id={number} length={length} file={number:08x}.page recordings={len(chunks)} absorbed="), (told, last))
-        check(f" md5=agrees mtime=2000-01-01T00:00:00Z ctime=2000-01-01T00:00:00Z checksum=2:{sum_of(text).hex()} " in last, last)
+        date = "2000-01-01T00:00:00Z"
+        check(f" md5=agrees mtime={date} ctime={date} checksum=2:{sum_of(text).hex()} " in last, last)
         check(content(place, f"{number:08x}.page") == text, "the page")
         runs = min(1, length)
         has(sheet(place, f"{number:08x}.sheet"), path='"page 611.pla"', length=f"{length:,}", file=f"{number:08x}.page",
@@ -130,7 +132,8 @@ def differs(program, place):
         last = str(len(packets))
         runs = min(1, len(came))
         work = f"recordings={len(packets) - 1} absorbed={len(packets) - 1 - runs} runs={runs}"
-        check(lines[-3].startswith(f"{last} differs id={number} length={len(came)} file={name} {work} md5=differs mtime="), lines[-3])
+        said = f"{last} differs id={number} length={len(came)} file={name} {work} md5=differs mtime="
+        check(lines[-3].startswith(said), lines[-3])
         check(lines[-2:] == [f"{last} close id={number} differs {work}", f"{last} send 44000006{number:08x}"], lines[-2:])
         check(not any(" complete " in line for line in lines), lines)
         check(content(place, name) == came and number not in stored(place), "it isn't kept, or not closed")
@@ -162,8 +165,8 @@ def sent_again(program, place):
 
 def not_checked(program, place):
     """Other checksums, and none: the page is handed on, and nobody says that it is the one that was sent."""
-    pairs = ((0x00, "none in METADATA"), (0x11, "of type 1, which is no MD5"), (0x53, "of type 3, which is no MD5"),
-             (0xFF, "of type 15, which is no MD5"), (0x44, "of type 4, which is no MD5"))
+    pairs = ((0x00, "none in METADATA"), (0x53, "of type 3, which is no MD5"), (0xFF, "of type 15, which is no MD5"),
+             (0x44, "of type 4, which is no MD5"))
     for number, (pair, words) in enumerate(pairs):
         text = page(100, 82)
         checksum = sum_of(text) if pair == 0x44 else bytes(4 * (pair >> 4))
@@ -173,6 +176,29 @@ def not_checked(program, place):
         check(content(place, f"{number:08x}.page") == text, "the page")
         has(sheet(place, f"{number:08x}.sheet"), checksum=words + ": not checked", missing="none",
             headline="EVERY OCTET WAS RECEIVED. THE PAGE WAS NOT CHECKED.")
+
+
+def made_again(program, place):
+    """Any METADATA that is taken is made again from its text: of none does a restart say that its .meta is another's."""
+    chance = random.Random(1321)
+
+    def any_metadata(ident):
+        width, size_width = chance.choice((16, 32, 64, 128)), chance.choice((16, 32, 64, 128))
+        size = chance.choice((1, 2**16 - 1, chance.getrandbits(min(width, size_width, 64)) or 1))
+        kind = chance.choice((0, *range(2, 16)))
+        words = {0: 0, 2: 4, 3: 5}.get(kind) if kind < 4 else chance.randrange(1, 16)
+        flags = words << 4 | kind | chance.getrandbits(12) << 8  # bits 12 to 23 have no rule here
+        path = bytes(chance.randrange(1, 256) for _ in range(chance.choice((1, 12, 1023))))
+        return metadata(chance.getrandbits(28) << 4 | ident, width, size, path, flags, chance.randbytes(4 * words),
+                        chance.getrandbits(32), chance.getrandbits(32), chance.getrandbits(16) & ~0x03E0, size_width)
+
+    for number in range(8):
+        here = os.path.join(place, str(number))
+        os.mkdir(here)
+        packets = [any_metadata(ident) for ident in range(16)]
+        for said in (" new", " already-open"):
+            lines, told, status = run(program, here, "--no-fsync", "--largest", str(2**64 - 1), "-", octets=records(packets))
+            check((told, status) == ("", 0) and sum(line.endswith(said) for line in lines) == 16, (told, lines))
 
 
 def restarted(program, place):
@@ -240,14 +266,16 @@ def incomplete(program, place):
     run(program, place, "-")
     check(content(place, "00000022.sheet") == before, "a sheet is written without need")
     run(program, place, "-", octets=records(parts[:1]))
-    has(sheet(place, "00000022.sheet"), recordings="1, which absorbed 1 runs and left 2 counted since the program last began", **told)
+    has(sheet(place, "00000022.sheet"), **told,
+        recordings="1, which absorbed 1 runs and left 2 counted since the program last began")
     check(run(program, place, "--close", "0000001f.sheet")[2] == 1, "it is none of Id 34")
     check(run(program, place, "--close", "00000022.sheet")[2] == 0, "--close takes the name of a sheet")
     has(sheet(place, "00000022.sheet"), file="00000022.aside", transfer="34, closed: asked", **told)
     check(content(place, "00000022.aside")[100:200] == text[100:200], "what it had")
 
     # Another file under the Id; one of which nothing came, and whose number is used again; the rest past the last octet.
-    packets = [opening(5, text, path=b"a"), data(5, 32, 0, text[:2999]), opening(5, text, path=b"b"), opening(5, text, path=b"c")]
+    packets = [opening(5, text, path=b"a"), data(5, 32, 0, text[:2999]), opening(5, text, path=b"b"),
+               opening(5, text, path=b"c")]
     check(run(program, place, "-q", "-", octets=records(packets))[2] == 0, "it ends")
     has(sheet(place, "00000005.sheet"), path='"a"', transfer="5, closed: other-metadata", file="00000005.aside",
         missing="1 octets (10-20 stands for 10 to 19): 2999-3000")
@@ -279,8 +307,8 @@ def a_page_at_most(program, place):
         stretches = parts["missing"].split(": ")[1].split()
         ends = [(0, at)] + [(at + 2 * number + 1, at + 2 * number + 2) for number in range(63)] + [(at + 127, size)]
         check(stretches == [f"{start}-{stop}" for start, stop in (ends if ident < 9 else [(0, size)])], stretches)
-        check(parts["path"].startswith('"\\x1b\\xff') and parts["path"].endswith(f"of 1023 octets; all of them are in {ident:08x}.meta"),
-              parts["path"])
+        check(parts["path"].startswith('"\\x1b\\xff') and
+              parts["path"].endswith(f"of 1023 octets; all of them are in {ident:08x}.meta"), parts["path"])
         check(parts["length"] == f"{size:,}", parts["length"])
 
 
@@ -311,8 +339,17 @@ def given_up(program, place):
         os.rename(name + ".page", name + now)
         os.truncate(name + now, 99)
         check(run(program, place, "-")[2] == 0, "it ends")
-        has(sheet(place, f"{number:08x}.sheet"), headline="DO NOT PRINT: THE FILE IS GONE, OR WAS CHANGED.",
+        has(sheet(place, f"{number:08x}.sheet"), headline="DO NOT PRINT: THE TRANSFER WAS CLOSED.",
+            reason="Every octet was received; the file is gone, changed or given up.",
             transfer=f"{number}, closed: faulty", file=f"{number:08x}." + ("aside" if number else "page"))
+    # A file that goes while its transfer is open.
+    link = Link(program, place)
+    link.quiet_send(opening(2, text), data(2, 32, 0, text[:50], WANTED))
+    os.remove(os.path.join(place, "00000002.part"))
+    check(link.send(data(2, 32, 50, text[50:90], WANTED)) == bytes.fromhex("4400000600000002"), "the answer")
+    check(link.end() == 0, link.told)
+    has(sheet(place, "00000002.sheet"), headline="DO NOT PRINT: THE PAGE IS NOT COMPLETE.", transfer="2, closed: lost",
+        file="none", recordings="2, which absorbed 1 runs and left 1", missing="10 octets (10-20 stands for 10 to 19): 90-100")
 
 
 def stopped_or_killed(program, place):
@@ -342,6 +379,6 @@ def spoilt():
 
 def all_of_it(program, place):
     """Runs everything; `place` gives a new directory for a name."""
-    for test in (agrees, differs, sent_again, not_checked, restarted, incomplete, a_page_at_most, times, given_up,
+    for test in (agrees, differs, sent_again, not_checked, made_again, restarted, incomplete, a_page_at_most, times, given_up,
                  stopped_or_killed):
         one_of_it(test, program, place(test.__name__))

@@ -104,7 +104,10 @@ static void forget_closed(void)
             forget(&transfers[i]);
 }
 
-/* A .part that is gone takes its transfer with it, before the area says that its octets are there. */
+/*
+ * A .part that is gone takes its transfer with it, before the area says that its octets are there. Its sheet needn't wait
+ * until that is saved: without the file it would be closed at the next start.
+ */
 static void close_lost(void)
 {
     for (size_t i = 0; i < SARATOGA_TRANSFERS; i++) {
@@ -114,8 +117,12 @@ static void close_lost(void)
             name_of(name, t, "part");
             warn("%s/%s: is gone; transfer %" PRIu64 " is closed and must begin anew", options.directory, name, t->id);
             t->written = 0;
-            if (listed(t->id).number == 0)
-                close_in_area(t->id);
+            struct saratoga_listed one = listed(t->id);
+            if (one.number != 0)
+                continue;
+            prepare_closing_sheet(t, &one, "lost");
+            close_in_area(t->id);
+            write_closing_sheet(t);
         }
     }
 }

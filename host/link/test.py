@@ -33,11 +33,13 @@ def nothing_promised_is_missing(place, originals, lines=()):
         original = original_of(originals, ident, content(place, stem(place, ident) + ".meta").decode())
         check(length == len(original), f"transfer {ident} of {length} octets")
         check(f"\nlength={length}\n".encode() in content(place, stem(place, ident) + ".meta"), f"the .meta of {ident}")
-        names = [name for name in (stem(place, ident) + end for end in (".part", ".page", ".differs")) if name in os.listdir(place)]
+        names = [name for name in (stem(place, ident) + end for end in (".part", ".page", ".differs"))
+                 if name in os.listdir(place)]
         check(names, f"transfer {ident} is in the area and has no file")
         kept, came = content(place, names[0]), originals[ident] if isinstance(originals[ident], tuple) else (original,)
         for start, stop in runs:
-            check(kept[start:stop] in [octets[start:stop] for octets in came], f"octets {start} to {stop} of {names[0]} aren't on disk")
+            check(kept[start:stop] in [octets[start:stop] for octets in came],
+                  f"octets {start} to {stop} of {names[0]} aren't on disk")
     for line in lines:
         words = line.split()
         if words[1] == "complete":
@@ -719,19 +721,22 @@ WRONG = {
         SPOILT, "    name_of_file(name, t);\n    if (!part_is_there(t) || !file_has",
         "    name_page(t, 0);\n    cut_point(\"early\");\n    name_of_file(name, t);\n    if (!part_is_there(t) || !file_has"),
     "doesn't check what has the name of a page": (sheets.restarted, "    if (t->checked)\n", "    if (t->checked || t->named)\n"),
-    "checks the first part of a page alone": (sheets.agrees, "            saratoga_md5_add(", "            if (have == 0) saratoga_md5_add("),
+    "checks the first part of a page alone": (
+        sheets.agrees, "            saratoga_md5_add(", "            if (have == 0) saratoga_md5_add("),
     "ends with status 0 where a page differs": (sheets.differs, "    return STATUS_DIFFERS;", "    return 0;"),
     "tells a sender that a page which differs is complete": (
         sheets.sent_again, "    if (t->apart)\n        return end", "    if (0)\n        return end"),
     "gives a page its name before its sheet": (
-        TWO, "    if (!write_page_sheet(t, &one))\n        return 0;\n    cut_point(\"between the sheet and the page's name\");\n", "",
-        "    if (!t->reported)\n        report_page", "    write_page_sheet(t, &one);\n    if (!t->reported)\n        report_page"),
+        TWO, "    if (!write_page_sheet(t, &one))\n        return 0;\n    cut_point(\"between the sheet and the page's name\");\n",
+        "", "    if (!t->reported)\n        report_page",
+        "    write_page_sheet(t, &one);\n    if (!t->reported)\n        report_page"),
     "writes a sheet in place": (
         TWO, "    return replace_file(name, (const uint8_t *)sheet, sheet_len);",
-        "    int fd = open_file(name, O_WRONLY | O_CREAT | O_TRUNC), failed = write_at(fd, (const uint8_t *)sheet, sheet_len, 0);\n"
-        "    return close(fd) != 0 ? -1 : failed;"),
+        "    int fd = open_file(name, O_WRONLY | O_CREAT | O_TRUNC);\n"
+        "    return write_at(fd, (const uint8_t *)sheet, sheet_len, 0) | close(fd);"),
     "writes a page's sheet before the area is saved": (
-        TWO, "    /* 4. and 5. Sync and area", "    if (recorded.complete) { struct saratoga_listed one = listed(t->id); t->checked = 1;\n"
+        TWO, "    /* 4. and 5. Sync and area",
+        "    if (recorded.complete) { struct saratoga_listed one = listed(t->id); t->checked = 1;\n"
         "        write_page_sheet(t, &one); cut_point(\"early\"); t->checked = 0; }\n    /* 4. and 5. Sync and area"),
     "says that a page which wasn't checked arrived whole": (
         sheets.not_checked, "one->complete && t->verdict == SARATOGA_AGREES", "one->complete && t->verdict != SARATOGA_DIFFERS"),

@@ -9,6 +9,7 @@
 # make bench-descriptors    reading a descriptor now, at earlier commits and in plain C, in time and instructions; needs the history
 # make link     builds the link program, target/link/saratoga-link (docs/LINK.md)
 # make merge    builds the program that merges two plants' directories, target/merge/saratoga-merge (docs/LINK.md)
+# make gigabyte a page of a gigabyte through the link program, its MD5 against Python's; half a minute, two gigabytes of disk
 # make plan     builds the sender's planner, target/plan/saratoga-plan (docs/PLAN.md)
 # make install  header, archive, pkg-config file, replay, the tools, the link program, the planner and saratoga-merge, with man pages, below
 #               PREFIX (default /usr/local; PREFIX=$HOME/.local needs no root); make uninstall takes them away
@@ -16,14 +17,15 @@ PREFIX ?= /usr/local
 VERSION = 0.1
 ARCHIVE = target/staticlib/libsaratoga.a
 PLAN_SOURCES = $(addprefix host/plan/,plan.c input.c reason.c)
-LINK_SOURCES = $(addprefix host/link/,link.c source.c dispatch.c table.c store.c disk.c meta.c onair.c control.c text.c)
-MERGE_SOURCES = $(addprefix host/merge/,merge.c octets.c) $(addprefix host/link/,table.c store.c disk.c meta.c text.c)
+LINK_SOURCES = $(addprefix host/link/,link.c source.c dispatch.c table.c store.c disk.c meta.c check.c sheet.c onair.c control.c \
+	text.c)
+MERGE_SOURCES = $(addprefix host/merge/,merge.c octets.c) $(addprefix host/link/,table.c store.c disk.c meta.c check.c sheet.c text.c)
 BENCH_FLAGS = -O2 -Wall -Wextra -Iinclude
 
 PASS ?= host/passes/page611.pass
 
 .PHONY: test lib replay-program front replay compare soak stack bench-program bench bench-instructions bench-descriptors
-.PHONY: link plan merge install uninstall clean help
+.PHONY: link gigabyte plan merge install uninstall clean help
 
 help:
 	@sed -n '/^[^#]/q; s/^# //p' Makefile
@@ -48,14 +50,21 @@ stack: lib
 	$(CC) -std=c99 -O2 -Iinclude host/ctest/stack.c $(ARCHIVE) -lpthread -o target/stack
 	target/stack
 
+# OpenSSL's MD5 is measured too where a program can be linked with it.
+OPENSSL_PROBE = printf '\#include <openssl/md5.h>\nint main(void) { return MD5_Init(0); }\n'
+OPENSSL_FLAGS = $$($(OPENSSL_PROBE) | $(CC) -w -x c - -lcrypto -o target/bench/probe 2>target/bench/probe.log && echo -DWITH_OPENSSL -lcrypto)
+
 bench-program: lib
 	mkdir -p target/bench
 	$(CXX) -std=c++17 $(BENCH_FLAGS) -c host/bench/plain_map.cc -o target/bench/plain_map.o
 	$(CC) -std=c99 $(BENCH_FLAGS) host/bench/*.c target/bench/plain_map.o $(ARCHIVE) -lstdc++ -o target/bench/bench
+	$(CC) -std=c99 $(BENCH_FLAGS) host/bench/md5/*.c $(ARCHIVE) $(OPENSSL_FLAGS) -o target/bench/md5
 
 bench: bench-program
 	@echo "(A), (B), (C): $$($(CC) --version | head -n 1), $(BENCH_FLAGS)"
 	target/bench/bench $(if $(REPEATS),--repeats $(REPEATS))
+	@echo
+	target/bench/md5 $(if $(REPEATS),--repeats $(REPEATS))
 
 bench-instructions: bench-program
 	host/bench/instructions
@@ -66,6 +75,9 @@ bench-descriptors:
 link: lib
 	mkdir -p target/link
 	$(CC) -std=c99 -Wall -Wextra -pedantic -O2 -Iinclude $(LINK_SOURCES) $(ARCHIVE) -o target/link/saratoga-link
+
+gigabyte: lib
+	host/link/gigabyte.py
 
 plan: lib
 	mkdir -p target/plan

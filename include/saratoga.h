@@ -102,7 +102,7 @@ extern "C" {
 
 /*
  * The checksum of METADATA, in bits 24 to 31 of `flags`: its type (bits 28 to 31) with its length in 32-bit words (bits 24
- * to 27). No checksum is computed or compared here.
+ * to 27). Reading and opening compare none; of an MD5, saratoga_check_md5 says whether it is that of a file.
  */
 #define SARATOGA_CHECKSUM_TYPE_MASK UINT64_C(0x0F)
 #define SARATOGA_CHECKSUM_WORDS_MASK UINT64_C(0xF0)
@@ -158,7 +158,7 @@ extern "C" {
 #define SARATOGA_REFUSED_TABLE_FULL 17   /* 0x03: a new Id, and 16 are open */
 #define SARATOGA_REFUSED_OPEN_OTHER 18   /* 0x09: Id open with another width or length; to be merged, another length */
 #define SARATOGA_REFUSED_INDEX 19        /* 0x00: no hole has that index, or that many can't be skipped */
-#define SARATOGA_REFUSED_BUFFER 20       /* 0x00: buffer, marks or area to be made fresh too small, or too few records */
+#define SARATOGA_REFUSED_BUFFER 20       /* 0x00: buffer, marks, state or area to be made fresh too small, or too few records */
 #define SARATOGA_REFUSED_FIELD 21        /* 0x00: a field over its bits, failure code 0, or a largest payload not 1 to 65,000 */
 #define SARATOGA_REFUSED_AREA 22         /* 0x00: area too short, or it holds no transfer table; or marks of no transfer */
 #define SARATOGA_REFUSED_BEACON 26       /* 0x00: BEACON with a pair 01, or a last flags octet that isn't 0 */
@@ -702,6 +702,61 @@ struct saratoga_bitmap_recorded saratoga_bitmap_record(struct saratoga_bitmap tr
  */
 struct saratoga_written saratoga_bitmap_status(struct saratoga_bitmap transfer, const uint8_t *marks, size_t marks_len,
                                                uint64_t skip, uint64_t unasked, uint8_t *out, size_t out_len);
+
+/*
+ * ---- MD5 (RFC 1321), and whether a file is the one that its METADATA's checksum is of
+ *
+ * A file is added in parts, as it is read from disk. Where it is cut does not matter, and empty parts do not either:
+ * the digest is that of the whole file, of one without octets too.
+ *
+ * A state is SARATOGA_MD5_OCTETS octets that the caller lends to each call; between calls it may be copied, or kept on
+ * disk. It holds four words, each with its lowest octet first, the number of octets so far, modulo 2^64, as eight
+ * octets with the highest first, and the octets that are not a whole block of 64 yet, with zeros after them. Any octets
+ * are taken for a state. Octets past it are not touched.
+ */
+#define SARATOGA_MD5_OCTETS 88
+#define SARATOGA_DIGEST_OCTETS 16
+
+/* `verdict` in struct saratoga_verdict. */
+#define SARATOGA_NOT_CHECKED 0 /* the checksum is no MD5 */
+#define SARATOGA_AGREES 1      /* the digest is the checksum's 16 octets */
+#define SARATOGA_DIFFERS 2     /* the digest is something else */
+
+/* The verdict on a METADATA packet. */
+struct saratoga_verdict {
+    uint64_t number, code;
+    uint64_t verdict; /* SARATOGA_NOT_CHECKED on refusal too */
+};
+
+/*
+ * Stores the state of a file of which nothing was added yet.
+ *
+ * Refused (R16.10): 20 (`state` has fewer than SARATOGA_MD5_OCTETS octets).
+ */
+struct saratoga_done saratoga_md5_begin(uint8_t *state, size_t state_len);
+
+/*
+ * Adds a part of any length, after those that were added before.
+ *
+ * Refused (R16.10): 20 (`state`).
+ */
+struct saratoga_done saratoga_md5_add(uint8_t *state, size_t state_len, const uint8_t *part, size_t part_len);
+
+/*
+ * Writes the digest of all that was added, SARATOGA_DIGEST_OCTETS octets, into `digest`; octets after it stay. The state
+ * is only read: more can be added afterwards.
+ *
+ * Order of refusals (R16.10): 20 (`state`), 20 (`digest`).
+ */
+struct saratoga_written saratoga_md5_end(const uint8_t *state, size_t state_len, uint8_t *digest, size_t digest_len);
+
+/*
+ * Whether what was added to the state is the file that a METADATA packet's checksum is of. Checksums of other types than MD5
+ * are not checked. It knows nothing of a transfer: add the file only once it is complete.
+ *
+ * Order of refusals (R16.13): 20 (`state`), those of saratoga_read for METADATA, with 4 for any other type.
+ */
+struct saratoga_verdict saratoga_check_md5(const uint8_t *packet, size_t packet_len, const uint8_t *state, size_t state_len);
 
 #ifdef __cplusplus
 }

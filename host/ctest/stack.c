@@ -181,6 +181,15 @@ static void bitmap_record(void) { saratoga_bitmap_record(page, marks, sizeof mar
 static void bitmap_status(void) { saratoga_bitmap_status(page, marks, sizeof marks, 0, 1, out, sizeof out); }
 static void bitmap_last_hole(void) { saratoga_bitmap_status(page, marks, sizeof marks, RUNS - 1, 0, out, 88); }
 
+/* MD5, with 60 octets begun, so that the padding takes two blocks; and METADATA whose checksum is one. */
+static uint8_t state[SARATOGA_MD5_OCTETS];
+static void use_state(void) { make_metadata(10); saratoga_md5_begin(state, sizeof state); saratoga_md5_add(state, sizeof state, payload, 60); }
+static void md5_begin(void) { saratoga_md5_begin(state, sizeof state); }
+static void md5_add(void) { saratoga_md5_add(state, sizeof state, payload, sizeof payload); }
+static void md5_add_little(void) { saratoga_md5_add(state, sizeof state, payload, 3); }
+static void md5_end(void) { saratoga_md5_end(state, sizeof state, out, sizeof out); }
+static void check_md5(void) { saratoga_check_md5(packet, size, state, sizeof state); }
+
 static const struct way {
     const char *function;
     void (*prepare)(void), (*call)(void);
@@ -253,6 +262,12 @@ static const struct way {
     {"saratoga_bitmap_status", use_marks, bitmap_status},
     {"saratoga_bitmap_status", use_marks, bitmap_last_hole},
     {"saratoga_bitmap_status", no_transfer, bitmap_status},
+    {"saratoga_md5_begin", use_state, md5_begin},
+    {"saratoga_md5_add", use_state, md5_add},
+    {"saratoga_md5_add", use_state, md5_add_little},
+    {"saratoga_md5_end", use_state, md5_end},
+    {"saratoga_check_md5", use_state, check_md5},
+    {"saratoga_check_md5", for_data, check_md5},
 };
 enum { WAYS = sizeof ways / sizeof ways[0] };
 static long used[WAYS];

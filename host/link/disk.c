@@ -151,7 +151,7 @@ int replace_file(const char *name, const uint8_t *octets, size_t count)
     int failed = write_at(fd, octets, count, 0) != 0 || force_to_disk(fd, new_name) != 0;
     int error = errno;
     failed |= close(fd) != 0 && !failed && (error = errno) != 0;
-    cut_point("between the new area and its name");
+    cut_point("between a new file and its name");
     if (!failed && renameat(directory, new_name, directory, name) != 0) {
         failed = 1;
         error = errno;

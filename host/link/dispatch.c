@@ -120,6 +120,7 @@ static struct transfer *open_transfer(const uint8_t *packet, size_t packet_len, 
         return NULL;
     t = new_transfer(read->id);
     t->meta_len = meta_text(t->meta, packet, read);
+    t->opened_here = 1;
     if (make_files(t) != 0) {
         char name[NAME_OCTETS];
         name_of(name, t, "part");

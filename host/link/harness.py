@@ -14,7 +14,7 @@ from packets import record  # noqa: E402
 
 ARCHIVE = os.path.join(ROOT, "target", "staticlib", "libsaratoga.a")
 SOURCES = [os.path.join(PLACE, name + ".c") for name in (
-    "link", "source", "dispatch", "table", "store", "disk", "meta", "onair", "control", "text")]
+    "link", "source", "dispatch", "table", "store", "disk", "meta", "check", "sheet", "onair", "control", "text")]
 POWERCUT = os.path.join(PLACE, "powercut.c")
 WRAPPED = ["-Wl," + ",".join(f"--wrap={name}" for name in (
     "openat", "openat64", "pwrite", "pwrite64", "renameat", "fsync"))]
@@ -26,9 +26,18 @@ def check(holds, what):
         raise AssertionError(what)
 
 
+COMPILER = [os.environ.get("CC", "cc"), "-std=c99", "-Wall", "-Wextra", "-Werror", "-pedantic", "-O1", "-g",
+            "-I" + os.path.join(ROOT, "include"), "-I" + PLACE]
+
+
 def build(sources, out, *options):
-    subprocess.run([os.environ.get("CC", "cc"), "-std=c99", "-Wall", "-Wextra", "-Werror", "-pedantic", "-O1", "-g",
-                    *options, "-I" + os.path.join(ROOT, "include"), "-I" + PLACE, *sources, ARCHIVE, "-o", out], check=True)
+    """A program from sources, or from what compiled() made of them."""
+    subprocess.run([*COMPILER, *options, *sources, ARCHIVE, "-o", out], check=True)
+    return out
+
+
+def compiled(source, out, *options):
+    subprocess.run([*COMPILER, *options, "-c", source, "-o", out], check=True)
     return out
 
 

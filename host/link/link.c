@@ -11,14 +11,15 @@
  *     3. record    the packet is recorded in the area
  *     4. sync      the payloads written so far are forced to disk
  *     5. area      the area is written to a second file, forced to disk, and renamed over the first
- *     6. answer    STATUS is sent, `complete` is reported
+ *     6. answer    a complete file is checked against its checksum and gets its sheet and its name; `complete` is
+ *                  reported, STATUS is sent
  *
  * So at every moment each octet that the area on disk holds as received is on disk, and nothing is said to anyone that
  * the area on disk doesn't hold. Steps 4 and 5 are made for several packets at once, always before step 6: an area on
  * disk that is older than the payloads costs a repeat of some packets, never a page. docs/LINK.md goes through each
  * place where the power can go.
  *
- * The steps stand in dispatch.c (1, 2, 3, 6) and table.c (4, 5); link.h lists the files. Here: the command line.
+ * The steps stand in dispatch.c (1, 2, 3, 6) and table.c (4, 5, 6); link.h lists the files. Here: the command line.
  */
 #include "link.h"
 
@@ -58,14 +59,18 @@ static const char help[] =
     "An option's value may also follow after =, as in --idle=1. After -- comes the pass file.\n"
     "\n"
     "In DIR:  0000001f.part is transfer 31, not complete, 0000001f.page a complete one, 0000001f.meta its path, times\n"
-    "         and checksum, 0000001f.aside what a transfer had that was ended; 0000001f.2.part and so on come after\n"
+    "         and checksum, 0000001f.sheet a page of text about it to be signed, 0000001f.differs a complete one whose\n"
+    "         MD5 differs, 0000001f.aside what a transfer had that was ended; 0000001f.2.part and so on come after\n"
     "         those under the same Id. area is the transfer table (docs/LINK.md); lock keeps a second program out;\n"
     "         an Id and a newline written to close close a transfer. Names never come from paths in packets.\n"
     "Output:  one line for each packet, its number first, as replay prints them, and N complete id=31 length=5\n"
-    "         file=0000001f.page mtime=.. ctime=.. checksum=.. path=.. once the file is on disk. After a restart\n"
-    "         complete files are reported again. For a BEACON N on-air send=willing receive=not-now free=KIB\n"
-    "         largest-width=64 endpoint=\"node 3\" when its endpoint is first heard, and when it changes.\n"
-    "Status:  0, 1 where something can't be read or written (lines of output too), 2 for a wrong option.\n";
+    "         file=0000001f.page .. md5=agrees mtime=.. ctime=.. checksum=.. path=.. once the file is on disk and was\n"
+    "         checked; md5=not-checked where its checksum is no MD5. One that differs is an error: N differs id=31 ..,\n"
+    "         a message, status 3 at the end, and no .page. After a restart complete files are checked and reported\n"
+    "         again. For a BEACON N on-air send=willing receive=not-now free=KIB largest-width=64\n"
+    "         endpoint=\"node 3\" when its endpoint is first heard, and when it changes.\n"
+    "Status:  0, 1 where something can't be read or written (lines of output too), 2 for a wrong option, 3 where the\n"
+    "         MD5 of a complete file differs.\n";
 
 static void stop(int signal_number)
 {
@@ -210,6 +215,7 @@ int main(int count, char **arguments)
             from_socket(host, port, idle);
         if (!save())
             die("%s/area: what came last isn't saved, and counts as lost", options.directory);
+        write_open_sheets();
     } else if (to_close != NULL) {
         ask_to_close(id_to_close);
     } else {
@@ -217,5 +223,5 @@ int main(int count, char **arguments)
     }
     count_beacons();
     flush_output();
-    return output_was_lost();
+    return exit_status();
 }

@@ -5,9 +5,11 @@
  *     source.c    where packets come from: a pass, or a UDP socket and the senders that are heard
  *     dispatch.c  what is done with a packet, and what is answered
  *     table.c     the transfer table: in memory, on disk, and resumed from there
- *     store.c     files of a transfer: .part, .page, .aside and .meta
+ *     store.c     files of a transfer: .part, .page, .differs, .aside, .meta and .sheet
  *     disk.c      plain files: written, forced to disk, replaced; and where there is no room
- *     meta.c      METADATA as text
+ *     meta.c      METADATA as text, and as a packet again
+ *     check.c     a complete file against the checksum in METADATA
+ *     sheet.c     what the printer signs
  *     onair.c     who is on the air: BEACONs
  *     control.c   what an operator asks of a program that runs
  *     text.c      lines and messages, and octets of packets made fit to be printed
@@ -74,8 +76,15 @@ struct transfer {
     int fd;                        /* of its .part file; -1 where it isn't open */
     int written;                   /* since it was last forced to disk */
     int named;                     /* its file has the name of a page */
-    int delivered;                 /* and was reported, or taken away */
+    int apart;                     /* its file has the name of one that differs from its checksum */
+    int checked;                   /* its file was, and these two are known: */
+    uint64_t verdict;              /* SARATOGA_AGREES, _DIFFERS or _NOT_CHECKED */
+    uint8_t digest[SARATOGA_DIGEST_OCTETS]; /* of its file, where it was read to be checked */
+    int has_sheet;                 /* of this program, and so of the complete file */
+    int delivered;                 /* reported as a page, or taken away */
+    int reported;                  /* as a page, or as one that differs */
     int told;                      /* that its page can't get its name */
+    int opened_here;               /* by this program: its work is counted from its beginning */
     uint64_t heard;                /* when a packet of it last came; greater is later */
     struct work work;              /* since it was opened, or since the program began */
     struct work saved_work;        /* as it was when the area was last saved */
@@ -106,8 +115,21 @@ int id_of_text(const char *text, uint64_t *id);
 
 /* meta.c */
 size_t meta_text(char out[MOST_META], const uint8_t *packet, const struct saratoga_packet *read);
+size_t meta_packet(uint8_t out[SARATOGA_METADATA_OCTETS], const char *meta, size_t meta_len);
 int meta_is_of(const char *meta, size_t meta_len, const struct saratoga_listed *one);
 void meta_for_report(char out[MOST_META], const struct transfer *t);
+
+/* check.c */
+int check_page(struct transfer *t, const char *name, uint64_t length);
+const char *verdict_text(uint64_t verdict);
+int exit_status(void);
+
+/* sheet.c */
+int write_page_sheet(struct transfer *t, const struct saratoga_listed *one);
+void prepare_closing_sheet(const struct transfer *t, const struct saratoga_listed *one, const char *why);
+void write_closing_sheet(const struct transfer *t);
+void write_orphan_sheet(const struct transfer *t);
+void write_open_sheets(void);
 
 /* disk.c */
 void open_directory(void);
@@ -131,13 +153,14 @@ void there_is_room(void);
 /* store.c */
 int id_of_name(const char *name, uint64_t *id);
 void name_of(char name[NAME_OCTETS], const struct transfer *t, const char *suffix);
+void name_of_file(char name[NAME_OCTETS], const struct transfer *t);
 int may_keep_more(void);
 int make_files(struct transfer *t);
 int find_files(struct transfer *t);
 int write_payload(struct transfer *t, const uint8_t *octets, size_t count, uint64_t offset);
 int part_is_there(const struct transfer *t);
 int force_files(void);
-int name_page(struct transfer *t);
+int name_page(struct transfer *t, int differs);
 void set_aside(struct transfer *t);
 void set_orphans_aside(void);
 void forget_files(struct transfer *t);

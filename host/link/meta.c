@@ -1,10 +1,12 @@
 /*
  * METADATA as text, for ID.meta and the report: lines of NAME=VALUE that hold nothing but printable ASCII. Different
- * METADATA give different texts, so two files are told apart by comparing texts.
+ * METADATA give different texts, so two files are told apart by comparing texts. From a text the packet is made again,
+ * also after a restart, for the library to judge.
  */
 #include "link.h"
 
 #include <stdio.h>
+#include <stdlib.h>
 #include <string.h>
 #include <time.h>
 
@@ -43,18 +45,97 @@ size_t meta_text(char out[MOST_META], const uint8_t *packet, const struct sarato
     return length;
 }
 
+/* The value of a line; an empty one where there is no such line. */
+static const char *value_of(const char *meta, const char *line)
+{
+    const char *at = strstr(meta, line);
+    return at != NULL ? at + strlen(line) : "";
+}
+
+static uint64_t number_of(const char *meta, const char *line, int base)
+{
+    return strtoull(value_of(meta, line), NULL, base);
+}
+
+/* The seconds whose date this is, by halving: dates are in the order of their seconds. */
+static uint64_t seconds_of(const char *date)
+{
+    char tried[32];
+    uint64_t low = 0, high = UINT32_MAX;
+    while (low < high) {
+        uint64_t middle = low + (high - low) / 2;
+        date_of(tried, middle);
+        if (strncmp(tried, date, strlen(tried)) < 0)
+            low = middle + 1;
+        else
+            high = middle;
+    }
+    return low;
+}
+
+static uint8_t octet_of(const char digits[2])
+{
+    const char pair[3] = {digits[0], digits[0] != '\0' ? digits[1] : '\0'};
+    return (uint8_t)strtoul(pair, NULL, 16);
+}
+
+/* Pairs of digits up to the end of the line. Gives how many octets they are, at most `room`. */
+static size_t octets_of(uint8_t *out, size_t room, const char *digits)
+{
+    size_t count = strcspn(digits, "\n") / 2;
+    count = count < room ? count : room;
+    for (size_t i = 0; i < count; i++)
+        out[i] = octet_of(digits + 2 * i);
+    return count;
+}
+
+/* What escape() made of octets, up to the end of the line. Gives how many they are, at most `room`. */
+static size_t unescape(uint8_t *out, size_t room, const char *text)
+{
+    size_t count = 0, length = strcspn(text, "\n");
+    for (size_t i = 0; i < length && count < room; count++) {
+        int escaped = text[i] == '\\' && i + 4 <= length;
+        out[count] = escaped ? octet_of(text + i + 2) : (uint8_t)text[i];
+        i += escaped ? 4 : 1;
+    }
+    return count;
+}
+
+/*
+ * METADATA as a packet again: one of which meta_text makes this very text. What the text doesn't hold, flags that nothing
+ * here looks at, is 0. Gives its length; 0 where no packet has this text.
+ */
+size_t meta_packet(uint8_t out[SARATOGA_METADATA_OCTETS], const char *meta, size_t meta_len)
+{
+    static const uint64_t widths[] = {SARATOGA_WIDTH_16, SARATOGA_WIDTH_32, SARATOGA_WIDTH_64, SARATOGA_WIDTH_128};
+    static char again[MOST_META];
+    uint8_t checksum[4 * 15], path[SARATOGA_PATH_OCTETS + 1];
+    const char *sum = value_of(meta, "\nchecksum="), *colon = strchr(sum, ':');
+    size_t path_len = unescape(path, sizeof path, value_of(meta, "\npath=")), sum_len = 0, place = 0;
+    uint64_t flags = 0, width = number_of(meta, "\nwidth=", 10);
+    while (place < 3 && UINT64_C(16) << place != width)
+        place++;
+    if (strncmp(sum, "none\n", 5) != 0 && colon != NULL) {
+        sum_len = octets_of(checksum, sizeof checksum, colon + 1);
+        flags = (uint64_t)sum_len / 4 << 4 | (strtoull(sum, NULL, 10) & 15);
+    }
+    struct saratoga_written written = saratoga_write_metadata(
+        widths[place] | flags, number_of(meta, "\nid=", 10), checksum, sum_len, number_of(meta, "\nproperties=", 16),
+        number_of(meta, "\nlength=", 10), seconds_of(value_of(meta, "\nmtime=")), seconds_of(value_of(meta, "\nctime=")),
+        path, path_len, out, SARATOGA_METADATA_OCTETS);
+    struct saratoga_packet read = saratoga_read(out, (size_t)written.size);
+    if (written.number != 0 || read.number != 0)
+        return 0;
+    return meta_text(again, out, &read) == meta_len && memcmp(again, meta, meta_len) == 0 ? (size_t)written.size : 0;
+}
+
 /* Whether a text read from disk is one that meta_text wrote for this transfer. */
 int meta_is_of(const char *meta, size_t meta_len, const struct saratoga_listed *one)
 {
-    char begin[128];
-    int done = snprintf(begin, sizeof begin, FIRST_LINE "id=%" PRIu64 "\nwidth=%" PRIu64 "\nlength=%" PRIu64 "\n",
-                        one->id, 8 * one->width, one->length);
-    if (meta_len < (size_t)done || memcmp(meta, begin, (size_t)done) != 0 || meta[meta_len - 1] != '\n')
-        return 0;
-    for (size_t i = 0; i < meta_len; i++)
-        if (meta[i] != '\n' && (meta[i] < 0x20 || meta[i] > 0x7e))
-            return 0;
-    return strstr(meta, "\nmtime=") != NULL && strstr(meta, "\npath=") != NULL;
+    uint8_t packet[SARATOGA_METADATA_OCTETS];
+    size_t packet_len = meta_packet(packet, meta, meta_len);
+    struct saratoga_packet read = saratoga_read(packet, packet_len);
+    return packet_len > 0 && read.id == one->id && read.width == one->width && read.size == one->length;
 }
 
 /* Times, checksum and path on one line. */

@@ -1,8 +1,8 @@
 /*
  * For the tests of the link program: a disk that is full. The linker puts these functions in the place of openat,
  * pwrite, renameat and fsync (--wrap). While the file named by NOSPACE holds the letter of a call (o, w, r, f), that
- * call fails with ENOSPC; o only where a file is to be made. Letter p is a page that is to get its name, d the force to
- * disk after that. Letter s is an answer that can't be sent.
+ * call fails with ENOSPC; o only where a file is to be made. Letter p is a complete file that is to get its name, d the
+ * force to disk after that, h a sheet that is to get its name. Letter s is an answer that can't be sent.
  */
 #define _POSIX_C_SOURCE 200809L
 #define _FILE_OFFSET_BITS 64
@@ -68,8 +68,8 @@ ssize_t __wrap_pwrite64(int fd, const void *octets, size_t count, off_t offset)
 
 int __wrap_renameat(int directory, const char *name, int other, const char *new_name)
 {
-    int is_page = strstr(new_name, ".page") != NULL;
-    if (full('r') || (is_page && full('p')))
+    int is_page = strstr(new_name, ".page") != NULL || strstr(new_name, ".differs") != NULL;
+    if (full('r') || (is_page && full('p')) || (strstr(new_name, ".sheet") != NULL && full('h')))
         return -1;
     page_was_named |= is_page;
     return __real_renameat(directory, name, other, new_name);

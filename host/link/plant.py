@@ -1,5 +1,6 @@
 """Tests of the link program as a plant uses it: Ids used again, files taken away, a full table, a full disk, and
 packets and files that mean harm. Run by test.py; each function takes the program and an empty directory."""
+import hashlib
 import os
 import random
 import resource
@@ -146,7 +147,7 @@ def no_mixture(place, originals):
     """Each page is one of the files, and so is what was set aside, as far as it came."""
     for name in os.listdir(place):
         known = originals[int(name[:8], 16)] if name.endswith((".page", ".aside")) else None
-        files = [known] if isinstance(known, bytes) else list((known or {}).values())
+        files = [known] if isinstance(known, bytes) else known[:1] if isinstance(known, tuple) else list((known or {}).values())
         if name.endswith(".page"):
             check(content(place, name) in files, f"{name} is a mixture")
         if name.endswith(".aside"):
@@ -331,16 +332,16 @@ def two_senders(program, place):
 def what_is_known(program, place):
     evil = b"../../etc/passwd\n\x1b]0;x\x07 %s%n\\\x7f\x80\xff\r"
     shown = "../../etc/passwd\\x0a\\x1b]0;x\\x07\\x20%s%n\\x5c\\x7f\\x80\\xff\\x0d"
-    digest = bytes(range(16))
+    digest = hashlib.md5(b"12345").digest()
     packet = metadata(31, 32, 5, evil, flags=0x42, checksum=digest, mtime=847944000, ctime=2**32 - 1)
     lines, told, status = run(program, place, "-", octets=records([packet, data(31, 32, 0, b"12345")]))
     check((told, status) == ("", 0) and harmless(lines), (lines, told))
     known = f"mtime=2026-11-14T04:00:00Z ctime=2136-02-07T06:28:15Z checksum=2:{digest.hex()} path={shown}"
-    check(f"2 complete id=31 length=5 file=0000001f.page recordings=1 absorbed=0 runs=1 {known}" in lines, lines)
+    check(f"2 complete id=31 length=5 file=0000001f.page recordings=1 absorbed=0 runs=1 md5=agrees {known}" in lines, lines)
     check(content(place, "0000001f.meta").decode() == "saratoga-meta 1\nid=31\nwidth=32\nlength=5\nproperties=0040\n" +
           known.replace(" ", "\n") + "\n", content(place, "0000001f.meta"))
     check(run(program, place, "-q", "-")[0] ==
-          [f"0 complete id=31 length=5 file=0000001f.page recordings=0 absorbed=0 runs=1 {known}"], "restarted")
+          [f"0 complete id=31 length=5 file=0000001f.page recordings=0 absorbed=0 runs=1 md5=agrees {known}"], "restarted")
     # The longest path, each octet of it to be escaped, and the longest checksum.
     packet = metadata(32, 64, 0, b"\xff" * 1023, flags=0xFF, checksum=b"\xfe" * 60, mtime=2**32 - 1, ctime=2**32 - 1)
     lines, told, status = run(program, place, "-", octets=records([packet, packet]))
@@ -489,24 +490,30 @@ def work_without_room(program, place):
 
 
 def no_room_for_a_name(program, place):
-    """`program` is built with nospace.c. A complete page waits for its name, and isn't said to be complete before."""
+    """`program` is built with nospace.c. A complete page waits for its sheet and its name, and isn't said to be complete before;
+    and so does one that differs from its checksum."""
     text, marker = page(100, 33), os.path.join(os.path.dirname(place), "nospace")
-    for calls in ("p", "d"):
-        here = os.path.join(place, calls)
+    for calls, differs in (("p", 0), ("d", 0), ("h", 0), ("d", 1)):
+        here = os.path.join(place, f"{calls}{differs}")
         os.mkdir(here)
         link = Link(program, here, NOSPACE=marker)
-        link.quiet_send(metadata(7, 16, 100), data(7, 16, 0, text[:20], WANTED))
+        link.quiet_send(metadata(7, 16, 100, flags=0x42, checksum=bytes(16)) if differs else metadata(7, 16, 100),
+                        data(7, 16, 0, text[:20], WANTED))
         with open(marker, "w", encoding="ascii") as file:
             file.write(calls)
-        for _ in range(3):
+        for _ in range(2):
             check(link.send(data(7, 16, 20, text[20:], WANTED)) is None, "complete without a name")
-        check(not any(" complete id=7 " in line for line in link.lines), link.lines)
+        check(not any(" complete id=7 " in line or " differs id=7 " in line for line in link.lines), link.lines)
         check(link.send(metadata(7, 16, 100, b"other")) is None, "ended while its page waits")
         os.remove(marker)
-        link.wait(lambda: any(" complete id=7 " in line for line in link.lines))
-        check(is_complete(link.send(data(7, 16, 20, text[20:], WANTED)), 100), link.lines)
-        check(link.end() == 0 and content(here, "00000007.page") == text, link.told)
+        said, name, status = (" differs id=7 ", "00000007.differs", 3) if differs else (" complete id=7 ", "00000007.page", 0)
+        link.wait(lambda: any(said in line for line in link.lines))
+        answer = link.send(data(7, 16, 20, text[20:], WANTED))
+        check(answer == bytes.fromhex("4400000600000007") if differs else is_complete(answer, 100), link.lines)
+        check(link.end() == status and content(here, name) == text, link.told)
         check(sum("can't be stored" in line for line in link.told) == 1, link.told)
+        check(sum(said in line for line in link.lines) == 1, link.lines)
+        check(sum("ERROR" in line for line in link.told) == 2 * differs, link.told)
 
 
 def limits(program, place):
@@ -645,8 +652,8 @@ def traps(program, place):
         file.write(b"precious")
     text = page(20, 32)
     packets = records([metadata(7, 16, 20), data(7, 16, 0, text)])
-    for number_of, name in enumerate(("00000007.part", "00000007.page", "00000007.meta", "00000007.aside", "area.new",
-                                      "area", "lock", "close")):
+    for number_of, name in enumerate(("00000007.part", "00000007.page", "00000007.meta", "00000007.aside", "00000007.differs",
+                                      "00000007.sheet", "00000007.sheet.new", "area.new", "area", "lock", "close")):
         here = f"{inside}{number_of}"
         os.mkdir(here)
         os.symlink(outside, os.path.join(here, name))

@@ -56,7 +56,8 @@ void from_pass(const char *name)
             break;
         if (kept < 0) {
             int error = ferror(file) ? errno : 0;
-            save();
+            if (save())
+                write_open_sheets();
             if (error != 0)
                 die("%s: can't be read: %s", name, strerror(error));
             die("%s: cut short in record %" PRIu64, name, number);

@@ -4,7 +4,9 @@
  *
  *     0000001f.part    octets of transfer 31, not complete
  *     0000001f.page    the complete file
+ *     0000001f.differs a complete file that isn't the one of its checksum
  *     0000001f.meta    its METADATA as text
+ *     0000001f.sheet   what the printer signs
  *     0000001f.aside   what a transfer had that was ended
  *     0000001f.2.part  the same, of the next file under Id 31
  *
@@ -34,10 +36,16 @@ void name_of(char name[NAME_OCTETS], const struct transfer *t, const char *suffi
     make_name(name, t->id, t->generation, suffix);
 }
 
+/* The file of a transfer, by the name that it has now. */
+void name_of_file(char name[NAME_OCTETS], const struct transfer *t)
+{
+    name_of(name, t, t->apart ? "differs" : t->named ? "page" : "part");
+}
+
 /* The Id, number and suffix of a name that make_name makes; gives NULL for any other. */
 static const char *parse_name(const char *name, uint64_t *id, unsigned *generation)
 {
-    static const char *const suffixes[] = {"part", "page", "meta", "aside"};
+    static const char *const suffixes[] = {"part", "page", "differs", "meta", "sheet", "aside"};
     char made[NAME_OCTETS];
     if (strspn(name, "0123456789abcdef") != 8 || name[8] != '.')
         return NULL;
@@ -117,25 +125,28 @@ int force_files(void)
 /* Whether the names of a number that an earlier try left can be used: an empty .part, and nothing that holds octets. */
 static int can_be_used_again(uint64_t id, unsigned generation)
 {
-    char part[NAME_OCTETS], page[NAME_OCTETS], aside[NAME_OCTETS];
+    char part[NAME_OCTETS], page[NAME_OCTETS], differs[NAME_OCTETS], aside[NAME_OCTETS];
     make_name(part, id, generation, "part");
     make_name(page, id, generation, "page");
+    make_name(differs, id, generation, "differs");
     make_name(aside, id, generation, "aside");
-    return length_of(part) == 0 && !is_there(page) && !is_there(aside);
+    return length_of(part) == 0 && !is_there(page) && !is_there(aside) && !is_there(differs);
 }
 
 /*
- * Makes .part, empty, and .meta for a transfer that is to be opened. No area on disk may hold its Id as open. Gives -1
- * with errno where they can't be made.
+ * Makes .part, empty, and .meta for a transfer that is to be opened. No area on disk may hold its Id as open. The sheet
+ * of a file that had this number, and of which nothing came, goes. Gives -1 with errno where they can't be made.
  */
 int make_files(struct transfer *t)
 {
-    char part[NAME_OCTETS], meta[NAME_OCTETS];
+    char part[NAME_OCTETS], meta[NAME_OCTETS], sheet[NAME_OCTETS];
     t->generation = highest(t->id, NULL);
     if (t->generation == 0 || !can_be_used_again(t->id, t->generation))
         t->generation++;
     name_of(part, t, "part");
     name_of(meta, t, "meta");
+    name_of(sheet, t, "sheet");
+    remove_file(sheet);
     t->fd = open_file(part, O_WRONLY | O_CREAT);
     int fd = t->fd < 0 ? -1 : open_file(meta, O_WRONLY | O_CREAT | O_TRUNC);
     if (fd < 0)
@@ -148,13 +159,12 @@ int make_files(struct transfer *t)
     return failed ? -1 : 0;
 }
 
-/* Finds the files of a transfer that the area holds, and reads its METADATA. Gives -1 where there is none. */
-int find_files(struct transfer *t)
+/* Reads the METADATA of a transfer. Gives -1 where there is none. */
+static int read_meta(struct transfer *t)
 {
     char name[NAME_OCTETS];
-    t->generation = highest(t->id, "meta");
     name_of(name, t, "meta");
-    int fd = t->generation == 0 ? -1 : open_file(name, O_RDONLY);
+    int fd = open_file(name, O_RDONLY);
     if (fd < 0)
         return -1;
     ssize_t got = read(fd, t->meta, sizeof t->meta - 1);
@@ -166,11 +176,18 @@ int find_files(struct transfer *t)
     return 0;
 }
 
-/* Whether the .part that was written to still has its name, or has that of a page already. */
+/* Finds the files of a transfer that the area holds, and reads its METADATA. Gives -1 where there is none. */
+int find_files(struct transfer *t)
+{
+    t->generation = highest(t->id, "meta");
+    return t->generation == 0 ? -1 : read_meta(t);
+}
+
+/* Whether the .part that was written to still has its name, or the one that it got when it was complete. */
 int part_is_there(const struct transfer *t)
 {
     char name[NAME_OCTETS];
-    name_of(name, t, t->named ? "page" : "part");
+    name_of_file(name, t);
     return has_name(t->fd, name);
 }
 
@@ -188,15 +205,16 @@ int write_payload(struct transfer *t, const uint8_t *octets, size_t count, uint6
     return 0;
 }
 
-/* Gives the .part its name as a page, where nothing has that name. Gives -1 with errno. */
-int name_page(struct transfer *t)
+/* Gives a complete file its name as a page, or as one that differs, where nothing has that name. Gives -1 with errno. */
+int name_page(struct transfer *t, int differs)
 {
-    char part[NAME_OCTETS], page[NAME_OCTETS];
-    name_of(part, t, "part");
-    name_of(page, t, "page");
-    if (!t->named && rename_file(part, page) != 0)
+    char name[NAME_OCTETS], new_name[NAME_OCTETS];
+    name_of_file(name, t);
+    name_of(new_name, t, differs ? "differs" : "page");
+    if (strcmp(name, new_name) != 0 && rename_file(name, new_name) != 0)
         return -1;
-    t->named = 1;
+    t->named = !differs;
+    t->apart = differs;
     forget_files(t);
     return force_directory();
 }
@@ -232,8 +250,11 @@ void set_orphans_aside(void)
         struct transfer t = {.used = 1, .fd = -1};
         const char *suffix = parse_name(entry->d_name, &t.id, &t.generation);
         const struct transfer *known = suffix != NULL ? transfer_of(t.id) : NULL;
-        if (suffix != NULL && strcmp(suffix, "part") == 0 && (known == NULL || known->generation != t.generation))
-            set_aside(&t);
+        if (suffix == NULL || strcmp(suffix, "part") != 0 || (known != NULL && known->generation == t.generation))
+            continue;
+        if (read_meta(&t) == 0 && length_of(entry->d_name) > 0)
+            write_orphan_sheet(&t);
+        set_aside(&t);
     }
     closedir(list);
 }

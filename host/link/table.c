@@ -104,7 +104,10 @@ static void forget_closed(void)
             forget(&transfers[i]);
 }
 
-/* A .part that is gone takes its transfer with it, before the area says that its octets are there. */
+/*
+ * A .part that is gone takes its transfer with it, before the area says that its octets are there. Its sheet needn't wait
+ * until that is saved: without the file it would be closed at the next start.
+ */
 static void close_lost(void)
 {
     for (size_t i = 0; i < SARATOGA_TRANSFERS; i++) {
@@ -114,8 +117,12 @@ static void close_lost(void)
             name_of(name, t, "part");
             warn("%s/%s: is gone; transfer %" PRIu64 " is closed and must begin anew", options.directory, name, t->id);
             t->written = 0;
-            if (listed(t->id).number == 0)
-                close_in_area(t->id);
+            struct saratoga_listed one = listed(t->id);
+            if (one.number != 0)
+                continue;
+            prepare_closing_sheet(t, &one, "lost");
+            close_in_area(t->id);
+            write_closing_sheet(t);
         }
     }
 }
@@ -156,14 +163,21 @@ int save_if_due(void)
     return unsaved < MOST_UNSAVED || save();
 }
 
-/* Ends an open transfer. What it had is set aside. Gives 0 where the closing can't be saved: then it is still open. */
+/*
+ * Ends an open transfer. What it had is set aside. A file that was reported keeps its sheet. Gives 0 where the closing
+ * can't be saved: then it is still open.
+ */
 int end_transfer(uint64_t number, struct transfer *t, const char *why)
 {
     struct saratoga_listed one = listed(t->id);
     struct work work = t->work;
+    int has_sheet = t->delivered || t->reported;
+    prepare_closing_sheet(t, &one, why);
     close_in_area(t->id);
     if (!save())
         return 0;
+    if (!has_sheet)
+        write_closing_sheet(t);
     say(number, "close id=%" PRIu64 " %s recordings=%" PRIu64 " absorbed=%" PRIu64 " runs=%" PRIu64, t->id, why,
         work.recordings, work.absorbed, one.runs);
     set_aside(t);
@@ -171,39 +185,56 @@ int end_transfer(uint64_t number, struct transfer *t, const char *why)
     return 1;
 }
 
+/* Says that a file is complete, with its name and all that is known of it. */
+static void report_page(uint64_t number, struct transfer *t, const struct saratoga_listed *one)
+{
+    char name[NAME_OCTETS], meta[MOST_META];
+    name_of_file(name, t);
+    meta_for_report(meta, t);
+    t->reported = 1;
+    report("%" PRIu64 " %s id=%" PRIu64 " length=%" PRIu64 " file=%s recordings=%" PRIu64 " absorbed=%" PRIu64
+           " runs=%" PRIu64 " md5=%s %s",
+           number, t->apart ? "differs" : "complete", t->id, one->length, name, t->work.recordings, t->work.absorbed,
+           one->runs, verdict_text(t->verdict), meta);
+}
+
 /*
  * Reports a complete transfer. Called only once the area on disk holds it as complete, and so all its octets are on
- * disk; the file is looked at all the same. The new name comes first: who reads the report finds the page. A cut
- * between the two is made good at the next start, so a page is reported at least once. Gives 1 where the page is there,
- * 0 where it has to wait for room, -1 where the file is gone: the transfer then is closed.
+ * disk; the file is looked at all the same, and checked. Then come its sheet and its new name: who reads the report finds
+ * both. A cut between is made good at the next start, so a page is reported at least once. A file that differs from its
+ * checksum gets another name, and its transfer is closed, so that it can be sent again. Gives 1 where the page is there, 0
+ * where it has to wait for room, -1 where the file is gone or differs: the transfer then is closed.
  */
 int deliver(uint64_t number, struct transfer *t)
 {
-    char part[NAME_OCTETS], page[NAME_OCTETS], meta[MOST_META];
+    char name[NAME_OCTETS];
     struct saratoga_listed one = listed(t->id);
     if (t->delivered)
         return 1;
-    name_of(part, t, "part");
-    name_of(page, t, "page");
-    if (!part_is_there(t) || !file_has_length(t->named ? page : part, one.length)) {
-        warn("%s/%s: isn't there with its %" PRIu64 " octets; transfer %" PRIu64 " is closed and must begin anew",
-             options.directory, part, one.length, t->id);
+    name_of_file(name, t);
+    if (!part_is_there(t) || !file_has_length(name, one.length) || !check_page(t, name, one.length)) {
+        warn("%s/%s: isn't there with its %" PRIu64 " octets, or can't be read; transfer %" PRIu64
+             " is closed and must begin anew",
+             options.directory, name, one.length, t->id);
         return end_transfer(number, t, "lost") ? -1 : 0;
     }
-    if (name_page(t) != 0) {
+    if (!write_page_sheet(t, &one))
+        return 0;
+    cut_point("between the sheet and the page's name");
+    if (name_page(t, t->verdict == SARATOGA_DIFFERS) != 0) {
         if (is_lack_of_room(errno))
-            room_is_lacking(page, errno);
+            room_is_lacking(name, errno);
         else if (!t->told)
-            warn("%s/%s: can't get its name, and stays %s: %s", options.directory, page, part, strerror(errno));
+            warn("%s/%s: can't get its name as a complete file, and stays: %s", options.directory, name, strerror(errno));
         t->told = 1;
         return 0;
     }
     cut_point("between the page's name and its report");
+    if (!t->reported)
+        report_page(number, t, &one);
+    if (t->apart)
+        return end_transfer(number, t, "differs") ? -1 : 0;
     t->delivered = 1;
-    meta_for_report(meta, t);
-    report("%" PRIu64 " complete id=%" PRIu64 " length=%" PRIu64 " file=%s recordings=%" PRIu64 " absorbed=%" PRIu64
-           " runs=%" PRIu64 " %s",
-           number, t->id, one.length, page, t->work.recordings, t->work.absorbed, one.runs, meta);
     return 1;
 }
 
@@ -260,18 +291,20 @@ int read_area(uint8_t octets[SARATOGA_AREA_OCTETS])
 /* What is wrong with the files of a transfer that the area holds; NULL where nothing is. */
 const char *fault_of(struct transfer *t, const struct saratoga_listed *one)
 {
-    char part[NAME_OCTETS], page[NAME_OCTETS];
+    char part[NAME_OCTETS], page[NAME_OCTETS], differs[NAME_OCTETS];
     if (find_files(t) != 0 || !meta_is_of(t->meta, t->meta_len, one))
         return "its .meta isn't there, or is another's";
     name_of(part, t, "part");
     name_of(page, t, "page");
+    name_of(differs, t, "differs");
     int64_t part_len = length_of(part), page_len = length_of(page);
     if (!one->complete)
         return part_len < 0 || (uint64_t)part_len < one->edge ? "its .part has fewer octets than were recorded" : NULL;
     if (part_len >= 0)
         return file_has_length(part, one->length) ? NULL : "its .part hasn't its length";
-    t->delivered = page_len < 0; /* reported, and taken away */
     t->named = page_len >= 0;
+    t->apart = !t->named && length_of(differs) >= 0; /* and the program ended before its transfer was closed */
+    t->delivered = !t->named && !t->apart;           /* reported, and taken away */
     return page_len < 0 || file_has_length(page, one->length) ? NULL : "its .page hasn't its length";
 }
 

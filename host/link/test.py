@@ -1,7 +1,7 @@
 #!/usr/bin/env python3
 """Tests the link program end to end: on passes, cut off at every place between two writes, and over a lossy loopback
-while it is killed again and again; plant.py has the tests of what a plant does. Needs a C compiler, python3 and the
-archive; one or two minutes.
+while it is killed again and again; plant.py has the tests of what a plant does, sheets.py those of the check and the sheet.
+Needs a C compiler, python3 and the archive; one or two minutes.
 
     host/link/test.py [SECONDS]     SECONDS bounds the part that kills the program (else 6)
 
@@ -19,24 +19,27 @@ import threading
 import time
 
 sys.dont_write_bytecode = True
-from harness import (AREA_HEAD, POWERCUT, SOURCES, WRAPPED, after_the_cut, build, check, content, holds, page, records,  # noqa: E402
-                     run, stamps, stem, stored)
+from harness import (AREA_HEAD, POWERCUT, SOURCES, WRAPPED, after_the_cut, build, check, compiled, content, holds, page,  # noqa: E402
+                     records, run, stamps, stem, stored)
 from packets import END_OF_DATA, TIMESTAMP, UNASKED, WANTED, data, failure, metadata, record, success  # noqa: E402
 import plant  # noqa: E402
+import sheets  # noqa: E402
 
 
 def nothing_promised_is_missing(place, originals, lines=()):
-    """Each octet that the area on disk holds as received is on disk, and so is each page that was reported."""
+    """Each octet that the area on disk holds as received is on disk, and so is each page that was reported, with its sheet."""
     for ident, (length, runs) in (stored(place) or {}).items():
         check(stem(place, ident), f"transfer {ident} is in the area and has no .meta")
         original = original_of(originals, ident, content(place, stem(place, ident) + ".meta").decode())
         check(length == len(original), f"transfer {ident} of {length} octets")
         check(f"\nlength={length}\n".encode() in content(place, stem(place, ident) + ".meta"), f"the .meta of {ident}")
-        names = [name for name in (stem(place, ident) + end for end in (".part", ".page")) if name in os.listdir(place)]
+        names = [name for name in (stem(place, ident) + end for end in (".part", ".page", ".differs"))
+                 if name in os.listdir(place)]
         check(names, f"transfer {ident} is in the area and has no file")
-        kept = content(place, names[0])
+        kept, came = content(place, names[0]), originals[ident] if isinstance(originals[ident], tuple) else (original,)
         for start, stop in runs:
-            check(kept[start:stop] == original[start:stop], f"octets {start} to {stop} of {names[0]} aren't on disk")
+            check(kept[start:stop] in [octets[start:stop] for octets in came],
+                  f"octets {start} to {stop} of {names[0]} aren't on disk")
     for line in lines:
         words = line.split()
         if words[1] == "complete":
@@ -49,11 +52,14 @@ def nothing_promised_is_missing(place, originals, lines=()):
                       f"a STATUS says that {start} to {stop} of transfer {ident} came, and the area on disk doesn't")
     for ident in stamped(lines) & set(stored(place) or {}):
         check(ident in stamps(place), f"a STATUS had a timestamp of transfer {ident}, and the area on disk keeps none")
+    sheets.every_sheet(place, originals)
 
 
 def original_of(originals, ident, known):
-    """The file of an Id; where an Id has several, the one whose path ends this text."""
+    """The file of an Id; where an Id has several, the one whose path ends this text; where it came spoilt too, the right one."""
     original = originals[ident]
+    if isinstance(original, tuple):
+        return original[0]
     return original if isinstance(original, bytes) else original.get(known.split("path=")[-1].strip(), b"")
 
 
@@ -87,7 +93,7 @@ def stamped(lines):
 
 # Passes.
 
-META = "mtime=2000-01-01T00:00:00Z ctime=2000-01-01T00:00:00Z checksum=none path=page611.pla"
+META = "md5=not-checked mtime=2000-01-01T00:00:00Z ctime=2000-01-01T00:00:00Z checksum=none path=page611.pla"
 
 
 def passes(program, place):
@@ -126,8 +132,8 @@ def passes(program, place):
     got = run(program, place, "-", octets=passed)
     check(got == (expected, "", 0), got)
     check(content(place, "00000007.page") == text, "the page isn't the original")
-    check(sorted(os.listdir(place)) == ["00000007.meta", "00000007.page", "00000009.meta", "00000009.page",
-                                         "area", "lock"], os.listdir(place))
+    check(sorted(os.listdir(place)) == ["00000007.meta", "00000007.page", "00000007.sheet", "00000009.meta", "00000009.page",
+                                         "00000009.sheet", "area", "lock"], os.listdir(place))
 
     # Taken up: what was complete is reported again, unless it was taken away.
     os.remove(os.path.join(place, "00000009.page"))
@@ -337,12 +343,12 @@ def run_cut(program, place, octets, cut=0):
 
 
 def two_transfers():
-    """Two pages, and a pass of both with repeats, overlaps and one packet late."""
+    """Two pages, one of them with an MD5, and a pass of both with repeats, overlaps and one packet late."""
     originals = {7: page(900, 3), 9: page(700, 4)}
 
     def sent(ident, *chunks):
         original = originals[ident]
-        packets = [metadata(ident, 16, len(original))]
+        packets = [sheets.opening(7, original, 16) if ident == 7 else metadata(ident, 16, len(original))]
         for at, length, flags in chunks:
             stamp = bytes([at // 4 % 256]) * 16 if flags & TIMESTAMP else b""
             packets.append(data(ident, 16, at, original[at:at + length], flags, stamp))
@@ -355,8 +361,7 @@ def two_transfers():
 
 def last_of(originals, ident):
     """The file that is to be complete in the end."""
-    original = originals[ident]
-    return original if isinstance(original, bytes) else original["b"]
+    return original_of(originals, ident, "path=b")
 
 
 def cut_everywhere(program, place, make=two_transfers):
@@ -375,9 +380,9 @@ def cut_everywhere(program, place, make=two_transfers):
         while True:
             lines, told, status = run_cut(program, here, octets, cut)
             reported += lines
-            check(status in (0, 99), told)
+            check(status in (0, 99) or (status == sheets.DIFFERS and make is sheets.spoilt), told)
             nothing_promised_is_missing(here, originals, lines)
-            if status == 0:
+            if status != 99:
                 break
             cuts += 1
             cut = count if cuts < 4 else 0
@@ -385,6 +390,7 @@ def cut_everywhere(program, place, make=two_transfers):
             check(holds(here, stem(here, ident) + ".page", last_of(originals, ident)),
                   f"page {ident} after a cut at place {count}")
             check(any(f"complete id={ident} " in line for line in reported), f"page {ident} was never reported")
+        check(make is not sheets.spoilt or any(" differs id=7 " in line for line in reported), "what differs was never reported")
         plant.no_mixture(here, originals)
         check(not any(name.endswith(".part") for name in os.listdir(here)), "a part is left")
         if cuts == 0:
@@ -433,21 +439,22 @@ def power_cuts(program, plain, place, make=two_transfers):
         os.mkdir(here)
         os.mkdir(disk)
         lines, told, status = run(program, here, "-", octets=octets, POWERCUT=str(count), POWERCUT_DISK=disk)
-        check(status in (0, 98) and count < 1000, f"call {count}: {told}")
+        check(status in (0, 98, sheets.DIFFERS) and count < 1000, f"call {count}: {told}")
         for number, how in enumerate(("none", "names", "octets", "some", "some", "some")):
             left = os.path.join(place, f"{count}-{number}")
             after_the_cut(disk, here, left, how, chance)
             nothing_promised_is_missing(left, originals, lines)
             if plain and number < 4:
                 again, told, ended = run(plain, left, "--no-fsync", "-", octets=octets)
-                check(ended == 0 and all(" is kept as " in line for line in told.splitlines()),
+                check(ended == (sheets.DIFFERS if "ERROR" in told else 0) and
+                      all(" is kept as " in line or (" ERROR: " in line and make is sheets.spoilt) for line in told.splitlines()),
                       f"call {count}, {how}: {told}")
                 nothing_promised_is_missing(left, originals, again)
                 plant.no_mixture(left, originals)
                 for ident in originals:
                     check(holds(left, stem(left, ident) + ".page", last_of(originals, ident)),
                           f"page {ident} after call {count}, {how}")
-        if status == 0:
+        if status != 98:
             return count - 1
 
 
@@ -519,7 +526,7 @@ class Sender:
     def round(self, ident):
         """One window of a file, and what came back."""
         original, width = self.originals[ident], 128 if ident % 2 else 32
-        self.send(metadata(ident, width, len(original), b"../../etc/passwd"))
+        self.send(sheets.opening(ident, original, width, path=b"../../etc/passwd"))
         chunks, size = [], self.chance.choice((300, 700, 1300))
         for start, stop in self.missing[ident]:
             chunks += [(at, min(at + size, stop)) for at in range(start, stop, size)]
@@ -612,15 +619,18 @@ def loopback(program, place, address, seconds, options):
 # Programs that write in another order, or take an option and don't do what it says, which the tests must find.
 
 
-ENDED, CUT, REPLACED = "ended", "power cut", "ended while a file is replaced"  # which test finds it, or one of plant.py
+ENDED, CUT = "ended", "power cut"
+# Which test finds it: one that ends the program, with its pass, or a function.
+TWO, TWO_CUT = (ENDED, two_transfers), (CUT, two_transfers)
+REPLACED, SPOILT = (ENDED, plant.two_files_of_one_id), (ENDED, sheets.spoilt)
 
 WRONG = {
     "records and saves before the payload is written": (
-        ENDED, "    t->written = 1;\n", "", "        if (!store_payload(number, packet, read))",
+        TWO, "    t->written = 1;\n", "", "        if (!store_payload(number, packet, read))",
         "        saratoga_record(area, sizeof area, packet, packet_len); table_changed(); save();\n"
         "        if (!store_payload(number, packet, read))"),
     "reports before the last payload is written": (
-        ENDED, "    if (recorded.adds) {\n",
+        TWO, "    if (recorded.adds) {\n",
         "    if (recorded.adds && recorded.complete) { static char d[MOST_META]; meta_for_report(d, transfer_of(read->id));\n"
         "        report(\"%d complete id=%d length=%d file=%08x.page %s\", 1, (int)read->id, 1, (int)read->id, d); }\n"
         "    if (recorded.adds) {\n"),
@@ -628,22 +638,22 @@ WRONG = {
     "writes a packet only where it is apart from all runs": (
         passes, "    if (recorded.adds) {\n", "    if (recorded.absorbed == 0) {\n"),
     "writes the area in place": (
-        ENDED, 'snprintf(new_name, sizeof new_name, "%s.new", name);', 'snprintf(new_name, sizeof new_name, "%s", name);',
+        TWO, 'snprintf(new_name, sizeof new_name, "%s.new", name);', 'snprintf(new_name, sizeof new_name, "%s", name);',
         "if (!failed && renameat(directory, new_name, directory, name) != 0) {", "if (0) {"),
     "answers before the area is saved": (
-        ENDED, "    if (wanted || recorded.complete ? !save() : !save_if_due())", "    if (recorded.complete && !save())",
+        TWO, "    if (wanted || recorded.complete ? !save() : !save_if_due())", "    if (recorded.complete && !save())",
         "    if (!save())\n        return;\n    struct transfer *t = transfer_of(id);",
         "    struct transfer *t = transfer_of(id);"),
-    "forces no payload to disk": (CUT, "            if (force_to_disk(t->fd, name) != 0)\n", "            if (0)\n"),
-    "renames an area that isn't on disk": (CUT, " || force_to_disk(fd, new_name) != 0;", ";"),
+    "forces no payload to disk": (TWO_CUT, "            if (force_to_disk(t->fd, name) != 0)\n", "            if (0)\n"),
+    "renames an area that isn't on disk": (TWO_CUT, " || force_to_disk(fd, new_name) != 0;", ";"),
     "saves an area before the names of new files": (
-        CUT, "            t->written = 0;\n        }\n    }\n    return force_directory();",
+        TWO_CUT, "            t->written = 0;\n        }\n    }\n    return force_directory();",
         "            t->written = 0;\n        }\n    }\n    return 0;"),
     "reports a page whose new name isn't on disk": (
-        CUT, "    forget_files(t);\n    return force_directory();", "    forget_files(t);\n    return 0;"),
-    "opens a transfer whose .meta isn't on disk": (CUT, " || force_to_disk(fd, meta) != 0;", ";"),
+        TWO_CUT, "    forget_files(t);\n    return force_directory();", "    forget_files(t);\n    return 0;"),
+    "opens a transfer whose .meta isn't on disk": (TWO_CUT, " || force_to_disk(fd, meta) != 0;", ";"),
     "opens a transfer before its files are made": (
-        ENDED, "    if (make_files(t) != 0) {",
+        TWO, "    if (make_files(t) != 0) {",
         "    *opened = saratoga_open(area, sizeof area, packet, packet_len); table_changed(); save();\n"
         "    if (make_files(t) != 0) {"),
     "mixes two files of one Id": (REPLACED, "memcmp(t->meta, text, text_len) != 0", "0"),
@@ -679,34 +689,65 @@ WRONG = {
     "knows no area of layout 1": (other_layouts, "have == LAYOUT_1_OCTETS && ", "0 && "),
     "takes a file of any length": (plant.command_line, "read->size > options.largest", "0"),
     "counts no recording": (plant.what_is_known, "    t->work.recordings++;\n", ""),
+    "hands a page on that differs": (sheets.differs, "name_page(t, t->verdict == SARATOGA_DIFFERS)", "name_page(t, 0)"),
+    "names a page before it is checked": (
+        SPOILT, "    name_of_file(name, t);\n    if (!part_is_there(t) || !file_has",
+        "    name_page(t, 0);\n    cut_point(\"early\");\n    name_of_file(name, t);\n    if (!part_is_there(t) || !file_has"),
+    "doesn't check what has the name of a page": (sheets.restarted, "    if (t->checked)\n", "    if (t->checked || t->named)\n"),
+    "checks the first part of a page alone": (
+        sheets.agrees, "            saratoga_md5_add(", "            if (have == 0) saratoga_md5_add("),
+    "ends with status 0 where a page differs": (sheets.differs, "    return STATUS_DIFFERS;", "    return 0;"),
+    "tells a sender that a page which differs is complete": (
+        sheets.sent_again, "    if (t->apart)\n        return end", "    if (0)\n        return end"),
+    "gives a page its name before its sheet": (
+        TWO, "    if (!write_page_sheet(t, &one))\n        return 0;\n    cut_point(\"between the sheet and the page's name\");\n",
+        "", "    if (!t->reported)\n        report_page",
+        "    write_page_sheet(t, &one);\n    if (!t->reported)\n        report_page"),
+    "writes a sheet in place": (
+        TWO, "    return replace_file(name, (const uint8_t *)sheet, sheet_len);",
+        "    int fd = open_file(name, O_WRONLY | O_CREAT | O_TRUNC);\n"
+        "    return write_at(fd, (const uint8_t *)sheet, sheet_len, 0) | close(fd);"),
+    "writes a page's sheet before the area is saved": (
+        TWO, "    /* 4. and 5. Sync and area",
+        "    if (recorded.complete) { struct saratoga_listed one = listed(t->id); t->checked = 1;\n"
+        "        write_page_sheet(t, &one); cut_point(\"early\"); t->checked = 0; }\n    /* 4. and 5. Sync and area"),
+    "says that a page which wasn't checked arrived whole": (
+        sheets.not_checked, "one->complete && t->verdict == SARATOGA_AGREES", "one->complete && t->verdict != SARATOGA_DIFFERS"),
+    "leaves out of what is missing all that lies past the edge": (
+        sheets.incomplete, "if (!more && one->edge == one->length)", "if (!more)"),
+    "leaves the sheet of what is closed as it was": (sheets.incomplete, "    if (!has_sheet)\n", "    if (0)\n"),
+    "leaves the sheet of another file": (sheets.stopped_or_killed, "    remove_file(sheet);\n", ""),
 }
 
 
 def wrong_programs(place):
+    """Each edit stands once in the sources. What isn't edited is compiled once, with cut points and without."""
     sources = {path: content(path).decode() for path in SOURCES}
+    made = {cuts: {path: compiled(path, os.path.join(place, f"{number}{cuts}.o"), *([cuts] if cuts else []))
+                   for number, path in enumerate(SOURCES)} for cuts in ("", "-DLINK_CUT_POINTS")}
+    power = compiled(POWERCUT, os.path.join(place, "powercut.o"))
     for number, (what, (test, *edits)) in enumerate(WRONG.items()):
         here = os.path.join(place, str(number))
         os.mkdir(here)
-        edited = dict(sources)
+        edited = {}
         for old, new in zip(edits[::2], edits[1::2]):
             places = [path for path in SOURCES for _ in range(sources[path].count(old))]
             check(len(places) == 1, f"{what}: {old!r} stands {len(places)} times")
-            edited[places[0]] = edited[places[0]].replace(old, new)
-        paths = []
+            edited[places[0]] = edited.get(places[0], sources[places[0]]).replace(old, new)
+        ended = not callable(test) and test[0] == ENDED
+        objects = dict(made["-DLINK_CUT_POINTS" if ended else ""])
         for path, text in edited.items():
-            paths.append(os.path.join(place, f"{number}-{os.path.basename(path)}"))
-            with open(paths[-1], "w", encoding="utf-8") as file:
+            name = os.path.join(place, f"{number}-{os.path.basename(path)}")
+            with open(name, "w", encoding="utf-8") as file:
                 file.write(text)
+            objects[path] = compiled(name, name + ".o", "-w", *(["-DLINK_CUT_POINTS"] if ended else []))
         try:
-            if test == ENDED:
-                cut_everywhere(build(paths, here + ".out", "-DLINK_CUT_POINTS", "-Wno-error"), here)
-            elif callable(test):
-                plant.one_of_it(test, build(paths, here + ".out", "-Wno-error"), here)
-            elif test == REPLACED:
-                cut_everywhere(build(paths, here + ".out", "-DLINK_CUT_POINTS", "-Wno-error"), here,
-                               plant.two_files_of_one_id)
+            if callable(test):
+                plant.one_of_it(test, build(objects.values(), here + ".out"), here)
+            elif ended:
+                cut_everywhere(build(objects.values(), here + ".out"), here, test[1])
             else:
-                power_cuts(build([*paths, POWERCUT], here + ".out", "-Wno-error", *WRAPPED), None, here)
+                power_cuts(build([*objects.values(), power], here + ".out", *WRAPPED), None, here, test[1])
         except AssertionError as reason:
             if os.environ.get("SHOW_WRONG"):
                 print(f"link: a program that {what}: {reason}")
@@ -742,11 +783,15 @@ def main():
         print("link: passes, timestamps, damaged packets, restarts, wrong input and areas of another layout are as expected")
         plant.all_of_it(checked, fresh)
         print("link: Ids used again, lost files, a full table, the operator, a full disk and traps are as expected")
+        sheets.all_of_it(checked, fresh)
+        print("link: pages that agree with their MD5, differ or aren't checked, and the sheets of all, are as expected")
         places = cut_everywhere(cutting, fresh("cuts")), cut_while_an_id_is_used_again(cutting, fresh("again")), (
-            cut_everywhere(cutting, fresh("replaced"), plant.two_files_of_one_id))
+            cut_everywhere(cutting, fresh("replaced"), plant.two_files_of_one_id)), (
+            cut_everywhere(cutting, fresh("spoilt"), sheets.spoilt))
         print(f"link: ended at each of {sum(places)} places between and inside writes, nothing promised is missing")
         calls = power_cuts(power, program, fresh("power")) + (
-            power_cuts(power, program, fresh("power-replaced"), plant.two_files_of_one_id))
+            power_cuts(power, program, fresh("power-replaced"), plant.two_files_of_one_id)) + (
+            power_cuts(power, program, fresh("power-spoilt"), sheets.spoilt))
         print(f"link: power cut at each of {calls} calls, whatever of the rest is on disk nothing promised is missing")
         wrong_programs(fresh("wrong"))
         print(f"link: {len(WRONG)} programs with another order of writes, or an option that does nothing, are found")

@@ -292,5 +292,5 @@ int main(int count, char **arguments)
         if (listed(pairs[i].id).complete && !pairs[i].first.files->named)
             deliver(0, pairs[i].first.files);
     flush_output();
-    return output_was_lost();
+    return exit_status();
 }

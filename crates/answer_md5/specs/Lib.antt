@@ -1,0 +1,2 @@
+pub mod Md5Answers
+pub mod VerdictReported

@@ -1,0 +1,2 @@
+pub mod FedLaws
+pub mod Parts

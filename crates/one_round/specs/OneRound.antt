@@ -42,7 +42,7 @@ pub record PieceFlags (width flags : ℕ) : Type 0 where
   pub width-is : descriptorOctets flags ≡ width
   -- another kind: the writer gives 6
   pub is-file : kindOf flags ≡ 0
-  -- with a timestamp: it would take the place of the one that is kept
+  -- with bit 12 set: the writer gives 1, for want of a timestamp; with one, the packets would renew the one that is kept
   pub no-timestamp : timestampOctets flags ≡ 0
   -- with end of data: recording gives 15 for each piece that does not end at L
   pub no-eod : eodOf flags ≡ 0

@@ -44,7 +44,7 @@ pub record PieceFlags (width flags : ℕ) : Type 0 where
   pub is-file : kindOf flags ≡ 0
   -- with bit 12 set: the writer gives 1, for want of a timestamp; with one, the packets would renew the one that is kept
   pub no-timestamp : timestampOctets flags ≡ 0
-  -- with end of data: recording gives 15 for each piece that does not end at L
+  -- with end of data: recording gives 15, since a piece ends where a run starts or earlier, and so below L
   pub no-eod : eodOf flags ≡ 0
 
 -- R17.2: the packet of a piece, as the writer leaves it

@@ -26,15 +26,18 @@ enum spoiled {
     ANOTHER_PAGE_BETWEEN,
     WAYS
 };
-static const char *const way[] = {
-    "",
-    "a piece is dropped",
-    "the pieces come in another order",
-    "there are 64 runs",
-    "the buffer of the STATUS is an octet shorter",
-    "the pieces have a timestamp",
-    "the pieces have end of data set",
-    "a packet of another page comes between",
+/* Each way in words, and what must be found. */
+static const struct {
+    const char *what, *found;
+} ways[] = {
+    {"", ""},
+    {"a piece is dropped", "there is a hole"},
+    {"the pieces come in another order", "a piece is refused"},
+    {"there are 64 runs", "a piece is refused"},
+    {"the buffer of the STATUS is an octet shorter", "there is a hole"},
+    {"the pieces have a timestamp", "the timestamp is another"},
+    {"the pieces have end of data set", "a piece is refused"},
+    {"a packet of another page comes between", "another page is touched"},
 };
 
 /* Bits of DATA that the round leaves free: all but width, kind, timestamp and end of data. */
@@ -229,13 +232,15 @@ static int self_check(void)
     for (spoiled = PIECE_DROPPED; spoiled < WAYS; spoiled++) {
         for (i = 0; i < 100; i++) {
             uint64_t runs = spoiled == SIXTY_FOUR_RUNS ? 64 : MOST_RUNS;
+            const char *found;
             seed_chance((uint64_t)(1000 * spoiled + i));
             do
                 open_pages(5 * runs);
             while (page_count < 2);
             scatter(runs, 3);
-            if (one_round(1, (enum spoiled)spoiled) == NULL) {
-                printf("FAILED: not found: %s (%d)\n", way[spoiled], i);
+            found = one_round(1, (enum spoiled)spoiled);
+            if (found == NULL || strcmp(found, ways[spoiled].found) != 0) {
+                printf("FAILED: %s (%d), and what is found is: %s\n", ways[spoiled].what, i, found == NULL ? "nothing" : found);
                 return 1;
             }
         }

@@ -166,12 +166,14 @@ class Plant:
         check(self.link.end() == 0 or failed, self.link.told)
 
 
-def fails(one, *words):
+def fails(one, found, *words):
+    """A round that must be found to fail, and for this reason."""
     try:
         one.round(*words)
-    except AssertionError:
+    except AssertionError as error:
+        check(found in str(error), f"a spoiled round fails for another reason: {error}")
         return
-    check(False, f"a spoiled round is not found: {words}")
+    check(False, f"a spoiled round is not found: {found}")
 
 
 def spoiled(programs, place, chance):
@@ -179,12 +181,12 @@ def spoiled(programs, place, chance):
     with Plant(programs, place + "-lacking", chance) as plant:
         one = plant.page(3000)
         one.send([(0, 100, 0), (1000, 1100, 0), (2000, 3000, 0)])
-        fails(one, 500, 1)
+        fails(one, "after the round: (3000, [(0, 600), (1000, 3000)])", 500, 1)
         check(one.round(500) == 1, "the piece that was dropped is not all that is left")
     with Plant(programs, place + "-full", chance) as plant:
         one = plant.page(3000)
         one.send([(at, at + 1, 0) for at in range(2, 2 + 3 * 64, 3)])
-        fails(one, 1)
+        fails(one, f"is 44000003{one.ident:08x}", 1)
 
 
 def over_loopback(place, seed):

@@ -53,7 +53,7 @@ pub record Made (i width : ℕ) (p : Piece) (packet : List ℕ) : Type 0 where
   pub payload : List ℕ
   pub buffer : List ℕ
   pub flags-are : PieceFlags width flags
-  -- any octets
+  -- any octets; a number above 255 is none, and no caller can hand it over
   pub payload-octets : Octets payload
   -- fewer: a part of the hole stays; more: the last piece may go past L, and recording gives 14
   pub payload-is : length payload ≡ p .length

@@ -375,6 +375,9 @@ struct saratoga_checked {
  * the last of which may be shorter. A STATUS without holes has a plan without pieces. Where the hole list is not complete
  * (bit 14), the plan is for the holes that are listed.
  *
+ * One round of it with no loss leaves no hole (R17.1 to R17.6): where the transfer had at most 63 runs, the STATUS lists every hole,
+ * and the pieces are recorded as DATA in this order, without end of data or timestamp and with nothing else between.
+ *
  * Order of refusals (R11.3): those of saratoga_read, with 4 for any type except STATUS; 11 (a failure STATUS), 21 (`largest` is
  * not 1 to 65,000), 20 (the plan has more than `piece_count` pieces).
  */

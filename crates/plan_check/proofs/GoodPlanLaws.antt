@@ -23,7 +23,7 @@ pub each-map : {A : Type 0} (P Q : A → Type 0) (xs : List A) → ((x : A) → 
 each-map P Q [] f e = tt
 each-map P Q (x ∷ xs) f e = (f x (e .0), each-map P Q xs f (e .1))
 
-each-both : {A : Type 0} (P Q : A → Type 0) (xs : List A) → Each P xs → Each Q xs → Each (λ x. P x × Q x) xs
+pub each-both : {A : Type 0} (P Q : A → Type 0) (xs : List A) → Each P xs → Each Q xs → Each (λ x. P x × Q x) xs
 each-both P Q [] e f = tt
 each-both P Q (x ∷ xs) e f = ((e .0, f .0), each-both P Q xs (e .1) (f .1))
 

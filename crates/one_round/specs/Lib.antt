@@ -1,0 +1,4 @@
+pub mod Fills
+pub mod Rounds
+pub mod OneRound
+pub mod TooMany

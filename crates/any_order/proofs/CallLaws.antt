@@ -66,13 +66,13 @@ call-valid t (recording p) v = record-valid t (p .octets) (p .are-octets) v
 pub open-runs : (t : List Transfer) (p : Packet) (i : ℕ) → runsOf (opened t p) i ≡ runsOf t i
 open-runs t p i =
     open-cases (λ (o : Outcome Opened). runsOf (o .table) i ≡ runsOf t i) t (p .octets) (λ r. refl) (λ m e f. refl)
-    (λ m e f l. runs-add i (keyOf m) t f)
+    (λ m e f w l. runs-add i (keyOf m) t f)
 
 -- nor does a timestamp
 pub open-stamp : (t : List Transfer) (p : Packet) (i : ℕ) → stampOf (opened t p) i ≡ stampOf t i
 open-stamp t p i =
     open-cases (λ (o : Outcome Opened). stampOf (o .table) i ≡ stampOf t i) t (p .octets) (λ r. refl) (λ m e f. refl)
-    (λ m e f l. stamp-add i (keyOf m) t f)
+    (λ m e f w l. stamp-add i (keyOf m) t f)
 
 find-later : (t : List Transfer) (j k : Key) (i : ℕ) → find (j .id) (keys t) ≡ none → find i (keys t) ≡ some k → find i (keys (add j t)) ≡ some k
 find-later t j k i n e = find-add-other i j t (λ q. absent (ap (λ (x : ℕ). find x (keys t)) (sym q) ∙ n)) ∙ e
@@ -97,7 +97,7 @@ open-brings t p k a (m, e, q) =
 pub open-only : (t : List Transfer) (p : Packet) (k : Key) → find (k .id) (keys (opened t p)) ≡ some k → (find (k .id) (keys t) ≡ some k) ⊎ Brings p k
 open-only t p k =
     open-cases (λ (o : Outcome Opened). find (k .id) (keys (o .table)) ≡ some k → (find (k .id) (keys t) ≡ some k) ⊎ Brings p k) t (p .octets)
-    (λ r z. inl z) (λ m e f z. inl z) (λ m e f l z. go m e f z (ℕ-discrete (m .id) (k .id)))
+    (λ r z. inl z) (λ m e f z. inl z) (λ m e f w l z. go m e f z (ℕ-discrete (m .id) (k .id)))
   where
     go : (m : Metadata) → readMetadata (p .octets) ≡ metadata-read.Accepted m → find (m .id) (keys t) ≡ none
         → find (k .id) (keys (add (keyOf m) t)) ≡ some k → Dec (m .id ≡ k .id) → (find (k .id) (keys t) ≡ some k) ⊎ Brings p k

@@ -82,7 +82,7 @@ find-later t j k i n e = find-add-other i j t (λ q. absent (ap (λ (x : ℕ). f
 
 pub open-finds : (t : List Transfer) (p : Packet) (i : ℕ) (k : Key) → find i (keys t) ≡ some k → find i (keys (opened t p)) ≡ some k
 open-finds t p i k e =
-    open-cases (λ (o : Outcome Opened). find i (keys (o .table)) ≡ some k) t (p .octets) (λ r. e) (λ m q f. e) (λ m q f l. find-later t (keyOf m) k i f e)
+    open-cases (λ (o : Outcome Opened). find i (keys (o .table)) ≡ some k) t (p .octets) (λ r. e) (λ m q f. e) (λ m q f w l. find-later t (keyOf m) k i f e)
 
 pub open-brings : (t : List Transfer) (p : Packet) (k : Key) → Opens t p → Brings p k → find (k .id) (keys (opened t p)) ≡ some k
 open-brings t p k a (m, e, q) =
@@ -90,7 +90,7 @@ open-brings t p k a (m, e, q) =
     (open-cases (λ (o : Outcome Opened). openAccepted (o .answer) ≡ true → find (m .id) (keys (o .table)) ≡ some (keyOf m)) t (p .octets)
     (λ r z. absurd (let y : _≡_ {A = ℕ} 0 1 = cc in omega arith))
     (λ n f g z. let y : n ≡ m = cc in rw y at g)
-    (λ n f g l z. let y : n ≡ m = cc in
+    (λ n f g w l z. let y : n ≡ m = cc in
     subst (λ (x : Metadata). find (x .id) (keys (add (keyOf n) t)) ≡ some (keyOf x)) y (find-add-same (keyOf n) t g))
     a)
 

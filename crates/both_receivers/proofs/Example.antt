@@ -110,7 +110,7 @@ module _ (a : List ℕ) (held : tableOf a ≡ some (open3 ∷ [])) (s : List ℕ
   in-table-new = ap (λ (o : OnArea Opened). o .answer) (on-held (in-table.Refused (refusalOf 22)) (λ t. openPacket t opening) a (open3 ∷ []) held)
 
   by-marks-new : marks-open.openMarks s opening .answer ≡ by-marks.New begins7
-  unfolding startRefusal typeRefusal fileRefusal descriptorRefusal upperZero propertyRefusal pathRefusal entryRefusal entryOf pairAllowed pairRefusal metadataRefusal metadataOf marksRefusal marks-open.openRefusal marks-open.openAs marks-open.openMarks reached edgeFrom progress complete
+  unfolding startRefusal typeRefusal fileRefusal descriptorRefusal upperZero propertyRefusal pathRefusal entryRefusal entryOf pairAllowed pairRefusal metadataRefusal metadataOf marksRefusal newRefusal marks-open.openRefusal marks-open.openAs marks-open.openMarks reached edgeFrom progress complete
   by-marks-new = rw (le-ltb (length s) markOctets long)
 
   -- DATA of Id 7 with a timestamp, a repeat without one, DATA of an Id that is not open, no packet at all, and an offset past the length

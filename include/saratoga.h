@@ -161,6 +161,7 @@ extern "C" {
 #define SARATOGA_REFUSED_BUFFER 20       /* 0x00: buffer, marks, state or area to be made fresh too small, or too few records */
 #define SARATOGA_REFUSED_FIELD 21        /* 0x00: a field over its bits, failure code 0, or a largest payload not 1 to 65,000 */
 #define SARATOGA_REFUSED_AREA 22         /* 0x00: area too short, or it holds no transfer table; or marks of no transfer */
+#define SARATOGA_REFUSED_CRC32C 23       /* 0x01: a new transfer with checksum type 1, a CRC-32c */
 #define SARATOGA_REFUSED_BEACON 26       /* 0x00: BEACON with a pair 01, or a last flags octet that isn't 0 */
 
 /* A refusal in plain words; 0 is "accepted". Any number has a text. */
@@ -190,7 +191,7 @@ static inline const char *saratoga_refusal_text(uint64_t number)
         "buffer or area too small",
         "field too large to be written, failure code 0, or largest payload not 1 to 65,000",
         "area holds no transfer table, or marks no transfer",
-        "unknown refusal",
+        "new transfer with a CRC-32c (checksum type 1), which is not taken any more",
         "unknown refusal",
         "unknown refusal",
         "flags of BEACON not allowed",
@@ -534,7 +535,8 @@ struct saratoga_done saratoga_fresh(uint8_t *area, size_t area_len);
  * changes: `already_open` is 1, and edge and completeness are those of the transfer as it is. Path, times and
  * checksum are not kept and not compared.
  *
- * Order of refusals (R6.4): 22, those of saratoga_read for METADATA, with 4 for any other type, 18, 17.
+ * Order of refusals (R6.4): 22, those of saratoga_read for METADATA, with 4 for any other type, 18, 23 (a new Id with checksum
+ * type 1), 17. Where the Id is open its checksum type does not matter.
  */
 struct saratoga_opened saratoga_open(uint8_t *area, size_t area_len, const uint8_t *packet, size_t packet_len);
 
@@ -681,7 +683,7 @@ struct saratoga_bitmap_recorded {
  * a repeat clears the marks too: compare its Id, width and size with the transfer at hand first.
  *
  * Order of refusals (R12.3): 20, those of saratoga_read for METADATA, with 4 for any other type, 9 (size above
- * SARATOGA_BITMAP_LONGEST).
+ * SARATOGA_BITMAP_LONGEST), 23 (checksum type 1).
  */
 struct saratoga_bitmap_opened saratoga_bitmap_open(uint8_t *marks, size_t marks_len, const uint8_t *packet,
                                                    size_t packet_len);

@@ -228,6 +228,8 @@ struct saratoga_opened area_open(uint8_t *area, size_t area_len, const uint8_t *
         return (struct saratoga_opened){
             .edge = edge_at(area, place), .complete = m.size <= progress_at(area, place), .already_open = 1};
     }
+    if (has_crc32c(&m))
+        return not_opened(23);
     if (open == TRANSFERS)
         return not_opened(17);
     for (place = 0; place < open && head(area, place, ID) < m.id; place++)

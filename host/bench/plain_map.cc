@@ -98,6 +98,8 @@ saratoga_opened map_open(map_table *table, const uint8_t *packet, size_t packet_
         a.already_open = 1;
         return a;
     }
+    if (has_crc32c(&m))
+        return refused_with<saratoga_opened>(23);
     if (table->transfers.size() == TRANSFERS)
         return refused_with<saratoga_opened>(17);
     table->transfers.emplace(m.id, Transfer{m.width, m.size, {}, 0, {}});

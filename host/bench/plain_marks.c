@@ -125,6 +125,8 @@ struct saratoga_bitmap_opened marks_open(uint8_t *marks, size_t marks_len, const
         return not_opened(refused);
     if (m.size > LONGEST)
         return not_opened(9);
+    if (has_crc32c(&m))
+        return not_opened(23);
     memset(marks, 0, OCTETS);
     return (struct saratoga_bitmap_opened){.complete = m.size == 0, .transfer = {.id = m.id, .width = m.width, .length = m.size}};
 }

@@ -132,6 +132,8 @@ struct saratoga_opened memory_open(struct memory_table *table, const uint8_t *pa
         return (struct saratoga_opened){
             .edge = edge_of(t), .complete = t->length <= progress_of(t), .already_open = 1};
     }
+    if (has_crc32c(&m))
+        return not_opened(23);
     if (place == TRANSFERS)
         return not_opened(17);
     t->id = m.id;

@@ -31,7 +31,7 @@ struct plain_status {
 
 static inline uint64_t code_of(unsigned number)
 {
-    static const uint8_t codes[27] = {0, 0, 0, 0, 10, 9, 1, 1, 1, 9, 1, 0, 6, 9, 9, 1, 3, 3, 9};
+    static const uint8_t codes[27] = {0, 0, 0, 0, 10, 9, 1, 1, 1, 9, 1, 0, 6, 9, 9, 1, 3, 3, 9, 0, 0, 0, 0, 1};
     return codes[number];
 }
 
@@ -217,6 +217,12 @@ static inline unsigned read_metadata(const uint8_t *p, size_t len, struct plain_
     if (m->path == 0 || m->path + 1 != rest)
         return 8;
     return fits(m->size, m->width) ? 0 : 9;
+}
+
+/* Refusal 23, where the Id is new: whether the checksum is a CRC-32c. */
+static inline int has_crc32c(const struct plain_metadata *m)
+{
+    return (m->flags & SARATOGA_CHECKSUM_TYPE_MASK) == 1;
 }
 
 static inline int holes_allowed(const uint8_t *at, const struct plain_status *s)

@@ -115,22 +115,34 @@ static struct saratoga_bitmap transfer_of(uint64_t width, uint64_t length)
     return (struct saratoga_bitmap){.id = ID, .width = width, .length = length};
 }
 
-/* Opens over marks that are all set: they are cleared, or stay where that is refused, and octets past them stay. */
-static void open_as(const char *what, uint64_t width, uint64_t size, struct saratoga_bitmap_opened want)
+/*
+ * Opens, with a checksum of this type and length, over marks that are all set: they are cleared, or stay where that is refused,
+ * and octets past them stay.
+ */
+static void open_with(const char *what, uint64_t width, uint64_t size, uint64_t checksum, struct saratoga_bitmap_opened want)
 {
-    uint8_t packet[31], *lent, *marks = lend(NULL, LENT), *left;
+    size_t checksum_len = checksum / 16 * 4, packet_len = 31 + checksum_len;
+    uint8_t packet[31 + 60], *lent, *marks = lend(NULL, LENT), *left;
     metadata(packet, ID, width, size);
-    lent = lend(packet, sizeof packet);
+    memmove(packet + 8 + checksum_len, packet + 8, 31 - 8);
+    memset(packet + 8, 0xC5, checksum_len);
+    packet[3] = (uint8_t)checksum;
+    lent = lend(packet, packet_len);
     memset(marks, 0xFF, LENT);
     left = lend(marks, LENT);
     if (want.number == 0)
         memset(left, 0, OCTETS);
-    same_opened(what, saratoga_bitmap_open(marks, LENT, lent, sizeof packet), want);
+    same_opened(what, saratoga_bitmap_open(marks, LENT, lent, packet_len), want);
     same_octets(what, marks, left, LENT);
-    same_octets(what, lent, packet, sizeof packet);
+    same_octets(what, lent, packet, packet_len);
     free(left);
     free(marks);
     free(lent);
+}
+
+static void open_as(const char *what, uint64_t width, uint64_t size, struct saratoga_bitmap_opened want)
+{
+    open_with(what, width, size, SARATOGA_CHECKSUM_NONE, want);
 }
 
 /*
@@ -324,6 +336,21 @@ static void places(void)
     }
     example();
     printf("ctest: places of marks\n");
+}
+
+/* A CRC-32c is refused last, after 9; every other checksum opens. */
+static void checksums(void)
+{
+    static const uint64_t others[] = {SARATOGA_CHECKSUM_MD5, SARATOGA_CHECKSUM_SHA1, 0x14, 0xF4, 0x1F, 0xFF};
+    static const uint64_t old = SARATOGA_CHECKSUM_CRC32, lengths[] = {0, 1, 3000, 65535};
+    size_t i;
+    for (i = 0; i < sizeof lengths / sizeof *lengths; i++)
+        open_with("CRC-32c", 4, lengths[i], old, (struct saratoga_bitmap_opened){.number = SARATOGA_REFUSED_CRC32C, .code = 1});
+    open_with("CRC-32c and too long", 4, 65536, old, (struct saratoga_bitmap_opened){.number = SARATOGA_REFUSED_SIZE, .code = 9});
+    open_with("CRC-32c and too wide", 2, 65536, old, (struct saratoga_bitmap_opened){.number = SARATOGA_REFUSED_SIZE, .code = 9});
+    for (i = 0; i < sizeof others / sizeof *others; i++)
+        open_with("another checksum", 4, 3000, others[i], (struct saratoga_bitmap_opened){.transfer = transfer_of(4, 3000)});
+    printf("ctest: checksums with marks\n");
 }
 
 static void opening(void)
@@ -555,6 +582,7 @@ int main(void)
     story();
     places();
     opening();
+    checksums();
     passes();
     no_transfers();
     runs();

@@ -48,7 +48,7 @@ static void texts_and_limits(void)
     static uint8_t path[SARATOGA_PATH_OCTETS + 1], checksum[60], out[SARATOGA_METADATA_OCTETS];
     uint64_t longest = SARATOGA_WIDTH_64 | 0xFF, properties = SARATOGA_PROPERTIES_WIDTH_128;
     char version[16];
-    texts_as("refusals", saratoga_refusal_text, SARATOGA_REFUSED_AREA, "accepted", "unknown refusal");
+    texts_as("refusals", saratoga_refusal_text, SARATOGA_REFUSED_CRC32C, "accepted", "unknown refusal");
     if (strcmp(saratoga_refusal_text(SARATOGA_REFUSED_BEACON), "flags of BEACON not allowed") != 0 ||
         strcmp(saratoga_refusal_text(SARATOGA_REFUSED_BEACON + 1), "unknown refusal") != 0)
         fail("texts", "number", 0, SARATOGA_REFUSED_BEACON);
@@ -61,6 +61,7 @@ static void texts_and_limits(void)
     says(SARATOGA_REFUSED_HOLES, "hole list", "failure STATUS");
     says(SARATOGA_REFUSED_FIELD, "field", "failure code 0");
     says(SARATOGA_REFUSED_FIELD, "largest payload", "65,000");
+    says(SARATOGA_REFUSED_CRC32C, "new transfer", "CRC-32c");
     snprintf(version, sizeof version, "%d.%d", SARATOGA_VERSION_MAJOR, SARATOGA_VERSION_MINOR);
     if (strcmp(version, SARATOGA_VERSION) != 0)
         fail("version", "minor", SARATOGA_VERSION_MINOR, 0);

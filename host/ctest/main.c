@@ -156,6 +156,22 @@ static void read_metadata(void)
     printf("ctest: reading METADATA\n");
 }
 
+/* A CRC-32c is read, though it opens nothing new. */
+static void read_crc32c(void)
+{
+    static const uint8_t packet[26] = {0x42, 0, 0, 0x11, 0, 0, 0, 7, 0xDE, 0xAD, 0xBE, 0xEF, [15] = 9, [24] = 'a'};
+    read_as("METADATA with a CRC-32c", packet, sizeof packet,
+            (struct saratoga_packet){.type = SARATOGA_TYPE_METADATA,
+                                     .flags = SARATOGA_CHECKSUM_CRC32,
+                                     .id = 7,
+                                     .width = 2,
+                                     .checksum_at = 8,
+                                     .checksum_len = 4,
+                                     .size = 9,
+                                     .path_at = 24,
+                                     .path_len = 1});
+}
+
 /* Width 16, status wanted, end of data. */
 static const uint8_t data[] = {0x43, 0x01, 0x80, 0, 0, 0, 0, 7, 0x07, 0xD0, 'a', 'b'};
 
@@ -284,6 +300,7 @@ static void write_failure(void)
 int main(void)
 {
     read_metadata();
+    read_crc32c();
     read_data();
     read_status();
     read_holes();

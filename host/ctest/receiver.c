@@ -90,23 +90,31 @@ static uint8_t *empty_area(size_t len)
     return area;
 }
 
-/* METADATA, with the size in 64 bits and the path p611. */
-static void open_as(const char *what, uint8_t *area, size_t len, uint64_t id, size_t width, uint64_t size,
-                    struct saratoga_opened want)
+/* METADATA, with a checksum of this type and length, the size in 64 bits and the path p611. */
+static void open_with(const char *what, uint8_t *area, size_t len, uint64_t id, size_t width, uint64_t size, uint64_t checksum,
+                      struct saratoga_opened want)
 {
-    uint8_t packet[31] = {0x42}, *before = lend(area, len), *lent;
+    uint8_t packet[8 + 60 + 23] = {0x42}, *before = lend(area, len), *lent, *entry = packet + 8 + checksum / 16 * 4;
+    size_t packet_len = (size_t)(entry - packet) + 23;
     packet[1] = width_bits(width);
+    packet[3] = (uint8_t)checksum;
     put(packet + 4, id, 4);
-    packet[9] = 0x80;
-    put(packet + 10, size, 8);
-    memcpy(packet + 26, "p611", 5);
-    lent = lend(packet, sizeof packet);
-    same_opened(what, saratoga_open(area, len, lent, sizeof packet), want);
-    same_octets(what, lent, packet, sizeof packet);
+    entry[1] = 0x80;
+    put(entry + 2, size, 8);
+    memcpy(entry + 18, "p611", 5);
+    lent = lend(packet, packet_len);
+    same_opened(what, saratoga_open(area, len, lent, packet_len), want);
+    same_octets(what, lent, packet, packet_len);
     if (want.number != 0 || want.already_open)
         same_octets(what, area, before, len);
     free(before);
     free(lent);
+}
+
+static void open_as(const char *what, uint8_t *area, size_t len, uint64_t id, size_t width, uint64_t size,
+                    struct saratoga_opened want)
+{
+    open_with(what, area, len, id, width, size, SARATOGA_CHECKSUM_NONE, want);
 }
 
 /*
@@ -372,6 +380,46 @@ static void seventeen_ids(void)
     list_as("nothing open", area, AREA, 0, REFUSED(listed, SARATOGA_REFUSED_NOT_OPEN, 0x06));
     free(area);
     printf("ctest: 17 Ids\n");
+}
+
+/*
+ * No CRC-32c on anything new: refused after another width or length, and before that there is no room. What is open goes on,
+ * whatever its checksum, and every other checksum opens.
+ */
+static void no_crc32c_on_anything_new(void)
+{
+    static const uint64_t others[] = {SARATOGA_CHECKSUM_MD5, SARATOGA_CHECKSUM_SHA1, 0x14, 0xF4, 0x1F, 0xFF};
+    static const uint64_t old = SARATOGA_CHECKSUM_CRC32;
+    const struct saratoga_opened refused = REFUSED(opened, SARATOGA_REFUSED_CRC32C, SARATOGA_CODE_UNSPECIFIED);
+    uint8_t *area = empty_area(AREA);
+    uint64_t id;
+    size_t i;
+    open_with("nothing open", area, AREA, 7, 2, 100, old, refused);
+    open_with("an empty file", area, AREA, 7, 2, 0, old, refused);
+    open_with("too long for its width", area, AREA, 7, 2, 65536, old, REFUSED(opened, SARATOGA_REFUSED_SIZE, 0x09));
+    open_with("a short area", area, AREA - 1, 7, 2, 100, old, REFUSED(opened, SARATOGA_REFUSED_AREA, 0));
+    for (i = 0; i < sizeof others / sizeof *others; i++) {
+        open_with("another checksum", area, AREA, 7, 2, 100, others[i], (struct saratoga_opened){0, 0, 0, 0, 0});
+        close_as("another checksum", area, AREA, 7, (struct saratoga_done){0, 0});
+    }
+    open_with("no checksum", area, AREA, 7, 2, 100, SARATOGA_CHECKSUM_NONE, (struct saratoga_opened){0, 0, 0, 0, 0});
+    received("0 to 9", area, 0, 10, 10, 0, 0);
+    open_with("already open", area, AREA, 7, 2, 100, old, (struct saratoga_opened){.edge = 10, .already_open = 1});
+    open_with("another length", area, AREA, 7, 2, 99, old, REFUSED(opened, SARATOGA_REFUSED_OPEN_OTHER, 0x09));
+    open_with("another width", area, AREA, 7, 4, 100, old, REFUSED(opened, SARATOGA_REFUSED_OPEN_OTHER, 0x09));
+    open_with("a second Id", area, AREA, 8, 2, 100, old, refused);
+    for (id = 20; id < 35; id++)
+        open_as("one of 16", area, AREA, id, 4, 10 * id, (struct saratoga_opened){0, 0, 0, 0, 0});
+    open_with("no room", area, AREA, 8, 2, 100, SARATOGA_CHECKSUM_MD5, REFUSED(opened, SARATOGA_REFUSED_TABLE_FULL, 0x03));
+    open_with("no room", area, AREA, 8, 2, 100, old, refused);
+    open_with("another length and no room", area, AREA, 7, 2, 99, old, REFUSED(opened, SARATOGA_REFUSED_OPEN_OTHER, 0x09));
+    open_with("already open and no room", area, AREA, 7, 2, 100, old, (struct saratoga_opened){.edge = 10, .already_open = 1});
+    received("it runs to its end", area, 10, 90, 100, 1, 1);
+    open_with("complete", area, AREA, 7, 2, 100, old, (struct saratoga_opened){.edge = 100, .complete = 1, .already_open = 1});
+    close_as("complete", area, AREA, 7, (struct saratoga_done){0, 0});
+    open_with("closed", area, AREA, 7, 2, 100, old, refused);
+    free(area);
+    printf("ctest: no CRC-32c on anything new\n");
 }
 
 /* What else recording refuses, in its order. */
@@ -807,6 +855,7 @@ int main(void)
     sixty_four_runs();
     largest_numbers();
     seventeen_ids();
+    no_crc32c_on_anything_new();
     recording_refused();
     areas();
     width_128();

@@ -157,6 +157,28 @@ static int is_over_a_limit(uint64_t number, const struct peer *peer, const struc
 }
 
 /* METADATA. Where the Id is open for another file, that one is ended first: its octets and these must not mix. */
+/* An operator reads why a page is not taken; once, though its sender repeats METADATA. */
+static void tell_unwanted(uint64_t id, uint64_t refusal)
+{
+    static uint64_t told = UINT64_MAX;
+    if (refusal != SARATOGA_REFUSED_CRC32C || told == id)
+        return;
+    told = id;
+    warn("transfer %" PRIu64 " is refused: %s; its sender must send another checksum, or none", id,
+         saratoga_refusal_text(refusal));
+}
+
+/* A file that the library would not open must not end the one that has its Id. */
+static int is_refused_anew(uint64_t number, const struct peer *peer, const uint8_t *packet, size_t packet_len, uint64_t id)
+{
+    struct saratoga_opened opened = would_open_anew(packet, packet_len, id);
+    if (opened.number == 0)
+        return 0;
+    tell_unwanted(id, opened.number);
+    refuse(number, peer, packet, packet_len, opened.number, opened.code);
+    return 1;
+}
+
 static void take_metadata(uint64_t number, const struct peer *peer, const uint8_t *packet, size_t packet_len,
                           const struct saratoga_packet *read)
 {
@@ -169,6 +191,8 @@ static void take_metadata(uint64_t number, const struct peer *peer, const uint8_
         return;
     if (is_lost)
         warn("the .part of transfer %" PRIu64 " is gone; it is closed and must begin anew", read->id);
+    if ((is_lost || is_other) && is_refused_anew(number, peer, packet, packet_len, read->id))
+        return;
     if (is_lost || is_other) {
         const char *why = is_lost ? "lost" : "other-metadata";
         if ((!is_lost && !may_end(number, t)) || !end_transfer(number, t, why)) {
@@ -180,6 +204,7 @@ static void take_metadata(uint64_t number, const struct peer *peer, const uint8_
     if (opened.number == SARATOGA_REFUSED_TABLE_FULL && make_room(number))
         opened = would_open(packet, packet_len);
     if (opened.number != 0) {
+        tell_unwanted(read->id, opened.number);
         refuse(number, peer, packet, packet_len, opened.number, opened.code);
         return;
     }

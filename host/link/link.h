@@ -174,6 +174,7 @@ void heard(struct transfer *t);
 struct saratoga_listed listed(uint64_t id);
 void count_recording(struct transfer *t, const struct saratoga_recorded *recorded);
 struct saratoga_opened would_open(const uint8_t *packet, size_t packet_len);
+struct saratoga_opened would_open_anew(const uint8_t *packet, size_t packet_len, uint64_t id);
 void table_changed(void);
 int save(void);
 int save_if_due(void);

@@ -103,7 +103,7 @@ def other_metadata():
     others = {"path": metadata(7, 16, 100, b"b", mtime=5, ctime=6),
               "mtime": metadata(7, 16, 100, b"a", mtime=4, ctime=6),
               "ctime": metadata(7, 16, 100, b"a", mtime=5, ctime=7), "properties": bytes(properties),
-              "checksum": metadata(7, 16, 100, b"a", flags=0x11, checksum=b"\1\2\3\4", mtime=5, ctime=6),
+              "checksum": metadata(7, 16, 100, b"a", flags=0x14, checksum=b"\1\2\3\4", mtime=5, ctime=6),
               "size": metadata(7, 16, 101, b"a", mtime=5, ctime=6)}
     return first, others
 
@@ -131,6 +131,20 @@ def used_again(program, place):
             check(content(here, kept) == old[:got], f"another {name}: what was there is gone")
             check(got == 100 or "00000007.aside" in told, f"nothing was said: {told}")
             check(sum(" complete id=7 " in line for line in lines) == (1 if got == 50 else 2), lines)
+
+
+def no_crc_32c(program, place):
+    """A new page with a CRC-32c is refused and told in words, once; what is open goes on, also where such METADATA has its Id."""
+    unwanted = {"flags": 0x11, "checksum": b"\1\2\3\4"}
+    whole = page(100, 25)
+    lines, told, status = run(program, place, "-", octets=records(
+        [metadata(7, 16, 100, b"a", **unwanted), metadata(7, 16, 100, b"a", **unwanted), data(7, 16, 0, whole[:50], WANTED),
+         metadata(8, 16, 100, b"b"), data(8, 16, 0, whole[:50]), metadata(8, 16, 100, b"c", **unwanted), data(8, 16, 50, whole[50:])]))
+    refused = [line for line in lines if " refused " in line]
+    check(status == 0 and refused == ["1 refused 23 code=1", "2 refused 23 code=1", "3 refused 12 code=6", "6 refused 23 code=1"], lines)
+    check("1 send 4400000100000007" in lines and "6 send 4400000100000008" in lines, lines)
+    check(told.count("transfer 7 is refused: new transfer with a CRC-32c") == 1 and told.count("transfer 8 is refused") == 1, told)
+    check(content(place, "00000008.page") == whole, "an open page does not go on")
 
 
 def two_files_of_one_id():
@@ -716,9 +730,9 @@ def command_line(program, place):
 def all_of_it(program, place):
     """Runs everything; `place` gives a new directory for a name."""
     full = build([*SOURCES, NOSPACE], program + "-full", *WRAPPED, "-Wl,--wrap=sendto")
-    tests = [(test, program) for test in (used_again, never_overwritten, taken_away, full_table, operator, who_is_heard,
-                                          two_senders, kept, what_is_known, runs, answers, many_holes, on_air, too_many_on_air,
-                                          limits, stopped, traps, command_line)]
+    tests = [(test, program) for test in (used_again, no_crc_32c, never_overwritten, taken_away, full_table, operator,
+                                          who_is_heard, two_senders, kept, what_is_known, runs, answers, many_holes, on_air,
+                                          too_many_on_air, limits, stopped, traps, command_line)]
     for test, tested in tests + [(no_room, full), (work_without_room, full), (no_room_for_a_name, full),
                                  (unsendable, full)]:
         one_of_it(test, tested, place(test.__name__))

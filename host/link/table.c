@@ -83,6 +83,15 @@ struct saratoga_opened would_open(const uint8_t *packet, size_t packet_len)
     return saratoga_open(trial, sizeof trial, packet, packet_len);
 }
 
+/* The same after the transfer that has the Id was closed. */
+struct saratoga_opened would_open_anew(const uint8_t *packet, size_t packet_len, uint64_t id)
+{
+    static uint8_t trial[SARATOGA_AREA_OCTETS];
+    memcpy(trial, area, sizeof trial);
+    saratoga_close(trial, sizeof trial, id);
+    return saratoga_open(trial, sizeof trial, packet, packet_len);
+}
+
 void table_changed(void)
 {
     unsaved++;

@@ -687,6 +687,8 @@ WRONG = {
     "sets files aside before it looks at the area": (
         other_layouts, "    if (!read_area(area)) {\n", "    set_orphans_aside();\n    if (!read_area(area)) {\n"),
     "knows no area of layout 1": (other_layouts, "have == LAYOUT_1_OCTETS && ", "0 && "),
+    "ends a transfer for a file that it does not take": (
+        plant.no_crc_32c, "(is_lost || is_other) && is_refused_anew(", "0 && is_refused_anew("),
     "takes a file of any length": (plant.command_line, "read->size > options.largest", "0"),
     "counts no recording": (plant.what_is_known, "    t->work.recordings++;\n", ""),
     "hands a page on that differs": (sheets.differs, "name_page(t, t->verdict == SARATOGA_DIFFERS)", "name_page(t, 0)"),

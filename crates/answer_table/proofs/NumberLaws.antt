@@ -34,7 +34,7 @@ module _ (a packet : List ℕ) where
   open-number-iff =
       on-cases (opened.Refused (refusalOf 22)) (λ t. openPacket t packet) a (λ (x : OnArea Opened). Zero (x .answer)) (refused 21)
       (λ t h. open-cases (λ (o : Outcome Opened). Zero (o .answer)) t packet refused
-      (λ m e f. ((λ e. refl), (λ e. refl))) (λ m e f l. ((λ e. refl), (λ e. refl))))
+      (λ m e f. ((λ e. refl), (λ e. refl))) (λ m e f w l. ((λ e. refl), (λ e. refl))))
     where
       Zero : Opened → Type 0
       Zero r = (openedAnswer r .number ≡ 0) ↔ (openAccepted r ≡ true)

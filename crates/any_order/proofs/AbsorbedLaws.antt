@@ -152,7 +152,7 @@ new-table t packet m x r =
     open-cases (λ (o : Outcome Opened). o .answer ≡ opened.New x → runsOf (o .table) (m .id) ≡ []) t packet
     (λ z q. absurd (let y : _≡_ {A = ℕ} 0 1 = cc in omega arith))
     (λ n e f q. absurd (let y : _≡_ {A = ℕ} 0 1 = cc in omega arith))
-    (λ n e f l q. let y : n ≡ m = cc in rw (← y) (runs-add-same (keyOf n) t f))
+    (λ n e f w l q. let y : n ≡ m = cc in rw (← y) (runs-add-same (keyOf n) t f))
 
 new-held : (a : List ℕ) (p : Packet) (m : Metadata) (x : Reached) → readMetadata (p .octets) ≡ metadata-read.Accepted m
     → openArea a (p .octets) .answer ≡ opened.New x → runsHeld (openArea a (p .octets) .area) (m .id) ≡ 0

@@ -66,13 +66,13 @@ call-valid t (recording p) v = record-valid t (p .octets) (p .are-octets) v
 pub open-runs : (t : List Transfer) (p : Packet) (i : ℕ) → runsOf (opened t p) i ≡ runsOf t i
 open-runs t p i =
     open-cases (λ (o : Outcome Opened). runsOf (o .table) i ≡ runsOf t i) t (p .octets) (λ r. refl) (λ m e f. refl)
-    (λ m e f l. runs-add i (keyOf m) t f)
+    (λ m e f w l. runs-add i (keyOf m) t f)
 
 -- nor does a timestamp
 pub open-stamp : (t : List Transfer) (p : Packet) (i : ℕ) → stampOf (opened t p) i ≡ stampOf t i
 open-stamp t p i =
     open-cases (λ (o : Outcome Opened). stampOf (o .table) i ≡ stampOf t i) t (p .octets) (λ r. refl) (λ m e f. refl)
-    (λ m e f l. stamp-add i (keyOf m) t f)
+    (λ m e f w l. stamp-add i (keyOf m) t f)
 
 find-later : (t : List Transfer) (j k : Key) (i : ℕ) → find (j .id) (keys t) ≡ none → find i (keys t) ≡ some k → find i (keys (add j t)) ≡ some k
 find-later t j k i n e = find-add-other i j t (λ q. absent (ap (λ (x : ℕ). find x (keys t)) (sym q) ∙ n)) ∙ e
@@ -82,7 +82,7 @@ find-later t j k i n e = find-add-other i j t (λ q. absent (ap (λ (x : ℕ). f
 
 pub open-finds : (t : List Transfer) (p : Packet) (i : ℕ) (k : Key) → find i (keys t) ≡ some k → find i (keys (opened t p)) ≡ some k
 open-finds t p i k e =
-    open-cases (λ (o : Outcome Opened). find i (keys (o .table)) ≡ some k) t (p .octets) (λ r. e) (λ m q f. e) (λ m q f l. find-later t (keyOf m) k i f e)
+    open-cases (λ (o : Outcome Opened). find i (keys (o .table)) ≡ some k) t (p .octets) (λ r. e) (λ m q f. e) (λ m q f w l. find-later t (keyOf m) k i f e)
 
 pub open-brings : (t : List Transfer) (p : Packet) (k : Key) → Opens t p → Brings p k → find (k .id) (keys (opened t p)) ≡ some k
 open-brings t p k a (m, e, q) =
@@ -90,14 +90,14 @@ open-brings t p k a (m, e, q) =
     (open-cases (λ (o : Outcome Opened). openAccepted (o .answer) ≡ true → find (m .id) (keys (o .table)) ≡ some (keyOf m)) t (p .octets)
     (λ r z. absurd (let y : _≡_ {A = ℕ} 0 1 = cc in omega arith))
     (λ n f g z. let y : n ≡ m = cc in rw y at g)
-    (λ n f g l z. let y : n ≡ m = cc in
+    (λ n f g w l z. let y : n ≡ m = cc in
     subst (λ (x : Metadata). find (x .id) (keys (add (keyOf n) t)) ≡ some (keyOf x)) y (find-add-same (keyOf n) t g))
     a)
 
 pub open-only : (t : List Transfer) (p : Packet) (k : Key) → find (k .id) (keys (opened t p)) ≡ some k → (find (k .id) (keys t) ≡ some k) ⊎ Brings p k
 open-only t p k =
     open-cases (λ (o : Outcome Opened). find (k .id) (keys (o .table)) ≡ some k → (find (k .id) (keys t) ≡ some k) ⊎ Brings p k) t (p .octets)
-    (λ r z. inl z) (λ m e f z. inl z) (λ m e f l z. go m e f z (ℕ-discrete (m .id) (k .id)))
+    (λ r z. inl z) (λ m e f z. inl z) (λ m e f w l z. go m e f z (ℕ-discrete (m .id) (k .id)))
   where
     go : (m : Metadata) → readMetadata (p .octets) ≡ metadata-read.Accepted m → find (m .id) (keys t) ≡ none
         → find (k .id) (keys (add (keyOf m) t)) ≡ some k → Dec (m .id ≡ k .id) → (find (k .id) (keys t) ≡ some k) ⊎ Brings p k

@@ -25,6 +25,7 @@ use Rattle.runs.specs.Runs.{run, insert, absorbed, adds}
 use Rattle.runs.specs.Holes.{edgeFrom, holesFrom, progress, complete}
 use Rattle.timestamp.specs.Timestamps.{stamped, renewed}
 use Rattle.success_status.specs.SuccessStatus.{widthBits, statusFlags, frontOctets, statusOctets}
+use Rattle.transfer.specs.Opening.{newRefusal}
 use Rattle.transfer.specs.Transfers.{Transfer, transferOf}
 use Rattle.transfer.specs.Record.{stampIn, keyRefusal, extended, absorbedBy, addsBy, runsRefusal}
 use Rattle.transfer_status.specs.WriteStatus.{skipsTooMany, leastRoom, sizeRefusal, holeRoom, holesSent, partialSent, lastOffset, responseSent, statusPacket, transferWritten, transferBuffer}
@@ -111,24 +112,24 @@ ends n =
     ∷ []
 
 takes : taken callTable [] calls ≡ accepted
-unfolding octetsOf startRefusal typeRefusal fileRefusal descriptorRefusal upperZero propertyRefusal pathRefusal entryRefusal entryOf pairAllowed pairRefusal metadataRefusal metadataOf readMetadata dataRefusal dataOf readData insert keys find runsOf add renewed setRuns stampIn judgeFound judgeOpen openAs openKey openRead openPacket keyRefusal runsRefusal extended dataJudged recordRefusal grown recordAs recordData recordRead recordPacket taken callTable
+unfolding octetsOf startRefusal typeRefusal fileRefusal descriptorRefusal upperZero propertyRefusal pathRefusal entryRefusal entryOf pairAllowed pairRefusal metadataRefusal metadataOf readMetadata dataRefusal dataOf readData insert keys find runsOf add renewed setRuns stampIn judgeFound newRefusal judgeOpen openAs openKey openRead openPacket keyRefusal runsRefusal extended dataJudged recordRefusal grown recordAs recordData recordRead recordPacket taken callTable
 takes = refl
 
 sorts : sortCalls accepted ≡ sorted
-unfolding octetsOf startRefusal typeRefusal fileRefusal descriptorRefusal upperZero propertyRefusal pathRefusal entryRefusal entryOf pairAllowed pairRefusal metadataRefusal metadataOf readMetadata dataRefusal dataOf readData insert keys find runsOf add renewed setRuns stampIn judgeFound judgeOpen openAs openKey openRead openPacket keyRefusal runsRefusal extended dataJudged recordRefusal grown recordAs recordData recordRead recordPacket openings recordings idRead offsetRead place sort sortCalls
+unfolding octetsOf startRefusal typeRefusal fileRefusal descriptorRefusal upperZero propertyRefusal pathRefusal entryRefusal entryOf pairAllowed pairRefusal metadataRefusal metadataOf readMetadata dataRefusal dataOf readData insert keys find runsOf add renewed setRuns stampIn judgeFound newRefusal judgeOpen openAs openKey openRead openPacket keyRefusal runsRefusal extended dataJudged recordRefusal grown recordAs recordData recordRead recordPacket openings recordings idRead offsetRead place sort sortCalls
 sorts = refl
 
 leaves : after callTable [] calls ≡ ends 5
-unfolding octetsOf startRefusal typeRefusal fileRefusal descriptorRefusal upperZero propertyRefusal pathRefusal entryRefusal entryOf pairAllowed pairRefusal metadataRefusal metadataOf readMetadata dataRefusal dataOf readData insert keys find runsOf add renewed setRuns stampIn judgeFound judgeOpen openAs openKey openRead openPacket keyRefusal runsRefusal extended dataJudged recordRefusal grown recordAs recordData recordRead recordPacket after callTable
+unfolding octetsOf startRefusal typeRefusal fileRefusal descriptorRefusal upperZero propertyRefusal pathRefusal entryRefusal entryOf pairAllowed pairRefusal metadataRefusal metadataOf readMetadata dataRefusal dataOf readData insert keys find runsOf add renewed setRuns stampIn judgeFound newRefusal judgeOpen openAs openKey openRead openPacket keyRefusal runsRefusal extended dataJudged recordRefusal grown recordAs recordData recordRead recordPacket after callTable
 leaves = refl
 
 takes-sorted : taken callTable [] sorted ≡ sorted
-unfolding octetsOf startRefusal typeRefusal fileRefusal descriptorRefusal upperZero propertyRefusal pathRefusal entryRefusal entryOf pairAllowed pairRefusal metadataRefusal metadataOf readMetadata dataRefusal dataOf readData insert keys find runsOf add renewed setRuns stampIn judgeFound judgeOpen openAs openKey openRead openPacket keyRefusal runsRefusal extended dataJudged recordRefusal grown recordAs recordData recordRead recordPacket taken callTable
+unfolding octetsOf startRefusal typeRefusal fileRefusal descriptorRefusal upperZero propertyRefusal pathRefusal entryRefusal entryOf pairAllowed pairRefusal metadataRefusal metadataOf readMetadata dataRefusal dataOf readData insert keys find runsOf add renewed setRuns stampIn judgeFound newRefusal judgeOpen openAs openKey openRead openPacket keyRefusal runsRefusal extended dataJudged recordRefusal grown recordAs recordData recordRead recordPacket taken callTable
 takes-sorted = refl
 
 -- 16 zero octets are a timestamp
 leaves-sorted : after callTable [] sorted ≡ ends 0
-unfolding octetsOf startRefusal typeRefusal fileRefusal descriptorRefusal upperZero propertyRefusal pathRefusal entryRefusal entryOf pairAllowed pairRefusal metadataRefusal metadataOf readMetadata dataRefusal dataOf readData insert keys find runsOf add renewed setRuns stampIn judgeFound judgeOpen openAs openKey openRead openPacket keyRefusal runsRefusal extended dataJudged recordRefusal grown recordAs recordData recordRead recordPacket after callTable
+unfolding octetsOf startRefusal typeRefusal fileRefusal descriptorRefusal upperZero propertyRefusal pathRefusal entryRefusal entryOf pairAllowed pairRefusal metadataRefusal metadataOf readMetadata dataRefusal dataOf readData insert keys find runsOf add renewed setRuns stampIn judgeFound newRefusal judgeOpen openAs openKey openRead openPacket keyRefusal runsRefusal extended dataJudged recordRefusal grown recordAs recordData recordRead recordPacket after callTable
 leaves-sorted = refl
 
 -- ---- the STATUS of Id 7 from either, in a buffer of 40 octets: bit 12, the Id, the timestamp, Progress and In-Response-To, and a hole.
@@ -162,7 +163,7 @@ tells t (recording p ∷ cs) =
     cond (eqb (idIn p) 7) (counted 7 (λ x. x .absorbed) (recordPacket t (p .octets) .answer) ∷ rest) rest
 
 told : tells [] calls ≡ 0 ∷ 0 ∷ 0 ∷ 1 ∷ 0 ∷ []
-unfolding octetsOf startRefusal typeRefusal fileRefusal descriptorRefusal upperZero propertyRefusal pathRefusal entryRefusal entryOf pairAllowed pairRefusal metadataRefusal metadataOf readMetadata dataRefusal dataOf readData insert absorbed adds keys find runsOf add renewed setRuns stampIn judgeFound judgeOpen openAs openKey openRead openPacket keyRefusal runsRefusal extended absorbedBy addsBy dataJudged recordRefusal grown absorbedIn addsIn recordAs recordData recordRead recordPacket idRead counted tells callTable
+unfolding octetsOf startRefusal typeRefusal fileRefusal descriptorRefusal upperZero propertyRefusal pathRefusal entryRefusal entryOf pairAllowed pairRefusal metadataRefusal metadataOf readMetadata dataRefusal dataOf readData insert absorbed adds keys find runsOf add renewed setRuns stampIn judgeFound newRefusal judgeOpen openAs openKey openRead openPacket keyRefusal runsRefusal extended absorbedBy addsBy dataJudged recordRefusal grown absorbedIn addsIn recordAs recordData recordRead recordPacket idRead counted tells callTable
 told = refl
 
 -- ---- by falling offset: a long stretch first and 65 short ones in it are all accepted, but with the long one last the 65th
@@ -179,9 +180,9 @@ abbrev long : Call
 long = recording (data16 7 0 200)
 
 long-first : length (taken callTable [] (begin ∷ long ∷ shorts 65)) ≡ 67
-unfolding octetsOf startRefusal typeRefusal fileRefusal descriptorRefusal upperZero propertyRefusal pathRefusal entryRefusal entryOf pairAllowed pairRefusal metadataRefusal metadataOf readMetadata dataRefusal dataOf readData insert keys find runsOf add renewed setRuns stampIn judgeFound judgeOpen openAs openKey openRead openPacket keyRefusal runsRefusal extended dataJudged recordRefusal grown recordAs recordData recordRead recordPacket shorts taken callTable
+unfolding octetsOf startRefusal typeRefusal fileRefusal descriptorRefusal upperZero propertyRefusal pathRefusal entryRefusal entryOf pairAllowed pairRefusal metadataRefusal metadataOf readMetadata dataRefusal dataOf readData insert keys find runsOf add renewed setRuns stampIn judgeFound newRefusal judgeOpen openAs openKey openRead openPacket keyRefusal runsRefusal extended dataJudged recordRefusal grown recordAs recordData recordRead recordPacket shorts taken callTable
 long-first = refl
 
 falling : length (taken callTable [] (begin ∷ (shorts 65 ++ (long ∷ [])))) ≡ 66
-unfolding octetsOf startRefusal typeRefusal fileRefusal descriptorRefusal upperZero propertyRefusal pathRefusal entryRefusal entryOf pairAllowed pairRefusal metadataRefusal metadataOf readMetadata dataRefusal dataOf readData insert keys find runsOf add renewed setRuns stampIn judgeFound judgeOpen openAs openKey openRead openPacket keyRefusal runsRefusal extended dataJudged recordRefusal grown recordAs recordData recordRead recordPacket shorts taken callTable
+unfolding octetsOf startRefusal typeRefusal fileRefusal descriptorRefusal upperZero propertyRefusal pathRefusal entryRefusal entryOf pairAllowed pairRefusal metadataRefusal metadataOf readMetadata dataRefusal dataOf readData insert keys find runsOf add renewed setRuns stampIn judgeFound newRefusal judgeOpen openAs openKey openRead openPacket keyRefusal runsRefusal extended dataJudged recordRefusal grown recordAs recordData recordRead recordPacket shorts taken callTable
 falling = refl

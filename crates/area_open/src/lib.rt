@@ -12,7 +12,7 @@ use transfer::Key;
 // What the open transfer at place i answers to METADATA of its Id: already open, or refusal 18.
 fn met(area: &[u8], i: usize, key: Key) -> Opened
     requires { ⌜ (judged (now area) ≡ true) × KeptAt (key .id) (readTable (now area)) i ⌝ }
-    ensures { λ r. ⌜ r ≡ openKey (readTable (now (area .entry))) key .answer ⌝ }
+    ensures { λ r. ⌜ r ≡ openKey (readTable (now (area .entry))) 0 key .answer ⌝ }
 {
     let held = area::key_at(area, i);
     if held.width != key.width {
@@ -25,15 +25,18 @@ fn met(area: &[u8], i: usize, key: Key) -> Opened
     Opened::AlreadyOpen(area::reached_in(area, rows, key))
 }
 
-// Opens an Id, or says what its open transfer answers.
-fn open_key(area: &mut [u8], key: Key) -> Opened
+// Opens an Id, or says what its open transfer answers. A new one is refused with `unwanted` where that is not 0.
+fn open_key(area: &mut [u8], unwanted: u64, key: Key) -> Opened
     requires { ⌜ judged (now area) ≡ true ⌝ }
-    ensures { λ r. ⌜ (r ≡ openKey (readTable (now (area .entry))) key .answer)
-        × (now (area .exit) ≡ storedIn (now (area .entry)) (openKey (readTable (now (area .entry))) key .table)) ⌝ }
+    ensures { λ r. ⌜ (r ≡ openKey (readTable (now (area .entry))) unwanted key .answer)
+        × (now (area .exit) ≡ storedIn (now (area .entry)) (openKey (readTable (now (area .entry))) unwanted key .table)) ⌝ }
 {
     let place = area::find_place(area, key.id);
     if place.open {
         return met(area, place.at, key);
+    }
+    if unwanted != 0 {
+        return Opened::Refused(refusals::refuse(unwanted));
     }
     if (area::TRANSFERS as u64) <= area::open_count(area) {
         return Opened::Refused(refusals::refuse(17));
@@ -55,6 +58,7 @@ pub fn open(area: &mut [u8], packet: &[u8]) -> Opened
     if unread != 0 {
         return Opened::Refused(refusals::refuse(unread));
     }
-    let key = transfer::key_of(packet_metadata::metadata_fields(packet));
-    open_key(area, key)
+    let fields = packet_metadata::metadata_fields(packet);
+    let unwanted = transfer::new_refusal(fields.flags);
+    open_key(area, unwanted, transfer::key_of(fields))
 }

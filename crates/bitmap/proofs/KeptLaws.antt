@@ -8,6 +8,7 @@ use lib.ListN.{length, drop}
 use lib.Dec.{ltb}
 use borrow.Author.Tests.{ltb-false}
 use Rattle.octets.specs.Numbers.{Octets}
+use Rattle.refusals.specs.Refusals.{when}
 use Rattle.refusals.proofs.RefusalLaws.{first-none, rest-none, failed}
 use Rattle.runs.specs.Holes.{edgeFrom}
 use Rattle.packet_metadata.specs.Metadata.{metadataRefusal, metadataOf, readMetadata}
@@ -49,7 +50,8 @@ module _ (s packet : List ℕ) where
     unfolding openRefusal
     short =
         ltb-false longest (keyOf (metadataOf packet) .length)
-        (failed (ltb longest (keyOf (metadataOf packet) .length)) 8 (rest-none (metadataRefusal packet) _ (rest-none (marksRefusal s) _ e)))
+        (failed (ltb longest (keyOf (metadataOf packet) .length)) 8
+        (first-none (when (ltb longest (keyOf (metadataOf packet) .length)) 9) _ (rest-none (metadataRefusal packet) _ (rest-none (marksRefusal s) _ e))))
 
     -- nothing is received
     pub open-runs : markedRuns (openMarks s packet .marks) ≡ []

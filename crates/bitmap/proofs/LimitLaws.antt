@@ -14,12 +14,14 @@ use Rattle.octets.specs.Numbers.{Width}
 use Rattle.refusals.specs.Refusals.{refusalOf}
 use Rattle.refusals.proofs.TestLaws.{not-iff, and-iff}
 use Rattle.refusals.proofs.LimitLaws.{refused-iff}
-use Rattle.refusals.proofs.ReasonLaws.{Reasons, given, one, below, says, _▸_, named}
+use Rattle.refusals.proofs.ReasonLaws.{Reasons, given, one, below, equal, says, _▸_, named}
 use Rattle.runs.specs.Holes.{edge}
 use Rattle.runs.proofs.EdgeLaws.{edge-member, edge-above}
 use Rattle.packet_metadata.specs.Metadata.{metadataRefusal, metadataOf}
 use Rattle.transfer.specs.declared.Key.{Key}
+use Rattle.header.specs.FirstWord.{sumType}
 use Rattle.transfer.specs.Transfers.{keyOf, lengthTest}
+use Rattle.transfer.specs.Opening.{newRefusal}
 use Rattle.transfer.proofs.LengthLaws.{length-passed, length-passes}
 use Rattle.marks.specs.Marks.{markOctets, markCount, marked}
 use Rattle.marks.specs.MarkedRuns.{markedRuns}
@@ -97,10 +99,19 @@ module _ (k : Key) (s : List ℕ) where
   twenty-two-iff = given reasons 22
 
 -- ---- 9 of opening, after the marks and the reader's
+abbrev after-read : List ℕ → Reasons
+after-read packet = one 9 (below longest (keyOf (metadataOf packet) .length)) ▸ one 23 (equal (sumType (metadataOf packet .flags)) 1)
+
 pub nine-iff : (s packet : List ℕ) → markOctets ≤ length s → metadataRefusal packet ≡ 0
     → (openRefusal s packet ≡ 9) ↔ (longest < keyOf (metadataOf packet) .length)
-unfolding openRefusal marksRefusal
-nine-iff s packet long read = rw (le-ltb (length s) markOctets long, read) (given (one 9 (below longest (keyOf (metadataOf packet) .length))) 9)
+unfolding openRefusal marksRefusal newRefusal
+nine-iff s packet long read = rw (le-ltb (length s) markOctets long, read) (given (after-read packet) 9)
+
+-- ---- 23 of opening, after all others
+pub twenty-three-iff : (s packet : List ℕ) → markOctets ≤ length s → metadataRefusal packet ≡ 0
+    → (openRefusal s packet ≡ 23) ↔ ((keyOf (metadataOf packet) .length ≤ longest) × (sumType (metadataOf packet .flags) ≡ 1))
+unfolding openRefusal marksRefusal newRefusal
+twenty-three-iff s packet long read = rw (le-ltb (length s) markOctets long, read) (given (after-read packet) 23)
 
 -- ---- the answers
 

@@ -12,6 +12,7 @@ use Rattle.packet_metadata.specs.Metadata.{metadataRefusal, metadataOf}
 use Rattle.transfer.specs.declared.Key.{Key}
 use Rattle.transfer.specs.declared.Reached.{Reached}
 use Rattle.transfer.specs.Transfers.{keyOf, reached}
+use Rattle.transfer.specs.Opening.{newRefusal}
 use Rattle.marks.specs.Marks.{markOctets, cleared}
 use Rattle.bitmap.specs.State.{unstamped, longest, marksRefusal}
 use Rattle.bitmap.specs.Open.{openRefusal, openAs, openMarks}
@@ -43,12 +44,16 @@ module _ (s packet : List ℕ) where
       unfolding openRefusal marksRefusal
       open-long h = refused 9 (rw (le-ltb (length s) markOctets long, read, ← is, lt-ltb longest (k .length) h)) (λ z. omega arith)
 
-      none : k .length ≤ longest → openRefusal s packet ≡ 0
+      none : (n : ℕ) → n ≡ newRefusal (metadataOf packet .flags) → k .length ≤ longest → n ≡ openRefusal s packet
       unfolding openRefusal marksRefusal
-      none h = rw (le-ltb (length s) markOctets long, read, ← is, le-ltb longest (k .length) h)
+      none n e h = e ∙ rw (le-ltb (length s) markOctets long, read, ← is, le-ltb longest (k .length) h)
+
+      pub open-unwanted : (n : ℕ) → n ≡ newRefusal (metadataOf packet .flags) → k .length ≤ longest → (n ≡ 0 → ⊥)
+          → (Refused (refusalOf n) ≡ openMarks s packet .answer) × (s ≡ openMarks s packet .marks)
+      open-unwanted n e h = refused n (none n e h)
 
       -- opened: nothing is received, and no timestamp is kept
-      pub open-new : k .length ≤ longest → (held : Held) (r : Reached) (x : List ℕ) → held ≡ unstamped k → r ≡ reached k [] → x ≡ cleared s
+      pub open-new : 0 ≡ newRefusal (metadataOf packet .flags) → k .length ≤ longest → (held : Held) (r : Reached) (x : List ℕ) → held ≡ unstamped k → r ≡ reached k [] → x ≡ cleared s
           → (New (record { held = held; reached = r }) ≡ openMarks s packet .answer) × (x ≡ openMarks s packet .marks)
       unfolding openMarks openAs
-      open-new h held r x u e f = (rw (none h, ← is, u, e), rw (none h) f)
+      open-new w h held r x u e f = (rw (← none 0 w h, ← is, u, e), rw (← none 0 w h) f)

@@ -124,9 +124,14 @@ pub fn open(marks: &mut [u8], packet: &[u8]) -> Opened
     if n != 0 {
         return Opened::Refused(refusals::refuse(n));
     }
-    let key = transfer::key_of(packet_metadata::metadata_fields(packet));
+    let fields = packet_metadata::metadata_fields(packet);
+    let unwanted = transfer::new_refusal(fields.flags);
+    let key = transfer::key_of(fields);
     if LONGEST < key.length {
         return Opened::Refused(refusals::refuse(9));
+    }
+    if unwanted != 0 {
+        return Opened::Refused(refusals::refuse(unwanted));
     }
     marks::clear(marks);
     let held = unstamped(key);

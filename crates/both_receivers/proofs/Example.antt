@@ -30,6 +30,7 @@ use Rattle.hole_list.specs.Pairs.{pairs}
 use Rattle.success_status.specs.SuccessStatus.{widthBits, statusFlags, frontOctets, statusOctets}
 use Rattle.transfer.specs.declared.Key.{Key}
 use Rattle.transfer.specs.declared.Reached.{Reached}
+use Rattle.transfer.specs.Opening.{newRefusal}
 use Rattle.transfer.specs.Transfers.{Transfer, reached, transferOf}
 use Rattle.transfer.specs.Record.{stampIn, keyRefusal, extended, absorbedBy, addsBy, runsRefusal}
 use Rattle.transfer_status.specs.WriteStatus.{skipsTooMany, leastRoom, sizeRefusal, holeRoom, holesSent, partialSent, responseSent, statusPacket, transferBuffer}
@@ -105,11 +106,11 @@ begins7 = record { held = unstamped key7; reached = begun }
 
 module _ (a : List ℕ) (held : tableOf a ≡ some (open3 ∷ [])) (s : List ℕ) (long : markOctets ≤ length s) where
   in-table-new : openArea a opening .answer ≡ in-table.New begun
-  unfolding openArea startRefusal typeRefusal fileRefusal descriptorRefusal upperZero propertyRefusal pathRefusal entryRefusal entryOf pairAllowed pairRefusal metadataRefusal metadataOf readMetadata keys find judgeFound judgeOpen openAs openKey openRead openPacket reached edgeFrom progress complete
+  unfolding openArea startRefusal typeRefusal fileRefusal descriptorRefusal upperZero propertyRefusal pathRefusal entryRefusal entryOf pairAllowed pairRefusal metadataRefusal metadataOf readMetadata keys find judgeFound newRefusal judgeOpen openAs openKey openRead openPacket reached edgeFrom progress complete
   in-table-new = ap (λ (o : OnArea Opened). o .answer) (on-held (in-table.Refused (refusalOf 22)) (λ t. openPacket t opening) a (open3 ∷ []) held)
 
   by-marks-new : marks-open.openMarks s opening .answer ≡ by-marks.New begins7
-  unfolding startRefusal typeRefusal fileRefusal descriptorRefusal upperZero propertyRefusal pathRefusal entryRefusal entryOf pairAllowed pairRefusal metadataRefusal metadataOf marksRefusal marks-open.openRefusal marks-open.openAs marks-open.openMarks reached edgeFrom progress complete
+  unfolding startRefusal typeRefusal fileRefusal descriptorRefusal upperZero propertyRefusal pathRefusal entryRefusal entryOf pairAllowed pairRefusal metadataRefusal metadataOf marksRefusal newRefusal marks-open.openRefusal marks-open.openAs marks-open.openMarks reached edgeFrom progress complete
   by-marks-new = rw (le-ltb (length s) markOctets long)
 
   -- DATA of Id 7 with a timestamp, a repeat without one, DATA of an Id that is not open, no packet at all, and an offset past the length
@@ -129,7 +130,7 @@ module _ (a : List ℕ) (held : tableOf a ≡ some (open3 ∷ [])) (s : List ℕ
   both-open = open3 ∷ transferOf key7 [] [] ∷ []
 
   left-holds : tableOf left ≡ some both-open
-  unfolding startRefusal typeRefusal fileRefusal descriptorRefusal upperZero propertyRefusal pathRefusal entryRefusal entryOf pairAllowed pairRefusal metadataRefusal metadataOf readMetadata keys find add judgeFound judgeOpen openAs openKey openRead openPacket
+  unfolding startRefusal typeRefusal fileRefusal descriptorRefusal upperZero propertyRefusal pathRefusal entryRefusal entryOf pairAllowed pairRefusal metadataRefusal metadataOf readMetadata keys find add judgeFound newRefusal judgeOpen openAs openKey openRead openPacket
   left-holds = open-leaves a (open3 ∷ []) held opening (digits-octets 22 number)
 
   -- none of them is for Id 3

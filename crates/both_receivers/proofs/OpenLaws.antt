@@ -41,7 +41,7 @@ table-opened t m x =
     open-cases (λ (o : Outcome Opened). o .answer ≡ in-table.New x → TableOpened (o .table) (keyIn m) x) t m
     (λ r q. absurd (let z : _≡_ {A = ℕ} 0 1 = cc in omega arith))
     (λ n e f q. absurd (let z : _≡_ {A = ℕ} 0 1 = cc in omega arith))
-    (λ n e f l q.
+    (λ n e f w l q.
     let g : metadataOf m ≡ n = metadata-given m n e .1 in
     let y : reached (keyOf n) [] ≡ x = cc in
     rw g

@@ -23,6 +23,7 @@ use Rattle.packet_data.specs.declared.Data.{Data}
 use Rattle.packet_data.specs.declared.DataRead.{DataRead}
 use Rattle.packet_data.specs.declared.DataRead.the-variants as data-read
 use Rattle.transfer.specs.declared.Key.{Key}
+use Rattle.transfer.specs.Opening.{newRefusal}
 use Rattle.transfer.specs.Transfers.{Transfer, transferOf}
 use Rattle.transfer.specs.Record.{stampIn}
 use Rattle.table.specs.Tables.{keys, find, add}
@@ -41,7 +42,7 @@ abbrev table : List Transfer
 table = transferOf key [] [] ∷ []
 
 empty-is : emptyFile ≡ table
-unfolding emptyFile startRefusal typeRefusal fileRefusal descriptorRefusal upperZero propertyRefusal pathRefusal entryRefusal entryOf pairAllowed pairRefusal metadataRefusal metadataOf readMetadata keys find add judgeFound judgeOpen openAs openKey openRead openPacket
+unfolding emptyFile startRefusal typeRefusal fileRefusal descriptorRefusal upperZero propertyRefusal pathRefusal entryRefusal entryOf pairAllowed pairRefusal metadataRefusal metadataOf readMetadata keys find add judgeFound newRefusal judgeOpen openAs openKey openRead openPacket
 empty-is = refl
 
 -- ---- the number of the refusal: 14, and 12 or 13 where Id or width are others

@@ -18,6 +18,7 @@ use Rattle.runs.specs.Runs.{insert, absorbed, adds}
 use Rattle.runs.specs.Holes.{edgeFrom, holesFrom, progress, complete}
 use Rattle.table.specs.Tables.{keys, find, runsOf, stampOf, add, setRuns, remove}
 use Rattle.timestamp.specs.Timestamps.{stamped, renewed}
+use Rattle.transfer.specs.Opening.{newRefusal}
 use Rattle.transfer.specs.Transfers.{reached}
 use Rattle.table.specs.Open.{judgeFound, judgeOpen, openAs, openKey, openRead, openPacket}
 use Rattle.table.specs.Record.{dataJudged, recordRefusal, grown, absorbedIn, addsIn, recordAs, recordData, recordRead, recordPacket}
@@ -29,7 +30,7 @@ use Rattle.success_status.specs.SuccessStatus.{widthBits, statusFlags, frontOct
 use Rattle.transfer_status.specs.WriteStatus.{skipsTooMany, leastRoom, sizeRefusal, holeRoom, holesSent, partialSent, lastOffset, responseSent, statusPacket, transferWritten, transferBuffer}
 
 pub passes : Passes
-unfolding twoParts emptyFile oneAfterOther late scattered longest numbered put startRefusal typeRefusal fileRefusal descriptorRefusal upperZero propertyRefusal pathRefusal entryRefusal entryOf pairAllowed pairRefusal metadataRefusal metadataOf readMetadata dataRefusal dataOf readData insert absorbed edgeFrom holesFrom progress complete keys find runsOf stampOf stamped renewed stampIn add setRuns remove reached judgeFound judgeOpen openAs openKey openRead openPacket dataJudged recordRefusal grown absorbedIn absorbedBy recordAs recordData recordRead recordPacket closeFound closeId keyRefusal extended runsRefusal skipsTooMany leastRoom sizeRefusal holeRoom holesSent partialSent widthBits statusFlags frontOctets pairs statusOctets lastOffset responseSent statusPacket transferWritten transferBuffer writtenFor bufferFor statusWritten statusBuffer adds addsIn addsBy
+unfolding twoParts emptyFile oneAfterOther late scattered longest numbered put startRefusal typeRefusal fileRefusal descriptorRefusal upperZero propertyRefusal pathRefusal entryRefusal entryOf pairAllowed pairRefusal metadataRefusal metadataOf readMetadata dataRefusal dataOf readData insert absorbed edgeFrom holesFrom progress complete keys find runsOf stampOf stamped renewed stampIn add setRuns remove reached judgeFound newRefusal judgeOpen openAs openKey openRead openPacket dataJudged recordRefusal grown absorbedIn absorbedBy recordAs recordData recordRead recordPacket closeFound closeId keyRefusal extended runsRefusal skipsTooMany leastRoom sizeRefusal holeRoom holesSent partialSent widthBits statusFlags frontOctets pairs statusOctets lastOffset responseSent statusPacket transferWritten transferBuffer writtenFor bufferFor statusWritten statusBuffer adds addsIn addsBy
 passes =
     record {
       hole-reported = (refl, refl, refl);

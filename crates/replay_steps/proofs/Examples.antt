@@ -23,6 +23,7 @@ use Rattle.table.specs.Record.{dataJudged, recordRefusal, grown, recordAs, reco
 use Rattle.table.specs.Open.{judgeFound, judgeOpen, openAs, openKey, openRead, openPacket}
 use Rattle.table.specs.Tables.{keys, find, runsOf, add, stampOf}
 use Rattle.timestamp.specs.Timestamps.{stamped}
+use Rattle.transfer.specs.Opening.{newRefusal}
 use Rattle.transfer.specs.Transfers.{reached, Transfer, transferOf}
 use Rattle.table.specs.WriteStatus.{writtenFor, bufferFor, statusWritten, statusBuffer}
 use Rattle.hole_list.specs.Pairs.{pairs}
@@ -88,7 +89,7 @@ refused-data area other e = rw e
 -- "2 open id=7 width=16 length=3000 edge=0 complete=0 new"
 pub opened-new : (area other : List ℕ) → tableOf area ≡ some [] → recordLines 2 0x4f metadata area other []
     ≡ 50 ∷ 32 ∷ 111 ∷ 112 ∷ 101 ∷ 110 ∷ 32 ∷ 105 ∷ 100 ∷ 61 ∷ 55 ∷ 32 ∷ 119 ∷ 105 ∷ 100 ∷ 116 ∷ 104 ∷ 61 ∷ 49 ∷ 54 ∷ 32 ∷ 108 ∷ 101 ∷ 110 ∷ 103 ∷ 116 ∷ 104 ∷ 61 ∷ 51 ∷ 48 ∷ 48 ∷ 48 ∷ 32 ∷ 101 ∷ 100 ∷ 103 ∷ 101 ∷ 61 ∷ 48 ∷ 32 ∷ 99 ∷ 111 ∷ 109 ∷ 112 ∷ 108 ∷ 101 ∷ 116 ∷ 101 ∷ 61 ∷ 48 ∷ 32 ∷ 110 ∷ 101 ∷ 119 ∷ 10 ∷ []
-unfolding recordLines oneTableLines decimalOf decimalOnto startRefusal typeRefusal fileRefusal descriptorRefusal upperZero openText openingText openedLine propertyRefusal pathRefusal entryRefusal entryOf pairAllowed pairRefusal metadataRefusal metadataOf readMetadata openArea onTable onFound keys find runsOf add reached edgeFrom progress complete judgeFound judgeOpen openAs openKey openRead openPacket
+unfolding recordLines oneTableLines decimalOf decimalOnto startRefusal typeRefusal fileRefusal descriptorRefusal upperZero openText openingText openedLine propertyRefusal pathRefusal entryRefusal entryOf pairAllowed pairRefusal metadataRefusal metadataOf readMetadata openArea onTable onFound keys find runsOf add reached edgeFrom progress complete judgeFound newRefusal judgeOpen openAs openKey openRead openPacket
 opened-new area other e = rw e
 
 -- Id 7, with octets 0 to 999 and 2,000 to 2,999 of 3,000 received

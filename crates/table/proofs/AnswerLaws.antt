@@ -31,9 +31,9 @@ open-as-iff (refuse m) t k n = (
 )
 
 -- opening refuses with n exactly when the judgement is to refuse with n
-pub open-refused-iff : (t : List Transfer) (k : Key) (n : ℕ) → (openKey t k .answer ≡ opened.Refused (refusalOf n)) ↔ (judgeOpen (keys t) k ≡ refuse n)
+pub open-refused-iff : (t : List Transfer) (f : ℕ) (k : Key) (n : ℕ) → (openKey t f k .answer ≡ opened.Refused (refusalOf n)) ↔ (judgeOpen (keys t) f k ≡ refuse n)
 unfolding openKey
-open-refused-iff t k n = open-as-iff (judgeOpen (keys t) k) t k n
+open-refused-iff t f k n = open-as-iff (judgeOpen (keys t) f k) t k n
 
 record-as-iff : (m n : ℕ) (o : Option Key) (runs : List Run) (t : List Transfer) (d : Data) (s : List ℕ) → (m ≡ 0 → o ≡ none → ⊥)
     → (recordAs m o runs t d s .answer ≡ recorded.Refused (refusalOf (suc n))) ↔ (m ≡ suc n)

@@ -16,8 +16,9 @@ use Rattle.packet_metadata.specs.declared.MetadataRead.{MetadataRead}
 use Rattle.packet_metadata.specs.declared.MetadataRead.the-variants as metadata-read
 use Rattle.transfer.specs.declared.Key.{Key}
 use Rattle.transfer.specs.Transfers.{Transfer, reached, keyOf}
+use Rattle.transfer.specs.Opening.{newRefusal}
 use Rattle.table.specs.Tables.{keys, find, runsOf, add}
-use Rattle.table.specs.Open.{Verdict, new, already, refuse, judgeFound, judgeOpen, openAs, openKey, openRead, openPacket, openAccepted}
+use Rattle.table.specs.Open.{Verdict, new, already, refuse, judgeNew, judgeFound, judgeOpen, openAs, openKey, openRead, openPacket, openAccepted}
 use Rattle.table.specs.declared.Opened.the-variants.{New, AlreadyOpen, Refused}
 use Rattle.table.proofs.TableLaws.{by-test, find-id, addKey, keys-add}
 use Rattle.table.specs.Outcome.{Outcome}
@@ -32,17 +33,21 @@ pub open-cases : (P : Outcome Opened → Type 0) (t : List Transfer) (packet : L
     → ((n : ℕ) → P (record { answer = Refused (refusalOf (suc n)); table = t }))
     → ((m : Metadata) → readMetadata packet ≡ metadata-read.Accepted m → find (m .id) (keys t) ≡ some (keyOf m)
     → P (record { answer = AlreadyOpen (reached (keyOf m) (runsOf t (m .id))); table = t }))
-    → ((m : Metadata) → readMetadata packet ≡ metadata-read.Accepted m → find (m .id) (keys t) ≡ none → length (keys t) < 16
+    → ((m : Metadata) → readMetadata packet ≡ metadata-read.Accepted m → find (m .id) (keys t) ≡ none → newRefusal (m .flags) ≡ 0 → length (keys t) < 16
     → P (record { answer = New (reached (keyOf m) []); table = add (keyOf m) t }))
     → P (openPacket t packet)
 unfolding openPacket openRead openKey judgeOpen judgeFound openAs readMetadata
 open-cases P t packet refused old fresh = go (metadataRefusal packet) refl
   where
     found : (m : Metadata) → readMetadata packet ≡ metadata-read.Accepted m → (o : Option Key) → find (m .id) (keys t) ≡ o
-        → P (openAs (judgeFound o (length (keys t)) (keyOf m)) t (keyOf m))
-    found m e none q =
-        by-test (λ (v : Verdict). P (openAs v t (keyOf m))) (ltb (length (keys t)) 16) new (refuse 17) (λ b. fresh m e q (ltb-true _ _ b))
-        (λ b. refused 16)
+        → P (openAs (judgeFound o (length (keys t)) (newRefusal (m .flags)) (keyOf m)) t (keyOf m))
+    found m e none q = unmet (newRefusal (m .flags)) refl
+      where
+        unmet : (n : ℕ) → newRefusal (m .flags) ≡ n → P (openAs (judgeNew n (length (keys t))) t (keyOf m))
+        unmet zero z =
+            by-test (λ (v : Verdict). P (openAs v t (keyOf m))) (ltb (length (keys t)) 16) new (refuse 17) (λ b. fresh m e q z (ltb-true _ _ b))
+            (λ b. refused 16)
+        unmet (suc n) z = refused n
     found m e (some j) q =
         by-test (λ (v : Verdict). P (openAs v t (keyOf m))) (eqb (j .width) (m .width) && eqb (j .length) (m .entry .size)) already (refuse 18)
         (λ b. let c = and-iff (eqb (j .width) (m .width)) (eqb (j .length) (m .entry .size)) .0 b in
@@ -69,5 +74,6 @@ open-alike t u packet e = go (readMetadata packet)
     go : (r : MetadataRead) → (openAccepted (openRead t r .answer) ≡ openAccepted (openRead u r .answer))
         × (keys (openRead t r .table) ≡ keys (openRead u r .table))
     go (metadata-read.Accepted m) =
-        verdict (keyOf m) (judgeOpen (keys t) (keyOf m)) (judgeOpen (keys u) (keyOf m)) (ap (λ (ks : List Key). judgeOpen ks (keyOf m)) e)
+        let n = newRefusal (m .flags) in
+        verdict (keyOf m) (judgeOpen (keys t) n (keyOf m)) (judgeOpen (keys u) n (keyOf m)) (ap (λ (ks : List Key). judgeOpen ks n (keyOf m)) e)
     go (metadata-read.Refused r) = (refl, e)

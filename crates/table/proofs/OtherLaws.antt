@@ -48,7 +48,7 @@ pub open-other : (t : List Transfer) (packet : List ℕ) (i : ℕ) → ((m : Met
     → Kept t (openPacket t packet .table) i
 open-other t packet i n =
     open-cases (λ (o : Outcome Opened). Kept t (o .table) i) t packet (λ r. kept t i) (λ m e f. kept t i)
-    (λ m e f l.
+    (λ m e f w l.
     record {
       key = find-add-other i (keyOf m) t (n m e);
       runs = runs-add-other i (keyOf m) t (n m e);
@@ -89,7 +89,7 @@ close-other t id i n =
 pub open-kept : (t : List Transfer) (packet : List ℕ) → openAccepted (openPacket t packet .answer) ≡ false → openPacket t packet .table ≡ t
 open-kept t packet =
     open-cases (λ (o : Outcome Opened). openAccepted (o .answer) ≡ false → o .table ≡ t) t packet (λ r e. refl) (λ m q f e. refl)
-    (λ m q f l e. absurd (let z : _≡_ {A = ℕ} 0 1 = cc in omega arith))
+    (λ m q f w l e. absurd (let z : _≡_ {A = ℕ} 0 1 = cc in omega arith))
 
 pub open-refused : (t : List Transfer) (packet : List ℕ) (r : Refusal) → openPacket t packet .answer ≡ opened.Refused r → openPacket t packet .table ≡ t
 open-refused t packet r e = open-kept t packet (ap openAccepted e)

@@ -89,7 +89,7 @@ open-told t packet x v a =
       e,
       rw (← is) (record { key = keyOf m; found = f; tells = reached-tells (keyOf m) (runsOf t (m .id)) (runs-canonical (m .id) t v) }),
     ))
-    (λ m e f l q.
+    (λ m e f w l q.
     let is : reached (keyOf m) [] ≡ x = ⊎-elim (λ p. cc) (λ p. absurd (let z : _≡_ {A = ℕ} 0 1 = cc in omega arith)) q in (
       m,
       e,

@@ -50,7 +50,7 @@ empty-fine m h =
 pub open-valid : (t : List Transfer) (packet : List ℕ) → Octets packet → Valid t → Valid (openPacket t packet .table)
 open-valid t packet o v =
     open-cases (λ (x : Outcome Opened). Valid (x .table)) t packet (λ r. v) (λ m e f. v)
-    (λ m e f l.
+    (λ m e f w l.
     record {
       few = rw (length-add (keyOf m) t) (omega (arith, length-keys t));
       fine = fine-add 0 (keyOf m) t (v .fine) (omega arith) f (empty-fine m (metadata-known packet m o e));

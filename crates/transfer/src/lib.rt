@@ -4,6 +4,7 @@ ghost use mathlib.Core.Path.{_≡_};
 ghost use mathlib.Core.List.{[]};
 ghost use Rattle.transfer.specs.Transfers.{keyOf, lengthTest, reached};
 ghost use Rattle.transfer.specs.Record.{keyRefusal};
+ghost use Rattle.transfer.specs.Opening.{newRefusal};
 use packet_data::Data;
 use packet_metadata::Metadata;
 
@@ -37,6 +38,14 @@ pub fn key_of(m: Metadata) -> Key
         width: m.width,
         length: m.entry.size,
     }
+}
+
+// What METADATA of a new Id is refused with, by its flags: 23 for a CRC-32c; 0 for none.
+pub fn new_refusal(flags: u64) -> u64
+    ensures { λ r. ⌜ r ≡ newRefusal flags ⌝ }
+{
+    let h = header::split(flags);
+    if h.sum == 1 { 23 } else { 0 }
 }
 
 // How far a transfer has come that was just opened.

@@ -174,9 +174,9 @@ fn metadata_pairs(check: &mut Check) -> Step {
         for codes in 0..16 {
             let rng = &mut check.rng;
             let mut packet = Metadata::valid(rng);
-            packet.start.flags = with_width(packet.start.flags & 0x00FF_FF00, codes / 4) | pair;
+            packet.start.flags = with_width(packet.start.flags, codes / 4);
             packet.properties = with_entry_width(packet.properties, codes % 4);
-            packet.checksum = rng.octets(4 * (pair as usize / 16));
+            packet.set_pair(pair, rng);
             packet.path.truncate(20);
             let octets = packet.octets(rng);
             check.read(&octets)?;

@@ -149,6 +149,9 @@ pub fn last(octets: usize) -> u64 {
     }
 }
 
+/// The pair of a CRC-32c, as bits 24 to 31: it reads and writes, and opens nothing new.
+pub const CRC32C: u32 = 0x11;
+
 /// Any pair of checksum type and words that is allowed, as bits 24 to 31.
 pub fn allowed_pair(rng: &mut Rng) -> u32 {
     match rng.below(3) {
@@ -156,6 +159,12 @@ pub fn allowed_pair(rng: &mut Rng) -> u32 {
         1 => 0x00,
         _ => (rng.between(1, 15) * 16 + rng.between(4, 15)) as u32,
     }
+}
+
+/// All of them.
+pub fn allowed_pairs() -> impl Iterator<Item = u32> {
+    let later = (4..16).flat_map(|kind| (1..16).map(move |words| 16 * words + kind));
+    [0x00, CRC32C, 0x42, 0x53].into_iter().chain(later)
 }
 
 /// Any pair that isn't.
@@ -257,6 +266,12 @@ impl Metadata {
             upper: Upper::default(),
             ending: Ending::Whole,
         }
+    }
+
+    /// The pair, with a checksum of its length.
+    pub fn set_pair(&mut self, pair: u32, rng: &mut Rng) {
+        self.start.flags = self.start.flags & 0x00FF_FF00 | pair;
+        self.checksum = rng.octets(4 * (pair as usize / 16));
     }
 
     pub fn octets(&self, rng: &mut Rng) -> Vec<u8> {

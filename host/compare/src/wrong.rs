@@ -23,6 +23,10 @@ wrong! {
     SmallerSizes,
     /// A packet of 65,536 octets is read.
     LongerPackets,
+    /// A CRC-32c is not read.
+    OldChecksumNotRead,
+    /// A CRC-32c is not written.
+    OldChecksumNotWritten,
     /// An offset over its width is written without its highest bits.
     OffsetCut,
     /// Bit 14 clear makes no difference to the hole list.
@@ -176,6 +180,16 @@ fn entry_octets(low: u8) -> usize {
     2 << (low >> 6)
 }
 
+/// Whether the pair of METADATA is that of a CRC-32c.
+pub fn is_crc32c(packet: &[u8]) -> bool {
+    packet.get(3) == Some(&0x11)
+}
+
+/// METADATA with a CRC-32c, without it.
+pub fn without_checksum(packet: &[u8]) -> Vec<u8> {
+    [&packet[..3], &[0x00], &packet[4..8], &packet[12..]].concat()
+}
+
 /// The METADATA packet with `a` for its path, if its fields before that are there.
 fn with_short_path(packet: &[u8]) -> Option<Vec<u8>> {
     let properties_at = 8 + 4 * usize::from(packet[3] >> 4);
@@ -253,6 +267,7 @@ impl Codec for Wrong {
             }
             Wrong::FailureReadOn => wrong(right.status != 0 && packet.len() > 8, refused(11, 0)),
             Wrong::ShorterPaths => wrong(right.path_len == 1_023, refused(8, 0x01)),
+            Wrong::OldChecksumNotRead => wrong(right.kind == 2 && is_crc32c(packet), refused(23, 0x01)),
             Wrong::SmallerSizes => {
                 let last = u64::MAX >> (64 - 8 * right.width.clamp(1, 8));
                 wrong(right.number == 0 && right.kind == 2 && right.size == last, refused(9, 0x09))
@@ -335,6 +350,10 @@ impl Codec for Wrong {
             Wrong::WriterEntryRefused if entry && matches!(right.number, 0 | 8 | 9 | 20) => {
                 out.copy_from_slice(&before);
                 Written { number: 5, code: 0x09, size: 0 }
+            }
+            Wrong::OldChecksumNotWritten if right.number == 0 && fields.flags & 0xFF == 0x11 => {
+                out.copy_from_slice(&before);
+                Written { number: 23, code: 0x01, size: 0 }
             }
             Wrong::LongerPaths if right.number == 8 && fields.path.len() == 1_024 => {
                 let mut written = Paper.write_metadata(&MetadataFields { path: &fields.path[..1_023], ..*fields }, out);

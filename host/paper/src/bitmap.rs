@@ -1,7 +1,7 @@
 //! Document 02, "A second receiver that an engineer can follow by eye": "one mark for each octet in a lent area of 8,192 octets",
 //! for one transfer. A refused call returns before anything is changed.
 
-use crate::layout::{Timestamp, DATA, METADATA};
+use crate::layout::{checksum_is_crc32c, Timestamp, DATA, METADATA};
 use crate::marks::Marks;
 use crate::read::{read_types, Packet};
 use crate::refusal::Refusal;
@@ -52,12 +52,16 @@ impl Bitmap {
     }
 }
 
-/// "Opening always starts anew". The order: 20 (the area: "before all"), the reader's, "above that, refusal 9 at opening".
+/// "Opening always starts anew". The order: 20 (the area: "before all"), the reader's, "above that, refusal 9 at opening", and for
+/// checksum type 1 23: "the plain receiver refuses it too, tested last".
 pub fn open(marks: &mut [u8], packet: &[u8]) -> Result<(Bitmap, State), Refusal> {
     let area = marks.get_mut(..OCTETS).ok_or(Refusal::Buffer)?;
     let Packet::Metadata(metadata) = read_types(packet, &[METADATA])? else { unreachable!("only METADATA is taken") };
     if metadata.size > LONGEST {
         return Err(Refusal::Size);
+    }
+    if checksum_is_crc32c(metadata.header.flags) {
+        return Err(Refusal::OldChecksum);
     }
     area.fill(0);
     let transfer = Bitmap::new(metadata.header.id, metadata.width as u64, metadata.size);

@@ -93,6 +93,11 @@ fn checksum_words(word: u64) -> u64 {
     word_bits(word, 24, 27)
 }
 
+/// "CRC-32c" is "checksum type 1".
+pub fn checksum_is_crc32c(word: u64) -> bool {
+    checksum_type(word) == 1
+}
+
 /// The checksum's length in octets.
 pub fn checksum_octets(word: u64) -> usize {
     4 * checksum_words(word) as usize

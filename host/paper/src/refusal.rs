@@ -1,4 +1,4 @@
-//! "The numbers of a refusal": every refusal, with "the status code to send (0: nothing to send)". From 26 on they are
+//! "The numbers of a refusal": every refusal, with "the status code to send (0: nothing to send)". From 23 on they are
 //! document 02's.
 
 /// One row of the table. The value of each is its number.
@@ -50,6 +50,8 @@ pub enum Refusal {
     Field = 21,
     /// "a lent desk area is no image of a desk as described"
     Area = 22,
+    /// "no checksum type 1 on anything new": "Opening a new Id with it is refused with 23 (code 0x01)"
+    OldChecksum = 23,
     /// "The fourth pairing, 0 1, is refused with 26 (code 0), and so is a last flags octet that isn't 0"
     Beacon = 26,
 }
@@ -85,6 +87,7 @@ impl Refusal {
             Refusal::Buffer => 0,
             Refusal::Field => 0,
             Refusal::Area => 0,
+            Refusal::OldChecksum => 0x01,
             Refusal::Beacon => 0,
         }
     }

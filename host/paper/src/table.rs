@@ -3,7 +3,7 @@
 
 use std::collections::BTreeMap;
 
-use crate::layout::{end_of_data, Timestamp, DATA, METADATA};
+use crate::layout::{checksum_is_crc32c, end_of_data, Timestamp, DATA, METADATA};
 use crate::read::{read_types, Data, Hole, Packet};
 use crate::received::Received;
 use crate::refusal::Refusal;
@@ -103,18 +103,23 @@ pub fn stretch(data: &Data, width: usize, length: u64) -> Result<(u64, u64), Ref
 }
 
 impl Table {
-    /// "**Opening** by METADATA starts with nothing received, at width w." "Opening: the reader's, then 18, 17."
+    /// "**Opening** by METADATA starts with nothing received, at width w." "Opening: the reader's, then 18, 17", and 23 "tested after
+    /// 18 and before 17".
     pub fn open(&mut self, packet: &[u8]) -> Result<Opened, Refusal> {
         let Packet::Metadata(metadata) = read_types(packet, &[METADATA])? else {
             unreachable!("only METADATA is taken")
         };
         let id = metadata.header.id;
         if let Some(open) = self.transfers.get(&id) {
-            // "An Id that is open with equal width and L answers "already open" and changes nothing."
+            // "An Id that is open with equal width and L answers "already open" and changes nothing." So does one "that began with
+            // type 1": "its METADATA repeated still answers "already open"".
             if (open.width, open.length) == (metadata.width, metadata.size) {
                 return Ok(Opened { state: open.state(), already_open: true });
             }
             return Err(Refusal::OpenOther);
+        }
+        if checksum_is_crc32c(metadata.header.flags) {
+            return Err(Refusal::OldChecksum);
         }
         if self.transfers.len() == MAX_TRANSFERS {
             return Err(Refusal::TableFull);

@@ -3,7 +3,7 @@
 
 mod common;
 
-use common::{data, hex, last_data, metadata, stamped};
+use common::{data, hex, last_data, metadata, stamped, with_checksum};
 use paper::bitmap::{self, open, write_status, Bitmap, OCTETS};
 use paper::refusal::Refusal;
 use paper::table::{Recorded, State, Table};
@@ -121,18 +121,23 @@ fn sixty_four_runs() {
     assert_eq!(record(transfer, &mut marks, &data(7, 2, 3, 4)), repeat(650));
 }
 
-/// "L up to 65,535 (above that, refusal 9 at opening)"; "less: 20, before all"; and the reader's between them.
+/// "L up to 65,535 (above that, refusal 9 at opening)"; "less: 20, before all"; the reader's between them; and of checksum type 1
+/// "the plain receiver refuses it too, tested last".
 #[test]
 fn opening_refusals() {
     let mut marks = vec![0x5A; OCTETS];
-    let packet = metadata(7, 4, 65_536);
+    let packet = with_checksum(&metadata(7, 4, 65_536), 1, 1);
     assert_eq!(open(&mut marks[1..], &packet), Err(Refusal::Buffer));
     assert_eq!(open(&mut marks[1..], &data(7, 2, 0, 1)), Err(Refusal::Buffer));
     assert_eq!(open(&mut marks, &data(7, 2, 0, 1)), Err(Refusal::Type));
     assert_eq!(open(&mut marks, &packet[..20]), Err(Refusal::Truncated));
     assert_eq!(open(&mut marks, &packet), Err(Refusal::Size));
     assert_eq!(open(&mut marks, &metadata(7, 2, 65_536)), Err(Refusal::Size));
+    assert_eq!(open(&mut marks, &with_checksum(&metadata(7, 4, 65_535), 1, 1)), Err(Refusal::OldChecksum));
     assert_eq!(marks, vec![0x5A; OCTETS]);
+    assert!(open(&mut marks, &with_checksum(&metadata(7, 4, 65_535), 2, 4)).is_ok());
+    assert_eq!(marks, vec![0; OCTETS]);
+    marks.fill(0x5A);
     assert!(open(&mut marks, &metadata(7, 16, 65_535)).is_ok());
     assert_eq!(marks, vec![0; OCTETS]);
 }

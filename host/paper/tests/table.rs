@@ -2,7 +2,7 @@
 
 mod common;
 
-use common::{data, hex, last_data, metadata, stamped};
+use common::{data, hex, last_data, metadata, stamped, with_checksum};
 use paper::refusal::Refusal;
 use paper::table::{Opened, Recorded, State, Table};
 
@@ -163,6 +163,41 @@ fn opening_again() {
     table.close(7).unwrap();
     let opened = table.open(&metadata(7, 4, 3_000));
     assert_eq!(opened, Ok(Opened { state: State { edge: 0, complete: false }, already_open: false }));
+}
+
+/// "Opening a new Id with it is refused with 23 (code 0x01), tested after 18 and before 17".
+#[test]
+fn no_crc_32c_on_anything_new() {
+    let old = |id, width, length| with_checksum(&metadata(id, width, length), 1, 1);
+    assert_eq!((Refusal::OldChecksum.number(), Refusal::OldChecksum.code()), (23, 0x01));
+    let mut table = received(3_000, &[(5, 5)]);
+    let before = table.clone();
+    assert_eq!(table.open(&old(8, 2, 3_000)), Err(Refusal::OldChecksum));
+    assert_eq!(table.open(&old(8, 2, 65_536)), Err(Refusal::Size));
+    // "its METADATA repeated still answers "already open""; another width or length is told first.
+    let again = Opened { state: State { edge: 10, complete: false }, already_open: true };
+    assert_eq!(table.open(&old(7, 2, 3_000)), Ok(again));
+    assert_eq!(table.open(&old(7, 2, 2_999)), Err(Refusal::OpenOther));
+    assert_eq!(table.open(&old(7, 4, 3_000)), Err(Refusal::OpenOther));
+    assert_eq!(table, before);
+    // With 16 open: 23 before 17.
+    for id in 20..35 {
+        assert!(table.open(&metadata(id, 2, 9)).is_ok());
+    }
+    assert_eq!(table.open(&metadata(8, 2, 3_000)), Err(Refusal::TableFull));
+    assert_eq!(table.open(&old(8, 2, 3_000)), Err(Refusal::OldChecksum));
+    assert_eq!(table.open(&old(7, 2, 2_999)), Err(Refusal::OpenOther));
+    assert_eq!(table.open(&old(7, 2, 3_000)), Ok(again));
+}
+
+/// Every other type opens, those of one word too.
+#[test]
+fn other_checksums_open() {
+    let pairs = [(0, 0), (2, 4), (3, 5)].into_iter().chain((4..16).flat_map(|kind| [(kind, 1), (kind, 15)]));
+    for (kind, words) in pairs {
+        let opened = Table::default().open(&with_checksum(&metadata(7, 2, 9), kind, words)).unwrap();
+        assert!(!opened.already_open, "type {kind}, {words} words");
+    }
 }
 
 /// Everything is wrong with the packet; the faults are mended one after the other.

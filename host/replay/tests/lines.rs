@@ -494,6 +494,40 @@ fn a_seventeenth_transfer() {
     );
 }
 
+/// A CRC-32c (checksum type 1) reads, and opens nothing new; of an Id that is open it says nothing.
+#[test]
+fn no_crc_32c_on_anything_new() {
+    let old = |id: u8, length: u16| {
+        let entry = [&hex("deadbeef 0000"), &length.to_be_bytes()[..], &hex("00000000 00000000 61 00")].concat();
+        [&hex("42000011 000000"), &[id][..], &entry].concat()
+    };
+    let again = "open id=7 width=16 length=3000 edge=0 complete=0 already-open";
+    check_octets(&[
+        ('O', old(7, 3_000), &["refused 23 code=1"]),
+        ('P', old(7, 3_000), &["refused 23 code=1", "send 4400000100000007"]),
+        (
+            'R',
+            old(7, 3_000),
+            &["metadata id=7 flags=000011 width=16 checksum=deadbeef properties=0000 size=3000 mtime=0 ctime=0 path=61"],
+        ),
+        ('O', hex(PAGE), &["open id=7 width=16 length=3000 edge=0 complete=0 new"]),
+        ('O', old(7, 3_000), &[again]),
+        ('P', old(7, 3_000), &[again]),
+        ('P', old(7, 2_999), &["refused 18 code=9", "send 4400000900000007"]),
+        ('P', old(8, 3_000), &["refused 23 code=1", "send 4400000100000008"]),
+        ('C', hex("00000007"), &["close id=7"]),
+        ('O', old(7, 3_000), &["refused 23 code=1"]),
+    ]);
+    // With 16 open it is told before that there is no room.
+    let page = |id: u8| [&hex("42000000 000000"), &[id][..], &hex("0000 0bb8 00000000 00000000 61 00")].concat();
+    let mut pass: Vec<u8> = (0..16).flat_map(|id| record(b'O', &page(id))).collect();
+    pass.extend(record(b'O', &page(16)));
+    pass.extend(record(b'O', &old(16, 3_000)));
+    let printed = printed(&pass);
+    let last: Vec<&str> = printed.lines().skip(16).collect();
+    assert_eq!(last, ["17 refused 17 code=3", "18 refused 23 code=1"]);
+}
+
 #[test]
 fn bad_lengths() {
     check_octets(&[

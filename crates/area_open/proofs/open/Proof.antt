@@ -10,6 +10,7 @@ use Rattle.refusals.specs.Refusals.{refusalOf}
 use Rattle.packet_metadata.specs.Metadata.{metadataRefusal}
 use Rattle.packet_metadata.specs.declared.Metadata.{Metadata}
 use Rattle.transfer.specs.Transfers.{keyOf}
+use Rattle.transfer.specs.Opening.{newRefusal}
 use Rattle.table.specs.Open.{openPacket}
 use Rattle.table.specs.declared.Opened.the-variants as opened
 use Rattle.area.specs.Judge.{judged}
@@ -48,14 +49,18 @@ returns-3 : tie.Need-returns-3
 unfolding openArea
 returns-3 c =
     let o = c .before .before in
-    let k = o .before .before in
-    let e = k .before .before .before in
+    let k = o .before in
+    let n = k .before .before in
+    let m = n .before in
+    let e = m .before .before in
     let s = e .before .before .before .before .before .before in
     let a = now (s .args .area) in
-    let z : metadataRefusal (now (s .args .packet)) ≡ 0 = omega arith in
-    by-judged (opened.Refused (refusalOf 22)) (λ t. openPacket t (now (s .args .packet))) a (passed e) _
-    (packet-read (readTable a) (now (s .args .packet)) (k .key-of .result) z
-    (k .key-of .ensures ∙ ap (λ (m : Metadata). keyOf m) (k .before .metadata-fields .ensures)))
+    let p = now (s .args .packet) in
+    let z : metadataRefusal p ≡ 0 = omega arith in
+    by-judged (opened.Refused (refusalOf 22)) (λ t. openPacket t p) a (passed e) _
+    (packet-read (readTable a) p (n .new-refusal .result) (k .key-of .result) z
+    (n .new-refusal .ensures ∙ ap (λ (m : Metadata). newRefusal (m .flags)) (m .metadata-fields .ensures))
+    (k .key-of .ensures ∙ ap (λ (m : Metadata). keyOf m) (m .metadata-fields .ensures)))
     _ (o .open-key .ensures .0) _ (o .open-key .ensures .1)
 
 pub open-spec : {M : Type 1} → statement M
@@ -63,4 +68,4 @@ open-spec =
     tie.close
     (tie.spec
     (λ c κs. search needs) (λ c κs. search needs) (λ c κs. search needs) (λ c. search needs) returns (λ c κs. search needs) (λ c. search needs)
-    returns-2 (λ c κs. search needs) (λ c κs. search needs) (λ c κs. passed (c .before .before .before .before)) (λ c. search needs) returns-3)
+    returns-2 (λ c κs. search needs) (λ c κs. search needs) (λ c κs. search needs) (λ c κs. passed (c .before .before .before .before .before)) (λ c. search needs) returns-3)

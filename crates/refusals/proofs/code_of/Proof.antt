@@ -62,9 +62,14 @@ unfolding codeOf
 returns-14 c = code-same _ 18 (c .match .keys14)
 
 returns-15 : tie.Need-returns-15
-returns-15 c =
+unfolding codeOf
+returns-15 c = code-same _ 23 (c .match .keys15)
+
+returns-16 : tie.Need-returns-16
+returns-16 c =
     let r = c .match .rest in
     no-code _
+    (r .0 .0 .0 .0 .0 .0 .0 .0 .0 .0 .0 .0 .0 .0 .1)
     (r .0 .0 .0 .0 .0 .0 .0 .0 .0 .0 .0 .0 .0 .1)
     (r .0 .0 .0 .0 .0 .0 .0 .0 .0 .0 .0 .0 .1)
     (r .0 .0 .0 .0 .0 .0 .0 .0 .0 .0 .0 .1)
@@ -83,4 +88,4 @@ returns-15 c =
 pub code-of-spec : {M : Type 1} → statement M
 code-of-spec =
     tie.close
-    (tie.spec returns returns-2 returns-3 returns-4 returns-5 returns-6 returns-7 returns-8 returns-9 returns-10 returns-11 returns-12 returns-13 returns-14 returns-15)
+    (tie.spec returns returns-2 returns-3 returns-4 returns-5 returns-6 returns-7 returns-8 returns-9 returns-10 returns-11 returns-12 returns-13 returns-14 returns-15 returns-16)

@@ -9,7 +9,7 @@ use crate::answer::{Bitmap, BitmapOpened, BitmapRecorded, Opened};
 use crate::bitmap::cases::short_file;
 use crate::bitmap::held::{describe, Marked};
 use crate::check::{describe_packet, require, Check, Step};
-use crate::receiver::files::{files, opening, table, File};
+use crate::receiver::files::{files, old_opening, opening, table, File};
 use crate::receiver::held::Held;
 use crate::receiver::pass::{damaged_packet, recording_packet, scattered};
 use crate::receiver::{words, Ask};
@@ -20,10 +20,13 @@ pub fn trial(check: &mut Check) -> Step {
     let file = short_file(&mut check.rng);
     let mut desk = desk(&mut check.rng, file);
     let mut marked = Marked::random(&mut check.rng);
+    if check.rng.one_in(4) {
+        // No "opening that both accept": both refuse a CRC-32c alike.
+        let packet = old_opening(&mut check.rng, file).octets(&mut check.rng);
+        opened(check, &mut desk, &mut marked, &packet)?;
+    }
     let packet = opening(&mut check.rng, file).octets(&mut check.rng);
-    let one = check.open(&mut desk, &packet)?;
-    let other = check.bitmap_open(&mut marked, &packet)?;
-    require(as_new(one) == other_than_transfer(other), || differ(&one, &other, &packet, &desk, &marked))?;
+    opened(check, &mut desk, &mut marked, &packet)?;
 
     let most = check.rng.pick(&[3, 10, 30, 80]);
     let mut sent: Vec<Vec<u8>> = vec![];
@@ -49,6 +52,13 @@ pub fn trial(check: &mut Check) -> Step {
         }
     }
     statuses(check, &desk, &marked, file)
+}
+
+/// The same answers to METADATA of an Id that is new to the desk.
+fn opened(check: &mut Check, desk: &mut Held, marked: &mut Marked, packet: &[u8]) -> Step {
+    let one = check.open(desk, packet)?;
+    let other = check.bitmap_open(marked, packet)?;
+    require(as_new(one) == other_than_transfer(other), || differ(&one, &other, packet, desk, marked))
 }
 
 /// A desk with up to 15 transfers open, none with the file's Id.

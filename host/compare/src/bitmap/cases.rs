@@ -7,7 +7,7 @@ use crate::bitmap::both;
 use crate::bitmap::held::{damage, Marked};
 use crate::check::{Check, Step};
 use crate::receiver::aim;
-use crate::receiver::files::{kept, opening, received, File};
+use crate::receiver::files::{kept, old_opening, opening, received, File};
 use crate::receiver::pass::{damaged_packet, opening_packet, recording_packet};
 use crate::rng::Rng;
 
@@ -76,6 +76,7 @@ fn call(check: &mut Check, marked: &mut Marked, table: &Table, file: File) -> St
             let longer = File { code: rng.between(1, 3) as u32, length: rng.pick(&[65_536, 65_537, 1 << 20]), ..file };
             let packet = match rng.below(6) {
                 0 | 1 => damaged_packet(rng, table, &[file]),
+                2 if rng.one_in(4) => old_opening(rng, longer).octets(rng),
                 2 => opening(rng, longer).octets(rng),
                 _ => opening_packet(rng, &[file]),
             };

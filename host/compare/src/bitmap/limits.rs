@@ -4,13 +4,14 @@ use crate::answer::Bitmap;
 use crate::bitmap::held::Marked;
 use crate::check::{require, Check, Step};
 use crate::faults;
-use crate::packets::{last, with_entry_width, Beacon, Metadata};
+use crate::packets::{allowed_pairs, last, with_entry_width, Beacon, Metadata, CRC32C};
 use crate::receiver::files::{self, opening, recording, timestamp, File};
 
 /// All of it.
 pub fn run(check: &mut Check) -> Step {
     packet_faults(check)?;
     lengths(check)?;
+    checksums(check)?;
     openings_anew(check)?;
     places(check)?;
     small_sets(check)?;
@@ -96,6 +97,26 @@ fn lengths(check: &mut Check) -> Step {
             }
             check.bitmap_status(&marked, 0, 0, 100)?;
         }
+    }
+    Ok(())
+}
+
+/// Every pair of checksum type and words that is read, over marks of the same transfer and of one with the Id and another length:
+/// type 1 is refused, and no other, and 9 comes before it.
+fn checksums(check: &mut Check) -> Step {
+    for (pair, length) in allowed_pairs().flat_map(|pair| [0, 300, 301, 65_535, 65_536].map(|length| (pair, length))) {
+        let rng = &mut check.rng;
+        let mut marked = Marked::with_runs(transfer(4, 300), [(3, 5)], rng);
+        let mut packet = opening(rng, File { id: 9, code: 1, length });
+        packet.set_pair(pair, rng);
+        let packet = packet.octets(rng);
+        let number = check.bitmap_open(&mut marked, &packet)?.number;
+        let want = match pair {
+            _ if length > 65_535 => 9,
+            CRC32C => 23,
+            _ => 0,
+        };
+        require(number == want, || format!("opening length {length} with the checksum pair {pair:#x}: {number}"))?;
     }
     Ok(())
 }

@@ -5,7 +5,7 @@ use crate::bitmap::held::{set, Marked};
 use crate::bitmap::limits::transfer;
 use crate::check::{require, Check, Step};
 use crate::faults;
-use crate::packets::{with_width, Ending};
+use crate::packets::{with_width, Ending, CRC32C};
 use crate::receiver::files::{opening, recording, File};
 
 /// All of it.
@@ -53,9 +53,9 @@ fn ids(check: &mut Check) -> Step {
     Ok(())
 }
 
-/// All faults of opening together in each choice of them: 20, the reader's, 9.
+/// All faults of opening together in each choice of them: 20, the reader's, 9, 23.
 fn opening_order(check: &mut Check) -> Step {
-    for choice in 0..32u32 {
+    for choice in 0..64u32 {
         let is = |bit: u32| choice >> bit & 1 != 0;
         let rng = &mut check.rng;
         let mut packet = opening(rng, File { id: 9, code: 3, length: if is(1) { 65_536 } else { 65_535 } });
@@ -68,9 +68,15 @@ fn opening_order(check: &mut Check) -> Step {
         if is(4) {
             packet.start.first = 0x43;
         }
+        if is(5) {
+            packet.set_pair(CRC32C, rng);
+        }
         let packet = packet.octets(rng);
         let mut marked = Marked::of(transfer(2, 5), &vec![0xFF; if is(0) { 8_191 } else { 8_192 }], rng);
-        check.bitmap_open(&mut marked, &packet)?;
+        let number = check.bitmap_open(&mut marked, &packet)?.number;
+        let faults = [(20, is(0)), (4, is(4)), (6, is(3)), (1, is(2)), (9, is(1)), (23, is(5))];
+        let want = faults.iter().find(|(_, there)| *there).map_or(0, |&(number, _)| number);
+        require(number == want, || format!("opening with the faults {choice:#b}: {want} is expected, not {number}"))?;
     }
     Ok(())
 }

@@ -10,6 +10,7 @@ use crate::bitmap::held::set;
 use crate::bitmap::wrong::Wrong::*;
 use crate::bitmap::BitmapReceiver;
 use crate::codec::{Codec, Paper};
+use crate::wrong::{is_crc32c, without_checksum};
 
 wrong! {
     // The marks that recording sets.
@@ -137,6 +138,18 @@ wrong! {
     AnyLengthOpened,
     /// 9 before the reader's refusals.
     LengthBeforePath,
+    /// 23 before 9.
+    ChecksumBeforeLength,
+    /// 23 before the reader's refusals.
+    ChecksumBeforePath,
+    /// A CRC-32c is opened.
+    OldChecksumOpened,
+    /// The marks are cleared before 23 is told.
+    ClearedForOldChecksum,
+    /// MD5 is refused.
+    Md5Refused,
+    /// Any checksum of one word is refused.
+    OneWordRefused,
     /// The reader's refusals before 20.
     PacketBeforeMarks,
     /// Marks that are no transfer's are 22 in opening too.
@@ -223,6 +236,9 @@ pub const BESIDE_THE_TABLE: &[Wrong] = &[
     OpeningKeepsMarks,
     OpeningKeepsAbove,
     LongestRefused,
+    OldChecksumOpened,
+    Md5Refused,
+    OneWordRefused,
     EntryWidth,
     SixtyFourRefused,
     RunsEndWithOctets,
@@ -254,6 +270,8 @@ impl BitmapReceiver for Wrong {
         let wrong = match self {
             OpeningKeepsMarks if accepted => right,
             LongestRefused if accepted && right.transfer.length == 65_535 => refused(9, 9),
+            Md5Refused if accepted && packet[3] == 0x42 => refused(23, 1),
+            OneWordRefused if accepted && packet[3] >> 4 == 1 => refused(23, 1),
             OpeningJudges if accepted && take_up(right.transfer, &before).is_err() => refused(22, 0),
             LongerRefused if before.len() > OCTETS => refused(22, 0),
             OpeningKeepsAbove if accepted => {
@@ -276,6 +294,13 @@ impl BitmapReceiver for Wrong {
             LongerOpened if right.number == 9 && metadata && read.size == 65_536 => return opened,
             AnyLengthOpened if right.number == 9 && metadata => return opened,
             LengthBeforePath if right.number == 8 && long_size(packet) => return refused(9, 9),
+            ChecksumBeforeLength if right.number == 9 && metadata && is_crc32c(packet) => return refused(23, 1),
+            ChecksumBeforePath if matches!(right.number, 1 | 8) && is_crc32c(packet) => return refused(23, 1),
+            OldChecksumOpened if right.number == 23 => return Paper.bitmap_open(marks, &without_checksum(packet)),
+            ClearedForOldChecksum if right.number == 23 => {
+                marks[..OCTETS].fill(0);
+                return right;
+            }
             PacketBeforeMarks if right.number == 20 && read.number != 0 => return refused(read.number, read.code),
             ShortTaken if right.number == 20 && before.len() == OCTETS - 1 => {
                 return Paper.bitmap_open(&mut [&before[..], &[0]].concat(), packet)

@@ -6,7 +6,9 @@ use paper::layout::Timestamp;
 use paper::received::Received;
 use paper::table::{Table, Transfer};
 
-use crate::packets::{last, with_entry_width, with_width, Data, Ending, Metadata, Start, Upper, TIMESTAMP};
+use crate::packets::{
+    allowed_pair, last, with_entry_width, with_width, Data, Ending, Metadata, Start, Upper, CRC32C, TIMESTAMP,
+};
 use crate::rng::Rng;
 
 pub const END_OF_DATA: u32 = 1 << (31 - 16);
@@ -59,14 +61,25 @@ fn length(rng: &mut Rng, code: u32) -> u64 {
     }
 }
 
-/// METADATA that opens the file; what the table doesn't keep is random.
+/// METADATA that opens the file, so its checksum is no CRC-32c; else what the table doesn't keep is random.
 pub fn opening(rng: &mut Rng, file: File) -> Metadata {
     let mut packet = Metadata::valid(rng);
+    while packet.start.flags & 0xFF == CRC32C {
+        let pair = allowed_pair(rng);
+        packet.set_pair(pair, rng);
+    }
     packet.start.id = file.id;
     packet.start.flags = with_width(packet.start.flags, file.code);
     let narrowest = (0..3).find(|&code| file.length <= last(2 << code)).expect("64 bits are enough");
     packet.properties = with_entry_width(packet.properties, rng.between(narrowest, 3) as u32);
     packet.size = file.length;
+    packet
+}
+
+/// METADATA of the file with a CRC-32c: it opens nothing new.
+pub fn old_opening(rng: &mut Rng, file: File) -> Metadata {
+    let mut packet = opening(rng, file);
+    packet.set_pair(CRC32C, rng);
     packet
 }
 

@@ -6,7 +6,7 @@ use paper::table::{Table, Transfer};
 
 use crate::check::{require, Check, Step};
 use crate::faults;
-use crate::packets::{last, with_entry_width, with_width, Beacon, Ending};
+use crate::packets::{allowed_pairs, last, with_entry_width, with_width, Beacon, Ending, CRC32C};
 use crate::receiver::files::{opening, recording, timestamp, File};
 use crate::receiver::held::{fill_unused, Held};
 use crate::receiver::pass::empty;
@@ -23,6 +23,7 @@ pub fn run(check: &mut Check) -> Step {
     statuses(check)?;
     packet_faults(check)?;
     short_packets(check)?;
+    checksums(check)?;
     opening_order(check)?;
     recording_order(check)
 }
@@ -273,29 +274,63 @@ fn short_packets(check: &mut Check) -> Step {
     Ok(())
 }
 
-/// All faults of opening together in each choice of them: 22, the reader's, 18, 17.
-fn opening_order(check: &mut Check) -> Step {
-    for choice in 0..32u32 {
-        for full in [false, true] {
+/// A table with Id 9 open, of 5 octets at 16 bits, and with others: 16 are open where it is full.
+fn nine_and_others(full: bool) -> Table {
+    let mut table = one(9, 2, 5, &[(1, 2)]);
+    let others = if full { 15 } else { 3 };
+    let other = table.transfers[&9].clone();
+    table.transfers.extend((100..100 + others).map(|id| (id, other.clone())));
+    table
+}
+
+/// Every pair of checksum type and words that is read, with room and with 16 open: type 1 opens nothing new, and says nothing
+/// of an Id that is open.
+fn checksums(check: &mut Check) -> Step {
+    for (pair, full) in allowed_pairs().flat_map(|pair| [(pair, false), (pair, true)]) {
+        for (id, code, length) in [(10, 0, 5), (9, 0, 5), (9, 0, 6), (9, 1, 5)] {
             let rng = &mut check.rng;
-            let mut table = one(9, 2, 5, &[(1, 2)]);
-            let others = if full { 15 } else { 3 };
-            let other = table.transfers[&9].clone();
-            table.transfers.extend((100..100 + others).map(|id| (id, other.clone())));
-            let length = if choice & 1 != 0 { 6 } else { 5 };
-            let id = if choice & 2 != 0 { 10 } else { 9 };
-            let mut packet = opening(rng, File { id, code: 0, length });
-            if choice & 4 != 0 {
-                packet.close.clear();
-            }
-            if choice & 16 != 0 {
-                packet.properties = with_entry_width(packet.properties, 3);
-                packet.upper = faults::upper(rng, 0);
-            }
+            let mut held = Held::holding(nine_and_others(full), rng);
+            let mut packet = opening(rng, File { id, code, length });
+            packet.set_pair(pair, rng);
             let packet = packet.octets(rng);
-            let mut held = damaged_if(choice & 8 != 0, Held::holding(table, rng), rng);
-            check.open(&mut held, &packet)?;
+            let number = check.open(&mut held, &packet)?.number;
+            let want = match (id, code, length) {
+                (9, 0, 5) => 0,
+                (9, ..) => 18,
+                _ if pair == CRC32C => 23,
+                _ if full => 17,
+                _ => 0,
+            };
+            require(number == want, || format!("opening Id {id} with the checksum pair {pair:#x}: {number}"))?;
         }
+    }
+    Ok(())
+}
+
+/// All faults of opening together in each choice of them, with room and with 16 open: 22, the reader's, 18, 23, 17.
+fn opening_order(check: &mut Check) -> Step {
+    for (choice, full) in (0..64u32).flat_map(|choice| [(choice, false), (choice, true)]) {
+        let rng = &mut check.rng;
+        let is = |bit: u32| choice >> bit & 1 != 0;
+        let (id, length) = (if is(1) { 10 } else { 9 }, if is(0) { 6 } else { 5 });
+        let mut packet = opening(rng, File { id, code: 0, length });
+        if is(2) {
+            packet.close.clear();
+        }
+        if is(4) {
+            packet.properties = with_entry_width(packet.properties, 3);
+            packet.upper = faults::upper(rng, 0);
+        }
+        if is(5) {
+            packet.set_pair(CRC32C, rng);
+        }
+        let packet = packet.octets(rng);
+        let mut held = damaged_if(is(3), Held::holding(nine_and_others(full), rng), rng);
+        let number = check.open(&mut held, &packet)?.number;
+        let faults =
+            [(22, is(3)), (5, is(4)), (1, is(2)), (18, !is(1) && is(0)), (23, is(1) && is(5)), (17, is(1) && full)];
+        let want = faults.iter().find(|(_, there)| *there).map_or(0, |&(number, _)| number);
+        require(number == want, || format!("opening with the faults {choice:#b}: {want} is expected, not {number}"))?;
     }
     Ok(())
 }

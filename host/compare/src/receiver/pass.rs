@@ -7,7 +7,7 @@ use crate::check::{Check, Step, Stop};
 use crate::faults;
 use crate::packets::Ending;
 use crate::random::{extend, flip, senseless_packet, spoil, valid_packet};
-use crate::receiver::files::{file, files, opening, recording, table, File};
+use crate::receiver::files::{file, files, old_opening, opening, recording, table, File};
 use crate::receiver::held::Held;
 use crate::receiver::words::OCTETS;
 use crate::receiver::{aim, damage, orders};
@@ -146,7 +146,7 @@ pub fn any_call(check: &mut Check, held: &mut Held, files: &[File]) -> Step {
     Ok(())
 }
 
-/// METADATA for one of the files: as planned, or now and then with another width or length.
+/// METADATA for one of the files: as planned, or now and then with another width or length, or with a CRC-32c.
 pub fn opening_packet(rng: &mut Rng, files: &[File]) -> Vec<u8> {
     opening_of(rng, files).octets(rng)
 }
@@ -160,7 +160,10 @@ fn opening_of(rng: &mut Rng, files: &[File]) -> crate::packets::Metadata {
         3 => File { length: planned.length.saturating_sub(1), ..planned },
         _ => planned,
     };
-    opening(rng, other)
+    match rng.one_in(16) {
+        true => old_opening(rng, other),
+        false => opening(rng, other),
+    }
 }
 
 /// DATA for one of the files, aimed at its transfer if it is open.

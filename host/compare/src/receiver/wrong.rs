@@ -98,6 +98,20 @@ wrong! {
     FifteenIds,
     /// 17 before 18.
     FullBeforeOther,
+    /// 23 before 18.
+    ChecksumBeforeOther,
+    /// 17 before 23.
+    FullBeforeChecksum,
+    /// 23 before the reader's refusals.
+    ChecksumBeforePath,
+    /// A new Id is opened with a CRC-32c.
+    OldChecksumOpened,
+    /// Opening again is refused for a CRC-32c.
+    AgainRefusedForChecksum,
+    /// A new Id is refused for MD5.
+    Md5Refused,
+    /// A new Id is refused for any checksum of one word.
+    OneWordRefused,
     /// Opening again forgets what was received.
     AgainForgets,
     /// Opening again answers the edge 0.

@@ -12,6 +12,7 @@ use crate::receiver::wrong_areas::unused_heads;
 use crate::receiver::wrong_counts::{forget_all_repeats, forget_repeats};
 use crate::receiver::wrong_stamps::forget_closed;
 use crate::receiver::{Ask, Receiver};
+use crate::wrong::{is_crc32c, without_checksum};
 use crate::wrong_width::{wide_descriptors, with_upper_cleared};
 
 impl Receiver for Wrong {
@@ -65,6 +66,19 @@ impl Receiver for Wrong {
                 return refused(17, 0x03);
             }
             (FullBeforeOther, _) if right.number == 18 && table.transfers.len() == 16 => return refused(17, 0x03),
+            (ChecksumBeforeOther, _) if right.number == 18 && is_crc32c(packet) => return refused(23, 0x01),
+            (FullBeforeChecksum, _) if right.number == 23 && table.transfers.len() == 16 => return refused(17, 0x03),
+            (ChecksumBeforePath, _) if matches!(right.number, 1 | 8) && is_crc32c(packet) => return refused(23, 0x01),
+            (OldChecksumOpened, _) if right.number == 23 => return Paper.open(area, &without_checksum(packet)),
+            (AgainRefusedForChecksum, _) if right.already_open == 1 && is_crc32c(packet) => return refused(23, 0x01),
+            (Md5Refused, None) if right.number == 0 && packet[3] == 0x42 => {
+                area.copy_from_slice(&before);
+                return refused(23, 0x01);
+            }
+            (OneWordRefused, None) if right.number == 0 && packet[3] >> 4 == 1 => {
+                area.copy_from_slice(&before);
+                return refused(23, 0x01);
+            }
             (RepeatsListed, None) if right.number == 0 => forget_repeats(read.id),
             (AgainForgets, Some(_)) if right.already_open == 1 => {
                 change_entry(area, read.id, |entry| entry.runs.clear());

@@ -18,6 +18,13 @@ pub fn metadata(id: u32, width: usize, size: u64) -> Vec<u8> {
     [start(2, width, id), hex("00 80"), size.to_be_bytes().to_vec(), vec![0; 8], b"a\0".to_vec()].concat()
 }
 
+/// METADATA with a checksum of this type and as many words put in.
+pub fn with_checksum(metadata: &[u8], kind: u8, words: usize) -> Vec<u8> {
+    let mut packet = [&metadata[..8], &vec![0x5C; 4 * words], &metadata[8..]].concat();
+    packet[3] = 16 * words as u8 + kind;
+    packet
+}
+
 /// DATA without timestamp, with `len` octets of payload.
 pub fn data(id: u32, width: usize, offset: u64, len: usize) -> Vec<u8> {
     [&start(3, width, id)[..], &u128::from(offset).to_be_bytes()[16 - width..], &vec![0x61; len]].concat()

@@ -12,7 +12,7 @@ use lib.Seq.{drop-at, length-take-le}
 use lib.Dec.{ltb, eqb}
 use borrow.Author.Tests.{lt-ltb, le-ltb, eq-eqb}
 use Rattle.octets.specs.Numbers.{Octets}
-use Rattle.refusals.specs.Refusals.{when}
+use Rattle.refusals.specs.Refusals.{_▹_, when}
 use Rattle.refusals.proofs.TestLaws.{eqb-iff, ltb-iff, and-iff, both, test-not}
 use Rattle.refusals.proofs.RefusalLaws.{first-none, rest-none, failed}
 use Rattle.varint.specs.Varint.{groups, varintOctets, octetRefusal, refusalFrom, varintRefusal, varintValue, varintSize, afterVarint, varintOr, varintIn}
@@ -209,6 +209,15 @@ module _ (r : Varint) (s : List ℕ) (e : r ≡ varintIn s) where
   told-refusal = ap (λ (q : Varint). q .refusal) e ∙ go (varintRefusal s)
     where
       go : (n : ℕ) → varintOr n (varintValue s) (varintSize s) .refusal ≡ n
+      go zero = refl
+      go (suc n) = refl
+
+  -- its refusal, and then one of its value
+  pub told-judged : (judge : ℕ → ℕ) → r .refusal ▹ judge (r .value) ≡ varintRefusal s ▹ judge (varintValue s)
+  unfolding varintIn
+  told-judged judge = ap (λ (q : Varint). q .refusal ▹ judge (q .value)) e ∙ go (varintRefusal s)
+    where
+      go : (n : ℕ) → varintOr n (varintValue s) (varintSize s) .refusal ▹ judge (varintOr n (varintValue s) (varintSize s) .value) ≡ n ▹ judge (varintValue s)
       go zero = refl
       go (suc n) = refl
 

@@ -1,7 +1,7 @@
 -- `settings_pairs::read_pair` meets its contract: the key, then the value, and each may refuse the pair.
 -- Assumes nothing.
 use borrow.Author.Needs.{needs}
-use Prim.Native.Nat.{ℕ, _+_, _<_, _≤_}
+use Prim.Native.Nat.{ℕ, _+_, _≤_}
 use mathlib.Core.Path.{_≡_, sym, ap, _∙_}
 use mathlib.Core.List.{List}
 use denote.Ref.{now}
@@ -10,7 +10,7 @@ use lib.Seq.{drop-drop}
 use native.Mathlib.Omega.{arith}
 use Rattle.refusals.specs.Refusals.{_▹_}
 use Rattle.refusals.proofs.RefusalLaws.{first-none}
-use Rattle.varint.specs.Varint.{varintRefusal, varintSize, afterVarint, varintIn}
+use Rattle.varint.specs.Varint.{varintSize, afterVarint, varintIn}
 use Rattle.varint.proofs.ReadLaws.{told-judged, told-value, told-size}
 use Rattle.settings.specs.Settings.{keyRefusal, valueRefusal}
 use Rattle.settings_pairs.specs.Pairs.{keyIn, valueIn, pairSize}

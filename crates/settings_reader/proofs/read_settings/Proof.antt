@@ -8,10 +8,9 @@ use lib.ListN.{length, drop}
 use native.Mathlib.Omega.{arith}
 use Rattle.refusals.specs.Refusals.{_▹_}
 use Rattle.refusals.proofs.RefusalLaws.{first-none}
-use Rattle.varint.specs.Varint.{varintRefusal, varintValue, varintSize, afterVarint, varintIn}
+use Rattle.varint.specs.Varint.{varintValue, varintSize, afterVarint, varintIn}
 use Rattle.varint.proofs.ReadLaws.{told-refusal, told-none, told-judged, told-value, told-size}
 use Rattle.settings.specs.Settings.{versionRefusal}
-use Rattle.settings_pairs.specs.Pairs.{pairSize}
 use Rattle.settings_pairs.proofs.PairLaws.{pair-le}
 use Rattle.settings_reader.specs.declared.SettingsRead.the-variants.{Refused}
 use Rattle.settings_reader.proofs.FileLaws.{versionPart, version-refused, count-refused, pairs-told}

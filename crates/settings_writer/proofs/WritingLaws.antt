@@ -35,7 +35,7 @@ settings-length s =
     five-length (varintOctets (s .version)) (varintOctets (pairCount s)) (pairOctets 1 (s .largest)) (optionOctets (s .timed) 2 (s .interval))
     (optionOctets (s .paired) 3 (s .partner))
 
--- of any settings; those that a file holds need far fewer (settings_theorems: SizeLaws)
+-- of any settings; those that a file holds need far fewer (settings_theorems: AcceptedLaws)
 pub settings-below : (s : Settings) → length (settingsOctets s) ≤ 80
 settings-below s =
     omega (

@@ -4,3 +4,4 @@ pub mod bitmaps;
 pub mod packets;
 pub mod plans;
 pub mod receiver;
+pub mod settings_file;

@@ -1,8 +1,8 @@
 # make test     the gate: proofs, must-fail edits, host tests
 # make lib      proves the library and builds target/staticlib/libsaratoga.a
 # make replay   proves and builds replay, and runs it on the pass of page 611, or on PASS=file (docs/REPLAY.md)
-# make compare  compares the archive with the codec, receivers and planner of host/paper; SEED=N and CALLS=N are optional
-# make soak     the same over 3.6 x 10^8 calls, an hour or more; or for SECONDS=N seconds
+# make compare  compares the archive with the codec, receivers, planner and settings of host/paper; SEED=N, CALLS=N optional
+# make soak     the same over 4.1 x 10^8 calls, an hour or more; or for SECONDS=N seconds
 # make stack    prints the stack that each function needs
 # make bench    measures the library beside plain C and prints the ratios; docs/BENCHMARKS.md
 # make bench-instructions   the same in instructions, by callgrind
@@ -35,12 +35,13 @@ lib:
 compare: lib
 	cd host && CARGO_TARGET_DIR=../target/host cargo build --offline --locked --release --quiet
 	target/host/release/compare $(if $(SEED),--seed $(SEED)) $(if $(CALLS),--calls $(CALLS) --receiver-calls $(CALLS) \
-		--plan-calls $(CALLS) --bitmap-calls $(CALLS))
+		--plan-calls $(CALLS) --bitmap-calls $(CALLS) --settings-calls $(CALLS))
 
 soak: lib
 	cd host && CARGO_TARGET_DIR=../target/host cargo build --offline --locked --release --quiet
 	target/host/release/compare $(if $(SEED),--seed $(SEED)) \
-		$(if $(SECONDS),--seconds $(SECONDS),--calls 100000000 --receiver-calls 200000000 --plan-calls 50000000 --bitmap-calls 10000000)
+		$(if $(SECONDS),--seconds $(SECONDS),--calls 100000000 --receiver-calls 200000000 --plan-calls 50000000 --bitmap-calls 10000000 \
+		--settings-calls 50000000)
 
 stack: lib
 	$(CC) -std=c99 -O2 -Iinclude host/ctest/stack.c $(ARCHIVE) -lpthread -o target/stack

@@ -1,5 +1,5 @@
-//! Compares the archive libsaratoga.a with the codec, the two receivers and the planner of host/paper: every field of every
-//! answer and every octet of every lent buffer, area and list, over many calls.
+//! Compares the archive libsaratoga.a with the codec, the two receivers, the planner and the reader and writer of settings of
+//! host/paper: every field of every answer and every octet of every lent buffer, area and list, over many calls.
 
 #![deny(unsafe_code)]
 
@@ -25,6 +25,7 @@ mod receiver;
 mod rng;
 mod round_trip;
 mod run;
+mod settings;
 mod tally;
 #[cfg(test)]
 mod tests;
@@ -37,10 +38,11 @@ use std::time::{Duration, Instant, SystemTime, UNIX_EPOCH};
 use run::End;
 
 const HELP: &str = "\
-compare: compares libsaratoga.a with a codec, two receivers and a planner written from the papers alone
+compare: compares libsaratoga.a with a codec, two receivers, a planner, and a reader and writer of settings that were
+written from the papers alone
 
-usage: compare [--seed N] [--calls N] [--receiver-calls N] [--plan-calls N] [--bitmap-calls N] [--seconds N] [--self-check]
-               [--help]
+usage: compare [--seed N] [--calls N] [--receiver-calls N] [--plan-calls N] [--bitmap-calls N] [--settings-calls N]
+               [--seconds N] [--self-check] [--help]
 
   --seed N             start the random numbers from N (else from the clock); the seed is printed
   --calls N            make N calls on packets, 3,000,000 unless given; each limit is always tried, in some 650,000
@@ -48,9 +50,12 @@ usage: compare [--seed N] [--calls N] [--receiver-calls N] [--plan-calls N] [--b
   --plan-calls N       make N calls on plans, 1,000,000 unless given; each limit is always tried, in some 510,000
   --bitmap-calls N     make N calls on marks and the table beside them, 200,000 unless given; each limit is always tried,
                        in some 32,000
-  --seconds N          make calls for N seconds instead, two fifths of the time on areas and one on each other kind
-  --self-check         compare with codecs, receivers and planners that are wrong in one way each instead: each must be
-                       found
+  --settings-calls N   make N calls on settings, 20,000,000 unless given; each limit, and each file of up to three octets,
+                       is always tried, in some 18,550,000
+  --seconds N          make calls for N seconds instead, two sixths of the time on areas and one on each other kind; what is
+                       always tried may take more
+  --self-check         compare with codecs, receivers, planners and readers and writers of settings that are wrong in one way
+                       each instead: each must be found
   --help               print this
 
 A run fails with status 1 at the first answer or octet that differs, which it prints with the packet and the area or the
@@ -63,6 +68,7 @@ struct Options {
     receiver_calls: u64,
     plan_calls: u64,
     bitmap_calls: u64,
+    settings_calls: u64,
     seconds: Option<u64>,
     self_check: bool,
 }
@@ -96,8 +102,8 @@ fn main() -> ExitCode {
 fn compare(options: &Options) -> Result<(), String> {
     let seed = options.seed;
     let start = Instant::now();
-    let end = |fifths: u32, calls: u64| match options.seconds {
-        Some(seconds) => End::at(start + Duration::from_secs(seconds) * fifths / 5),
+    let end = |sixths: u32, calls: u64| match options.seconds {
+        Some(seconds) => End::at(start + Duration::from_secs(seconds) * sixths / 6),
         None => End::after(calls),
     };
     let packets = run::packets(&ffi::Archive, seed, end(1, options.calls))?;
@@ -116,6 +122,10 @@ fn compare(options: &Options) -> Result<(), String> {
     println!("compare: {} calls on marks and the table beside them agree, seed {seed}", marks.calls);
     missing.extend(marks.tally.missing(3));
     tally = tally.with(&marks.tally);
+    let settings = run::settings(&ffi::Archive, seed, end(6, options.settings_calls))?;
+    println!("compare: {} calls on settings agree, seed {seed}", settings.calls);
+    missing.extend(settings.tally.missing(4));
+    tally = tally.with(&settings.tally);
     missing.extend(tally.never().into_iter().map(|number| format!("{number} from any function")));
     print!("{tally}");
     match missing.is_empty() {
@@ -126,7 +136,7 @@ fn compare(options: &Options) -> Result<(), String> {
 
 fn self_check(options: &Options) -> Result<(), String> {
     let count = run::self_check(options.seed, options.calls)?;
-    println!("compare: all {count} wrong codecs, receivers and planners are found, seed {}", options.seed);
+    println!("compare: all {count} wrong codecs, receivers, planners and settings are found, seed {}", options.seed);
     Ok(())
 }
 
@@ -139,6 +149,7 @@ fn options() -> Result<Option<Options>, String> {
         receiver_calls: 1_000_000,
         plan_calls: 1_000_000,
         bitmap_calls: 200_000,
+        settings_calls: 20_000_000,
         seconds: None,
         self_check: false,
     };
@@ -154,6 +165,7 @@ fn options() -> Result<Option<Options>, String> {
             "--receiver-calls" => options.receiver_calls = number()?,
             "--plan-calls" => options.plan_calls = number()?,
             "--bitmap-calls" => options.bitmap_calls = number()?,
+            "--settings-calls" => options.settings_calls = number()?,
             "--seconds" => options.seconds = Some(number()?),
             "--self-check" => options.self_check = true,
             "--help" | "-h" => return Ok(None),

@@ -29,13 +29,16 @@ pub enum Function {
     BitmapOpen,
     BitmapRecord,
     BitmapStatus,
+    ReadSettings,
+    WriteSettings,
 }
 
-const COLUMNS: usize = 21;
+const COLUMNS: usize = 23;
 /// 0, accepted, to 26.
 const ROWS: usize = 27;
-/// The numbers of a refusal; 23 to 25 are none.
-const NUMBERS: [usize; 23] = [1, 2, 3, 4, 5, 6, 7, 8, 9, 10, 11, 12, 13, 14, 15, 16, 17, 18, 19, 20, 21, 22, 26];
+/// The numbers of a refusal; 23 is none.
+const NUMBERS: [usize; 25] =
+    [1, 2, 3, 4, 5, 6, 7, 8, 9, 10, 11, 12, 13, 14, 15, 16, 17, 18, 19, 20, 21, 22, 24, 25, 26];
 
 /// Each with its heading in the table.
 const NAMES: [(&str, &str); COLUMNS] = [
@@ -60,6 +63,8 @@ const NAMES: [(&str, &str); COLUMNS] = [
     ("saratoga_bitmap_open", "bm_open"),
     ("saratoga_bitmap_record", "bm_record"),
     ("saratoga_bitmap_status", "bm_status"),
+    ("saratoga_read_settings", "read_set"),
+    ("saratoga_write_settings", "write_set"),
 ];
 
 /// The conditions of a plan, as they are told of.
@@ -95,10 +100,12 @@ const CAN_OCCUR: [&[usize]; COLUMNS] = [
     &[0, 1, 2, 3, 4, 5, 6, 7, 8, 9, 20],
     &[0, 1, 2, 3, 4, 5, 6, 10, 12, 13, 14, 15, 16, 20, 22],
     &[0, 12, 19, 20, 22],
+    &[0, 1, 24, 25],
+    &[0, 20, 24, 25],
 ];
 
-/// The functions of each comparison: those on packets, those on areas, those on plans, those on marks.
-const PARTS: [Range<usize>; 4] = [0..6, 6..15, 15..18, 18..COLUMNS];
+/// The functions of each comparison: those on packets, those on areas, those on plans, those on marks, those on settings.
+const PARTS: [Range<usize>; 5] = [0..6, 6..15, 15..18, 18..21, 21..COLUMNS];
 const ON_PLANS: usize = 2;
 
 #[derive(Clone, Default)]

@@ -1,7 +1,7 @@
 //! The comparisons themselves: they find every wrong codec, receiver and planner, and agree with right ones.
 
 use crate::codec::Paper;
-use crate::run::{bitmaps, packets, plans, receiver, self_check, End};
+use crate::run::{bitmaps, packets, plans, receiver, self_check, settings, End};
 
 #[test]
 fn wrong_ones_are_found() {
@@ -16,11 +16,14 @@ fn the_paper_agrees_with_itself() {
     let receiver = receiver(&Paper, &Paper, 1, End::after(250_000)).unwrap_or_else(|what| panic!("{what}"));
     assert_eq!(receiver.tally.missing(1), Vec::<String>::new());
     assert!(receiver.calls >= 250_000);
-    assert_eq!(packets.tally.with(&receiver.tally).never(), Vec::<String>::new());
     let plans = plans(&Paper, 1, End::after(700_000)).unwrap_or_else(|what| panic!("{what}"));
     assert_eq!(plans.tally.missing(2), Vec::<String>::new());
     assert!(plans.calls >= 700_000);
     let marks = bitmaps(&Paper, &Paper, 1, End::after(40_000)).unwrap_or_else(|what| panic!("{what}"));
     assert_eq!(marks.tally.missing(3), Vec::<String>::new());
     assert!(marks.calls >= 40_000);
+    let settings = settings(&Paper, 1, End::after(18_600_000)).unwrap_or_else(|what| panic!("{what}"));
+    assert_eq!(settings.tally.missing(4), Vec::<String>::new());
+    assert!(settings.calls >= 18_600_000);
+    assert_eq!(packets.tally.with(&receiver.tally).with(&settings.tally).never(), Vec::<String>::new());
 }

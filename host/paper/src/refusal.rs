@@ -1,4 +1,4 @@
-//! "The numbers of a refusal": every refusal, with "the status code to send (0: nothing to send)". From 26 on they are
+//! "The numbers of a refusal": every refusal, with "the status code to send (0: nothing to send)". From 24 on they are
 //! document 02's.
 
 /// One row of the table. The value of each is its number.
@@ -50,6 +50,10 @@ pub enum Refusal {
     Field = 21,
     /// "a lent desk area is no image of a desk as described"
     Area = 22,
+    /// R9.24: a version of settings that is not known
+    SettingsVersion = 24,
+    /// R9.25: a settings file that is not as it should be, or settings that no file holds
+    Settings = 25,
     /// "The fourth pairing, 0 1, is refused with 26 (code 0), and so is a last flags octet that isn't 0"
     Beacon = 26,
 }
@@ -85,6 +89,8 @@ impl Refusal {
             Refusal::Buffer => 0,
             Refusal::Field => 0,
             Refusal::Area => 0,
+            Refusal::SettingsVersion => 0,
+            Refusal::Settings => 0,
             Refusal::Beacon => 0,
         }
     }

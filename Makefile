@@ -9,19 +9,21 @@
 # make bench-descriptors    reading a descriptor now, at earlier commits and in plain C, in time and instructions; needs the history
 # make link     builds the link program, target/link/saratoga-link (docs/LINK.md)
 # make plan     builds the sender's planner, target/plan/saratoga-plan (docs/PLAN.md)
-# make install  header, archive, pkg-config file, replay, the tools, the link program and the planner, with man pages, below
-#               PREFIX (default /usr/local; PREFIX=$HOME/.local needs no root); make uninstall takes them away
+# make settings builds the program for a plant's settings file, target/settings/saratoga-settings (docs/SETTINGS.md)
+# make install  header, archive, pkg-config file, replay, the tools, the link program, the planner and the program for settings, with
+#               man pages, below PREFIX (default /usr/local; PREFIX=$HOME/.local needs no root); make uninstall takes them away
 PREFIX ?= /usr/local
 VERSION = 0.1
 ARCHIVE = target/staticlib/libsaratoga.a
 PLAN_SOURCES = $(addprefix host/plan/,plan.c input.c reason.c)
+SETTINGS_SOURCES = $(addprefix host/settings/,settings.c fault.c store.c)
 LINK_SOURCES = $(addprefix host/link/,link.c source.c dispatch.c table.c store.c disk.c meta.c onair.c control.c text.c)
 BENCH_FLAGS = -O2 -Wall -Wextra -Iinclude
 
 PASS ?= host/passes/page611.pass
 
 .PHONY: test lib replay-program front replay compare soak stack bench-program bench bench-instructions bench-descriptors
-.PHONY: link plan install uninstall clean help
+.PHONY: link plan settings install uninstall clean help
 
 help:
 	@sed -n '/^[^#]/q; s/^# //p' Makefile
@@ -70,6 +72,10 @@ plan: lib
 	mkdir -p target/plan
 	$(CC) -std=c99 -Wall -Wextra -pedantic -O2 -Iinclude $(PLAN_SOURCES) $(ARCHIVE) -o target/plan/saratoga-plan
 
+settings: lib
+	mkdir -p target/settings
+	$(CC) -std=c99 -Wall -Wextra -pedantic -O2 -Iinclude $(SETTINGS_SOURCES) $(ARCHIVE) -o target/settings/saratoga-settings
+
 replay-program:
 	@rt check replay >&2
 
@@ -89,15 +95,16 @@ replay: front
 AT = $(DESTDIR)$(PREFIX)
 TOOLS = pcap2pass passtext passplot marks
 MODULES = saratoga_pass.py saratoga_tool.py
-PAGES = replay pcap2pass passtext passplot marks saratoga-link saratoga-plan
+PAGES = replay pcap2pass passtext passplot marks saratoga-link saratoga-plan saratoga-settings
 
-install: lib front link plan
+install: lib front link plan settings
 	install -d "$(AT)/include" "$(AT)/lib/pkgconfig" "$(AT)/bin" "$(AT)/libexec/saratoga" "$(AT)/share/man/man1"
 	install -m 644 include/saratoga.h "$(AT)/include/saratoga.h"
 	install -m 644 $(ARCHIVE) "$(AT)/lib/libsaratoga.a"
 	sed 's|@PREFIX@|$(PREFIX)|;s|@VERSION@|$(VERSION)|' host/saratoga.pc.in >"$(AT)/lib/pkgconfig/saratoga.pc"
 	chmod 644 "$(AT)/lib/pkgconfig/saratoga.pc"
 	install -m 755 target/front/bin/replay target/link/saratoga-link target/plan/saratoga-plan "$(AT)/bin"
+	install -m 755 target/settings/saratoga-settings "$(AT)/bin"
 	install -m 755 target/bin/replay $(TOOLS:%=host/tools/%) "$(AT)/libexec/saratoga"
 	install -m 644 $(MODULES:%=host/tools/%) "$(AT)/libexec/saratoga"
 	for tool in $(TOOLS); do ln -sf "../libexec/saratoga/$$tool" "$(AT)/bin/$$tool" || exit 1; done
@@ -105,7 +112,7 @@ install: lib front link plan
 
 uninstall:
 	rm -f "$(AT)/include/saratoga.h" "$(AT)/lib/libsaratoga.a" "$(AT)/lib/pkgconfig/saratoga.pc"
-	for file in replay saratoga-link saratoga-plan $(TOOLS); do rm -f "$(AT)/bin/$$file" || exit 1; done
+	for file in replay saratoga-link saratoga-plan saratoga-settings $(TOOLS); do rm -f "$(AT)/bin/$$file" || exit 1; done
 	for page in $(PAGES); do rm -f "$(AT)/share/man/man1/$$page.1" || exit 1; done
 	for file in replay $(TOOLS) $(MODULES); do rm -f "$(AT)/libexec/saratoga/$$file" || exit 1; done
 	if [ -d "$(AT)/libexec/saratoga" ]; then rmdir "$(AT)/libexec/saratoga"; fi

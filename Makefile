@@ -17,7 +17,7 @@ VERSION = 0.1
 ARCHIVE = target/staticlib/libsaratoga.a
 PLAN_SOURCES = $(addprefix host/plan/,plan.c input.c reason.c)
 SETTINGS_SOURCES = $(addprefix host/settings/,settings.c fault.c store.c)
-LINK_SOURCES = $(addprefix host/link/,link.c source.c dispatch.c table.c store.c disk.c meta.c onair.c control.c text.c)
+LINK_SOURCES = $(addprefix host/link/,link.c source.c dispatch.c table.c store.c disk.c meta.c onair.c control.c settings.c text.c)
 BENCH_FLAGS = -O2 -Wall -Wextra -Iinclude
 
 PASS ?= host/passes/page611.pass

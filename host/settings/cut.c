@@ -1,7 +1,8 @@
 /*
- * For the test of store.c: the linker puts these functions in the place of write, fsync and rename (--wrap). They do what those do, and
- * first add a line to the file that CUT_LOG names: `write`, `fsync file`, `fsync folder`, `rename`. The call whose number is CUT,
- * counted from 1, doesn't return: the program ends there, before it is made, with status 98. With CUT_FAILS it fails instead.
+ * For the test of store.c: the linker puts these functions in the place of write, fsync and rename (--wrap). They do what those
+ * do, and first add a line to the file that CUT_LOG names: `write`, `fsync file`, `fsync folder`, `rename`. The call whose number
+ * is CUT, counted from 1, doesn't return: the program ends there, before it is made, with status 98. With CUT_FAILS it fails
+ * instead.
  */
 #define _POSIX_C_SOURCE 200809L
 #include <errno.h>

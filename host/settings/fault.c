@@ -1,11 +1,11 @@
 /*
  * Where and why a settings file is refused. The library gives the number alone.
  *
- * The octet is found by trying beginnings of the file, the shorter ones first: a file that is refused with 24 or 25 is refused with
- * that number from its first fault on, whatever follows, and every beginning before it is refused with 1 or is itself a whole file
- * (R19.9, proved). So the first beginning that is refused with the number ends with the octet. Of a file without key 1 that goes on
- * after its last pair that is the end of the pair, and the missing key is named. A file that is refused with 1 ends too early, and has
- * no such octet.
+ * The octet is found by trying beginnings of the file, the shorter ones first: a file that is refused with 24 or 25 is refused
+ * with that number from its first fault on, whatever follows, and every beginning before it is refused with 1 or is itself a whole
+ * file (R19.9, proved). So the first beginning that is refused with the number ends with the octet. Of a file without key 1 that
+ * goes on after its last pair, that is the end of the pair, and the missing key is named. A file that is refused with 1 ends too
+ * early, and has no such octet.
  *
  * The words come from a walk of this program's own over the numbers up to that octet: the fault is in the last of them.
  */

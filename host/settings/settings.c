@@ -1,6 +1,6 @@
 /*
- * saratoga-settings: shows a plant's settings file, or makes one. Files are judged and written by the library. Here: the command
- * line, and files as they are named on it.
+ * saratoga-settings: shows a plant's settings file, or makes one. Files are judged and written by the library. Here: the
+ * command line, and files as they are named on it.
  */
 #include "settings.h"
 
@@ -23,12 +23,12 @@ static const char help[] =
     "  -h, --help              this text\n"
     "      --version           the library's version\n"
     "\n"
-    "Shown are lines such as largest-payload=1024; what a file leaves out has none. Of a file that is refused the first octet is\n"
-    "named at which it is, counted from 1, and why. A file is written beside the old one, forced to disk and renamed: whatever\n"
-    "happens meanwhile, there is the old one or the new one.\n"
+    "Shown are lines such as largest-payload=1024; what a file leaves out has none. Of a file that is refused, the octet\n"
+    "at which that is clear is named, counted from 1, and why. A file is written beside the old one, forced to disk and\n"
+    "renamed: whatever happens meanwhile, there is the old one or the new one.\n"
     "\n"
-    "Ends with 0, with 1 where the file or the settings are refused, and with 2 where something is wrong with options, or a file\n"
-    "can't be read or written.\n";
+    "Ends with 0, with 1 where the file or the settings are refused, and with 2 where something is wrong with options, or\n"
+    "a file can't be read or written.\n";
 
 struct options {
     const char *name;

@@ -1,6 +1,7 @@
 /*
- * Puts a file in the place of another. It is written under a name of its own in the same folder, forced to disk, renamed, and then the
- * folder is forced to disk. So a reader, and a program after a crash or a power cut, finds the old file or the new one, whole.
+ * Puts a file in the place of another. It is written under a name of its own in the same folder, forced to disk, renamed, and
+ * then the folder is forced to disk. So a reader, and a program after a crash or a power cut, finds the old file or the new one,
+ * whole.
  */
 #define _POSIX_C_SOURCE 200809L
 #include "settings.h"

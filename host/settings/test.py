@@ -1,7 +1,7 @@
 #!/usr/bin/env python3
-"""Tests saratoga-settings from its command line: files made and shown, beside a reader and writer of its own; the octet and the words
-of files that are refused; hostile files; and a file that is being replaced when the program is cut off, or when a call fails. Needs a C
-compiler, python3 and the archive.
+"""Tests saratoga-settings from its command line: files made and shown, beside a reader and writer of its own; the octet and the
+words of files that are refused; hostile files; and a file that is being replaced when the program is cut off, or when a call fails.
+Needs a C compiler, python3 and the archive.
 
     host/settings/test.py [COUNT]     COUNT random files (else 300)
 """
@@ -132,7 +132,8 @@ def shown(program, file, known=2):
         number, at, words = refused.args
         place = "" if number == 1 else f" at octet {at}"
         check((out, code) == ("", 1), f"{file.hex(' ')}: {out!r} {code}")
-        check(told.startswith(f"saratoga-settings: standard input: refused {number}{place}: {words}"), f"{file.hex(' ')}: {told}")
+        want = f"saratoga-settings: standard input: refused {number}{place}: {words}"
+        check(told.startswith(want), f"{file.hex(' ')}: {told}")
         return number
     check((out, told, code) == (want, "", 0), f"{file.hex(' ')}: {out!r} {told} {code}")
     return 0
@@ -214,9 +215,10 @@ def bad_usage(program):
     good = program.file("good", b"\1\1\1\5")
     for words in ((), (good, good), ("--wrong", good), ("-m", good), ("-m",), ("-m", "x", good), ("-m", "", good),
                   ("-m", "-1", good), ("-m", "1 ", good), ("-m", "0x", good), ("-m", str(TOP + 1), good), ("-i", "5", good),
-                  ("-p", "5", good), ("--format", "1", good), ("-m", "5"), ("-m", "5", "-"), ("--known", good), ("--known", "x", good),
-                  ("-m", "5", "--known", "2", good), ("--help", "-m"), (os.path.join(program.place, "nofile"),), (program.place,),
-                  ("-m", "5", os.path.join(program.place, "nofolder", "x")), ("-m", "5", program.place), ("-m", "5", "")):
+                  ("-p", "5", good), ("--format", "1", good), ("-m", "5"), ("-m", "5", "-"), ("--known", good),
+                  ("--known", "x", good), ("-m", "5", "--known", "2", good), ("--help", "-m"), (program.place,),
+                  (os.path.join(program.place, "nofile"),), ("-m", "5", os.path.join(program.place, "nofolder", "x")),
+                  ("-m", "5", program.place), ("-m", "5", "")):
         out, told, code = program.run(*words)
         check((out, code) == ("", 2) and told.startswith("saratoga-settings: "), f"{words}: {out} {told} {code}")
     check(content(good) == b"\1\1\1\5", "a wrong option changed the file")
@@ -246,7 +248,7 @@ def as_it_was(program):
 
 
 def cut_everywhere(program):
-    """Ended before each call, and with each call failing: there is the old file or the new one, and the order of calls is the safe one."""
+    """Ended before each call, and with each call failing: there is the old file or the new one, and the calls have their order."""
     old, new = b"\1\1\1\5", form(2) + form(3) + form(1) + form(65000) + form(2) + form(3600) + form(3) + form(2 ** 32 - 1)
     words = ("-m", "65000", "-i", "3600", "-p", str(2 ** 32 - 1))
     log, path = program.file("log"), program.file("plant.settings", old)

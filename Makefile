@@ -1,8 +1,8 @@
 # make test     the gate: proofs, must-fail edits, host tests
 # make lib      proves the library and builds target/staticlib/libsaratoga.a
 # make replay   proves and builds replay, and runs it on the pass of page 611, or on PASS=file (docs/REPLAY.md)
-# make compare  compares the archive with the codec, receivers, planner and merging of host/paper; SEED=N and CALLS=N are optional
-# make soak     the same over 3.6 x 10^8 calls, an hour or more; or for SECONDS=N seconds
+# make compare  compares the archive with the codec, receivers, planner, merging and settings of host/paper; SEED=N, CALLS=N optional
+# make soak     the same over 4.2 x 10^8 calls, an hour or more; or for SECONDS=N seconds
 # make stack    prints the stack that each function needs
 # make bench    measures the library beside plain C and prints the ratios; docs/BENCHMARKS.md
 # make bench-instructions   the same in instructions, by callgrind
@@ -11,21 +11,23 @@
 # make merge    builds the program that merges two plants' directories, target/merge/saratoga-merge (docs/LINK.md)
 # make gigabyte a page of a gigabyte through the link program, its MD5 against Python's; half a minute, two gigabytes of disk
 # make plan     builds the sender's planner, target/plan/saratoga-plan (docs/PLAN.md)
-# make install  header, archive, pkg-config file, replay, the tools, the link program, the planner and saratoga-merge, with man pages, below
-#               PREFIX (default /usr/local; PREFIX=$HOME/.local needs no root); make uninstall takes them away
+# make settings builds the program for a plant's settings file, target/settings/saratoga-settings (docs/SETTINGS.md)
+# make install  header, archive, pkg-config file, replay, the tools, the link program, the planner, saratoga-merge and the program for
+#               settings, with man pages, below PREFIX (default /usr/local; PREFIX=$HOME/.local needs no root); make uninstall takes them away
 PREFIX ?= /usr/local
 VERSION = 0.1
 ARCHIVE = target/staticlib/libsaratoga.a
 PLAN_SOURCES = $(addprefix host/plan/,plan.c input.c reason.c)
 LINK_SOURCES = $(addprefix host/link/,link.c source.c dispatch.c table.c store.c disk.c meta.c check.c sheet.c onair.c control.c \
-	text.c)
+	settings.c text.c)
 MERGE_SOURCES = $(addprefix host/merge/,merge.c octets.c) $(addprefix host/link/,table.c store.c disk.c meta.c check.c sheet.c text.c)
+SETTINGS_SOURCES = $(addprefix host/settings/,settings.c fault.c store.c)
 BENCH_FLAGS = -O2 -Wall -Wextra -Iinclude
 
 PASS ?= host/passes/page611.pass
 
 .PHONY: test lib replay-program front replay compare soak stack bench-program bench bench-instructions bench-descriptors
-.PHONY: link gigabyte plan merge install uninstall clean help
+.PHONY: link gigabyte plan merge settings install uninstall clean help
 
 help:
 	@sed -n '/^[^#]/q; s/^# //p' Makefile
@@ -39,12 +41,13 @@ lib:
 compare: lib
 	cd host && CARGO_TARGET_DIR=../target/host cargo build --offline --locked --release --quiet
 	target/host/release/compare $(if $(SEED),--seed $(SEED)) $(if $(CALLS),--calls $(CALLS) --receiver-calls $(CALLS) \
-		--plan-calls $(CALLS) --bitmap-calls $(CALLS) --merge-calls $(CALLS))
+		--plan-calls $(CALLS) --bitmap-calls $(CALLS) --merge-calls $(CALLS) --settings-calls $(CALLS))
 
 soak: lib
 	cd host && CARGO_TARGET_DIR=../target/host cargo build --offline --locked --release --quiet
 	target/host/release/compare $(if $(SEED),--seed $(SEED)) \
-		$(if $(SECONDS),--seconds $(SECONDS),--calls 100000000 --receiver-calls 200000000 --plan-calls 50000000 --bitmap-calls 10000000 --merge-calls 10000000)
+		$(if $(SECONDS),--seconds $(SECONDS),--calls 100000000 --receiver-calls 200000000 --plan-calls 50000000 --bitmap-calls 10000000 \
+		--merge-calls 10000000 --settings-calls 50000000)
 
 stack: lib
 	$(CC) -std=c99 -O2 -Iinclude host/ctest/stack.c $(ARCHIVE) -lpthread -o target/stack
@@ -87,6 +90,10 @@ merge: lib
 	mkdir -p target/merge
 	$(CC) -std=c99 -Wall -Wextra -pedantic -O2 -Iinclude -Ihost/link $(MERGE_SOURCES) $(ARCHIVE) -o target/merge/saratoga-merge
 
+settings: lib
+	mkdir -p target/settings
+	$(CC) -std=c99 -Wall -Wextra -pedantic -O2 -Iinclude $(SETTINGS_SOURCES) $(ARCHIVE) -o target/settings/saratoga-settings
+
 replay-program:
 	@rt check replay >&2
 
@@ -106,15 +113,16 @@ replay: front
 AT = $(DESTDIR)$(PREFIX)
 TOOLS = pcap2pass passtext passplot marks
 MODULES = saratoga_pass.py saratoga_tool.py
-PAGES = replay pcap2pass passtext passplot marks saratoga-link saratoga-plan saratoga-merge
+PAGES = replay pcap2pass passtext passplot marks saratoga-link saratoga-plan saratoga-merge saratoga-settings
 
-install: lib front link plan merge
+install: lib front link plan merge settings
 	install -d "$(AT)/include" "$(AT)/lib/pkgconfig" "$(AT)/bin" "$(AT)/libexec/saratoga" "$(AT)/share/man/man1"
 	install -m 644 include/saratoga.h "$(AT)/include/saratoga.h"
 	install -m 644 $(ARCHIVE) "$(AT)/lib/libsaratoga.a"
 	sed 's|@PREFIX@|$(PREFIX)|;s|@VERSION@|$(VERSION)|' host/saratoga.pc.in >"$(AT)/lib/pkgconfig/saratoga.pc"
 	chmod 644 "$(AT)/lib/pkgconfig/saratoga.pc"
-	install -m 755 target/front/bin/replay target/link/saratoga-link target/plan/saratoga-plan target/merge/saratoga-merge "$(AT)/bin"
+	install -m 755 target/front/bin/replay target/link/saratoga-link target/plan/saratoga-plan "$(AT)/bin"
+	install -m 755 target/merge/saratoga-merge target/settings/saratoga-settings "$(AT)/bin"
 	install -m 755 target/bin/replay $(TOOLS:%=host/tools/%) "$(AT)/libexec/saratoga"
 	install -m 644 $(MODULES:%=host/tools/%) "$(AT)/libexec/saratoga"
 	for tool in $(TOOLS); do ln -sf "../libexec/saratoga/$$tool" "$(AT)/bin/$$tool" || exit 1; done
@@ -122,7 +130,7 @@ install: lib front link plan merge
 
 uninstall:
 	rm -f "$(AT)/include/saratoga.h" "$(AT)/lib/libsaratoga.a" "$(AT)/lib/pkgconfig/saratoga.pc"
-	for file in replay saratoga-link saratoga-plan saratoga-merge $(TOOLS); do rm -f "$(AT)/bin/$$file" || exit 1; done
+	for file in replay saratoga-link saratoga-plan saratoga-merge saratoga-settings $(TOOLS); do rm -f "$(AT)/bin/$$file" || exit 1; done
 	for page in $(PAGES); do rm -f "$(AT)/share/man/man1/$$page.1" || exit 1; done
 	for file in replay $(TOOLS) $(MODULES); do rm -f "$(AT)/libexec/saratoga/$$file" || exit 1; done
 	if [ -d "$(AT)/libexec/saratoga" ]; then rmdir "$(AT)/libexec/saratoga"; fi

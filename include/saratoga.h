@@ -139,7 +139,7 @@ extern "C" {
 #define SARATOGA_CODE_UNEXPECTED 0x11         /* a STATUS with an error came unexpectedly, the request is ended */
 
 /* Refusal numbers, each with its `code`: R9.1 to R9.26. */
-#define SARATOGA_REFUSED_TRUNCATED 1     /* 0x00: packet ends inside a field, or in a path of fewer than 1,024 octets */
+#define SARATOGA_REFUSED_TRUNCATED 1     /* 0x00: packet or settings file ends inside a field, or a path has no end */
 #define SARATOGA_REFUSED_TOO_LONG 2      /* 0x00: packet over 65,535 octets, or it would be when written */
 #define SARATOGA_REFUSED_VERSION 3       /* 0x00: bits 0 and 1 are not 0 1 */
 #define SARATOGA_REFUSED_TYPE 4          /* 0x0A: type not 0, 2, 3 or 4, or not the one that the function takes */
@@ -162,6 +162,8 @@ extern "C" {
 #define SARATOGA_REFUSED_FIELD 21        /* 0x00: a field over its bits, failure code 0, or a largest payload not 1 to 65,000 */
 #define SARATOGA_REFUSED_AREA 22         /* 0x00: area too short, or it holds no transfer table; or marks of no transfer */
 #define SARATOGA_REFUSED_CRC32C 23       /* 0x01: a new transfer with checksum type 1, a CRC-32c */
+#define SARATOGA_REFUSED_SETTINGS_VERSION 24 /* 0x00: version of a plant's settings not known */
+#define SARATOGA_REFUSED_SETTINGS 25     /* 0x00: settings file not as R18.6 says, or settings that no file holds */
 #define SARATOGA_REFUSED_BEACON 26       /* 0x00: BEACON with a pair 01, or a last flags octet that isn't 0 */
 
 /* A refusal in plain words; 0 is "accepted". Any number has a text. */
@@ -169,7 +171,7 @@ static inline const char *saratoga_refusal_text(uint64_t number)
 {
     static const char *const texts[] = {
         "accepted",
-        "packet cut short",
+        "packet or settings file cut short",
         "packet longer than 65,535 octets",
         "not this version of the protocol",
         "packet type not taken here",
@@ -192,8 +194,8 @@ static inline const char *saratoga_refusal_text(uint64_t number)
         "field too large to be written, failure code 0, or largest payload not 1 to 65,000",
         "area holds no transfer table, or marks no transfer",
         "new transfer with a CRC-32c (checksum type 1), which is not taken any more",
-        "unknown refusal",
-        "unknown refusal",
+        "version of settings not known",
+        "settings not allowed",
         "flags of BEACON not allowed",
     };
     return number < sizeof texts / sizeof texts[0] ? texts[number] : "unknown refusal";
@@ -249,7 +251,7 @@ static inline int saratoga_failure_id(const uint8_t *packet, size_t packet_len, 
     return 1;
 }
 
-/* A written packet: `size` octets from the start of `out`. */
+/* A written packet, or a written settings file: `size` octets from the start of `out`. */
 struct saratoga_written {
     uint64_t number, code;
     uint64_t size;
@@ -762,6 +764,53 @@ struct saratoga_written saratoga_md5_end(const uint8_t *state, size_t state_len,
  * Order of refusals (R16.13): 20 (`state`), those of saratoga_read for METADATA, with 4 for any other type.
  */
 struct saratoga_verdict saratoga_check_md5(const uint8_t *packet, size_t packet_len, const uint8_t *state, size_t state_len);
+
+/*
+ * ---- A plant's settings
+ *
+ * Each plant has a settings file of at most SARATOGA_SETTINGS_OCTETS octets: a version, a count, and so many pairs of a key and a
+ * value, the keys rising. Every number has its shortest form in groups of seven bits, the lowest group first (R18.1, R18.4).
+ *
+ *     key 1   largest payload, 1 to 65,000                            versions 1 and 2; always there
+ *     key 2   seconds between STATUS that nobody asked for, 1 to 3,600    versions 1 and 2
+ *     key 3   Id of the partner dish, 32 bits                         version 2
+ */
+
+/* Octets of the longest settings file, and the highest version that there is. */
+#define SARATOGA_SETTINGS_OCTETS 15
+#define SARATOGA_SETTINGS_VERSION 2
+
+/* A plant's settings, read from its file. What the file leaves out is 0. */
+struct saratoga_settings {
+    uint64_t number, code;
+    uint64_t version;         /* 1 or 2 */
+    uint64_t largest_payload; /* 1 to 65,000 */
+    uint64_t has_interval;    /* 1 where the file has an interval, else 0 */
+    uint64_t interval;        /* seconds between STATUS that nobody asked for, 1 to 3,600 */
+    uint64_t has_partner;     /* 1 where the file has a partner, else 0 */
+    uint64_t partner;         /* Id of the partner dish, 32 bits; 0 is an Id too */
+};
+
+/*
+ * Reads a plant's settings file. `known` is the highest version that the program knows: 1 for one that was made for version 1,
+ * SARATOGA_SETTINGS_VERSION for a new one. Both read a file of version 1 alike.
+ *
+ * Order of refusals (R18.6): of the version 1 (the file ends in it), 25 (not its shortest form, or above 2^64 - 1), 24 (0, above
+ * `known`, or above 2); after it what comes first from the left: 1 where the file ends too early, else 25 (a form, a key that does not
+ * rise or that the version lacks, a value out of its range, octets after the last pair, no key 1).
+ */
+struct saratoga_settings saratoga_read_settings(const uint8_t *file, size_t file_len, uint64_t known);
+
+/*
+ * Writes a plant's settings file into `out`; octets after it stay. `has_interval` and `has_partner` are no for 0 and yes for
+ * any other number; where they are no, the number that goes with them must be 0.
+ *
+ * Order of refusals (R18.8): 24 (version not 1 or 2), 25 (a number out of its range, a partner in version 1, a number that is not 0
+ * where there is none), 20.
+ */
+struct saratoga_written saratoga_write_settings(uint64_t version, uint64_t largest_payload, uint64_t has_interval,
+                                                uint64_t interval, uint64_t has_partner, uint64_t partner, uint8_t *out,
+                                                size_t out_len);
 
 #ifdef __cplusplus
 }

@@ -62,6 +62,9 @@ static void texts_and_limits(void)
     says(SARATOGA_REFUSED_FIELD, "field", "failure code 0");
     says(SARATOGA_REFUSED_FIELD, "largest payload", "65,000");
     says(SARATOGA_REFUSED_CRC32C, "new transfer", "CRC-32c");
+    says(SARATOGA_REFUSED_TRUNCATED, "packet", "settings file");
+    says(SARATOGA_REFUSED_SETTINGS_VERSION, "version", "settings");
+    says(SARATOGA_REFUSED_SETTINGS, "settings", "not allowed");
     snprintf(version, sizeof version, "%d.%d", SARATOGA_VERSION_MAJOR, SARATOGA_VERSION_MINOR);
     if (strcmp(version, SARATOGA_VERSION) != 0)
         fail("version", "minor", SARATOGA_VERSION_MINOR, 0);

@@ -1,7 +1,7 @@
 /*
  * Calls each function of saratoga.h that reads or writes METADATA, DATA and STATUS from C, on packets laid out by hand from
- * the papers; beacon.c does the same for BEACON, width.c for descriptors of 128 bits, and plan.c for plans; header.c tests what
- * stands in the header itself.
+ * the papers; beacon.c does the same for BEACON, width.c for descriptors of 128 bits, plan.c for plans, and settings.c for
+ * settings; header.c tests what stands in the header itself.
  * Checks every field of the answers and every octet of the lent buffers, and ends with status 1 where one is wrong.
  */
 #include "check.h"

@@ -180,6 +180,10 @@ static void bitmap_open(void) { saratoga_bitmap_open(marks, sizeof marks, packet
 static void bitmap_record(void) { saratoga_bitmap_record(page, marks, sizeof marks, packet, size); }
 static void bitmap_status(void) { saratoga_bitmap_status(page, marks, sizeof marks, 0, 1, out, sizeof out); }
 static void bitmap_last_hole(void) { saratoga_bitmap_status(page, marks, sizeof marks, RUNS - 1, 0, out, 88); }
+static void for_settings(void) { size = saratoga_write_settings(2, 65000, 1, 3600, 1, UINT32_MAX, packet, sizeof packet).size; }
+static void read_settings(void) { saratoga_read_settings(packet, size, 2); }
+static void write_settings(void) { saratoga_write_settings(2, 65000, 1, 3600, 1, UINT32_MAX, out, sizeof out); }
+static void settings_unfit(void) { saratoga_write_settings(2, 65001, 1, 3600, 1, UINT32_MAX, out, sizeof out); }
 
 /* MD5, with 60 octets begun, so that the padding takes two blocks; and METADATA whose checksum is one. */
 static uint8_t state[SARATOGA_MD5_OCTETS];
@@ -268,6 +272,10 @@ static const struct way {
     {"saratoga_md5_end", use_state, md5_end},
     {"saratoga_check_md5", use_state, check_md5},
     {"saratoga_check_md5", for_data, check_md5},
+    {"saratoga_read_settings", for_settings, read_settings},
+    {"saratoga_read_settings", for_nothing, read_settings},
+    {"saratoga_write_settings", for_nothing, write_settings},
+    {"saratoga_write_settings", for_nothing, settings_unfit},
 };
 enum { WAYS = sizeof ways / sizeof ways[0] };
 static long used[WAYS];

@@ -14,7 +14,7 @@ from packets import record  # noqa: E402
 
 ARCHIVE = os.path.join(ROOT, "target", "staticlib", "libsaratoga.a")
 SOURCES = [os.path.join(PLACE, name + ".c") for name in (
-    "link", "source", "dispatch", "table", "store", "disk", "meta", "check", "sheet", "onair", "control", "text")]
+    "link", "source", "dispatch", "table", "store", "disk", "meta", "check", "sheet", "onair", "control", "settings", "text")]
 POWERCUT = os.path.join(PLACE, "powercut.c")
 WRAPPED = ["-Wl," + ",".join(f"--wrap={name}" for name in (
     "openat", "openat64", "pwrite", "pwrite64", "renameat", "fsync"))]

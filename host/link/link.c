@@ -51,6 +51,8 @@ static const char help[] =
     "      --most-kept N    transfers whose files may be in DIR (else 10000); then none is opened until some are taken away\n"
     "      --make-room      where 16 transfers are open and none is complete, end the one that was silent longest\n"
     "      --repair-status  where a packet would need a 65th run, answer STATUS with the lowest holes, not failure 3\n"
+    "      --settings FILE  read the plant's settings, and print them first: 0 settings version=2 largest-payload=1024\n"
+    "                       interval=60 partner=31; the program keeps no timer: interval is for whoever does\n"
     "      --no-fsync       don't force writes to disk: faster, safe against a crash but not against a power cut\n"
     "      --list           list open transfers, and end\n"
     "      --close ID       close a transfer, and end; ID as printed: 31, id=31, 0x1f or 0000001f.part\n"
@@ -95,7 +97,7 @@ static uint64_t number_of(const char *text, const char *option, uint64_t most)
 }
 
 /* What the command line asks for, beside `options`. */
-static const char *port, *host = "127.0.0.1", *pass, *to_close;
+static const char *port, *host = "127.0.0.1", *pass, *to_close, *settings;
 static uint64_t id_to_close;
 static long idle;
 static int to_list;
@@ -127,7 +129,7 @@ static int take_switch(const char *name)
 static int takes_value(const char *name)
 {
     static const char *const names[] = {"-d",     "--directory", "--udp",       "--address", "--peer",
-                                        "--idle", "--largest",   "--most-kept", "--close"};
+                                        "--idle", "--largest",   "--most-kept", "--close",   "--settings"};
     for (size_t i = 0; i < sizeof names / sizeof names[0]; i++)
         if (strcmp(name, names[i]) == 0)
             return 1;
@@ -154,6 +156,8 @@ static void take_value(const char *name, const char *value)
         if (!id_of_text(value, &id_to_close))
             wrong_usage("--close takes an Id, as 31, id=31, 0x1f or 0000001f.part, not ", value);
         to_close = value;
+    } else if (strcmp(name, "--settings") == 0) {
+        settings = value;
     } else {
         options.directory = value;
     }
@@ -187,6 +191,8 @@ static void take_arguments(int count, char **arguments)
         wrong_usage("one of PASS, --udp, --list and --close is needed", "");
     if (port != NULL && options.any_peer == (options.peer_count > 0))
         wrong_usage("--udp needs either --peer or --any-peer", "");
+    if (settings != NULL && (to_list || to_close != NULL))
+        wrong_usage("--settings goes with PASS or --udp", "");
 }
 
 int main(int count, char **arguments)
@@ -200,6 +206,8 @@ int main(int count, char **arguments)
     sigaction(SIGPIPE, &ignore, NULL);
     sigaction(SIGXFSZ, &ignore, NULL);
 
+    if (settings != NULL)
+        tell_settings(settings);
     open_directory();
     if (to_list) {
         list_transfers();

@@ -12,6 +12,7 @@
  *     sheet.c     what the printer signs
  *     onair.c     who is on the air: BEACONs
  *     control.c   what an operator asks of a program that runs
+ *     settings.c  the plant's settings file
  *     text.c      lines and messages, and octets of packets made fit to be printed
  */
 #ifndef LINK_H
@@ -199,6 +200,9 @@ void list_transfers(void);
 void close_transfer(uint64_t id);
 void ask_to_close(uint64_t id);
 int tick_is_due(void);
+
+/* settings.c */
+void tell_settings(const char *name);
 
 /* source.c */
 void from_pass(const char *name);

@@ -254,6 +254,45 @@ def timestamps(program, place):
     check(got[0][-1] == "2 send 440100000000000700000000" and stamps(place) == {}, got)
 
 
+def plant_settings(program, place):
+    """--settings: the line of a file, and a file that is refused before anything is written."""
+    def file(octets):
+        path = os.path.join(os.path.dirname(place), "plant.settings")
+        with open(path, "wb") as made:
+            made.write(octets)
+        return path
+
+    def told(settings, *words, octets=b""):
+        return run(program, place, *words, "--settings", file(settings), "-", octets=octets)
+
+    whole = bytes.fromhex("020301800802 3c031f")
+    first = "0 settings version=2 largest-payload=1024 interval=60 partner=31"
+    packet = record(b"P", metadata(7, 16, 0))
+    bad = [(bytes(1), 24), (b"", 1), (whole[:-1], 1), (whole + b"\0", 25), (b"\3\1\1\5", 24), (b"\1\2\1\5\3\7", 25),
+           (b"\1\1\1\5" + bytes(9000), 25), (b"\x80" * 9000, 25)]
+    for octets, number in bad:
+        got = told(octets, octets=packet)
+        check(got[0] == [] and got[2] == 1 and f"plant.settings: refused {number}: " in got[1], f"{octets[:20].hex()}: {got}")
+    check(os.listdir(place) == [], f"written beside a refused settings file: {os.listdir(place)}")
+    got = told(whole, octets=packet)
+    check(got[0][:2] == [first, "1 open id=7 width=16 length=0 edge=0 complete=1 new"] and got[1:] == ("", 0), got)
+    for octets, line in ((b"\1\1\1\5", "version=1 largest-payload=5 interval= partner="),
+                         (b"\1\2\1\5\2\1", "version=1 largest-payload=5 interval=1 partner="),
+                         (b"\2\2\1\5\3\0", "version=2 largest-payload=5 interval= partner=0")):
+        got = told(octets)
+        check(got[0][:1] == ["0 settings " + line] and got[1:] == ("", 0), got)
+    got = told(whole, "--quiet", octets=packet)
+    check(not any(line.startswith("0 settings") for line in got[0]) and got[1:] == ("", 0), got)
+    got = run(program, place, "--settings=" + file(whole), "-")
+    check(got[0][:1] == [first] and got[2] == 0, got)
+    for words in (("--list",), ("--close", "7")):
+        got = run(program, place, *words, "--settings", file(whole))
+        check(got[0] == [] and got[2] == 2, f"{words}: {got}")
+    for name in (place, os.path.join(place, "nofile")):
+        got = run(program, place, "--settings", name, "-")
+        check(got[0] == [] and got[2] == 1 and name in got[1], got)
+
+
 def more_than_sixteen(program, place):
     """A table that is full: complete transfers make room, others don't."""
     text = page(20, 2)
@@ -690,6 +729,8 @@ WRONG = {
     "ends a transfer for a file that it does not take": (
         plant.no_crc_32c, "(is_lost || is_other) && is_refused_anew(", "0 && is_refused_anew("),
     "takes a file of any length": (plant.command_line, "read->size > options.largest", "0"),
+    "reads no settings": (plant_settings, "        tell_settings(settings);\n", "        (void)settings;\n"),
+    "takes settings that are refused": (plant_settings, "    if (s.number != 0)\n", "    if (0)\n"),
     "counts no recording": (plant.what_is_known, "    t->work.recordings++;\n", ""),
     "hands a page on that differs": (sheets.differs, "name_page(t, t->verdict == SARATOGA_DIFFERS)", "name_page(t, 0)"),
     "names a page before it is checked": (
@@ -772,6 +813,7 @@ def main():
         passes(program, fresh("passes"))
         other_layouts(program, fresh("layouts"))
         timestamps(program, fresh("stamps"))
+        plant_settings(program, fresh("settings"))
         more_than_sixteen(program, fresh("sixteen"))
         descriptors_of_128_bits(program, fresh("wide"))
         longest_status(program, fresh("longest"))
@@ -782,7 +824,8 @@ def main():
             print("link: skipped with sanitizers: the compiler doesn't support them")
             checked = program
         any_octets(checked, fresh("any"))
-        print("link: passes, timestamps, damaged packets, restarts, wrong input and areas of another layout are as expected")
+        print("link: passes, timestamps, settings, damaged packets, restarts, wrong input and areas of another layout are as "
+              "expected")
         plant.all_of_it(checked, fresh)
         print("link: Ids used again, lost files, a full table, the operator, a full disk and traps are as expected")
         sheets.all_of_it(checked, fresh)

@@ -128,4 +128,4 @@ no-code n a4 a5 a6 a7 a8 a9 a10 a12 a13 a14 a15 a16 a17 a18 a23 =
     (sendless codes n
     (none also none also none also other a4 also other a5 also other a6 also other a7 also other a8 also other a9 also other a10 also none
     also other a12 also other a13 also other a14 also other a15 also other a16 also other a17 also other a18
-    also none also none also none also none also other a23 also none also tt))
+    also none also none also none also none also other a23 also none also none also none also tt))

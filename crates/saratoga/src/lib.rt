@@ -5,3 +5,4 @@ pub mod digests;
 pub mod packets;
 pub mod plans;
 pub mod receiver;
+pub mod settings_file;

@@ -7,6 +7,7 @@ use paper::layout::Willingness;
 pub use paper::plan::Piece;
 use paper::read;
 use paper::refusal::Refusal;
+use paper::settings;
 use paper::table;
 
 /// `struct saratoga_written`
@@ -382,5 +383,36 @@ impl From<read::Success> for Packet {
 impl From<read::Failure> for Packet {
     fn from(packet: read::Failure) -> Packet {
         Packet { kind: 4, flags: packet.header.flags, id: packet.header.id, status: packet.status, ..Packet::default() }
+    }
+}
+
+/// `struct saratoga_settings`
+#[repr(C)]
+#[derive(Clone, Copy, Debug, Default, PartialEq, Eq)]
+pub struct Settings {
+    pub number: u64,
+    pub code: u64,
+    pub version: u64,
+    pub largest_payload: u64,
+    pub has_interval: u64,
+    pub interval: u64,
+    pub has_partner: u64,
+    pub partner: u64,
+}
+
+impl From<Result<settings::Settings, Refusal>> for Settings {
+    fn from(answer: Result<settings::Settings, Refusal>) -> Settings {
+        match answer {
+            Ok(told) => Settings {
+                version: told.version,
+                largest_payload: told.largest_payload,
+                has_interval: told.has_interval.into(),
+                interval: told.interval,
+                has_partner: told.has_partner.into(),
+                partner: told.partner,
+                ..Settings::default()
+            },
+            Err(refusal) => Settings { number: refusal.number(), code: refusal.code(), ..Settings::default() },
+        }
     }
 }

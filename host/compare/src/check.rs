@@ -13,6 +13,7 @@ use crate::merge::Merger;
 use crate::plan::Planner;
 use crate::receiver::Receiver;
 use crate::rng::Rng;
+use crate::settings::SettingsFile;
 use crate::tally::{Function, Tally};
 
 /// Why a run ends.
@@ -26,13 +27,15 @@ pub enum Stop {
 
 pub type Step = Result<(), Stop>;
 
-/// A codec, a receiver with a table and one with marks, a planner and a merging under test, with the counts of the run.
+/// A codec, a receiver with a table and one with marks, a planner, a merging, and a reader and writer of settings under test, with
+/// the counts of the run.
 pub struct Check<'a> {
     pub codec: &'a dyn Codec,
     pub receiver: &'a dyn Receiver,
     pub bitmaps: &'a dyn BitmapReceiver,
     pub planner: &'a dyn Planner,
     pub merger: &'a dyn Merger,
+    pub settings: &'a dyn SettingsFile,
     /// The receivers' calls aren't compared with the paper's: what they do is judged by the caller alone.
     pub alone: bool,
     pub rng: Rng,
@@ -53,6 +56,7 @@ impl<'a> Check<'a> {
             bitmaps: &Paper,
             planner: &Paper,
             merger: &Paper,
+            settings: &Paper,
             alone: false,
             rng: Rng::new(seed),
             tally: Tally::default(),

@@ -1,5 +1,5 @@
-//! The archive's functions: the declarations of include/saratoga.h, and a codec, two receivers, a planner and a merging that call
-//! them. Nothing checks these against the header but host/ctest, which compiles it.
+//! The archive's functions: the declarations of include/saratoga.h, and a codec, two receivers, a planner, a merging and a reader
+//! and writer of settings that call them. Nothing checks these against the header but host/ctest, which compiles it.
 
 use std::ptr::NonNull;
 
@@ -8,6 +8,7 @@ use paper::write::{BeaconFields, DataFields, MetadataFields};
 use crate::answer::{Hole, Packet, Written};
 use crate::codec::Codec;
 use crate::{answer::Merged, merge::Merger};
+use crate::{answer::Settings, settings::SettingsFile};
 use crate::{
     answer::{Bitmap, BitmapOpened, BitmapRecorded},
     bitmap::BitmapReceiver,
@@ -120,6 +121,17 @@ extern "C" {
 
 extern "C" {
     fn saratoga_merge(first: *mut u8, first_len: usize, second: *const u8, second_len: usize, id: u64) -> Merged;
+    fn saratoga_read_settings(file: *const u8, file_len: usize, known: u64) -> Settings;
+    fn saratoga_write_settings(
+        version: u64,
+        largest_payload: u64,
+        has_interval: u64,
+        interval: u64,
+        has_partner: u64,
+        partner: u64,
+        out: *mut u8,
+        out_len: usize,
+    ) -> Written;
 }
 
 /// The slice's start. An empty slice gets an address that nothing may be read from.
@@ -266,5 +278,26 @@ impl BitmapReceiver for Archive {
 
     fn bitmap_status(&self, transfer: Bitmap, marks: &[u8], skip: u64, unasked: u64, out: &mut [u8]) -> Written {
         unsafe { saratoga_bitmap_status(transfer, start(marks), marks.len(), skip, unasked, start_mut(out), out.len()) }
+    }
+}
+
+impl SettingsFile for Archive {
+    fn read_settings(&self, file: &[u8], known: u64) -> Settings {
+        unsafe { saratoga_read_settings(start(file), file.len(), known) }
+    }
+
+    fn write_settings(&self, s: &Settings, out: &mut [u8]) -> Written {
+        unsafe {
+            saratoga_write_settings(
+                s.version,
+                s.largest_payload,
+                s.has_interval,
+                s.interval,
+                s.has_partner,
+                s.partner,
+                start_mut(out),
+                out.len(),
+            )
+        }
     }
 }

@@ -1,5 +1,5 @@
-//! Compares the archive libsaratoga.a with the codec, the two receivers, the planner and the merging of host/paper: every field of every
-//! answer and every octet of every lent buffer, area and list, over many calls.
+//! Compares the archive libsaratoga.a with the codec, the two receivers, the planner, the merging and the reader and writer of
+//! settings of host/paper: every field of every answer and every octet of every lent buffer, area and list, over many calls.
 
 #![deny(unsafe_code)]
 
@@ -26,6 +26,7 @@ mod receiver;
 mod rng;
 mod round_trip;
 mod run;
+mod settings;
 mod tally;
 #[cfg(test)]
 mod tests;
@@ -38,9 +39,10 @@ use std::time::{Duration, Instant, SystemTime, UNIX_EPOCH};
 use run::End;
 
 const HELP: &str = "\
-compare: compares libsaratoga.a with a codec, two receivers, a planner and a merging written from the papers alone
+compare: compares libsaratoga.a with a codec, two receivers, a planner, a merging, and a reader and writer of settings that were
+written from the papers alone
 
-usage: compare [--seed N] [--calls N] [--receiver-calls N] [--plan-calls N] [--bitmap-calls N] [--merge-calls N]
+usage: compare [--seed N] [--calls N] [--receiver-calls N] [--plan-calls N] [--bitmap-calls N] [--merge-calls N] [--settings-calls N]
                [--seconds N] [--self-check] [--help]
 
   --seed N             start the random numbers from N (else from the clock); the seed is printed
@@ -50,9 +52,12 @@ usage: compare [--seed N] [--calls N] [--receiver-calls N] [--plan-calls N] [--b
   --bitmap-calls N     make N calls on marks and the table beside them, 200,000 unless given; each limit is always tried,
                        in some 32,000
   --merge-calls N      make N calls on pairs of areas, 200,000 unless given; each limit is always tried, in some 60,000
-  --seconds N          make calls for N seconds instead, two sixths of the time on areas and one on each other kind
-  --self-check         compare with codecs, receivers, planners and mergings that are wrong in one way each instead: each must
-                       be found
+  --settings-calls N   make N calls on settings, 20,000,000 unless given; each limit, and each file of up to three octets,
+                       is always tried, in some 18,550,000
+  --seconds N          make calls for N seconds instead, two sevenths of the time on areas and one on each other kind; what is
+                       always tried may take more
+  --self-check         compare with codecs, receivers, planners, mergings and readers and writers of settings that are wrong
+                       in one way each instead: each must be found
   --help               print this
 
 A run fails with status 1 at the first answer or octet that differs, which it prints with the packet and the area or the
@@ -66,6 +71,7 @@ struct Options {
     plan_calls: u64,
     bitmap_calls: u64,
     merge_calls: u64,
+    settings_calls: u64,
     seconds: Option<u64>,
     self_check: bool,
 }
@@ -99,8 +105,8 @@ fn main() -> ExitCode {
 fn compare(options: &Options) -> Result<(), String> {
     let seed = options.seed;
     let start = Instant::now();
-    let end = |sixths: u32, calls: u64| match options.seconds {
-        Some(seconds) => End::at(start + Duration::from_secs(seconds) * sixths / 6),
+    let end = |sevenths: u32, calls: u64| match options.seconds {
+        Some(seconds) => End::at(start + Duration::from_secs(seconds) * sevenths / 7),
         None => End::after(calls),
     };
     let packets = run::packets(&ffi::Archive, seed, end(1, options.calls))?;
@@ -123,6 +129,10 @@ fn compare(options: &Options) -> Result<(), String> {
     println!("compare: {} calls on pairs of areas agree, seed {seed}", merges.calls);
     missing.extend(merges.tally.missing(4));
     tally = tally.with(&merges.tally);
+    let settings = run::settings(&ffi::Archive, seed, end(7, options.settings_calls))?;
+    println!("compare: {} calls on settings agree, seed {seed}", settings.calls);
+    missing.extend(settings.tally.missing(5));
+    tally = tally.with(&settings.tally);
     missing.extend(tally.never().into_iter().map(|number| format!("{number} from any function")));
     print!("{tally}");
     match missing.is_empty() {
@@ -134,7 +144,7 @@ fn compare(options: &Options) -> Result<(), String> {
 fn self_check(options: &Options) -> Result<(), String> {
     let others = run::self_check(options.seed, options.calls)?;
     let count = others + run::self_check_merges(options.seed, options.calls)?;
-    println!("compare: all {count} wrong codecs, receivers, planners and mergings are found, seed {}", options.seed);
+    println!("compare: all {count} wrong codecs, receivers, planners, mergings and settings are found, seed {}", options.seed);
     Ok(())
 }
 
@@ -148,6 +158,7 @@ fn options() -> Result<Option<Options>, String> {
         plan_calls: 1_000_000,
         bitmap_calls: 200_000,
         merge_calls: 200_000,
+        settings_calls: 20_000_000,
         seconds: None,
         self_check: false,
     };
@@ -164,6 +175,7 @@ fn options() -> Result<Option<Options>, String> {
             "--plan-calls" => options.plan_calls = number()?,
             "--bitmap-calls" => options.bitmap_calls = number()?,
             "--merge-calls" => options.merge_calls = number()?,
+            "--settings-calls" => options.settings_calls = number()?,
             "--seconds" => options.seconds = Some(number()?),
             "--self-check" => options.self_check = true,
             "--help" | "-h" => return Ok(None),

@@ -9,6 +9,7 @@ use crate::codec::{Codec, Paper};
 use crate::merge::{self, Merger};
 use crate::plan::{self, Planner};
 use crate::receiver::{self, orders, pass, Receiver};
+use crate::settings::{self, SettingsFile};
 use crate::tally::Tally;
 use crate::{limits, limits_width, limits_write, random, wrong};
 
@@ -96,6 +97,14 @@ fn laws_alone(merger: &dyn Merger, seed: u64, end: End) -> Result<Agreed, String
     run(Check { merger, alone: true, ..Check::new(seed) }, seed, |check| until(check, end, merge::laws::trial))
 }
 
+/// Compares `files` with the paper's.
+pub fn settings(files: &dyn SettingsFile, seed: u64, end: End) -> Result<Agreed, String> {
+    run(Check { settings: files, ..Check::new(seed) }, seed, |check| {
+        settings::limits::run(check)?;
+        until(check, end, settings::cases::case)
+    })
+}
+
 /// Tries the two orders on `receiver`, without the paper's answers.
 fn orders_alone(receiver: &dyn Receiver, seed: u64, end: End) -> Result<Agreed, String> {
     run(Check { receiver, alone: true, ..Check::new(seed) }, seed, |check| until(check, end, orders::trial))
@@ -127,8 +136,8 @@ fn until(check: &mut Check, end: End, case: fn(&mut Check) -> Step) -> Step {
     }
 }
 
-/// Runs the comparisons against each wrong codec, receiver and planner, and prints what was found of it. All must be found; how
-/// many there are.
+/// Runs the comparisons against each wrong codec, receiver, planner, reader and writer of settings, and prints what was found of
+/// it. All must be found; how many there are.
 pub fn self_check(seed: u64, calls: u64) -> Result<usize, String> {
     let end = End::after(calls);
     for wrong in wrong::ALL {
@@ -149,7 +158,11 @@ pub fn self_check(seed: u64, calls: u64) -> Result<usize, String> {
     for wrong in bitmap::wrong::BESIDE_THE_TABLE {
         found("receiver with marks beside the table", wrong, both_alone(wrong, seed, end), seed)?;
     }
-    Ok(wrong::ALL.len() + receiver::wrong::ALL.len() + plan::wrong::ALL.len() + bitmap::wrong::ALL.len())
+    for wrong in settings::wrong::ALL {
+        found("reader or writer of settings", wrong, settings(wrong, seed, end), seed)?;
+    }
+    let packets_and_areas = wrong::ALL.len() + receiver::wrong::ALL.len();
+    Ok(packets_and_areas + plan::wrong::ALL.len() + bitmap::wrong::ALL.len() + settings::wrong::ALL.len())
 }
 
 /// The same for merging.

@@ -30,13 +30,16 @@ pub enum Function {
     BitmapRecord,
     BitmapStatus,
     Merge,
+    ReadSettings,
+    WriteSettings,
 }
 
-const COLUMNS: usize = 22;
+const COLUMNS: usize = 24;
 /// 0, accepted, to 26.
 const ROWS: usize = 27;
-/// The numbers of a refusal; 24 and 25 are none.
-const NUMBERS: [usize; 24] = [1, 2, 3, 4, 5, 6, 7, 8, 9, 10, 11, 12, 13, 14, 15, 16, 17, 18, 19, 20, 21, 22, 23, 26];
+/// The numbers of a refusal.
+const NUMBERS: [usize; 26] =
+    [1, 2, 3, 4, 5, 6, 7, 8, 9, 10, 11, 12, 13, 14, 15, 16, 17, 18, 19, 20, 21, 22, 23, 24, 25, 26];
 
 /// Each with its heading in the table.
 const NAMES: [(&str, &str); COLUMNS] = [
@@ -62,6 +65,8 @@ const NAMES: [(&str, &str); COLUMNS] = [
     ("saratoga_bitmap_record", "bm_record"),
     ("saratoga_bitmap_status", "bm_status"),
     ("saratoga_merge", "merge"),
+    ("saratoga_read_settings", "read_set"),
+    ("saratoga_write_settings", "write_set"),
 ];
 
 /// The conditions of a plan, as they are told of.
@@ -98,10 +103,12 @@ const CAN_OCCUR: [&[usize]; COLUMNS] = [
     &[0, 1, 2, 3, 4, 5, 6, 10, 12, 13, 14, 15, 16, 20, 22],
     &[0, 12, 19, 20, 22],
     &[0, 12, 13, 16, 18, 22],
+    &[0, 1, 24, 25],
+    &[0, 20, 24, 25],
 ];
 
-/// The functions of each comparison: those on packets, those on areas, those on plans, those on marks, and merging.
-const PARTS: [Range<usize>; 5] = [0..6, 6..15, 15..18, 18..21, 21..COLUMNS];
+/// The functions of each comparison: those on packets, those on areas, those on plans, those on marks, merging, those on settings.
+const PARTS: [Range<usize>; 6] = [0..6, 6..15, 15..18, 18..21, 21..22, 22..COLUMNS];
 const ON_PLANS: usize = 2;
 
 #[derive(Clone, Default)]

@@ -1,7 +1,7 @@
 //! The comparisons themselves: they find every wrong codec, receiver, planner and merging, and agree with right ones.
 
 use crate::codec::Paper;
-use crate::run::{bitmaps, merges, packets, plans, receiver, self_check, self_check_merges, End};
+use crate::run::{bitmaps, merges, packets, plans, receiver, self_check, self_check_merges, settings, End};
 
 #[test]
 fn wrong_ones_are_found() {
@@ -21,7 +21,6 @@ fn the_paper_agrees_with_itself() {
     let receiver = receiver(&Paper, &Paper, 1, End::after(250_000)).unwrap_or_else(|what| panic!("{what}"));
     assert_eq!(receiver.tally.missing(1), Vec::<String>::new());
     assert!(receiver.calls >= 250_000);
-    assert_eq!(packets.tally.with(&receiver.tally).never(), Vec::<String>::new());
     let plans = plans(&Paper, 1, End::after(700_000)).unwrap_or_else(|what| panic!("{what}"));
     assert_eq!(plans.tally.missing(2), Vec::<String>::new());
     assert!(plans.calls >= 700_000);
@@ -31,4 +30,8 @@ fn the_paper_agrees_with_itself() {
     let merges = merges(&Paper, &Paper, 1, End::after(100_000)).unwrap_or_else(|what| panic!("{what}"));
     assert_eq!(merges.tally.missing(4), Vec::<String>::new());
     assert!(merges.calls >= 100_000);
+    let settings = settings(&Paper, 1, End::after(18_600_000)).unwrap_or_else(|what| panic!("{what}"));
+    assert_eq!(settings.tally.missing(5), Vec::<String>::new());
+    assert!(settings.calls >= 18_600_000);
+    assert_eq!(packets.tally.with(&receiver.tally).with(&settings.tally).never(), Vec::<String>::new());
 }

@@ -52,6 +52,10 @@ pub enum Refusal {
     Area = 22,
     /// "no checksum type 1 on anything new": "Opening a new Id with it is refused with 23 (code 0x01)"
     OldChecksum = 23,
+    /// R9.24: a version of settings that is not known
+    SettingsVersion = 24,
+    /// R9.25: a settings file that is not as it should be, or settings that no file holds
+    Settings = 25,
     /// "The fourth pairing, 0 1, is refused with 26 (code 0), and so is a last flags octet that isn't 0"
     Beacon = 26,
 }
@@ -88,6 +92,8 @@ impl Refusal {
             Refusal::Field => 0,
             Refusal::Area => 0,
             Refusal::OldChecksum => 0x01,
+            Refusal::SettingsVersion => 0,
+            Refusal::Settings => 0,
             Refusal::Beacon => 0,
         }
     }

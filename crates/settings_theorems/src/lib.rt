@@ -1,0 +1,1 @@
+// What holds of settings files as a whole: stated in specs/ and proved in proofs/.

@@ -156,7 +156,6 @@ static int is_over_a_limit(uint64_t number, const struct peer *peer, const struc
     return code != 0;
 }
 
-/* METADATA. Where the Id is open for another file, that one is ended first: its octets and these must not mix. */
 /* An operator reads why a page is not taken; once, though its sender repeats METADATA. */
 static void tell_unwanted(uint64_t id, uint64_t refusal)
 {
@@ -168,7 +167,7 @@ static void tell_unwanted(uint64_t id, uint64_t refusal)
          saratoga_refusal_text(refusal));
 }
 
-/* A file that the library would not open must not end the one that has its Id. */
+/* Whether METADATA of another file than the one that has the Id is refused: that one must not be ended for it. */
 static int is_refused_anew(uint64_t number, const struct peer *peer, const uint8_t *packet, size_t packet_len, uint64_t id)
 {
     struct saratoga_opened opened = would_open_anew(packet, packet_len, id);
@@ -179,6 +178,7 @@ static int is_refused_anew(uint64_t number, const struct peer *peer, const uint8
     return 1;
 }
 
+/* METADATA. Where the Id is open for another file, that one is ended first: its octets and these must not mix. */
 static void take_metadata(uint64_t number, const struct peer *peer, const uint8_t *packet, size_t packet_len,
                           const struct saratoga_packet *read)
 {
@@ -191,7 +191,7 @@ static void take_metadata(uint64_t number, const struct peer *peer, const uint8_
         return;
     if (is_lost)
         warn("the .part of transfer %" PRIu64 " is gone; it is closed and must begin anew", read->id);
-    if ((is_lost || is_other) && is_refused_anew(number, peer, packet, packet_len, read->id))
+    else if (is_other && is_refused_anew(number, peer, packet, packet_len, read->id))
         return;
     if (is_lost || is_other) {
         const char *why = is_lost ? "lost" : "other-metadata";

@@ -145,6 +145,29 @@ def no_crc_32c(program, place):
     check("1 send 4400000100000007" in lines and "6 send 4400000100000008" in lines, lines)
     check(told.count("transfer 7 is refused: new transfer with a CRC-32c") == 1 and told.count("transfer 8 is refused") == 1, told)
     check(content(place, "00000008.page") == whole, "an open page does not go on")
+    began_with_crc_32c(program, place, whole, unwanted)
+    # A transfer whose file is gone is closed all the same, and nothing is opened in its place.
+    link = Link(program, place)
+    link.quiet_send(metadata(10, 16, 100, b"d"), data(10, 16, 0, whole[:50], WANTED))
+    os.remove(os.path.join(place, "0000000a.part"))
+    check(link.send(metadata(10, 16, 100, b"d", **unwanted)) == bytes.fromhex("440000010000000a"), link.lines)
+    check(link.end() == 0 and 10 not in stored(place), "a transfer is open whose file is gone")
+    check(any("close id=10 lost" in line for line in link.lines), link.lines)
+
+
+def began_with_crc_32c(program, place, whole, unwanted):
+    """A transfer that began with a CRC-32c, before they were refused: taken up, its METADATA answered, and run to its end."""
+    began = metadata(9, 16, 100, b"c", flags=0x14, checksum=unwanted["checksum"])
+    run(program, place, "-", octets=records([began, data(9, 16, 0, whole[:50])]))
+    known = content(place, "00000009.meta")
+    check(b"checksum=4:01020304" in known, known)
+    with open(os.path.join(place, "00000009.meta"), "wb") as file:
+        file.write(known.replace(b"checksum=4:", b"checksum=1:"))
+    lines, told, status = run(program, place, "-", octets=records(
+        [metadata(9, 16, 100, b"c", **unwanted), data(9, 16, 50, whole[50:])]))
+    check((told, status) == ("", 0) and "1 open id=9 width=16 length=100 edge=50 complete=0 already-open" in lines, (lines, told))
+    check(any(line.startswith("2 complete id=9 ") and " checksum=1:01020304 " in line for line in lines), lines)
+    check(content(place, "00000009.page") == whole, "a page that began with a CRC-32c isn't the original")
 
 
 def two_files_of_one_id():

@@ -727,7 +727,9 @@ WRONG = {
         other_layouts, "    if (!read_area(area)) {\n", "    set_orphans_aside();\n    if (!read_area(area)) {\n"),
     "knows no area of layout 1": (other_layouts, "have == LAYOUT_1_OCTETS && ", "0 && "),
     "ends a transfer for a file that it does not take": (
-        plant.no_crc_32c, "(is_lost || is_other) && is_refused_anew(", "0 && is_refused_anew("),
+        plant.no_crc_32c, "else if (is_other && is_refused_anew(", "else if (0 && is_refused_anew("),
+    "keeps a transfer whose file is gone open for a file that it does not take": (
+        plant.no_crc_32c, "    else if (is_other && is_refused_anew(", "    if (is_other && is_refused_anew("),
     "takes a file of any length": (plant.command_line, "read->size > options.largest", "0"),
     "reads no settings": (plant_settings, "        tell_settings(settings);\n", "        (void)settings;\n"),
     "takes settings that are refused": (plant_settings, "    if (s.number != 0)\n", "    if (0)\n"),

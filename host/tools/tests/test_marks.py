@@ -159,6 +159,19 @@ class Passes(unittest.TestCase):
                          ["transfer 7 is open already", "refused 18", "refused 18", "closes transfer 7", "refused 12",
                           "closes transfer 7"])
 
+    def test_no_crc_32c_on_anything_new(self):
+        old = {"flags": 0x11, "checksum": b"abcd"}
+        passed = [record(b"P", metadata(8, 16, 3, **old)), record(b"P", metadata(7, 16, 3, **old)),
+                  record(b"P", metadata(7, 64, 65536, **old)), record(b"P", metadata(7, 16, 3)),
+                  record(b"P", data(7, 16, 1, b"a")), record(b"P", metadata(7, 16, 3, **old)), record(b"P", metadata(7, 16, 4, **old)),
+                  close_record(7), record(b"P", metadata(7, 16, 3, **old)),
+                  record(b"P", metadata(7, 16, 3, flags=0x14, checksum=b"abcd"))]
+        told = [line.split(": ")[1] for line in lines_of(*passed) if re.match(r"record ([236789]|10):", line)]
+        self.assertEqual(told, ["refused 23", "refused 9", "transfer 7 is open already", "refused 18", "closes transfer 7",
+                                "refused 23", "opens transfer 7, 3 octets, width 16"])
+        # The transfer that is opened is 7 alone.
+        self.assertEqual(marks.only_transfer(marks.split(b"".join(passed))[0]), 7)
+
     def test_refusals(self):
         """Each by hand, for a transfer of width 16 and 3,000 octets that has 64 runs."""
         replay = marks.Replay(7)
@@ -181,7 +194,7 @@ class Passes(unittest.TestCase):
                 (b"O", metadata(7, 16, 3000, path=1023 * b"p", end=b"\0\0"), 8), (b"O", metadata(7, 16, 3000, path=1024 * b"p"), 8),
                 (b"O", metadata(7, 16, 3000, path=1024 * b"p", end=b""), 8), (b"O", metadata(7, 16, 2**64, size_width=128), 5),
                 (b"O", metadata(7, 16, 65536, size_width=32), 9), (b"O", metadata(7, 64, 65536), 9),
-                (b"O", metadata(7, 64, 3000), 18)]:
+                (b"O", metadata(7, 64, 3000), 18), (b"O", metadata(7, 64, 3000, flags=0x11, checksum=b"abcd"), 18)]:
             self.assertEqual(replay.step(kind, packet), (f"refused {number}", False), packet[:40].hex())
         self.assertEqual(replay.transfer.marks.letters, before)
         self.assertIn("absorbed 1;", replay.step(b"D", data(7, 16, 4, b"a"))[0])
@@ -204,7 +217,8 @@ class BesideReplay(unittest.TestCase):
             choice = chance.random()
             if choice < 0.15:
                 length += chance.random() < 0.1 and length < 65535
-                kind, body = chance.choice([b"O", b"P"]), metadata(ident, width, length)
+                old = {"flags": 0x11, "checksum": bytes(4)} if chance.random() < 0.2 else {}
+                kind, body = chance.choice([b"O", b"P"]), metadata(ident, width, length, **old)
             elif choice < 0.85:
                 kind, body = self.packet(chance, ident, width, length)
             elif choice < 0.93 and made:

@@ -357,6 +357,15 @@ class Program(unittest.TestCase):
         self.assertEqual(self.run_with("--pass", octets=b"")[1:],
                          ("marks: standard input: --id is needed: the transfers that are opened are none\n", 1))
 
+    def test_without_the_library(self):
+        """Saved marks are shown, and of a pass it is told what lacks."""
+        env = dict(os.environ, SARATOGA_LIBRARY="/nowhere/libsaratoga.so")
+        command = [sys.executable, "-B", loading.path_of("marks")]
+        self.assertEqual(subprocess.run(command, input=bytes(8192), env=env, capture_output=True, check=False).returncode, 0)
+        done = subprocess.run([*command, "--pass", PAGE611], env=env, capture_output=True, check=False)
+        self.assertEqual((done.stdout, done.returncode), (b"", 1))
+        self.assertRegex(done.stderr.decode(), "^marks: .*: the library, which judges its packets, can't be loaded: .*/nowhere/.*\n$")
+
     def test_wrong_options(self):
         for options in (["--record", "1"], ["--id", "7"], ["--pass", "--length", "3"], ["--length", "65536"], ["--length", "x"],
                         ["--pass", "--record", "0"], ["--pass", "--id", "4294967296"], ["--png", "a", "-o", "b"], ["--what"]):

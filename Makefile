@@ -1,4 +1,5 @@
 # make test     the gate: proofs, must-fail edits, host tests
+# make test-extra   the host tests that need Debian's tshark, tcpdump, chromium and lintian, which it installs where it may
 # make lib      proves the library and builds target/staticlib/libsaratoga.a
 # make shared   links it as target/shared/libsaratoga.so too, over which host/python/saratoga.py is (docs/PYTHON.md)
 # make replay   proves and builds replay, and runs it on the pass of page 611, or on PASS=file (docs/REPLAY.md)
@@ -28,7 +29,7 @@ BENCH_FLAGS = -O2 -Wall -Wextra -Iinclude
 
 PASS ?= host/passes/page611.pass
 
-.PHONY: test lib shared replay-program front replay compare soak stack bench-program bench bench-instructions bench-descriptors
+.PHONY: test test-extra lib shared replay-program front replay compare soak stack bench-program bench bench-instructions bench-descriptors
 .PHONY: link gigabyte plan merge settings install uninstall clean help
 
 help:
@@ -36,6 +37,9 @@ help:
 
 test:
 	bash .ci/run
+
+test-extra: lib
+	host/test-extra
 
 lib:
 	rt staticlib saratoga
@@ -126,11 +130,11 @@ replay: front
 # All that a user runs, with man pages. Nothing is written outside of PREFIX, and no owner is changed: below a PREFIX of
 # one's own it needs no root. The tools stand beside their modules, with links in bin.
 AT = $(DESTDIR)$(PREFIX)
-TOOLS = pcap2pass passtext passplot marks
+TOOLS = pcap2pass passtext passplot marks sheet
 MODULES = host/tools/saratoga_pass.py host/tools/saratoga_tool.py host/python/saratoga.py
 # Where Python looks for modules, on Debian below /usr; elsewhere PYTHONPATH names it.
 PYTHON_DIR ?= $(PREFIX)/lib/python3/dist-packages
-PAGES = replay pcap2pass passtext passplot marks saratoga-link saratoga-plan saratoga-merge saratoga-settings
+PAGES = replay pcap2pass passtext passplot marks sheet saratoga-link saratoga-plan saratoga-merge saratoga-settings
 
 install: lib shared front link plan merge settings
 	install -d "$(AT)/include" "$(AT)/lib/pkgconfig" "$(AT)/bin" "$(AT)/libexec/saratoga" "$(AT)/share/man/man1" "$(AT)/share/man/man3"

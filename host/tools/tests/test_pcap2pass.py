@@ -3,7 +3,6 @@ import io
 import os
 import random
 import re
-import shutil
 import struct
 import subprocess
 import sys
@@ -379,9 +378,7 @@ class OtherReaders(unittest.TestCase):
                 yield f"{name}, {form}", path, run(octets)[0]
 
     def test_tcpdump(self):
-        program = os.environ.get("TCPDUMP") or shutil.which("tcpdump")
-        if not program:
-            self.skipTest("tcpdump isn't installed")
+        program = os.environ.get("TCPDUMP") or loading.program(self, "tcpdump")
         for name, path, passed in self.captures():
             with self.subTest(name=name):
                 # -x prints the IP packet; tcpdump finds IP behind links, tags and extensions by its own rules. As
@@ -404,9 +401,7 @@ class OtherReaders(unittest.TestCase):
                     self.assertTrue(body in packet and not padding.strip(b"\0"), packet.hex())
 
     def test_tshark(self):
-        program = shutil.which("tshark")
-        if not program:
-            self.skipTest("tshark isn't installed")
+        program = loading.program(self, "tshark")
         for name, path, passed in self.captures():
             with self.subTest(name=name):
                 shown = subprocess.run([program, "-r", path, "-T", "fields", "-e", "udp.payload", "udp.port==7542"],

@@ -131,7 +131,7 @@ replay: front
 # one's own it needs no root. The tools stand beside their modules, with links in bin.
 AT = $(DESTDIR)$(PREFIX)
 TOOLS = pcap2pass passtext passplot marks sheet
-MODULES = host/tools/saratoga_pass.py host/tools/saratoga_tool.py host/python/saratoga.py
+MODULES = $(addprefix host/tools/,saratoga_pass.py saratoga_svg.py saratoga_tool.py) host/python/saratoga.py
 # Where Python looks for modules, on Debian below /usr; elsewhere PYTHONPATH names it.
 PYTHON_DIR ?= $(PREFIX)/lib/python3/dist-packages
 PAGES = replay pcap2pass passtext passplot marks sheet saratoga-link saratoga-plan saratoga-merge saratoga-settings

@@ -15,7 +15,7 @@
 # make plan     builds the sender's planner, target/plan/saratoga-plan (docs/PLAN.md)
 # make settings builds the program for a plant's settings file, target/settings/saratoga-settings (docs/SETTINGS.md)
 # make install  header, archive, shared library, pkg-config file, Python module, replay, the tools, the link program, the planner,
-#               saratoga-merge and the program for settings, with man pages, below PREFIX (default /usr/local; PREFIX=$HOME/.local needs no
+#               saratoga-merge, the program for settings and the dissector, with man pages, below PREFIX (default /usr/local; PREFIX=$HOME/.local needs no
 #               root); make uninstall takes them away
 PREFIX ?= /usr/local
 VERSION = 0.1
@@ -138,7 +138,7 @@ PAGES = replay pcap2pass passtext passplot marks sheet saratoga-link saratoga-pl
 
 install: lib shared front link plan merge settings
 	install -d "$(AT)/include" "$(AT)/lib/pkgconfig" "$(AT)/bin" "$(AT)/libexec/saratoga" "$(AT)/share/man/man1" "$(AT)/share/man/man3"
-	install -d "$(DESTDIR)$(PYTHON_DIR)"
+	install -d "$(DESTDIR)$(PYTHON_DIR)" "$(AT)/share/saratoga" "$(AT)/share/man/man7"
 	install -m 644 include/saratoga.h "$(AT)/include/saratoga.h"
 	install -m 644 $(ARCHIVE) "$(AT)/lib/libsaratoga.a"
 	install -m 644 target/shared/$(SHARED) "$(AT)/lib/$(SHARED)"
@@ -154,14 +154,18 @@ install: lib shared front link plan merge settings
 	for tool in $(TOOLS); do ln -sf "../libexec/saratoga/$$tool" "$(AT)/bin/$$tool" || exit 1; done
 	install -m 644 $(PAGES:%=host/man/%.1) "$(AT)/share/man/man1"
 	install -m 644 host/man/saratoga.3 "$(AT)/share/man/man3"
+	install -m 644 host/man/saratoga-wireshark.7 "$(AT)/share/man/man7"
+	install -m 644 host/wireshark/saratoga.lua "$(AT)/share/saratoga"
 
 uninstall:
 	rm -f "$(AT)/include/saratoga.h" "$(AT)/lib/libsaratoga.a" "$(AT)/lib/pkgconfig/saratoga.pc" "$(AT)/share/man/man3/saratoga.3"
+	rm -f "$(AT)/share/man/man7/saratoga-wireshark.7" "$(AT)/share/saratoga/saratoga.lua"
 	rm -f "$(AT)/lib/libsaratoga.so" "$(AT)/lib/$(SONAME)" "$(AT)/lib/$(SHARED)" "$(DESTDIR)$(PYTHON_DIR)/saratoga.py"
 	for file in replay saratoga-link saratoga-plan saratoga-merge saratoga-settings $(TOOLS); do rm -f "$(AT)/bin/$$file" || exit 1; done
 	for page in $(PAGES); do rm -f "$(AT)/share/man/man1/$$page.1" || exit 1; done
 	for file in replay $(TOOLS) $(notdir $(MODULES)); do rm -f "$(AT)/libexec/saratoga/$$file" || exit 1; done
 	if [ -d "$(AT)/libexec/saratoga" ]; then rmdir "$(AT)/libexec/saratoga"; fi
+	if [ -d "$(AT)/share/saratoga" ]; then rmdir "$(AT)/share/saratoga"; fi
 
 clean:
 	rm -rf target

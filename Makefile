@@ -17,6 +17,7 @@
 # make install  header, archive, shared library, pkg-config file, Python module, replay, the tools, the link program, the planner,
 #               saratoga-merge, the program for settings and the dissector, with man pages, below PREFIX (default /usr/local; PREFIX=$HOME/.local needs no
 #               root); make uninstall takes them away
+# make deb      a Debian package of all that make install puts, target/deb/saratoga_VERSION_amd64.deb; DEB_MAINTAINER= names who makes it
 PREFIX ?= /usr/local
 VERSION = 0.1
 ARCHIVE = target/staticlib/libsaratoga.a
@@ -30,7 +31,7 @@ BENCH_FLAGS = -O2 -Wall -Wextra -Iinclude
 PASS ?= host/passes/page611.pass
 
 .PHONY: test test-extra lib shared replay-program front replay compare soak stack bench-program bench bench-instructions bench-descriptors
-.PHONY: link gigabyte plan merge settings install uninstall clean help
+.PHONY: link gigabyte plan merge settings install uninstall deb clean help
 
 help:
 	@sed -n '/^[^#]/q; s/^# //p' Makefile
@@ -156,6 +157,11 @@ install: lib shared front link plan merge settings
 	install -m 644 host/man/saratoga.3 "$(AT)/share/man/man3"
 	install -m 644 host/man/saratoga-wireshark.7 "$(AT)/share/man/man7"
 	install -m 644 host/wireshark/saratoga.lua "$(AT)/share/saratoga"
+
+DEB_MAINTAINER ?= Storhnipa maintainers <maintainers@users.noreply.storhnipa.example>
+
+deb: lib shared front link plan merge settings
+	@host/deb/build '$(VERSION)' '$(DEB_MAINTAINER)' target/deb/saratoga_$(VERSION)_amd64.deb
 
 uninstall:
 	rm -f "$(AT)/include/saratoga.h" "$(AT)/lib/libsaratoga.a" "$(AT)/lib/pkgconfig/saratoga.pc" "$(AT)/share/man/man3/saratoga.3"

@@ -154,6 +154,71 @@ class Pages(unittest.TestCase):
             page_of(many)
 
 
+LINES = """1 fresh
+2 open id=31 width=16 length=3000 edge=0 complete=0 new
+3 open id=9 width=16 length=9 edge=0 complete=0 new
+4 record id=31 offset=100 length=100 edge=200 complete=0 absorbed=0
+5 record id=31 offset=400 length=100 edge=500 complete=0 absorbed=0
+6 record id=31 offset=400 length=100 edge=500 complete=0 absorbed=1
+7 record id=9 offset=0 length=9 edge=9 complete=1 absorbed=0"""
+
+
+def long_lines(length=2**32 - 1, records=20000):
+    """Lines of a pass with very many records, in order, and the stretch at the end that its sheet lacks."""
+    lines = [f"1 open id=31 width=32 length={length} edge=0 complete=0 new"]
+    step = length // records
+    for number in range(records - 1):
+        start, absorbed = number * step, 1 if number else 0
+        lines.append(f"{number + 2} record id=31 offset={start} length={step} edge={start + step} complete=0 absorbed={absorbed}")
+    return lines, [((records - 1) * step, length)]
+
+
+class When(unittest.TestCase):
+    """The picture of what was received when, from lines."""
+
+    def made(self, text, lines):
+        parsed = sheet.read(text.encode())
+        return sheet.html(parsed, "0000001f.sheet", sheet.history(parsed, lines))
+
+    def shapes(self, page):
+        picture = page[page.index('class="when"'):page.index("Missing")]
+        return re.findall(r'<rect class="(before|received)" x="([0-9.]+)" y="([0-9]+)" width="([0-9.]+)" height="([0-9]+)"', picture)
+
+    def test_what_each_record_brought(self):
+        page = self.made(EXAMPLES["open"], LINES.split("\n"))
+        self.assertIn("What was received when", words_of(page))
+        self.assertIn("record 2", words_of(page))
+        self.assertIn("record 7", words_of(page))
+        # 400 high and 6 records wide: record 4 brought 100 to 200 of 3,000, record 5 400 to 500.
+        self.assertEqual(self.shapes(page), [
+            ("before", "600.00", "374", "1200.00", "13"), ("before", "900.00", "334", "900.00", "13"),
+            ("received", "600.00", "374", "300.00", "13"), ("received", "900.00", "334", "300.00", "13")])
+
+    def test_very_many_records(self):
+        lines, pairs = long_lines()
+        page = self.made(text_of(pairs=pairs, length=2**32 - 1), lines)
+        self.assertLess(len(page), 100000)
+        self.assertGreater(len(self.shapes(page)), 500)
+
+    def test_no_room(self):
+        """The longest list leaves none; the page says so, and has the list."""
+        parsed = sheet.read(EXAMPLES["worst"].encode())
+        page = sheet.html(parsed, "a", (1, 9, [(2, 0, 9)]))
+        self.assertIn("no room on this page", words_of(page))
+        self.assertNotIn('class="when"', page)
+
+    def test_an_empty_file(self):
+        page = self.made(EXAMPLES["empty"], ["1 open id=31 width=16 length=0 edge=0 complete=1 new"])
+        self.assertEqual(self.shapes(page.replace("Missing: none", "Missing")), [])
+
+    def test_other_lines(self):
+        for lines, reason in ((LINES.replace("id=31", "id=30"), "no line opens"), (LINES.replace("length=3000", "length=3001"), "no line opens"),
+                              ("\n".join(LINES.split("\n")[:4]), "other octets are missing"), ("what", "--lines: line 1: no line of replay"),
+                              ("", "no line opens")):
+            with self.assertRaisesRegex(sheet.Wrong, reason):
+                self.made(EXAMPLES["open"], lines.split("\n"))
+
+
 class NoSheets(unittest.TestCase):
     def wrong(self, text, reason):
         with self.assertRaisesRegex(sheet.Wrong, reason):
@@ -210,6 +275,12 @@ class Program(unittest.TestCase):
         self.assertEqual(self.run_with(source, "-o", target), (b"", "", 0))
         with open(target, encoding="utf-8") as file:
             self.assertEqual(file.read(), page_of(EXAMPLES["open"]))
+        lines = os.path.join(self.place, "lines")
+        with open(lines, "w", encoding="ascii") as file:
+            file.write(LINES)
+        self.assertIn(b"What was received when", self.run_with(source, "--lines", lines)[0])
+        self.assertEqual(self.run_with("--lines", source, source),
+                         (b"", f"sheet: {source}: no sheet: --lines: line 1: no line of replay: it begins with the record's number\n", 1))
         out, told, status = self.run_with(octets=EXAMPLES["open"].encode())
         self.assertEqual((out.decode(), told, status), (page_of(EXAMPLES["open"], "standard input"), "", 0))
 
@@ -242,6 +313,17 @@ document.body.appendChild(told);
 </script></body>"""
 
 
+def with_lines():
+    """Lines and sheets with a picture of what was received when: few stretches, very many records, and as many stretches as leave room."""
+    lines, pairs = long_lines()
+    some = ["1 open id=31 width=32 length=3000 edge=0 complete=0 new"]
+    for number in range(60):
+        some.append(f"{number + 2} record id=31 offset={2 * number} length=1 edge={2 * number + 1} complete=0 absorbed=0")
+    gaps = [(2 * number + 1, 2 * number + 2) for number in range(59)] + [(119, 3000)]
+    return {"lines": (LINES.split("\n"), EXAMPLES["open"]), "many records": (lines, text_of(pairs=pairs, length=2**32 - 1)),
+            "many stretches": (some, text_of(pairs=gaps))}
+
+
 class InChromium(unittest.TestCase):
     def chromium(self, *options):
         program = loading.program(self, "chromium", "chromium-browser", "google-chrome")
@@ -251,12 +333,16 @@ class InChromium(unittest.TestCase):
     def test_one_page_and_nothing_cut(self):
         """The examples with most text; all of them where SARATOGA_EXTRA is set."""
         with tempfile.TemporaryDirectory() as place:
-            for name, text in EXAMPLES.items():
-                if name not in ("worst", "unchecked") and not os.environ.get("SARATOGA_EXTRA"):
+            pages = {name: page_of(text) for name, text in EXAMPLES.items()}
+            for name, (lines, text) in with_lines().items():
+                parsed = sheet.read(text.encode())
+                pages[name] = sheet.html(parsed, "a.sheet", sheet.history(parsed, lines))
+            for name, page in pages.items():
+                if name not in ("worst", "unchecked", "many stretches") and not os.environ.get("SARATOGA_EXTRA"):
                     continue
-                path = os.path.join(place, name)
+                path = os.path.join(place, name.replace(" ", "-"))
                 with open(path + ".html", "w", encoding="utf-8") as file:
-                    file.write(page_of(text))
+                    file.write(page)
                 self.chromium(f"--print-to-pdf={path}.pdf", "--no-pdf-header-footer", "--print-to-pdf-no-header", f"file://{path}.html")
                 with open(path + ".pdf", "rb") as file:
                     pages = re.findall(rb"/Type\s*/Page[^s]", file.read())
@@ -264,7 +350,7 @@ class InChromium(unittest.TestCase):
                 self.chromium(f"--screenshot={path}.png", "--window-size=800,1130", f"file://{path}.html")
                 self.assertGreater(os.path.getsize(path + ".png"), 5000, name)
                 with open(path + ".measured.html", "w", encoding="utf-8") as file:
-                    file.write(page_of(text).replace("</body>", MEASURE))
+                    file.write(page.replace("</body>", MEASURE))
                 told = re.search("<pre>MEASURED ([0-9.]+) (.*) END", self.chromium("--dump-dom", f"file://{path}.measured.html"), re.S)
                 self.assertEqual(told[2], "", name)
                 self.assertLessEqual(float(told[1]), sheet.PAGE - 2 * sheet.MARGIN, name)

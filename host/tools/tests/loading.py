@@ -4,6 +4,7 @@ import importlib.util
 import os
 import shutil
 import sys
+import tempfile
 
 PLACE = os.path.join(os.path.dirname(os.path.abspath(__file__)), "..")
 sys.dont_write_bytecode = True
@@ -29,3 +30,11 @@ def program(test, *names):
     if found is None:
         test.skipTest(f"{names[0]} isn't installed")
     return found
+
+
+def chromium(test):
+    """Chromium without a window, with a profile of the test's own."""
+    found = program(test, "chromium", "chromium-browser", "google-chrome")
+    profile = tempfile.mkdtemp()
+    test.addCleanup(shutil.rmtree, profile, ignore_errors=True)
+    return [found, "--headless", "--no-sandbox", "--disable-gpu", f"--user-data-dir={profile}"]

@@ -260,13 +260,13 @@ class Drawn(unittest.TestCase):
 
     def test_labels_in_chromium(self):
         """As a browser with fonts of its own measures them."""
-        program = loading.program(self, "chromium", "chromium-browser", "google-chrome")
+        program = loading.chromium(self)
         with tempfile.TemporaryDirectory() as place:
             path = os.path.join(place, "drawings.html")
             with open(path, "w", encoding="utf-8") as file:
                 file.write("<!DOCTYPE html><meta charset='utf-8'>" + "\n".join(extremes().values()) + MEASURE)
-            told = subprocess.run([program, "--headless", "--no-sandbox", "--disable-gpu", "--dump-dom", f"file://{path}"],
-                                  capture_output=True, check=True, timeout=120).stdout.decode("utf-8", "replace")
+            told = subprocess.run([*program, "--dump-dom", f"file://{path}"], capture_output=True, check=True,
+                                  timeout=120).stdout.decode("utf-8", "replace")
         found = re.search("<pre>MEASURED ([0-9]+) of ([0-9]+):(.*)END</pre>", told, re.S)
         self.assertEqual((found[1], found[3].strip()), ("0", ""))
         self.assertGreater(int(found[2]), 100)

@@ -326,9 +326,7 @@ def with_lines():
 
 class InChromium(unittest.TestCase):
     def chromium(self, *options):
-        program = loading.program(self, "chromium", "chromium-browser", "google-chrome")
-        return subprocess.run([program, "--headless", "--no-sandbox", "--disable-gpu", *options], capture_output=True, check=True,
-                              timeout=120).stdout.decode("utf-8", "replace")
+        return subprocess.run([*loading.chromium(self), *options], capture_output=True, check=True, timeout=120).stdout.decode("utf-8", "replace")
 
     def test_one_page_and_nothing_cut(self):
         """The examples with most text; all of them where SARATOGA_EXTRA is set."""

@@ -11,16 +11,8 @@ enum { BLOCK = 262144 };
 
 #define START_OF_2000 946684800 /* in seconds since the start of 1970 */
 
-uint64_t width_flags(uint64_t width)
-{
-    return width == 2   ? SARATOGA_WIDTH_16
-           : width == 4 ? SARATOGA_WIDTH_32
-           : width == 8 ? SARATOGA_WIDTH_64
-                        : SARATOGA_WIDTH_128;
-}
-
-/* In 128 bits the numbers are below 2^64 too. */
-uint64_t width_limit(uint64_t width)
+/* The largest number of a width. In 128 bits they are below 2^64 too. */
+static uint64_t width_limit(uint64_t width)
 {
     return width == 2 ? UINT16_MAX : width == 4 ? UINT32_MAX : UINT64_MAX;
 }

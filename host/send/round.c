@@ -3,6 +3,14 @@
 
 #include <string.h>
 
+uint64_t width_flags(uint64_t width)
+{
+    return width == 2   ? SARATOGA_WIDTH_16
+           : width == 4 ? SARATOGA_WIDTH_32
+           : width == 8 ? SARATOGA_WIDTH_64
+                        : SARATOGA_WIDTH_128;
+}
+
 /* The edge of a complete transfer is one more than In-Response-To, and then Progress has it. */
 static uint64_t edge_of(const struct saratoga_packet *read)
 {

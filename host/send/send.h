@@ -67,11 +67,10 @@ const uint8_t *page_octets(const struct page *page, uint64_t offset, size_t leng
 /* Whether length or time of the file are others than they were when it was opened. */
 int page_changed(const struct page *page);
 
-/* The flags of a width of 2, 4, 8 or 16 octets, and its largest number. */
-uint64_t width_flags(uint64_t width);
-uint64_t width_limit(uint64_t width);
-
 /* ---- round.c */
+
+/* The flags of a width of 2, 4, 8 or 16 octets. */
+uint64_t width_flags(uint64_t width);
 
 /* What a success STATUS says of the receiver. All three only grow as long as it keeps what it has. */
 struct report {

@@ -103,6 +103,8 @@ static void take_status(struct transfer *t, uint8_t *packet, size_t packet_len, 
     if (report.progress == t->length) {
         t->best = report;
         t->state = CONFIRMED;
+    } else if (t->metadata_due) {
+        return; /* it can't be the answer to METADATA that isn't sent yet */
     } else if (t->state == OPENING) {
         take_opening(t, &report, now);
         if (t->state == SENDING)

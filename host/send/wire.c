@@ -4,6 +4,7 @@
 #include <errno.h>
 #include <netdb.h>
 #include <poll.h>
+#include <stdlib.h>
 #include <string.h>
 #include <sys/socket.h>
 #include <time.h>
@@ -26,7 +27,7 @@ static int split_peer(const char *peer, char *host, size_t room, const char **po
     memcpy(host, from, (size_t)(to - from));
     host[to - from] = 0;
     *port = colon + 1;
-    return 1;
+    return strspn(*port, "0123456789") == strlen(*port) && strlen(*port) <= 5 && atol(*port) >= 1 && atol(*port) <= 65535;
 }
 
 static int connected(const struct addrinfo *at)
@@ -48,7 +49,7 @@ int open_wire(const char *peer)
     const char *port;
     int wire = -1, failed;
     if (!split_peer(peer, host, sizeof host, &port))
-        return wrong("%s: not HOST:PORT; an IPv6 address stands in brackets, as in [::1]:7542", peer), -1;
+        return wrong("%s: not HOST:PORT, with a port of 1 to 65535; an IPv6 address stands in brackets, as in [::1]:7542", peer), -1;
     failed = getaddrinfo(host, port, &asked, &found);
     if (failed != 0)
         return wrong("%s: %s", peer, failed == EAI_SYSTEM ? strerror(errno) : gai_strerror(failed)), -1;

@@ -4,8 +4,8 @@
 #include <string.h>
 #include <time.h>
 
-/* So much is made good of what was not sent in time. More would be a burst that no buffer on the way has room for. */
-#define CATCH_UP (SECOND / 1000)
+/* So much is made good where the program did not run in time. More would be a burst that no buffer on the way has room for. */
+#define CATCH_UP (SECOND / 250)
 
 int64_t clock_now(void)
 {

@@ -1,11 +1,13 @@
 /*
  * What a sender does, with no clock, socket or file of its own.
  *
- * It opens with METADATA, and sends nothing else until that was answered. Then it sends the file from the receiver's edge on. Every
- * N packets ask for STATUS. With a rate nothing waits for the answer; with none, the answers are all that tells how fast the other
- * end is, and no more than 4 N packets are sent beyond the edge that was reported last. A STATUS that has holes leads to a round of repairs, which goes before
- * the rest of the file; its last piece asks. There is one round at a time: holes of another STATUS may be those that the round is
- * about to fill, so the next round is planned from a STATUS that is known to be of a later moment.
+ * It opens with METADATA, and sends nothing else until that was answered. Then it sends the file from the receiver's edge on.
+ * Every N packets ask for STATUS. With a rate nothing waits for the answer; with none, the answers are all that tells how fast the
+ * other end is, and no more than 4 N packets are sent beyond the edge that was reported last.
+ *
+ * A STATUS that has holes leads to a round of repairs, which goes before the rest of the file; its last piece asks. There is one
+ * round at a time: holes of another STATUS may be those that the round is about to fill, so the next round is planned from a
+ * STATUS that is known to be of a later moment.
  *
  * Where an answer is missing for `wait`, or a failure says that the receiver has no room for another run, or doesn't know the
  * transfer, METADATA asks what it has, and sending begins anew from there. That is a try. So many tries without an octet more
@@ -59,7 +61,8 @@ static void heard(struct transfer *t, int64_t now)
     t->deadline = now + t->wait;
 }
 
-static void start_round(struct transfer *t, uint8_t *packet, size_t packet_len, const struct saratoga_packet *read, int64_t now)
+static void start_round(struct transfer *t, uint8_t *packet, size_t packet_len, const struct saratoga_packet *read,
+                        int64_t now)
 {
     t->piece_count = plan_round(packet, read, packet_len, t->payload, t->pieces, (size_t)t->ask);
     t->piece_at = 0;
@@ -94,7 +97,8 @@ static int answers_round(const struct transfer *t, const uint8_t *packet, const 
     return !is_in_round(t) && (!t->round_open || report->edge > t->mark || says_received(packet, read, t->asked_with));
 }
 
-static void take_status(struct transfer *t, uint8_t *packet, size_t packet_len, const struct saratoga_packet *read, int64_t now)
+static void take_status(struct transfer *t, uint8_t *packet, size_t packet_len, const struct saratoga_packet *read,
+                        int64_t now)
 {
     struct report report = report_of(packet, read);
     if (read->width != t->width || report.edge > t->length)

@@ -98,12 +98,25 @@ static size_t cut_holes(uint8_t *packet, const struct saratoga_packet *read, uin
     return (size_t)(read->holes_at + 2 * read->width * i);
 }
 
-size_t plan_round(uint8_t *packet, const struct saratoga_packet *read, size_t packet_len, uint64_t payload,
-                  struct saratoga_piece *pieces, size_t most)
+/* Takes the first hole from the list. */
+static void leave_first_out(uint8_t *packet, struct saratoga_packet *list)
 {
+    uint8_t *first = packet + list->holes_at;
+    list->hole_count--;
+    memmove(first, first + 2 * list->width, (size_t)(2 * list->width * list->hole_count));
+    packet[1] |= SARATOGA_FLAG_INCOMPLETE >> 16;
+}
+
+size_t plan_round(uint8_t *packet, const struct saratoga_packet *read, size_t packet_len, uint64_t payload,
+                  struct saratoga_piece *pieces, size_t most, int no_room)
+{
+    struct saratoga_packet list = *read;
     struct saratoga_planned planned;
-    if (read->hole_count > 0)
-        packet_len = cut_holes(packet, read, payload, most);
+    int is_full = no_room || list.hole_count >= SARATOGA_RUNS;
+    if (list.hole_count > 1 && is_full && saratoga_hole_at(packet, &list, 0).start == 0)
+        leave_first_out(packet, &list);
+    if (list.hole_count > 0)
+        packet_len = cut_holes(packet, &list, payload, most);
     planned = saratoga_plan(packet, packet_len, payload, pieces, most);
     return planned.number == 0 ? (size_t)planned.count : 0;
 }

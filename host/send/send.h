@@ -89,9 +89,13 @@ void raise_to(struct report *best, const struct report *report);
 /* Whether the STATUS says that every octet of a piece was received. */
 int says_received(const uint8_t *packet, const struct saratoga_packet *read, struct saratoga_piece piece);
 
-/* The first pieces of the plan for a STATUS, at most `most`. The hole list may be cut short for it, in its place. */
+/*
+ * The first pieces of the plan for a STATUS, at most `most`. The hole list may be cut short for it, in its place. With 64 runs, or
+ * `no_room` for another, a hole from 0 is left for a later round: a piece from 0 begins a run, while all others begin where one ends
+ * (R17.6).
+ */
 size_t plan_round(uint8_t *packet, const struct saratoga_packet *read, size_t packet_len, uint64_t payload,
-                  struct saratoga_piece *pieces, size_t most);
+                  struct saratoga_piece *pieces, size_t most, int no_room);
 
 /* ---- transfer.c */
 
@@ -109,7 +113,8 @@ struct transfer {
     struct saratoga_piece asked_with; /* the round's last piece, which asked for STATUS */
     uint64_t mark;                    /* what had been sent of the file when the round was over */
     int round_open;                   /* no STATUS has answered the round yet */
-    int refused;                      /* a piece of the round was answered with a failure */
+    int refused;                      /* a piece of the round was answered with failure 3 */
+    int no_room;                      /* failure 3 since the last round */
     struct report best, most;         /* of what was heard: since METADATA was answered last, and at all */
     uint64_t since_ask, tries, lost;
     int asked;                        /* since something new was heard */

@@ -30,6 +30,7 @@ struct trial {
     uint64_t unasked;            /* DATA in a row that did not ask */
     int heard, keeps_order, saw_failure_3;
     int is_long;                 /* many packets, many of them lost: more than 64 runs */
+    uint64_t without_first;      /* so often octet 0 is lost */
     const char *fault;
 };
 
@@ -123,7 +124,10 @@ static int64_t sender_turn(struct trial *trial)
                                                               (size_t)step.length, out, sizeof out);
         if (written.number != 0)
             trial->fault = "DATA that can't be written";
-        put_packet(TO_RECEIVER, out, (size_t)written.size, trial->now);
+        if (step.offset == 0 && trial->without_first > 0)
+            trial->without_first--, lost_data++;
+        else
+            put_packet(TO_RECEIVER, out, (size_t)written.size, trial->now);
     }
     return trial->now + SPACING;
 }
@@ -209,6 +213,10 @@ static const char *one_trial(uint64_t seed)
     receiver.is_dead = below(30) == 0;
     trial.options.ask = below(sizeof pieces / sizeof pieces[0]) + 1;
     trial.options.rate = (double)below(2);
+    if (trial.is_long && below(2)) {
+        trial.options.ask = below(3) + 1;
+        trial.without_first = below(10);
+    }
     trial.options.wait = (int64_t)(2 * (network.delay + 2000000) + 45000000);
     trial.options.tries = receiver.is_dead ? below(20) + 1 : 100;
     trial.began = trial.now = (int64_t)below(1000000000);

@@ -64,7 +64,9 @@ static void heard(struct transfer *t, int64_t now)
 static void start_round(struct transfer *t, uint8_t *packet, size_t packet_len, const struct saratoga_packet *read,
                         int64_t now)
 {
-    t->piece_count = plan_round(packet, read, packet_len, t->payload, t->pieces, (size_t)t->ask);
+    t->piece_count = plan_round(packet, read, packet_len, t->payload, t->pieces, (size_t)t->ask,
+                                t->no_room);
+    t->no_room = 0;
     t->piece_at = 0;
     t->round_open = 0;
     if (t->piece_count > 0)
@@ -137,6 +139,7 @@ static void take_failure(struct transfer *t, uint64_t code)
 {
     int no_room = code == SARATOGA_CODE_RECEIVER_RESOURCES;
     t->failure = code;
+    t->no_room |= no_room;
     if (!no_room && code != SARATOGA_CODE_UNKNOWN_ID && code != SARATOGA_CODE_METADATA_FIRST)
         t->state = REFUSED;
     else if (t->state == SENDING && no_room && is_in_round(t))

@@ -61,6 +61,7 @@ static int send_page(int wire, const struct page *page, const struct options *op
 {
     int ran, changed, confirmed;
     say_begin(page);
+    wire_error = 0;
     begin_transfer(t, page, options, pieces, clock_now());
     ran = run(wire, t, page, options);
     changed = page_changed(page);

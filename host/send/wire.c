@@ -61,7 +61,10 @@ int open_wire(const char *peer)
     return wire;
 }
 
-/* Whether there is no use in going on: no packet of this length, or none at all, goes through this socket. */
+/*
+ * Whether there is no use in going on: no packet of this length, or none at all, goes through this socket. (Only the second time: the
+ * first may tell of an earlier packet that a router found too long, and the next is then sent in fragments.)
+ */
 static int is_final(int error)
 {
     return error == EMSGSIZE || error == EBADF || error == ENOTSOCK || error == EINVAL || error == EFAULT;
@@ -72,6 +75,7 @@ int send_batch(int wire, struct batch *batch)
     struct mmsghdr messages[BATCH];
     struct iovec parts[BATCH];
     size_t i, sent = 0;
+    int finals = 0;
     memset(messages, 0, sizeof messages);
     for (i = 0; i < batch->count; i++) {
         parts[i].iov_base = batch->packets[i];
@@ -83,11 +87,12 @@ int send_batch(int wire, struct batch *batch)
         int count = sendmmsg(wire, messages + sent, (unsigned)(batch->count - sent), 0);
         if (count > 0) {
             sent += (size_t)count;
-        } else if (is_final(errno)) {
+            finals = 0;
+        } else if (is_final(errno) && ++finals > 1) {
             return wrong("a packet of %lu octets can't be sent: %s", (unsigned long)batch->sizes[sent], strerror(errno));
         } else if (errno != EINTR) {
             wire_error = errno;
-            sent += errno != ECONNREFUSED; /* which is the answer to an earlier packet */
+            sent += errno != ECONNREFUSED && !is_final(errno); /* those are the answer to an earlier packet */
         }
     }
     return 1;

@@ -141,7 +141,7 @@ static void arrival(struct trial *trial)
         packet_comes(&receiver, packet, size, trial->now);
         return;
     }
-    trial->heard |= packet[3] == 0;
+    trial->heard |= packet[3] == 0 && saratoga_number_of(packet + 4, 4) == trial->page.id;
     trial->saw_failure_3 |= packet[3] == SARATOGA_CODE_RECEIVER_RESOURCES;
     take_packet(&trial->t, packet, size, trial->now);
 }

@@ -11,13 +11,15 @@
 # make merge    builds the program that merges two plants' directories, target/merge/saratoga-merge (docs/LINK.md)
 # make gigabyte a page of a gigabyte through the link program, its MD5 against Python's; half a minute, two gigabytes of disk
 # make plan     builds the sender's planner, target/plan/saratoga-plan (docs/PLAN.md)
+# make send     builds the sender, target/send/saratoga-send (docs/SEND.md)
 # make settings builds the program for a plant's settings file, target/settings/saratoga-settings (docs/SETTINGS.md)
-# make install  header, archive, pkg-config file, replay, the tools, the link program, the planner, saratoga-merge and the program for
-#               settings, with man pages, below PREFIX (default /usr/local; PREFIX=$HOME/.local needs no root); make uninstall takes them away
+# make install  header, archive, pkg-config file, replay, the tools, the link program, the sender, the planner, saratoga-merge and the
+#               program for settings, with man pages, below PREFIX (default /usr/local; PREFIX=$HOME/.local needs no root); make uninstall takes them away
 PREFIX ?= /usr/local
 VERSION = 0.1
 ARCHIVE = target/staticlib/libsaratoga.a
 PLAN_SOURCES = $(addprefix host/plan/,plan.c input.c reason.c)
+SEND_SOURCES = $(addprefix host/send/,send.c options.c page.c transfer.c round.c run.c wire.c lines.c)
 LINK_SOURCES = $(addprefix host/link/,link.c source.c dispatch.c table.c store.c disk.c meta.c check.c sheet.c onair.c control.c \
 	settings.c text.c)
 MERGE_SOURCES = $(addprefix host/merge/,merge.c octets.c) $(addprefix host/link/,table.c store.c disk.c meta.c check.c sheet.c text.c)
@@ -27,7 +29,7 @@ BENCH_FLAGS = -O2 -Wall -Wextra -Iinclude
 PASS ?= host/passes/page611.pass
 
 .PHONY: test lib replay-program front replay compare soak stack bench-program bench bench-instructions bench-descriptors
-.PHONY: link gigabyte plan merge settings install uninstall clean help
+.PHONY: link gigabyte send plan merge settings install uninstall clean help
 
 help:
 	@sed -n '/^[^#]/q; s/^# //p' Makefile
@@ -86,6 +88,10 @@ plan: lib
 	mkdir -p target/plan
 	$(CC) -std=c99 -Wall -Wextra -pedantic -O2 -Iinclude $(PLAN_SOURCES) $(ARCHIVE) -o target/plan/saratoga-plan
 
+send: lib
+	mkdir -p target/send
+	$(CC) -std=c99 -Wall -Wextra -pedantic -O2 -Iinclude $(SEND_SOURCES) $(ARCHIVE) -o target/send/saratoga-send
+
 merge: lib
 	mkdir -p target/merge
 	$(CC) -std=c99 -Wall -Wextra -pedantic -O2 -Iinclude -Ihost/link $(MERGE_SOURCES) $(ARCHIVE) -o target/merge/saratoga-merge
@@ -113,16 +119,16 @@ replay: front
 AT = $(DESTDIR)$(PREFIX)
 TOOLS = pcap2pass passtext passplot marks
 MODULES = saratoga_pass.py saratoga_tool.py
-PAGES = replay pcap2pass passtext passplot marks saratoga-link saratoga-plan saratoga-merge saratoga-settings
+PAGES = replay pcap2pass passtext passplot marks saratoga-link saratoga-send saratoga-plan saratoga-merge saratoga-settings
 
-install: lib front link plan merge settings
+install: lib front link send plan merge settings
 	install -d "$(AT)/include" "$(AT)/lib/pkgconfig" "$(AT)/bin" "$(AT)/libexec/saratoga" "$(AT)/share/man/man1"
 	install -m 644 include/saratoga.h "$(AT)/include/saratoga.h"
 	install -m 644 $(ARCHIVE) "$(AT)/lib/libsaratoga.a"
 	sed 's|@PREFIX@|$(PREFIX)|;s|@VERSION@|$(VERSION)|' host/saratoga.pc.in >"$(AT)/lib/pkgconfig/saratoga.pc"
 	chmod 644 "$(AT)/lib/pkgconfig/saratoga.pc"
 	install -m 755 target/front/bin/replay target/link/saratoga-link target/plan/saratoga-plan "$(AT)/bin"
-	install -m 755 target/merge/saratoga-merge target/settings/saratoga-settings "$(AT)/bin"
+	install -m 755 target/send/saratoga-send target/merge/saratoga-merge target/settings/saratoga-settings "$(AT)/bin"
 	install -m 755 target/bin/replay $(TOOLS:%=host/tools/%) "$(AT)/libexec/saratoga"
 	install -m 644 $(MODULES:%=host/tools/%) "$(AT)/libexec/saratoga"
 	for tool in $(TOOLS); do ln -sf "../libexec/saratoga/$$tool" "$(AT)/bin/$$tool" || exit 1; done
@@ -130,7 +136,7 @@ install: lib front link plan merge settings
 
 uninstall:
 	rm -f "$(AT)/include/saratoga.h" "$(AT)/lib/libsaratoga.a" "$(AT)/lib/pkgconfig/saratoga.pc"
-	for file in replay saratoga-link saratoga-plan saratoga-merge saratoga-settings $(TOOLS); do rm -f "$(AT)/bin/$$file" || exit 1; done
+	for file in replay saratoga-link saratoga-send saratoga-plan saratoga-merge saratoga-settings $(TOOLS); do rm -f "$(AT)/bin/$$file" || exit 1; done
 	for page in $(PAGES); do rm -f "$(AT)/share/man/man1/$$page.1" || exit 1; done
 	for file in replay $(TOOLS) $(MODULES); do rm -f "$(AT)/libexec/saratoga/$$file" || exit 1; done
 	if [ -d "$(AT)/libexec/saratoga" ]; then rmdir "$(AT)/libexec/saratoga"; fi

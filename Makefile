@@ -13,8 +13,9 @@
 # make merge    builds the program that merges two plants' directories, target/merge/saratoga-merge (docs/LINK.md)
 # make gigabyte a page of a gigabyte through the link program, its MD5 against Python's; half a minute, two gigabytes of disk
 # make plan     builds the sender's planner, target/plan/saratoga-plan (docs/PLAN.md)
+# make send     builds the sender, target/send/saratoga-send (docs/SEND.md)
 # make settings builds the program for a plant's settings file, target/settings/saratoga-settings (docs/SETTINGS.md)
-# make install  header, archive, shared library, pkg-config file, Python module, replay, the tools, the link program, the planner,
+# make install  header, archive, shared library, pkg-config file, Python module, replay, the tools, the link program, the sender, the planner,
 #               saratoga-merge, the program for settings and the dissector, with man pages, below PREFIX (default /usr/local; PREFIX=$HOME/.local needs no
 #               root); make uninstall takes them away
 # make deb      a Debian package of all that make install puts, target/deb/saratoga_VERSION_amd64.deb; DEB_MAINTAINER= names who makes it
@@ -22,6 +23,7 @@ PREFIX ?= /usr/local
 VERSION = 0.1
 ARCHIVE = target/staticlib/libsaratoga.a
 PLAN_SOURCES = $(addprefix host/plan/,plan.c input.c reason.c)
+SEND_SOURCES = $(addprefix host/send/,send.c options.c page.c transfer.c round.c run.c wire.c lines.c)
 LINK_SOURCES = $(addprefix host/link/,link.c source.c dispatch.c table.c store.c disk.c meta.c check.c sheet.c onair.c control.c \
 	settings.c text.c)
 MERGE_SOURCES = $(addprefix host/merge/,merge.c octets.c) $(addprefix host/link/,table.c store.c disk.c meta.c check.c sheet.c text.c)
@@ -31,7 +33,7 @@ BENCH_FLAGS = -O2 -Wall -Wextra -Iinclude
 PASS ?= host/passes/page611.pass
 
 .PHONY: test test-extra lib shared replay-program front replay compare soak stack bench-program bench bench-instructions bench-descriptors
-.PHONY: link gigabyte plan merge settings install uninstall deb clean help
+.PHONY: link gigabyte send plan merge settings install uninstall deb clean help
 
 help:
 	@sed -n '/^[^#]/q; s/^# //p' Makefile
@@ -106,6 +108,10 @@ plan: lib
 	mkdir -p target/plan
 	$(CC) -std=c99 -Wall -Wextra -pedantic -O2 -Iinclude $(PLAN_SOURCES) $(ARCHIVE) -o target/plan/saratoga-plan
 
+send: lib
+	mkdir -p target/send
+	$(CC) -std=c99 -Wall -Wextra -pedantic -O2 -Iinclude $(SEND_SOURCES) $(ARCHIVE) -o target/send/saratoga-send
+
 merge: lib
 	mkdir -p target/merge
 	$(CC) -std=c99 -Wall -Wextra -pedantic -O2 -Iinclude -Ihost/link $(MERGE_SOURCES) $(ARCHIVE) -o target/merge/saratoga-merge
@@ -135,9 +141,9 @@ TOOLS = pcap2pass passtext passplot marks sheet
 MODULES = $(addprefix host/tools/,saratoga_pass.py saratoga_svg.py saratoga_tool.py) host/python/saratoga.py
 # Where Python looks for modules, on Debian below /usr; elsewhere PYTHONPATH names it.
 PYTHON_DIR ?= $(PREFIX)/lib/python3/dist-packages
-PAGES = replay pcap2pass passtext passplot marks sheet saratoga-link saratoga-plan saratoga-merge saratoga-settings
+PAGES = replay pcap2pass passtext passplot marks sheet saratoga-link saratoga-send saratoga-plan saratoga-merge saratoga-settings
 
-install: lib shared front link plan merge settings
+install: lib shared front link send plan merge settings
 	install -d "$(AT)/include" "$(AT)/lib/pkgconfig" "$(AT)/bin" "$(AT)/libexec/saratoga" "$(AT)/share/man/man1" "$(AT)/share/man/man3"
 	install -d "$(DESTDIR)$(PYTHON_DIR)" "$(AT)/share/saratoga" "$(AT)/share/man/man7"
 	install -m 644 include/saratoga.h "$(AT)/include/saratoga.h"
@@ -149,7 +155,7 @@ install: lib shared front link plan merge settings
 	sed 's|@PREFIX@|$(PREFIX)|;s|@VERSION@|$(VERSION)|' host/saratoga.pc.in >"$(AT)/lib/pkgconfig/saratoga.pc"
 	chmod 644 "$(AT)/lib/pkgconfig/saratoga.pc"
 	install -m 755 target/front/bin/replay target/link/saratoga-link target/plan/saratoga-plan "$(AT)/bin"
-	install -m 755 target/merge/saratoga-merge target/settings/saratoga-settings "$(AT)/bin"
+	install -m 755 target/send/saratoga-send target/merge/saratoga-merge target/settings/saratoga-settings "$(AT)/bin"
 	install -m 755 target/bin/replay $(TOOLS:%=host/tools/%) "$(AT)/libexec/saratoga"
 	install -m 644 $(MODULES) "$(AT)/libexec/saratoga"
 	for tool in $(TOOLS); do ln -sf "../libexec/saratoga/$$tool" "$(AT)/bin/$$tool" || exit 1; done
@@ -160,14 +166,14 @@ install: lib shared front link plan merge settings
 
 DEB_MAINTAINER ?= Storhnipa maintainers <maintainers@users.noreply.storhnipa.example>
 
-deb: lib shared front link plan merge settings
+deb: lib shared front link send plan merge settings
 	@host/deb/build '$(VERSION)' '$(DEB_MAINTAINER)' target/deb/saratoga_$(VERSION)_amd64.deb
 
 uninstall:
 	rm -f "$(AT)/include/saratoga.h" "$(AT)/lib/libsaratoga.a" "$(AT)/lib/pkgconfig/saratoga.pc" "$(AT)/share/man/man3/saratoga.3"
 	rm -f "$(AT)/share/man/man7/saratoga-wireshark.7" "$(AT)/share/saratoga/saratoga.lua"
 	rm -f "$(AT)/lib/libsaratoga.so" "$(AT)/lib/$(SONAME)" "$(AT)/lib/$(SHARED)" "$(DESTDIR)$(PYTHON_DIR)/saratoga.py"
-	for file in replay saratoga-link saratoga-plan saratoga-merge saratoga-settings $(TOOLS); do rm -f "$(AT)/bin/$$file" || exit 1; done
+	for file in replay saratoga-link saratoga-send saratoga-plan saratoga-merge saratoga-settings $(TOOLS); do rm -f "$(AT)/bin/$$file" || exit 1; done
 	for page in $(PAGES); do rm -f "$(AT)/share/man/man1/$$page.1" || exit 1; done
 	for file in replay $(TOOLS) $(notdir $(MODULES)); do rm -f "$(AT)/libexec/saratoga/$$file" || exit 1; done
 	if [ -d "$(AT)/libexec/saratoga" ]; then rmdir "$(AT)/libexec/saratoga"; fi

@@ -1,5 +1,7 @@
 # make test     the gate: proofs, must-fail edits, host tests
+# make test-extra   the host tests that need Debian's tshark, tcpdump, chromium and lintian, which it installs where it may
 # make lib      proves the library and builds target/staticlib/libsaratoga.a
+# make shared   links it as target/shared/libsaratoga.so too, over which host/python/saratoga.py is (docs/PYTHON.md)
 # make replay   proves and builds replay, and runs it on the pass of page 611, or on PASS=file (docs/REPLAY.md)
 # make compare  compares the archive with the codec, receivers, planner, merging and settings of host/paper; SEED=N, CALLS=N optional
 # make soak     the same over 4.2 x 10^8 calls, an hour or more; or for SECONDS=N seconds
@@ -13,8 +15,10 @@
 # make plan     builds the sender's planner, target/plan/saratoga-plan (docs/PLAN.md)
 # make send     builds the sender, target/send/saratoga-send (docs/SEND.md)
 # make settings builds the program for a plant's settings file, target/settings/saratoga-settings (docs/SETTINGS.md)
-# make install  header, archive, pkg-config file, replay, the tools, the link program, the sender, the planner, saratoga-merge and the
-#               program for settings, with man pages, below PREFIX (default /usr/local; PREFIX=$HOME/.local needs no root); make uninstall takes them away
+# make install  header, archive, shared library, pkg-config file, Python module, replay, the tools, the link program, the sender, the planner,
+#               saratoga-merge, the program for settings and the dissector, with man pages, below PREFIX (default /usr/local; PREFIX=$HOME/.local needs no
+#               root); make uninstall takes them away
+# make deb      a Debian package of all that make install puts, target/deb/saratoga_VERSION_amd64.deb; DEB_MAINTAINER= names who makes it
 PREFIX ?= /usr/local
 VERSION = 0.1
 ARCHIVE = target/staticlib/libsaratoga.a
@@ -28,8 +32,8 @@ BENCH_FLAGS = -O2 -Wall -Wextra -Iinclude
 
 PASS ?= host/passes/page611.pass
 
-.PHONY: test lib replay-program front replay compare soak stack bench-program bench bench-instructions bench-descriptors
-.PHONY: link gigabyte send plan merge settings install uninstall clean help
+.PHONY: test test-extra lib shared replay-program front replay compare soak stack bench-program bench bench-instructions bench-descriptors
+.PHONY: link gigabyte send plan merge settings install uninstall deb clean help
 
 help:
 	@sed -n '/^[^#]/q; s/^# //p' Makefile
@@ -37,8 +41,24 @@ help:
 test:
 	bash .ci/run
 
+test-extra: lib
+	host/test-extra
+
 lib:
 	rt staticlib saratoga
+
+# Exported is what the header declares, and nothing else. The soname changes where a struct or a function of the header changes.
+SONAME = libsaratoga.so.0
+SHARED = $(SONAME).1
+DECLARED = s/^struct saratoga_[a-z0-9_]* \(saratoga_[a-z0-9_]*\)(.*/    \1;/p
+
+shared: lib
+	@mkdir -p target/shared
+	@(echo 'SARATOGA_0 { global:'; sed -n '$(DECLARED)' include/saratoga.h; echo 'local: *; };') >target/shared/exports
+	$(CC) -shared -nostartfiles -Wl,-soname,$(SONAME) -Wl,--version-script=target/shared/exports -Wl,-z,defs,-z,relro,-z,now \
+		-Wl,--whole-archive $(ARCHIVE) -Wl,--no-whole-archive -o target/shared/$(SHARED)
+	@ln -sf $(SHARED) target/shared/$(SONAME)
+	@ln -sf $(SONAME) target/shared/libsaratoga.so
 
 compare: lib
 	cd host && CARGO_TARGET_DIR=../target/host cargo build --offline --locked --release --quiet
@@ -117,29 +137,47 @@ replay: front
 # All that a user runs, with man pages. Nothing is written outside of PREFIX, and no owner is changed: below a PREFIX of
 # one's own it needs no root. The tools stand beside their modules, with links in bin.
 AT = $(DESTDIR)$(PREFIX)
-TOOLS = pcap2pass passtext passplot marks
-MODULES = saratoga_pass.py saratoga_tool.py
-PAGES = replay pcap2pass passtext passplot marks saratoga-link saratoga-send saratoga-plan saratoga-merge saratoga-settings
+TOOLS = pcap2pass passtext passplot marks sheet
+MODULES = $(addprefix host/tools/,saratoga_pass.py saratoga_svg.py saratoga_tool.py) host/python/saratoga.py
+# Where Python looks for modules, on Debian below /usr; elsewhere PYTHONPATH names it.
+PYTHON_DIR ?= $(PREFIX)/lib/python3/dist-packages
+PAGES = replay pcap2pass passtext passplot marks sheet saratoga-link saratoga-send saratoga-plan saratoga-merge saratoga-settings
 
-install: lib front link send plan merge settings
-	install -d "$(AT)/include" "$(AT)/lib/pkgconfig" "$(AT)/bin" "$(AT)/libexec/saratoga" "$(AT)/share/man/man1"
+install: lib shared front link send plan merge settings
+	install -d "$(AT)/include" "$(AT)/lib/pkgconfig" "$(AT)/bin" "$(AT)/libexec/saratoga" "$(AT)/share/man/man1" "$(AT)/share/man/man3"
+	install -d "$(DESTDIR)$(PYTHON_DIR)" "$(AT)/share/saratoga" "$(AT)/share/man/man7"
 	install -m 644 include/saratoga.h "$(AT)/include/saratoga.h"
 	install -m 644 $(ARCHIVE) "$(AT)/lib/libsaratoga.a"
+	install -m 644 target/shared/$(SHARED) "$(AT)/lib/$(SHARED)"
+	ln -sf $(SHARED) "$(AT)/lib/$(SONAME)"
+	ln -sf $(SONAME) "$(AT)/lib/libsaratoga.so"
+	install -m 644 host/python/saratoga.py "$(DESTDIR)$(PYTHON_DIR)/saratoga.py"
 	sed 's|@PREFIX@|$(PREFIX)|;s|@VERSION@|$(VERSION)|' host/saratoga.pc.in >"$(AT)/lib/pkgconfig/saratoga.pc"
 	chmod 644 "$(AT)/lib/pkgconfig/saratoga.pc"
 	install -m 755 target/front/bin/replay target/link/saratoga-link target/plan/saratoga-plan "$(AT)/bin"
 	install -m 755 target/send/saratoga-send target/merge/saratoga-merge target/settings/saratoga-settings "$(AT)/bin"
 	install -m 755 target/bin/replay $(TOOLS:%=host/tools/%) "$(AT)/libexec/saratoga"
-	install -m 644 $(MODULES:%=host/tools/%) "$(AT)/libexec/saratoga"
+	install -m 644 $(MODULES) "$(AT)/libexec/saratoga"
 	for tool in $(TOOLS); do ln -sf "../libexec/saratoga/$$tool" "$(AT)/bin/$$tool" || exit 1; done
 	install -m 644 $(PAGES:%=host/man/%.1) "$(AT)/share/man/man1"
+	install -m 644 host/man/saratoga.3 "$(AT)/share/man/man3"
+	install -m 644 host/man/saratoga-wireshark.7 "$(AT)/share/man/man7"
+	install -m 644 host/wireshark/saratoga.lua "$(AT)/share/saratoga"
+
+DEB_MAINTAINER ?= Storhnipa maintainers <maintainers@users.noreply.storhnipa.example>
+
+deb: lib shared front link send plan merge settings
+	@host/deb/build '$(VERSION)' '$(DEB_MAINTAINER)' target/deb/saratoga_$(VERSION)_amd64.deb
 
 uninstall:
-	rm -f "$(AT)/include/saratoga.h" "$(AT)/lib/libsaratoga.a" "$(AT)/lib/pkgconfig/saratoga.pc"
+	rm -f "$(AT)/include/saratoga.h" "$(AT)/lib/libsaratoga.a" "$(AT)/lib/pkgconfig/saratoga.pc" "$(AT)/share/man/man3/saratoga.3"
+	rm -f "$(AT)/share/man/man7/saratoga-wireshark.7" "$(AT)/share/saratoga/saratoga.lua"
+	rm -f "$(AT)/lib/libsaratoga.so" "$(AT)/lib/$(SONAME)" "$(AT)/lib/$(SHARED)" "$(DESTDIR)$(PYTHON_DIR)/saratoga.py"
 	for file in replay saratoga-link saratoga-send saratoga-plan saratoga-merge saratoga-settings $(TOOLS); do rm -f "$(AT)/bin/$$file" || exit 1; done
 	for page in $(PAGES); do rm -f "$(AT)/share/man/man1/$$page.1" || exit 1; done
-	for file in replay $(TOOLS) $(MODULES); do rm -f "$(AT)/libexec/saratoga/$$file" || exit 1; done
+	for file in replay $(TOOLS) $(notdir $(MODULES)); do rm -f "$(AT)/libexec/saratoga/$$file" || exit 1; done
 	if [ -d "$(AT)/libexec/saratoga" ]; then rmdir "$(AT)/libexec/saratoga"; fi
+	if [ -d "$(AT)/share/saratoga" ]; then rmdir "$(AT)/share/saratoga"; fi
 
 clean:
 	rm -rf target

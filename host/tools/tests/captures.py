@@ -27,6 +27,26 @@ def ipv4(segment, options=b"", fragment=0, protocol=17, total=None, ident=1, sen
     return start[:10] + struct.pack(">H", checksum(start)) + start[12:] + segment
 
 
+def parts(octets, sizes):
+    """Where each part begins, its octets, and whether more follow: of these sizes, the last as long as what is left."""
+    at = 0
+    for size in sizes:
+        yield at, octets[at:at + size], True
+        at += size
+    yield at, octets[at:], False
+
+
+def fragments4(segment, sizes, **named):
+    """An IPv4 packet in fragments of these sizes, multiples of 8, and the rest."""
+    return [ipv4(octets, fragment=at // 8 | (0x2000 if more else 0), **named) for at, octets, more in parts(segment, sizes)]
+
+
+def fragments6(segment, sizes, ident=9, before=(), following=17, **named):
+    """The same of IPv6; `following` is what the segment begins with."""
+    return [ipv6(octets, [*before, (44, struct.pack(">BHI", 0, at | more, ident))], following, **named)
+            for at, octets, more in parts(segment, sizes)]
+
+
 def ipv6(segment, extensions=(), following=17, sender="::1", receiver="::1"):
     """`extensions`: pairs of the header's number and its octets, without the first, which names the next header."""
     chain = b""

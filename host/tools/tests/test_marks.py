@@ -7,6 +7,7 @@ import subprocess
 import sys
 import tempfile
 import unittest
+import xml.etree.ElementTree as tree
 import zlib
 
 import loading
@@ -16,6 +17,7 @@ from packets import (END_OF_DATA, TIMESTAMP, beacon, close_record, data, failure
 marks = loading.tool("marks")
 ROOT = os.path.join(os.path.dirname(os.path.abspath(__file__)), "..", "..", "..")
 PROVED = os.path.join(ROOT, "target", "bin", "replay")
+SVG = "{http://www.w3.org/2000/svg}"
 PAGE611 = os.path.join(ROOT, "host", "passes", "page611.pass")
 
 
@@ -118,6 +120,61 @@ class Picture(unittest.TestCase):
         self.assertEqual((pixels[65534], pixels[65535]), (self.BLUE, self.GREY))
         pixels = self.drawn(area((4, 5), (9, 10)), 6)
         self.assertEqual(pixels[:11], 4 * [self.ORANGE] + [self.BLUE, self.ORANGE] + 3 * [self.GREY] + [self.RED, self.GREY])
+
+
+class PictureWithScale(unittest.TestCase):
+    """The SVG: each mark in its colour, the scale, the legend, and the runs by name."""
+
+    def drawn(self, octets, length=None, title="Marks"):
+        shown = marks.saved(octets, length)
+        root = tree.fromstring(marks.Picture(shown, title).svg())
+        return shown, root, [text.text for text in root.iter(SVG + "text")]
+
+    def cells(self, shown, root):
+        """How many marks have each colour, and the colour of each mark that isn't white."""
+        places = {}
+        for box in root.iter(SVG + "rect"):
+            if box.get("shape-rendering"):
+                x, y, wide, high = (float(box.get(name)) for name in ("x", "y", "width", "height"))
+                row = round((y - marks.TOP) / high)
+                for column in range(round((x - marks.LEFT) / marks.CELL), round((x + wide - marks.LEFT) / marks.CELL)):
+                    self.assertNotIn(256 * row + column, places)
+                    places[256 * row + column] = box.get("fill")[1:]
+        return places
+
+    def test_each_mark_has_its_place(self):
+        for octets, length in ((area((0, 3), (300, 302), (700, 701)), 1000), (area((0, 65535)), 65535), (area((5, 6), (65535, 65536)), None),
+                               (area((4, 5), (9, 10)), 6), (area(), 0), (area((100, 60000)), 60001)):
+            shown, root, _ = self.drawn(octets, length)
+            want = dict(enumerate(decoded(marks.png(shown))[2]))
+            places = self.cells(shown, root)
+            rows = -(-max(length or 1, 1) // 256) if length is not None and not shown.above() else 256
+            self.assertEqual(places, {place: colour for place, colour in want.items() if colour != Picture.WHITE and place < 256 * rows})
+
+    def test_scale_legend_and_runs(self):
+        _, _, told = self.drawn(area((0, 1000), (2000, 2001), (2500, 3000)), 3000)
+        self.assertIn("1,501 of 3,000 octets received, in 3 runs; edge 3,000; holes 1000-2000, 2001-2500", told)
+        for text in ("+0", "+224", "0", "256", "2,816", "received: 1,501", "hole: 1,499", "beyond the file: 72", "3 runs", "1: 0 to 999",
+                     "2: 2,000", "3: 2,500 to 2,999"):
+            self.assertIn(text, told)
+        self.assertNotIn("mark beyond the file", " ".join(told))
+        _, _, told = self.drawn(area(*((2 * run, 2 * run + 1) for run in range(70))))
+        self.assertIn("64: 126", told)
+        self.assertIn("and 6 more", told)
+        self.assertNotIn("65: 128", told)
+
+    def test_labels_lie_inside(self):
+        for octets, length in ((area(*((65535 - 2 * run, 65536 - 2 * run) for run in range(70))), None), (area((0, 9)), 9), (area(), 0)):
+            _, root, _ = self.drawn(octets, length, "W" * 400)
+            high = float(root.get("height"))
+            for text in root.iter(SVG + "text"):
+                long = marks.wide(text.text, float(text.get("font-size")), text.get("font-weight") == "bold")
+                x = float(text.get("x")) - {"start": 0, "middle": long / 2, "end": long}[text.get("text-anchor", "start")]
+                self.assertTrue(x >= 0 and x + long <= marks.WIDTH and 0 < float(text.get("y")) < high - 3, text.text)
+
+    def test_a_title_is_escaped(self):
+        _, _, told = self.drawn(area(), 9, "<b>&\x1b")
+        self.assertIn("<b>&\\x1b", told)
 
 
 def lines_of(*records):
@@ -304,6 +361,11 @@ class Program(unittest.TestCase):
             picture = file.read()
         self.assertEqual(decoded(picture)[2].count(Picture.BLUE), 100)
         self.assertEqual(self.run_with("--png", "-", octets=area((0, 100)))[0], picture)
+        out = self.run_with("--pass", "--svg", "-", "--record", "5", PAGE611)[0]
+        told = [text.text for text in tree.fromstring(out).iter(SVG + "text")]
+        self.assertIn("Marks of page611.pass, transfer 7 after record 5", told)
+        self.assertIn("2: 2,000 to 2,999", told)
+        self.assertEqual(self.run_with("--svg", path, octets=area((0, 100))), (b"", "", 0))
         out = self.run_with("--pass", "--png", "-", "--record", "5", PAGE611)[0]
         self.assertEqual(decoded(out)[2].count(Picture.BLUE), 2000)
         self.assertEqual(decoded(out)[2].count(Picture.ORANGE), 1000)
@@ -357,9 +419,18 @@ class Program(unittest.TestCase):
         self.assertEqual(self.run_with("--pass", octets=b"")[1:],
                          ("marks: standard input: --id is needed: the transfers that are opened are none\n", 1))
 
+    def test_without_the_library(self):
+        """Saved marks are shown, and of a pass it is told what lacks."""
+        env = dict(os.environ, SARATOGA_LIBRARY="/nowhere/libsaratoga.so")
+        command = [sys.executable, "-B", loading.path_of("marks")]
+        self.assertEqual(subprocess.run(command, input=bytes(8192), env=env, capture_output=True, check=False).returncode, 0)
+        done = subprocess.run([*command, "--pass", PAGE611], env=env, capture_output=True, check=False)
+        self.assertEqual((done.stdout, done.returncode), (b"", 1))
+        self.assertRegex(done.stderr.decode(), "^marks: .*: the library, which judges its packets, can't be loaded: .*/nowhere/.*\n$")
+
     def test_wrong_options(self):
         for options in (["--record", "1"], ["--id", "7"], ["--pass", "--length", "3"], ["--length", "65536"], ["--length", "x"],
-                        ["--pass", "--record", "0"], ["--pass", "--id", "4294967296"], ["--png", "a", "-o", "b"], ["--what"]):
+                        ["--pass", "--record", "0"], ["--pass", "--id", "4294967296"], ["--png", "a", "-o", "b"], ["--png", "a", "--svg", "b"], ["--what"]):
             out, told, status = self.run_with(*options)
             self.assertEqual((out, status), (b"", 2), options)
             self.assertIn("usage: marks", told)

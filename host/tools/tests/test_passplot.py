@@ -1,4 +1,5 @@
 """passplot: what it draws of replay's lines, and the lines that errors name."""
+import functools
 import os
 import random
 import re
@@ -90,6 +91,41 @@ def texts(svg):
 
 def tips(svg):
     return [element.text for element in tree.fromstring(svg).iter(SVG + "title")]
+
+
+# For the test in Chromium alone: how many texts leave their drawing, and which.
+MEASURE = """<script>
+var texts = document.querySelectorAll("svg text"), out = [];
+for (var i = 0; i < texts.length; i++) {
+  var box = texts[i].getBoundingClientRect(), frame = texts[i].closest("svg").getBoundingClientRect();
+  if (box.left < frame.left || box.right > frame.right || box.top < frame.top || box.bottom > frame.bottom)
+    out.push(texts[i].textContent.slice(0, 60));
+}
+var told = document.createElement("pre");
+told.textContent = "MEASURED " + out.length + " of " + texts.length + ":" + out.join("; ") + "END";
+document.body.appendChild(told);
+</script>"""
+
+
+@functools.lru_cache(None)
+def extremes():
+    """Drawings with the longest names, numbers and lists."""
+    top, wide = 2**64 - 1, record(b"P", metadata(7, 64, 2**64 - 1, b"W" * 1000))
+    opened = f"1 open id=7 width=64 length={top} edge=0 complete=0 new\n"
+    two = (f"2 record id=7 offset=0 length={2**63} edge={2**63} complete=0 absorbed=0\n"
+           f"3 record id=7 offset={top - 2} length=1 edge={top - 1} complete=0 absorbed=0\n")
+    refused = "".join(f"{number} refused {2**64 - number} code=9\n" for number in range(4, 40))
+    late = opened.replace("1 open", f"{top - 9} open") + f"{top} status 4400000000000007\n"
+    many = "".join(f"{2 * at + 1} open id={2**32 - 1 - at} width=64 length={top} edge=0 complete=0 new\n"
+                   f"{2 * at + 2} record id={2**32 - 1 - at} offset=0 length={top - 1} edge={top - 1} complete=0 absorbed=0\n"
+                   for at in range(12))
+    merged = opened + two + "4 table 1\n" + opened.replace("1 open", "5 open") + f"6 merge id=7 edge={top - 1} complete=0\n"
+    times = {1: 0, 2: 10**9, 3: 2**64 - 1}
+    drawings = {"long": drawing(opened + two), "refused": drawing(opened + two + refused), "late": drawing(late), "strips": drawing(many),
+                "merged": drawing(merged), "named": drawing(opened, passed=wide), "times": drawing(opened + two, times),
+                "small": drawing(LATE), "tables": drawing(TWO_TABLES)}
+    drawings["title"] = passplot.Drawing(passplot.read(LATE.split("\n")), "W" * 300).svg()
+    return drawings
 
 
 class Drawn(unittest.TestCase):
@@ -198,6 +234,43 @@ class Drawn(unittest.TestCase):
                 self.assertTrue(wide >= 0 and high >= 0 and x >= 0 and y >= 0, box.attrib)
                 self.assertTrue(x + wide <= passplot.WIDTH + 0.1 and y + high <= height + 0.1, box.attrib)
 
+    def test_every_label_lies_inside(self):
+        """In passes with the longest names and numbers: none crosses a side of the picture, or the next of its kind."""
+        for name, svg in extremes().items():
+            for element in tree.fromstring(svg).iter(SVG + "text"):
+                if element.get("transform"):
+                    continue
+                size, bold = passplot.SIZES[element.get("class", "")]
+                long = min(passplot.wide(element.text, size, bold or "bold" in element.get("style", "")),
+                           float(element.get("textLength", "inf")))
+                x = float(element.get("x")) - {"start": 0, "middle": long / 2, "end": long}[element.get("text-anchor")]
+                self.assertTrue(x >= 3.9 and x + long <= passplot.WIDTH - 3.9, f"{name}: {element.text}")
+
+    def test_numbers_are_exact(self):
+        svg = extremes()["long"]
+        told = texts(svg)
+        self.assertIn(f"{2**63:,} – {2**64 - 3:,}", told)
+        self.assertIn(f"{2**64 - 1:,}", told)
+        self.assertIn("5,000,000,000,000,000,000", told)
+        for svg in extremes().values():
+            self.assertFalse([text for text in texts(svg) if re.search(r"\de\+?\d", text)])
+        nearly = extremes()["strips"]
+        self.assertIn(f"NOT complete: 99.9% of {2**64 - 1:,}", texts(nearly))
+        self.assertNotIn("100.0%", nearly)
+
+    def test_labels_in_chromium(self):
+        """As a browser with fonts of its own measures them."""
+        program = loading.chromium(self)
+        with tempfile.TemporaryDirectory() as place:
+            path = os.path.join(place, "drawings.html")
+            with open(path, "w", encoding="utf-8") as file:
+                file.write("<!DOCTYPE html><meta charset='utf-8'>" + "\n".join(extremes().values()) + MEASURE)
+            told = subprocess.run([*program, "--dump-dom", f"file://{path}"], capture_output=True, check=True,
+                                  timeout=120).stdout.decode("utf-8", "replace")
+        found = re.search("<pre>MEASURED ([0-9]+) of ([0-9]+):(.*)END</pre>", told, re.S)
+        self.assertEqual((found[1], found[3].strip()), ("0", ""))
+        self.assertGreater(int(found[2]), 100)
+
     def test_the_received_set(self):
         """Runs and holes against a set of offsets."""
         chance = random.Random(612)
@@ -237,7 +310,7 @@ class Drawn(unittest.TestCase):
         self.assertIn("Transfer 7, plant/page611.pla: 1 octet, width 16", texts(drawing(linked)))
         long = record(b"P", metadata(7, 16, 3000, b"a" * 500 + b"z" * 500))
         svg = drawing("1 open id=7 width=16 length=3000 edge=0 complete=0 new\n", passed=long)
-        self.assertTrue(all(len(text) < 110 for text in texts(svg)), texts(svg))
+        self.assertTrue(all(len(text) < 120 for text in texts(svg)), texts(svg))
         self.assertIn("Transfer 7, " + "a" * 500 + "z" * 500, tips(svg))
 
     def test_any_pass_gives_names_or_an_error(self):

@@ -3,7 +3,6 @@ import io
 import os
 import random
 import re
-import shutil
 import struct
 import subprocess
 import sys
@@ -12,8 +11,8 @@ import unittest
 
 import captures
 import loading
-from captures import (cooked, cooked2, enhanced, ethernet, interface, ipv4, ipv6, loopback, pcap, pcapng, section, simple,
-                      udp)
+from captures import (cooked, cooked2, enhanced, ethernet, fragments4, fragments6, interface, ipv4, ipv6, loopback, pcap, pcapng,
+                      section, simple, udp)
 from packets import page_packets, record, split, time_of
 
 pcap2pass = loading.tool("pcap2pass")
@@ -152,20 +151,6 @@ class Skipping(unittest.TestCase):
         self.skipped(ethernet(ipv6(bytes(20), following=58)), "")
         self.skipped(bytes(12) + b"\x08\x06" + bytes(46), "")
 
-    def test_fragments(self):
-        first = "skipped: the first fragment of a UDP packet; fragments are not put together"
-        later = "skipped: a later fragment of a UDP packet; fragments are not put together"
-        self.skipped(ethernet(ipv4(udp(b"x" * 100, length=2000), fragment=0x2000)), first)
-        self.skipped(ethernet(ipv4(b"x" * 100, fragment=5)), later)
-        self.skipped(ethernet(ipv4(udp(b"x" * 100, target=53, length=2000), fragment=0x2000)), "")
-        self.skipped(ethernet(ipv6(udp(b"x" * 100), [(44, struct.pack(">BHI", 0, 1, 9))])), first)
-        self.skipped(ethernet(ipv6(b"x" * 100, [(44, struct.pack(">BHI", 0, 80, 9))])), later)
-
-    def test_later_fragments_of_another_port(self):
-        capture = pcap([ethernet(ipv4(udp(bytes(99), target=53, length=999), fragment=0x2000)),
-                        ethernet(ipv4(bytes(99), fragment=13)), ethernet(ipv4(udp(b"one")))])
-        self.assertEqual(run(capture), (record(b"P", b"one"), "", 0))
-
     def test_cut_frames(self):
         frame = ethernet(ipv4(udp(b"x" * 100)))
         self.skipped((frame[:96], len(frame)), "skipped: a UDP length of 108 where 62 octets are there "
@@ -207,20 +192,187 @@ class Skipping(unittest.TestCase):
 
     def test_counts_by_reason(self):
         """The first five of a reason are named, one message says that there are more, the last counts all."""
-        whole, fragment = ethernet(ipv4(udp(b"x" * 100))), ethernet(ipv4(b"x" * 100, fragment=5))
-        frames = [fragment] * 8 + [(whole[:80], len(whole))] * 2 + [ethernet(ipv4(udp(b"x" * 50, length=7))), whole]
+        whole = ethernet(ipv4(udp(b"x" * 100)))
+        frames = [ethernet(ipv4(b"x" * 100, fragment=5, ident=ident)) for ident in range(8)] + [(whole[:80], len(whole))] * 2 + [ethernet(ipv4(udp(b"x" * 50, length=7))), whole]
         frames += [ethernet(ipv4(udp(b"dns", target=53)))] * 3 + [ethernet(ipv4(bytes(20), protocol=6))]
         out, told, status = run(pcap(frames))
         lines = told.splitlines()
         self.assertEqual((out, status), (record(b"P", b"x" * 100), 3))
         self.assertEqual(len(lines), 5 + 1 + 2 + 1 + 1)
-        self.assertEqual(lines[5], "pcap2pass: frame 6: skipped: fragment; more of these are counted, and not named")
+        self.assertIn("pcap2pass: frame 6: skipped: fragment; more of these are counted, and not named", lines)
         self.assertEqual(lines[-1], "pcap2pass: 16 frames, 1 taken, 11 skipped; cut: 2; fragment: 8; "
                                     "wrong length or version: 1")
         told = run(pcap(frames), with_counts=True)[1]
         self.assertEqual(told.splitlines()[-1], "pcap2pass: 16 frames, 1 taken, 11 skipped; another port: 3; "
                          "another protocol: 1; cut: 2; fragment: 8; wrong length or version: 1")
         self.assertEqual(run(pcap([whole]), with_counts=True)[1], "pcap2pass: 1 frame, 1 taken, 0 skipped\n")
+
+
+class Fragmented(unittest.TestCase):
+    """Packets in fragments: what is put together, and what is told of those that are not."""
+
+    LONG = bytes(number * 7 % 251 for number in range(5000))
+    SEGMENT = udp(LONG)
+
+    def packets(self):
+        """A long packet in fragments, by IPv4 and IPv6, with extension headers before and behind the fragment's."""
+        behind = bytes([17, 0, 1, 4, 0, 0, 0, 0]) + self.SEGMENT  # destination options
+        yield "IPv4", fragments4(self.SEGMENT, [1480, 1480, 1480])
+        yield "IPv4 with options", fragments4(self.SEGMENT, [8, 1472, 16], options=bytes(12))
+        yield "IPv6", fragments6(self.SEGMENT, [1448, 1448, 1448])
+        yield "IPv6 behind options", fragments6(self.SEGMENT, [1448, 1448], before=[(0, bytes([0, 1, 4, 0, 0, 0, 0]))])
+        yield "IPv6 before options", fragments6(behind, [1448, 1448], following=60)
+        yield "IPv6 with the UDP header in the second", fragments6(behind, [8, 1448], following=60)
+
+    def taken(self, frames, *payloads, status=0, told=""):
+        self.assertEqual(run(pcap([ethernet(frame) for frame in frames])), (b"".join(record(b"P", one) for one in payloads), told, status))
+
+    def test_in_any_order(self):
+        chance = random.Random(7)
+        for name, frames in self.packets():
+            with self.subTest(name=name):
+                self.taken(frames, self.LONG)
+                self.taken(frames[::-1], self.LONG)
+                for _ in range(5):
+                    self.taken(chance.sample(frames, len(frames)), self.LONG)
+                self.taken(frames + frames, self.LONG, self.LONG)
+
+    def test_the_record_stands_where_the_last_came(self):
+        first, second = fragments4(self.SEGMENT, [2400])
+        one, two = ipv4(udp(b"one")), ipv4(udp(b"two"))
+        self.taken([first, one, second, two], b"one", self.LONG, b"two")
+        out = run(pcap([ethernet(frame) for frame in (first, one, second)]), with_times=True)[0]
+        times = [time_of(kind, body) for kind, body in split(out)[0] if kind == b"W"]
+        self.assertEqual(times, [1700000001000005000, 1700000002000005000])
+
+    def test_many_at_once(self):
+        """Fragments of many packets between each other, of both families and any sizes, each put together by itself."""
+        chance = random.Random(8)
+        for _ in range(20):
+            frames, bodies = [], []
+            for ident in range(12):
+                body = chance.randbytes(chance.randrange(30, 9000))
+                sizes, left = [], len(body)
+                while left > 8 and len(sizes) < 20:
+                    sizes.append(min(8 * chance.randrange(1, 200), left // 8 * 8))
+                    left -= sizes[-1]
+                make = chance.choice((fragments4, fragments6))
+                sender = "10.0.0.%d" % (ident % 3) if make is fragments4 else "2001:db8::%d" % (ident % 3)
+                frames += make(udp(body), sizes, ident=ident // 2, sender=sender)
+                bodies.append(body)
+            frames += chance.sample(frames, 5) if chance.random() < 0.3 else []
+            chance.shuffle(frames)
+            out = run(pcapng([ethernet(frame) for frame in frames]))[0]  # all at one time
+            self.assertEqual(sorted(body for _, body in split(out)[0]), sorted(bodies))
+
+    def test_repeats_are_no_overlap(self):
+        first, second, third = fragments4(self.SEGMENT, [1480, 1480])
+        self.taken([first, second, first, second, third], self.LONG)
+        self.taken([third, first, third, second], self.LONG)
+
+    def test_overlapping_ones_are_refused(self):
+        """Whichever octets were meant, nobody can tell: neither is taken."""
+        told = "".join(f"pcap2pass: frame {number}: skipped: of fragments that overlap\n" for number in (1, 2, 3))
+        for make in (fragments4, fragments6):
+            first, second = make(self.SEGMENT, [2400])
+            other = make(self.SEGMENT, [1600])[1]
+            changed = make(udp(b"\0" * 5000), [2400])[0]
+            for frames in ([first, other, second], [first, changed, second]):
+                self.taken(frames, told=told + "pcap2pass: 3 frames, 0 taken, 3 skipped; fragment: 3\n"
+                           "pcap2pass: no payload of UDP port 7542 in 3 frames\n", status=3)
+
+    def test_two_ends(self):
+        first, second = fragments4(self.SEGMENT, [2400])
+        for frames in ([first, second, ipv4(b"x" * 8, fragment=0x2000 | 700)], [ipv4(b"x" * 8, fragment=0x2000 | 700), second, first],
+                       [second, ipv4(b"x" * 8, fragment=900)]):
+            out, told, status = run(pcap([ethernet(frame) for frame in frames]))
+            self.assertEqual(status, 3)
+            if frames[0] is first:  # it was whole before
+                self.assertEqual(out, record(b"P", self.LONG))
+                self.assertIn("frame 3: skipped: a fragment of a UDP packet of which octets never came: 0 to 5599, those from 5608 on", told)
+            else:
+                self.assertIn("frame 1: skipped: of fragments that differ in where the packet ends\n", told)
+
+    def test_what_is_missing_is_told(self):
+        first, second, third = fragments4(self.SEGMENT, [1480, 1480])
+        for frames, lacking in (([first, second], "those from 2960 on"), ([first, third], "1480 to 2959"), ([second, third], "0 to 1479"),
+                                ([second], "0 to 1479, those from 2960 on")):
+            told = "".join(f"pcap2pass: frame {number + 2}: skipped: a fragment of a UDP packet of which octets never came: {lacking}\n"
+                           for number in range(len(frames)))
+            last = f"pcap2pass: {len(frames) + 1} frames, 1 taken, {len(frames)} skipped; fragment: {len(frames)}\n"
+            self.taken([ipv4(udp(b"one")), *frames], b"one", told=told + last, status=3)
+
+    def test_damaged_ones(self):
+        for frame, told in ((ipv4(b"x" * 9, fragment=0x2000 | 5), "a fragment of 9 octets that is not the last"),
+                            (ipv4(b"x" * 80, fragment=8190), "a fragment that ends at octet 65600: no packet is so long"),
+                            (ipv6(b"x" * 9, [(44, struct.pack(">BHI", 0, 41, 9))]), "a fragment of 9 octets that is not the last")):
+            out, messages, status = run(pcap([ethernet(frame)]))
+            self.assertEqual((out, status), (b"", 3))
+            self.assertIn(f"frame 1: skipped: {told}", messages)
+        first, second = fragments4(udp(self.LONG, length=7), [2400])
+        self.assertIn("frame 2: skipped: a UDP length of 7\n", run(pcap([ethernet(first), ethernet(second)]))[1])
+        first, second = fragments4(udp(self.LONG, length=6000), [2400])
+        self.assertIn("frame 2: skipped: a UDP length of 6000 where 5008 octets are there\n", run(pcap([ethernet(first), ethernet(second)]))[1])
+
+    def test_cut_by_the_capture(self):
+        for make in (fragments4, fragments6):
+            first, second = (ethernet(frame, padded=False) for frame in make(self.SEGMENT, [2400]))
+            out, told, status = run(pcap([(first[:96], len(first)), second]))
+            self.assertEqual((out, status), (b"", 3))
+            self.assertIn("frame 1: skipped: the fragment is cut short: 82 of", told)
+            self.assertIn("(the capture cut this frame)", told)
+            self.assertIn("frame 2: skipped: a fragment of a UDP packet of which octets never came: 0 to 2399", told)
+
+    def test_other_ports_and_protocols_silently(self):
+        for segment in (udp(self.LONG, target=53), udp(self.LONG, target=53, length=7)):
+            for make in (fragments4, fragments6):
+                first, second, third = make(segment, [1480, 1480])
+                for frames in ([first, second, third], [second, first, third], [third, second, first]):
+                    self.taken([*frames, ipv4(udp(b"one"))], b"one")
+                told = run(pcap([ethernet(frame) for frame in (third, first, second)]), with_counts=True)[1]
+                self.assertTrue(told.startswith("pcap2pass: 3 frames, 0 taken, 0 skipped; another port: 3\n"), told)
+        self.taken([*fragments6(bytes(3000), [1480], following=6), *fragments4(bytes(3000), [1480], protocol=6), ipv4(udp(b"one"))], b"one")
+        capture = pcap([ethernet(ipv4(udp(bytes(99), target=53, length=999), fragment=0x2000)),
+                        ethernet(ipv4(bytes(99), fragment=13)), ethernet(ipv4(udp(b"one")))])
+        self.assertEqual(run(capture), (record(b"P", b"one"), "", 0))
+        # The same number again, of the port.
+        self.taken([*fragments4(udp(self.LONG, target=53), [1480]), *fragments4(self.SEGMENT, [1480])], self.LONG)
+
+    def test_a_number_used_again_later(self):
+        """Fragments over 60 seconds apart are not of one packet."""
+        first, second = (ethernet(frame) for frame in fragments4(self.SEGMENT, [2400]))
+        for seconds, status in ((60, 0), (61, 3)):
+            capture = section() + interface(1) + enhanced(first, time=10**18) + enhanced(second, time=10**18 + seconds * 10**9)
+            self.assertEqual(run(capture)[2], status)
+        capture = section() + interface(1) + enhanced(first, time=1) + enhanced(first, time=10**12) + enhanced(second, time=10**12)
+        out, told, status = run(capture)
+        self.assertEqual((out, status), (record(b"P", self.LONG), 3))
+        self.assertIn("frame 1: skipped: a fragment of a UDP packet of which octets never came: those from 2400 on\n", told)
+
+    def test_very_many_packets_that_stay_open(self):
+        """Of more than 1,024 the oldest is given up."""
+        frames = [fragments4(self.SEGMENT, [2400], ident=number)[0] for number in range(1100)]
+        last = [fragments4(self.SEGMENT, [2400], ident=number)[1] for number in (76, 75)]
+        out, told, status = run(pcapng([ethernet(frame) for frame in frames + last]))
+        self.assertEqual((out, status), (record(b"P", self.LONG), 3))
+        self.assertEqual(told.splitlines()[-1], "pcap2pass: 1102 frames, 1 taken, 1100 skipped; fragment: 1100; fragments put together: 2")
+
+    def test_counts(self):
+        told = run(pcap([ethernet(frame) for frame in fragments4(self.SEGMENT, [2400])]), with_counts=True)[1]
+        self.assertEqual(told, "pcap2pass: 2 frames, 1 taken, 0 skipped; fragments put together: 2\n")
+
+    def test_tshark_puts_together_the_same(self):
+        program = loading.program(self, "tshark")
+        chance = random.Random(9)
+        with tempfile.TemporaryDirectory() as place:
+            path = os.path.join(place, "capture")
+            for name, frames in self.packets():
+                octets = pcap([ethernet(frame, padded=False) for frame in chance.sample(frames, len(frames))])
+                with open(path, "wb") as file:
+                    file.write(octets)
+                shown = subprocess.run([program, "-r", path, "-T", "fields", "-e", "udp.payload", "udp.port==7542"],
+                                       capture_output=True, check=True, text=True).stdout
+                self.assertEqual([bytes.fromhex(line) for line in shown.split()], bodies(run(octets)[0]), name)
 
 
 class Filters(unittest.TestCase):
@@ -373,15 +525,15 @@ class OtherReaders(unittest.TestCase):
             frames = [wrap(packet) for packet in PACKETS]
             for form, octets in (("pcap", pcap(frames, link)), ("pcap >", pcap(frames, link, ">", 0xA1B23C4D)),
                                  ("pcapng", pcapng(frames, link)), ("pcapng >", pcapng(frames, link, ">"))):
+                if form != "pcapng" and not os.environ.get("SARATOGA_EXTRA"):
+                    continue  # each link type in one format is enough for the gate
                 path = os.path.join(self.place.name, "capture")
                 with open(path, "wb") as file:
                     file.write(octets)
                 yield f"{name}, {form}", path, run(octets)[0]
 
     def test_tcpdump(self):
-        program = os.environ.get("TCPDUMP") or shutil.which("tcpdump")
-        if not program:
-            self.skipTest("tcpdump isn't installed")
+        program = os.environ.get("TCPDUMP") or loading.program(self, "tcpdump")
         for name, path, passed in self.captures():
             with self.subTest(name=name):
                 # -x prints the IP packet; tcpdump finds IP behind links, tags and extensions by its own rules. As
@@ -404,9 +556,7 @@ class OtherReaders(unittest.TestCase):
                     self.assertTrue(body in packet and not padding.strip(b"\0"), packet.hex())
 
     def test_tshark(self):
-        program = shutil.which("tshark")
-        if not program:
-            self.skipTest("tshark isn't installed")
+        program = loading.program(self, "tshark")
         for name, path, passed in self.captures():
             with self.subTest(name=name):
                 shown = subprocess.run([program, "-r", path, "-T", "fields", "-e", "udp.payload", "udp.port==7542"],

@@ -20,9 +20,9 @@ use Rattle.marks.specs.MarkedRuns.{markedRuns}
 use Rattle.marks.proofs.MarkLaws.{marked-member}
 use Rattle.bitmap.specs.Open.{openRefusal, openAs, openMarks}
 use Rattle.bitmap.proofs.ToldLaws.{open-answers, open-told}
-use Rattle.bitmap_record.specs.Record.{recordRefusal, recordAs, recordMarks}
-use Rattle.bitmap_record.specs.Held.{heldAfter, heldAs, recordHeld}
-use Rattle.bitmap_record.proofs.ToldLaws.{record-answers, record-told, record-counted, record-adds}
+use Rattle.bitmap_extend.specs.Record.{recordRefusal, recordAs, recordMarks}
+use Rattle.bitmap_held.specs.Held.{heldAfter, heldAs, recordHeld}
+use Rattle.bitmap_extend.proofs.ToldLaws.{record-answers, record-told, record-counted, record-adds}
 use Rattle.answers.specs.Answers.{recordedAnswer}
 use Rattle.answer_marks.specs.BitmapAnswers.{keyFrom, heldFrom, bitmapOf, noBitmap, bitmapOpenedAnswer, bitmapRecordedAnswer}
 use Rattle.answer_marks.specs.MarksReported.{Marked, MarksReported, OpeningReported, RecordingReported}

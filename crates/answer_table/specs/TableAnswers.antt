@@ -5,11 +5,8 @@ use Rattle.table.specs.declared.Opened.{Opened}
 use Rattle.table.specs.declared.Opened.the-variants as opened
 use Rattle.table.specs.declared.Finished.{Finished}
 use Rattle.table.specs.declared.Finished.the-variants as finished
-use Rattle.area_status.specs.declared.Listed.{Listed}
-use Rattle.area_status.specs.declared.Listed.the-variants as listed
 use Rattle.answer_table.specs.declared.DoneAnswer.{DoneAnswer}
 use Rattle.answer_table.specs.declared.OpenedAnswer.{OpenedAnswer}
-use Rattle.answer_table.specs.declared.ListedAnswer.{ListedAnswer}
 
 abbrev pub doneAnswer : Finished → DoneAnswer
 doneAnswer finished.Done = record { number = 0; code = 0 }
@@ -19,9 +16,3 @@ abbrev pub openedAnswer : Opened → OpenedAnswer
 openedAnswer (opened.New x) = record { number = 0; code = 0; edge = x .edge; complete = bit (x .complete); «already_open» = 0 }
 openedAnswer (opened.AlreadyOpen x) = record { number = 0; code = 0; edge = x .edge; complete = bit (x .complete); «already_open» = 1 }
 openedAnswer (opened.Refused r) = record { number = r .number; code = r .code; edge = 0; complete = 0; «already_open» = 0 }
-
-abbrev pub listedAnswer : Listed → ListedAnswer
-listedAnswer (listed.Open x) = record
-    { number = 0; code = 0; id = x .id; width = x .width; length = x .length; edge = x .edge; complete = bit (x .complete); runs = x .runs; received = x .received; stamped = bit (x .stamped) }
-listedAnswer (listed.Refused r) = record
-    { number = r .number; code = r .code; id = 0; width = 0; length = 0; edge = 0; complete = 0; runs = 0; received = 0; stamped = 0 }

@@ -2,9 +2,9 @@ pub mod PlaceLaws
 pub mod JudgeLaws
 pub mod StoredLaws
 pub mod FindLaws
-pub mod SearchLaws
 pub mod AreaLaws
 pub mod OperationLaws
-pub mod LoopLaws
 pub mod ToldLaws
 pub mod KeptLaws
+pub mod StampLaws
+pub mod UsedLaws

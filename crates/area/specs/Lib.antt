@@ -3,3 +3,4 @@ pub mod Places
 pub mod Judge
 pub mod Stored
 pub mod Operations
+pub mod Used

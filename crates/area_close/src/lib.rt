@@ -7,10 +7,10 @@ use table::Finished;
 pub fn close(area: &mut [u8], id: u64) -> Finished
     ensures { λ r. ⌜ (r ≡ closeArea (now (area .entry)) id .answer) × (now (area .exit) ≡ closeArea (now (area .entry)) id .area) ⌝ }
 {
-    if area::judge(area) {
-        let kept = area::find_place(area, id);
+    if area_judge::judge(area) {
+        let kept = area_find::find_place(area, id);
         if kept.open {
-            area_move::remove_at(area, kept.at);
+            area_remove::remove_at(area, kept.at);
             return Finished::Done;
         }
         return Finished::Refused(refusals::refuse(12));

@@ -54,9 +54,9 @@ pub fn fresh(area: &mut [u8]) -> Finished
     }
     let n = no_numbers();
     words::put_word(area, 0, n.count);
-    put_words(area, area::head_at(0, area::ID), &n.heads);
-    put_words(area, area::starts_at(0), &n.starts);
-    put_words(area, area::stops_at(0), &n.stops);
-    put_words(area, area::stamp_at(0), &n.stamps);
+    put_words(area, area_at::head_at(0, area::ID), &n.heads);
+    put_words(area, area_at::starts_at(0), &n.starts);
+    put_words(area, area_at::stops_at(0), &n.stops);
+    put_words(area, area_at::stamp_at(0), &n.stamps);
     Finished::Done
 }

@@ -46,7 +46,7 @@ pub fn cut(area: &[u8], t: Target) -> Cuts
     if t.number != 0 {
         return uncut(t.number);
     }
-    let rows = area::rows_at(area, t.place);
+    let rows = area_at::rows_at(area, t.place);
     let count = rows.count;
     let j = run_cuts::cut_to(area, rows.starts, count, t.to);
     let i = run_cuts::cut_below(area, rows.stops, j, t.from);
@@ -91,7 +91,7 @@ pub fn join(area: &[u8], t: Target, c: Cuts) -> Joined
     requires { ⌜ Found (now area) t × Places (now area) t c ⌝ }
     ensures { λ r. ⌜ Joins (now (area .entry)) t c r ⌝ }
 {
-    let rows = area::rows_at(area, t.place);
+    let rows = area_at::rows_at(area, t.place);
     let lo = run_cuts::joined_start(area, rows, c.i, c.j, t.from);
     let hi = run_cuts::joined_stop(area, rows, c.i, c.j, t.to);
     let edge = edge_with(area, rows, c.j, hi);

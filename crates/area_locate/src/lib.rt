@@ -70,13 +70,13 @@ pub fn locate(area: &[u8], unread: u64, d: Data) -> Target
     if unread != 0 {
         return nowhere(unread);
     }
-    let kept = area::find_place(area, d.id);
+    let kept = area_find::find_place(area, d.id);
     if !kept.open {
         return nowhere(12);
     }
     let place = kept.at;
-    let key = area::key_at(area, place);
-    let number = transfer::key_refusal(key, d);
+    let key = area_at::key_at(area, place);
+    let number = transfer_key::key_refusal(key, d);
     if number != 0 {
         return nowhere(number);
     }

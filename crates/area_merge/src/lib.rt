@@ -14,18 +14,18 @@ fn merge_tables(area: &mut [u8], other: &[u8], id: u64) -> Merged
     ensures { λ r. ⌜ (r ≡ leaves (now (area .entry)) (mergeTable (readTable (now (area .entry))) (readTable (now (other .entry))) id) .answer)
         × (now (area .exit) ≡ leaves (now (area .entry)) (mergeTable (readTable (now (area .entry))) (readTable (now (other .entry))) id) .area) ⌝ }
 {
-    let place = area::find_place(area, id);
+    let place = area_find::find_place(area, id);
     if !place.open {
         return Merged::Refused(refusals::refuse(12));
     }
-    let source = area::find_place(other, id);
+    let source = area_find::find_place(other, id);
     if !source.open {
         return Merged::Refused(refusals::refuse(12));
     }
     let at = place.at;
     let from = source.at;
-    let key = area::key_at(area, at);
-    let refusal = table_merge::keys_refusal(key, area::key_at(other, from));
+    let key = area_at::key_at(area, at);
+    let refusal = table_merge::keys_refusal(key, area_at::key_at(other, from));
     if refusal != 0 {
         return Merged::Refused(refusals::refuse(refusal));
     }
@@ -37,8 +37,8 @@ pub fn merge(area: &mut [u8], other: &[u8], id: u64) -> Merged
     ensures { λ r. ⌜ (r ≡ mergeArea (now (area .entry)) (now (other .entry)) id .answer)
         × (now (area .exit) ≡ mergeArea (now (area .entry)) (now (other .entry)) id .area) ⌝ }
 {
-    if area::judge(area) {
-        if area::judge(other) {
+    if area_judge::judge(area) {
+        if area_judge::judge(other) {
             return merge_tables(area, other, id);
         }
         return Merged::Refused(refusals::refuse(22));

@@ -8,7 +8,7 @@ pub fn record(area: &mut [u8], packet: &[u8]) -> Recorded
     ensures { λ r. ⌜ (r ≡ recordArea (now (area .entry)) (now (packet .entry)) .answer)
         × (now (area .exit) ≡ recordArea (now (area .entry)) (now (packet .entry)) .area) ⌝ }
 {
-    let held = area::judge(area);
+    let held = area_judge::judge(area);
     let unread = area_locate::unread(held, packet);
     let d = area_locate::brought(unread, packet);
     let t = area_locate::locate(area, unread, d);
@@ -26,7 +26,7 @@ pub fn record(area: &mut [u8], packet: &[u8]) -> Recorded
 pub fn try_record(area: &[u8], packet: &[u8]) -> Recorded
     ensures { λ r. ⌜ r ≡ recordArea (now (area .entry)) (now (packet .entry)) .answer ⌝ }
 {
-    let held = area::judge(area);
+    let held = area_judge::judge(area);
     let unread = area_locate::unread(held, packet);
     let d = area_locate::brought(unread, packet);
     let t = area_locate::locate(area, unread, d);

@@ -11,10 +11,10 @@ pub fn put_runs(area: &mut [u8], place: usize, n: usize, i: usize, j: usize, lo:
     requires { ⌜ (areaOctets ≤ length (now area)) × (place < transferPlaces) × (i ≤ j) × (j ≤ n) × (n ≤ runPlaces) × (runsAfter n i j ≤ runPlaces) ⌝ }
     ensures { λ _. ⌜ now (area .exit) ≡ splicedArea (now (area .entry)) place n i j lo hi ⌝ }
 {
-    words::splice(area, area::starts_at(place), n, i, j, lo);
-    words::splice(area, area::stops_at(place), n, i, j, hi);
+    words::splice(area, area_at::starts_at(place), n, i, j, lo);
+    words::splice(area, area_at::stops_at(place), n, i, j, hi);
     let after = i + 1 + (n - j);
-    words::put_word(area, area::head_at(place, area::RUN_COUNT), after as u64);
+    words::put_word(area, area_at::head_at(place, area::RUN_COUNT), after as u64);
 }
 
 // R6.14: the n octets of the timestamp that a packet brings are kept at a place, as they came. A packet without one leaves what is kept.
@@ -27,8 +27,8 @@ pub fn keep_stamp(area: &mut [u8], place: usize, packet: &[u8], n: usize)
     }
     let first = octets_stored::read_low_eight(packet, 8);
     let last = octets_stored::read_low_eight(packet, 16);
-    words::put_word(area, area::head_at(place, area::STAMPED), 1);
-    let at = area::stamp_at(place);
+    words::put_word(area, area_at::head_at(place, area::STAMPED), 1);
+    let at = area_at::stamp_at(place);
     words::put_word(area, at, first);
     words::put_word(area, at + 1, last);
 }

@@ -1,9 +1,1 @@
-pub mod StampLaws
-pub mod UsedLaws
 pub mod WriteStatusLaws
-pub mod ListingLaws
-pub mod ByIdLaws
-pub mod CountLaws
-pub mod ToldLaws
-pub mod LackLaws
-pub mod NumberLaws

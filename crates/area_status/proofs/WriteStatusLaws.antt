@@ -22,7 +22,7 @@ use Rattle.area.specs.Operations.{fromFound, fromTable, areaStatusWritten, area
 use Rattle.area.proofs.JudgeLaws.{judged-passed}
 use Rattle.area.proofs.OperationLaws.{from-held, from-judged}
 use Rattle.area.proofs.KeptLaws.{place-free, free-missing}
-use Rattle.area_status.proofs.UsedLaws.{key-found, runs-found, stamp-found}
+use Rattle.area.proofs.UsedLaws.{key-found, runs-found, stamp-found}
 
 module _ (a : List ℕ) (id k : ℕ) (unasked : Bool) (old : List ℕ) where
   -- the answer and the buffer of an area that holds t are those of t: what table's laws say of them, holds of the area's

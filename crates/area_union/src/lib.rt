@@ -29,9 +29,9 @@ fn put_runs(area: &mut [u8], place: usize, starts: &[u64], stops: &[u64], n: usi
     requires { ⌜ (areaOctets ≤ length (now area)) × (place < transferPlaces) × (n ≤ runPlaces) × (n ≤ length (now starts)) × (n ≤ length (now stops)) ⌝ }
     ensures { λ _. ⌜ RunsPut (now (area .entry)) (now (area .exit)) place (now (starts .entry)) (now (stops .entry)) n ⌝ }
 {
-    put_row(area, area::starts_at(place), starts, n);
-    put_row(area, area::stops_at(place), stops, n);
-    words::put_word(area, area::head_at(place, area::RUN_COUNT), n as u64);
+    put_row(area, area_at::starts_at(place), starts, n);
+    put_row(area, area_at::stops_at(place), stops, n);
+    words::put_word(area, area_at::head_at(place, area::RUN_COUNT), n as u64);
 }
 
 // The runs at a place joined with those at a place of another area, or refused with 16 before anything is written.
@@ -40,8 +40,8 @@ pub fn join_places(area: &mut [u8], at: usize, key: Key, other: &[u8], from: usi
     ensures { λ r. ⌜ (r ≡ placesJoined (now (area .entry)) at key (now (other .entry)) from .answer)
         × (now (area .exit) ≡ placesJoined (now (area .entry)) at key (now (other .entry)) from .area) ⌝ }
 {
-    let x = area::rows_at(area, at);
-    let y = area::rows_at(other, from);
+    let x = area_at::rows_at(area, at);
+    let y = area_at::rows_at(other, from);
     let mut starts: [u64; 64] = [0; 64];
     let mut stops: [u64; 64] = [0; 64];
     let n = row_union::join_rows(area, x, other, y, &mut starts, &mut stops);
@@ -54,5 +54,5 @@ pub fn join_places(area: &mut [u8], at: usize, key: Key, other: &[u8], from: usi
         stops: x.stops,
         count: n,
     };
-    Merged::Joined(area::reached_in(area, joined, key))
+    Merged::Joined(area_at::reached_in(area, joined, key))
 }

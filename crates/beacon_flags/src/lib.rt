@@ -54,7 +54,7 @@ pub fn free_octets(w: u64) -> usize
 {
     let f = split(w);
     if f.present == 1 {
-        return header::octets_of_width(f.width);
+        return descriptors::octets_of_width(f.width);
     }
     0
 }

@@ -41,7 +41,7 @@ fn put_beacon(out: &mut [u8], flags: u64, free: u64, endpoint: &[u8]) -> usize
         × (now (out .exit) ≡ put 0 (beaconOctets flags free (now (endpoint .entry))) (now (out .entry))) ⌝ }
 {
     let start = packet_beacon::endpoint_at(flags);
-    octets::write_number(out, 0, 4, header::join(0, flags));
+    octets::write_number(out, 0, 4, first_word::join(0, flags));
     octets::write_number(out, 4, beacon_flags::free_octets(flags), free);
     octets::copy_into(out, start, endpoint);
     start + endpoint.len()

@@ -10,7 +10,7 @@ pub fn write_status(held: Held, marks: &[u8], skip: u64, unasked: bool, out: &mu
         × (now (out .exit) ≡ marksBuffer held (now (marks .entry)) skip unasked (now (out .entry))) ⌝ }
 {
     let mut rows = [0u8; bitmap::ROW_OCTETS];
-    let judged = bitmap::judge(held.key, marks, &mut rows);
+    let judged = bitmap_judge::judge(held.key, marks, &mut rows);
     if judged.number != 0 {
         return Written::Refused(refusals::refuse(judged.number));
     }
@@ -21,7 +21,7 @@ pub fn write_status(held: Held, marks: &[u8], skip: u64, unasked: bool, out: &mu
         &rows,
         held.key,
         held.kept,
-        bitmap::rows_of(judged.runs),
+        bitmap_judge::rows_of(judged.runs),
         skip,
         unasked,
         out,

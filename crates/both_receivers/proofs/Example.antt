@@ -53,8 +53,8 @@ use Rattle.bitmap.specs.declared.Opening.{Opening}
 use Rattle.bitmap.specs.declared.Opened.the-variants as by-marks
 use Rattle.bitmap.specs.State.{unstamped, marksRefusal, stateRefusal}
 use Rattle.bitmap.proofs.ToldLaws.{marks-opened}
-use Rattle.bitmap_record.specs.Record.{dataRefused, recordMarks}
-use Rattle.bitmap_record.proofs.RecordLaws.{record-refused}
+use Rattle.bitmap_extend.specs.Record.{dataRefused, recordMarks}
+use Rattle.bitmap_extend.proofs.RecordLaws.{record-refused}
 use Rattle.bitmap_status.specs.WriteStatus.{marksBuffer}
 use Rattle.both_receivers.specs.Both.{Bitmap, onArea, onMarks, after, AllOctets, NoneForAnother, Alike}
 use Rattle.both_receivers.proofs.RecordLaws.{no-fault}

@@ -34,12 +34,12 @@ use Rattle.marks.specs.MarkedRuns.{markedRuns}
 use Rattle.marks.proofs.MarkLaws.{length-marks}
 use Rattle.bitmap.specs.State.{Left, longest, stateRefusal}
 use Rattle.bitmap.specs.declared.Held.{Held}
-use Rattle.bitmap_record.specs.Record as by-marks
-use Rattle.bitmap_record.specs.Held.{heldAfter, heldAs, recordHeld}
+use Rattle.bitmap_extend.specs.Record as by-marks
+use Rattle.bitmap_held.specs.Held.{heldAfter, heldAs, recordHeld}
 use Rattle.bitmap.proofs.StateLaws.{known-state}
-use Rattle.bitmap_record.proofs.RecordLaws.{another-id, same-id, payload-some}
-use Rattle.bitmap_record.proofs.ExtendLaws.{marks-extended}
-use Rattle.bitmap_record.proofs.HandedLaws.{after-octets}
+use Rattle.bitmap_extend.proofs.RecordLaws.{another-id, same-id, payload-some}
+use Rattle.bitmap_extend.proofs.ExtendLaws.{marks-extended}
+use Rattle.bitmap_held.proofs.HandedLaws.{after-octets}
 use Rattle.both_receivers.specs.Both.{goesOn}
 
 -- a transfer that was opened with the key k, and is open among the keys ks, that any other transfers have

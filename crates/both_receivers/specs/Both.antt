@@ -21,8 +21,8 @@ use Rattle.table.specs.declared.Recorded.the-variants as recorded
 use Rattle.area.specs.Judge.{tableOf}
 use Rattle.area.specs.Operations.{openArea, recordArea, areaStatusWritten, areaStatusBuffer}
 use Rattle.bitmap.specs.Open.{openMarks}
-use Rattle.bitmap_record.specs.Record.{recordMarks}
-use Rattle.bitmap_record.specs.Held.{recordHeld}
+use Rattle.bitmap_extend.specs.Record.{recordMarks}
+use Rattle.bitmap_held.specs.Held.{recordHeld}
 use Rattle.bitmap_status.specs.WriteStatus.{marksWritten, marksBuffer}
 use Rattle.bitmap.specs.declared.Held.{Held}
 use Rattle.bitmap.specs.declared.Opening.{Opening}

@@ -17,10 +17,10 @@ fn data_excess(flags: u64, id: u64, timestamp: usize, offset: u64) -> u64
     if 0x100000000 <= id {
         return 21;
     }
-    if header::timestamp_octets(flags) < timestamp {
+    if descriptors::timestamp_octets(flags) < timestamp {
         return 21;
     }
-    if !octets::fits(offset, header::descriptor_octets(flags)) {
+    if !octets::fits(offset, descriptors::descriptor_octets(flags)) {
         return 21;
     }
     0
@@ -42,11 +42,11 @@ fn data_write_refusal(
     if e != 0 {
         return e;
     }
-    let f = header::file_refusal(flags);
+    let f = packet_start::file_refusal(flags);
     if f != 0 {
         return f;
     }
-    if timestamp < header::timestamp_octets(flags) {
+    if timestamp < descriptors::timestamp_octets(flags) {
         return 1;
     }
     if payload == 0 {
@@ -69,13 +69,13 @@ fn put_data(
         × (now (out .exit) ≡ put 0 (dataOctets flags id (now (timestamp .entry)) offset (now (payload .entry))) (now (out .entry))) ⌝ }
 {
     let start = packet_data::payload_at(flags);
-    octets::write_number(out, 0, 4, header::join(3, flags));
+    octets::write_number(out, 0, 4, first_word::join(3, flags));
     octets::write_number(out, 4, 4, id);
     octets::copy_into(out, 8, timestamp);
     octets::write_number(
         out,
         packet_data::offset_at(flags),
-        header::descriptor_octets(flags),
+        descriptors::descriptor_octets(flags),
         offset,
     );
     octets::copy_into(out, start, payload);

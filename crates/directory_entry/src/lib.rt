@@ -30,7 +30,7 @@ pub fn entry_refusal(e: &[u8], d: usize) -> u64
     }
     let k = entry_parts::size_octets(x);
     let at = 10 + k;
-    let size = header::descriptor_refusal(e, 2, k);
+    let size = descriptors::descriptor_refusal(e, 2, k);
     if size != 0 {
         return size;
     }
@@ -41,7 +41,7 @@ pub fn entry_refusal(e: &[u8], d: usize) -> u64
     if g != 0 {
         return g;
     }
-    if !octets::fits(header::descriptor(e, 2, k), d) {
+    if !octets::fits(descriptors::descriptor(e, 2, k), d) {
         return 9;
     }
     0
@@ -57,7 +57,7 @@ pub fn entry_fields(e: &[u8], d: usize, at: usize) -> Entry
     let path = 10 + k;
     Entry {
         properties,
-        size: header::descriptor(e, 2, k),
+        size: descriptors::descriptor(e, 2, k),
         mtime: octets_read::read_four(e, 2 + k),
         ctime: octets_read::read_four(e, 6 + k),
         path: at + path,

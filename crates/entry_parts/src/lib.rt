@@ -27,7 +27,7 @@ pub fn size_octets(x: u64) -> usize
     ensures { λ r. ⌜ r ≡ sizeOctets x ⌝ }
 {
     let p = split_properties(x);
-    header::octets_of_width(p.width)
+    descriptors::octets_of_width(p.width)
 }
 
 // Refusal 6 of properties; 0 for none.

@@ -31,7 +31,7 @@ pub fn write_failure(out: &mut [u8], id: u64, status: u64) -> Written
     if n != 0 {
         return Written::Refused(refusals::refuse(n));
     }
-    octets::write_number(out, 0, 4, header::join(4, status));
+    octets::write_number(out, 0, 4, first_word::join(4, status));
     octets::write_number(out, 4, 4, id);
     Written::Size(8)
 }

@@ -16,8 +16,8 @@ pub fn hole_at(s: &[u8], at: usize, d: usize) -> Hole
     ensures { λ r. ⌜ r ≡ holeAt d at (now (s .entry)) ⌝ }
 {
     Hole {
-        start: header::descriptor(s, at, d),
-        end: header::descriptor(s, at + d, d),
+        start: descriptors::descriptor(s, at, d),
+        end: descriptors::descriptor(s, at + d, d),
     }
 }
 
@@ -29,7 +29,7 @@ fn each_refusal(s: &[u8], from: usize, d: usize, n: usize) -> u64
     let mut at = from;
     let mut count = n;
     while 0 < count {
-        let f = header::descriptor_refusal(s, at, d);
+        let f = descriptors::descriptor_refusal(s, at, d);
         if f != 0 {
             return f;
         }

@@ -38,7 +38,7 @@ fn checksum_type(packet: &[u8]) -> u64
     requires { ⌜ 4 ≤ length (now packet) ⌝ }
     ensures { λ r. ⌜ r ≡ checksumType (now (packet .entry)) ⌝ }
 {
-    let h = header::split(header::word(packet));
+    let h = first_word::split(first_word::word(packet));
     h.sum
 }
 

@@ -26,7 +26,7 @@ fn metadata_excess(flags: u64, id: u64, checksum: usize) -> u64
 fn checksum_refusal(flags: u64, checksum: usize) -> u64
     ensures { λ r. ⌜ r ≡ checksumRefusal flags checksum ⌝ }
 {
-    let f = header::file_refusal(flags);
+    let f = packet_start::file_refusal(flags);
     if f != 0 {
         return f;
     }
@@ -77,7 +77,7 @@ fn metadata_write_refusal(
         return f;
     }
     let g = directory_entry::entry_write_refusal(
-        header::descriptor_octets(flags),
+        descriptors::descriptor_octets(flags),
         properties,
         size,
         path,
@@ -103,7 +103,7 @@ fn put_metadata(
     requires { ⌜ MetadataFits flags (length (now checksum)) properties (length (now path)) (length (now out)) ⌝ }
     ensures { λ _. ⌜ now (out .exit) ≡ put 0 (metadataOctets flags id (now (checksum .entry)) properties size mtime ctime (now (path .entry))) (now (out .entry)) ⌝ }
 {
-    octets::write_number(out, 0, 4, header::join(2, flags));
+    octets::write_number(out, 0, 4, first_word::join(2, flags));
     octets::write_number(out, 4, 4, id);
     octets::copy_into(out, 8, checksum);
     directory_entry::put_entry(

@@ -63,11 +63,11 @@ fn of_status(a: StatusRead) -> Read
 pub fn read_packet(p: &[u8]) -> Read
     ensures { λ r. ⌜ r ≡ readPacket (now (p .entry)) ⌝ }
 {
-    let n = header::start_refusal(p);
+    let n = packet_start::start_refusal(p);
     if n != 0 {
         return Read::Refused(refusals::refuse(n));
     }
-    let h = header::split(header::word(p));
+    let h = first_word::split(first_word::word(p));
     if h.ptype == 2 {
         return of_metadata(packet_metadata::read_metadata(p));
     }

@@ -41,22 +41,22 @@ fn free_refusal(p: &[u8]) -> u64
     requires { ⌜ 4 ≤ length (now p) ⌝ }
     ensures { λ r. ⌜ r ≡ descriptorRefusal (freeOctets (wordOf (now (p .entry)))) 4 (now (p .entry)) ⌝ }
 {
-    let width = beacon_flags::free_octets(header::word(p));
+    let width = beacon_flags::free_octets(first_word::word(p));
     if width == 0 {
         return 0;
     }
-    header::descriptor_refusal(p, 4, width)
+    descriptors::descriptor_refusal(p, 4, width)
 }
 
 // The refusal of a packet that has to be BEACON; 0 for none.
 pub fn beacon_refusal(p: &[u8]) -> u64
     ensures { λ r. ⌜ r ≡ beaconRefusal (now (p .entry)) ⌝ }
 {
-    let n = header::type_refusal(p, 0);
+    let n = packet_start::type_refusal(p, 0);
     if n != 0 {
         return n;
     }
-    let f = beacon_flags::flags_refusal(header::word(p));
+    let f = beacon_flags::flags_refusal(first_word::word(p));
     let g = free_refusal(p);
     refusals::first(f, g)
 }
@@ -66,11 +66,11 @@ fn free_space(p: &[u8]) -> u64
     requires { ⌜ beaconRefusal (now p) ≡ 0 ⌝ }
     ensures { λ r. ⌜ r ≡ freeSpace (now (p .entry)) ⌝ }
 {
-    let width = beacon_flags::free_octets(header::word(p));
+    let width = beacon_flags::free_octets(first_word::word(p));
     if width == 0 {
         return 0;
     }
-    header::descriptor(p, 4, width)
+    descriptors::descriptor(p, 4, width)
 }
 
 // The fields of a packet that is not refused.
@@ -78,13 +78,13 @@ pub fn beacon_fields(p: &[u8]) -> Beacon
     requires { ⌜ beaconRefusal (now p) ≡ 0 ⌝ }
     ensures { λ r. ⌜ r ≡ beaconOf (now (p .entry)) ⌝ }
 {
-    let w = header::word(p);
-    let h = header::split(w);
+    let w = first_word::word(p);
+    let h = first_word::split(w);
     let f = beacon_flags::split(w);
     let start = endpoint_at(w);
     Beacon {
         flags: h.flags,
-        largest: header::descriptor_octets(w),
+        largest: descriptors::descriptor_octets(w),
         bundles: f.bundles,
         streams: f.streams,
         send: beacon_flags::state_of(f.sending),

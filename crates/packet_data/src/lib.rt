@@ -27,31 +27,35 @@ pub enum DataRead {
 pub fn offset_at(w: u64) -> usize
     ensures { λ r. ⌜ r ≡ offsetAt w ⌝ }
 {
-    8 + header::timestamp_octets(w)
+    8 + descriptors::timestamp_octets(w)
 }
 
 // Where the payload starts, by the first word or the flags.
 pub fn payload_at(w: u64) -> usize
     ensures { λ r. ⌜ r ≡ payloadAt w ⌝ }
 {
-    offset_at(w) + header::descriptor_octets(w)
+    offset_at(w) + descriptors::descriptor_octets(w)
 }
 
 // The refusal of a packet that has to be DATA; 0 for none.
 pub fn data_refusal(p: &[u8]) -> u64
     ensures { λ r. ⌜ r ≡ dataRefusal (now (p .entry)) ⌝ }
 {
-    let n = header::type_refusal(p, 3);
+    let n = packet_start::type_refusal(p, 3);
     if n != 0 {
         return n;
     }
-    let w = header::word(p);
-    let f = header::file_refusal(w);
+    let w = first_word::word(p);
+    let f = packet_start::file_refusal(w);
     if f != 0 {
         return f;
     }
     let start = payload_at(w);
-    let offset = header::descriptor_refusal(p, offset_at(w), header::descriptor_octets(w));
+    let offset = descriptors::descriptor_refusal(
+        p,
+        offset_at(w),
+        descriptors::descriptor_octets(w),
+    );
     if offset != 0 {
         return offset;
     }
@@ -66,18 +70,18 @@ pub fn data_fields(p: &[u8]) -> Data
     requires { ⌜ dataRefusal (now p) ≡ 0 ⌝ }
     ensures { λ r. ⌜ r ≡ dataOf (now (p .entry)) ⌝ }
 {
-    let w = header::word(p);
-    let h = header::split(w);
-    let width = header::descriptor_octets(w);
+    let w = first_word::word(p);
+    let h = first_word::split(w);
+    let width = descriptors::descriptor_octets(w);
     let start = payload_at(w);
     Data {
         flags: h.flags,
-        id: header::id(p),
+        id: first_word::id(p),
         width,
-        timestamp: header::timestamp_octets(w),
+        timestamp: descriptors::timestamp_octets(w),
         wanted: h.wanted,
         eod: h.eod,
-        offset: header::descriptor(p, offset_at(w), width),
+        offset: descriptors::descriptor(p, offset_at(w), width),
         start,
         length: p.len() - start,
     }
@@ -101,6 +105,6 @@ pub fn payload(p: &[u8]) -> &[u8]
     if data_refusal(p) != 0 {
         return &p[..0];
     }
-    let start = payload_at(header::word(p));
+    let start = payload_at(first_word::word(p));
     &p[start..]
 }

@@ -43,7 +43,7 @@ fn pair_allowed(sum: u64, words: u64) -> bool
 pub fn pair_refusal(w: u64) -> u64
     ensures { λ r. ⌜ r ≡ pairRefusal w ⌝ }
 {
-    let h = header::split(w);
+    let h = first_word::split(w);
     if pair_allowed(h.sum, h.words) { 0 } else { 7 }
 }
 
@@ -51,7 +51,7 @@ pub fn pair_refusal(w: u64) -> u64
 pub fn checksum_octets(w: u64) -> usize
     ensures { λ r. ⌜ r ≡ checksumOctets w ⌝ }
 {
-    let h = header::split(w);
+    let h = first_word::split(w);
     4 * (h.words as usize)
 }
 
@@ -59,12 +59,12 @@ pub fn checksum_octets(w: u64) -> usize
 pub fn metadata_refusal(p: &[u8]) -> u64
     ensures { λ r. ⌜ r ≡ metadataRefusal (now (p .entry)) ⌝ }
 {
-    let n = header::type_refusal(p, 2);
+    let n = packet_start::type_refusal(p, 2);
     if n != 0 {
         return n;
     }
-    let w = header::word(p);
-    let file = header::file_refusal(w);
+    let w = first_word::word(p);
+    let file = packet_start::file_refusal(w);
     let pair = pair_refusal(w);
     if file != 0 {
         return file;
@@ -76,7 +76,7 @@ pub fn metadata_refusal(p: &[u8]) -> u64
     if p.len() < at {
         return 1;
     }
-    directory_entry::entry_refusal(&p[at..], header::descriptor_octets(w))
+    directory_entry::entry_refusal(&p[at..], descriptors::descriptor_octets(w))
 }
 
 // The fields of a packet that is not refused.
@@ -84,15 +84,15 @@ pub fn metadata_fields(p: &[u8]) -> Metadata
     requires { ⌜ metadataRefusal (now p) ≡ 0 ⌝ }
     ensures { λ r. ⌜ r ≡ metadataOf (now (p .entry)) ⌝ }
 {
-    let w = header::word(p);
-    let h = header::split(w);
-    let width = header::descriptor_octets(w);
+    let w = first_word::word(p);
+    let h = first_word::split(w);
+    let width = descriptors::descriptor_octets(w);
     let checksum = checksum_octets(w);
     let at = 8 + checksum;
     let entry = directory_entry::entry_fields(&p[at..], width, at);
     Metadata {
         flags: h.flags,
-        id: header::id(p),
+        id: first_word::id(p),
         width,
         checksum,
         entry,

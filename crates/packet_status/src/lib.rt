@@ -41,10 +41,10 @@ fn list_refusal(p: &[u8]) -> u64
     requires { ⌜ DescriptorsFine (now p) ⌝ }
     ensures { λ r. ⌜ r ≡ listRefusal (now (p .entry)) ⌝ }
 {
-    let w = header::word(p);
-    let h = header::split(w);
-    let d = header::descriptor_octets(w);
-    let at = 8 + header::timestamp_octets(w);
+    let w = first_word::word(p);
+    let h = first_word::split(w);
+    let d = descriptors::descriptor_octets(w);
+    let at = 8 + descriptors::timestamp_octets(w);
     let holes = at + 2 * d;
     let rest = p.len() - holes;
     if rest % (2 * d) != 0 {
@@ -54,8 +54,8 @@ fn list_refusal(p: &[u8]) -> u64
     let partial = h.partial == 1;
     // bit 15, which in DATA says that a STATUS is wanted
     let unasked = h.wanted == 1;
-    let progress = header::descriptor(p, at, d);
-    let top = header::descriptor(p, at + d, d);
+    let progress = descriptors::descriptor(p, at, d);
+    let top = descriptors::descriptor(p, at + d, d);
     if holes_judged::points_to_last(partial, unasked, count, progress, top) {
         return 0;
     }
@@ -70,14 +70,14 @@ fn success_refusal(p: &[u8]) -> u64
     requires { ⌜ 8 ≤ length (now p) ⌝ }
     ensures { λ r. ⌜ r ≡ successRefusal (now (p .entry)) ⌝ }
 {
-    let w = header::word(p);
-    let d = header::descriptor_octets(w);
-    let at = 8 + header::timestamp_octets(w);
-    let f = header::descriptor_refusal(p, at, d);
+    let w = first_word::word(p);
+    let d = descriptors::descriptor_octets(w);
+    let at = 8 + descriptors::timestamp_octets(w);
+    let f = descriptors::descriptor_refusal(p, at, d);
     if f != 0 {
         return f;
     }
-    let g = header::descriptor_refusal(p, at + d, d);
+    let g = descriptors::descriptor_refusal(p, at + d, d);
     if g != 0 {
         return g;
     }
@@ -95,11 +95,11 @@ fn success_refusal(p: &[u8]) -> u64
 pub fn status_refusal(p: &[u8]) -> u64
     ensures { λ r. ⌜ r ≡ statusRefusal (now (p .entry)) ⌝ }
 {
-    let n = header::type_refusal(p, 4);
+    let n = packet_start::type_refusal(p, 4);
     if n != 0 {
         return n;
     }
-    let h = header::split(header::word(p));
+    let h = first_word::split(first_word::word(p));
     if h.status != 0 {
         return 0;
     }

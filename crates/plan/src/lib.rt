@@ -68,7 +68,7 @@ fn resend_refusal(status: &[u8], largest: u64) -> u64
     if unread != 0 {
         return unread;
     }
-    let h = header::split(header::word(status));
+    let h = first_word::split(first_word::word(status));
     let failure = failure_refusal(h.status);
     let payload = largest_refusal(largest);
     refusals::first(failure, payload)

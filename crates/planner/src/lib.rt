@@ -42,7 +42,7 @@ fn count_pieces(status: &[u8], holes: usize, largest: u64) -> u64
     requires { ⌜ (resendRefusal largest (now status) ≡ 0) × (holes ≡ length (holeList (now status))) ⌝ }
     ensures { λ r. ⌜ r ≡ length (planOf largest (holeList (now (status .entry)))) ⌝ }
 {
-    let d = header::descriptor_octets(header::word(status));
+    let d = descriptors::descriptor_octets(first_word::word(status));
     if d == 2 {
         return count_of_width(status, holes, largest, 2);
     }

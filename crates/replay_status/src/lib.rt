@@ -26,11 +26,11 @@ pub fn put_failure_sent(
     if p.len() < 8 {
         return at;
     }
-    let h = header::split(header::word(p));
+    let h = first_word::split(first_word::word(p));
     if h.ptype == 0 {
         return at;
     }
-    let w = failure_status::write_failure(lent, header::id(p), code);
+    let w = failure_status::write_failure(lent, first_word::id(p), code);
     put_sent(out, at, number, w, lent)
 }
 

@@ -1,15 +1,16 @@
 // The transfer table in a lent area: made fresh, opened, recorded, merged with another, closed, its STATUS written, listed, and looked up by Id.
 ghost use mathlib.Core.Path.{_≡_};
 ghost use Rattle.area.specs.Operations.{freshArea, openArea, recordArea, closeArea, areaStatusWritten, areaStatusBuffer};
-ghost use Rattle.area_status.specs.Listing.{listedArea};
-ghost use Rattle.area_status.specs.ById.{foundArea, holeArea};
+ghost use Rattle.area_listing.specs.Listing.{listedArea};
+ghost use Rattle.area_by_id.specs.ById.{foundArea, holeArea};
 ghost use Rattle.answers.specs.Answers.{isUnasked, writtenAnswer, holeAnswer, recordedAnswer};
-ghost use Rattle.answer_table.specs.TableAnswers.{doneAnswer, openedAnswer, listedAnswer};
+ghost use Rattle.answer_table.specs.TableAnswers.{doneAnswer, openedAnswer};
+ghost use Rattle.answer_listing.specs.ListedAnswers.{listedAnswer};
 ghost use Rattle.area_merge.specs.Merge.{mergeArea};
 ghost use Rattle.answer_merge.specs.MergeAnswers.{mergedAnswer};
+use answer_listing::ListedAnswer;
 use answer_merge::MergedAnswer;
 use answer_table::DoneAnswer;
-use answer_table::ListedAnswer;
 use answer_table::OpenedAnswer;
 use answers::HoleAnswer;
 use answers::RecordedAnswer;
@@ -71,26 +72,26 @@ pub extern "C" fn saratoga_write_status(
     ensures { λ r. ⌜ (r ≡ writtenAnswer (areaStatusWritten (now (area .entry)) id skip (isUnasked unasked) (now (out .entry))))
         × (now (out .exit) ≡ areaStatusBuffer (now (area .entry)) id skip (isUnasked unasked) (now (out .entry))) ⌝ }
 {
-    answer_table::write_status(area, id, skip, unasked, out)
+    answer_listing::write_status(area, id, skip, unasked, out)
 }
 
 #[no_mangle]
 pub extern "C" fn saratoga_transfer(area: &[u8], index: u64) -> ListedAnswer
     ensures { λ r. ⌜ r ≡ listedAnswer (listedArea (now (area .entry)) index) ⌝ }
 {
-    answer_table::transfer(area, index)
+    answer_listing::transfer(area, index)
 }
 
 #[no_mangle]
 pub extern "C" fn saratoga_find(area: &[u8], id: u64) -> ListedAnswer
     ensures { λ r. ⌜ r ≡ listedAnswer (foundArea (now (area .entry)) id) ⌝ }
 {
-    answer_table::find(area, id)
+    answer_listing::find(area, id)
 }
 
 #[no_mangle]
 pub extern "C" fn saratoga_transfer_hole(area: &[u8], id: u64, index: u64) -> HoleAnswer
     ensures { λ r. ⌜ r ≡ holeAnswer (holeArea (now (area .entry)) id index) ⌝ }
 {
-    answer_table::transfer_hole(area, id, index)
+    answer_listing::transfer_hole(area, id, index)
 }

@@ -16,19 +16,19 @@ fn success_fields(p: &[u8]) -> SuccessStatus
     requires { ⌜ (8 ≤ length (now p)) × (successRefusal (now p) ≡ 0) ⌝ }
     ensures { λ r. ⌜ r ≡ successOf (now (p .entry)) ⌝ }
 {
-    let w = header::word(p);
-    let h = header::split(w);
-    let width = header::descriptor_octets(w);
-    let timestamp = header::timestamp_octets(w);
+    let w = first_word::word(p);
+    let h = first_word::split(w);
+    let width = descriptors::descriptor_octets(w);
+    let timestamp = descriptors::timestamp_octets(w);
     let at = 8 + timestamp;
     let holes = at + 2 * width;
     SuccessStatus {
         flags: h.flags,
-        id: header::id(p),
+        id: first_word::id(p),
         width,
         timestamp,
-        progress: header::descriptor(p, at, width),
-        response: header::descriptor(p, at + width, width),
+        progress: descriptors::descriptor(p, at, width),
+        response: descriptors::descriptor(p, at + width, width),
         holes,
         count: (p.len() - holes) / (2 * width),
     }
@@ -39,9 +39,9 @@ pub fn hole_count(p: &[u8]) -> usize
     requires { ⌜ (statusRefusal (now p) ≡ 0) × (statusOf (wordOf (now p)) ≡ 0) ⌝ }
     ensures { λ r. ⌜ r ≡ holeCount (now (p .entry)) ⌝ }
 {
-    let w = header::word(p);
-    let d = header::descriptor_octets(w);
-    let holes = 8 + header::timestamp_octets(w) + 2 * d;
+    let w = first_word::word(p);
+    let d = descriptors::descriptor_octets(w);
+    let holes = 8 + descriptors::timestamp_octets(w) + 2 * d;
     (p.len() - holes) / (2 * d)
 }
 
@@ -53,14 +53,14 @@ pub fn read_status(p: &[u8]) -> StatusRead
     if n != 0 {
         return StatusRead::Refused(refusals::refuse(n));
     }
-    let h = header::split(header::word(p));
+    let h = first_word::split(first_word::word(p));
     let code = h.status;
     if code == 0 {
         return StatusRead::Success(success_fields(p));
     }
     StatusRead::Failure(FailureStatus {
         flags: h.flags,
-        id: header::id(p),
+        id: first_word::id(p),
         status: code,
     })
 }
@@ -73,7 +73,7 @@ fn hole_refusal(p: &[u8], index: u64) -> u64
     if n != 0 {
         return n;
     }
-    let head = header::split(header::word(p));
+    let head = first_word::split(first_word::word(p));
     if head.status != 0 {
         return 11;
     }
@@ -89,7 +89,7 @@ pub fn hole_of_width(p: &[u8], index: usize, d: usize) -> Hole
     requires { ⌜ (holeRefusal index (now p) ≡ 0) × (d ≡ descriptorOctets (wordOf (now p))) ⌝ }
     ensures { λ r. ⌜ r ≡ indexedHole index (now (p .entry)) ⌝ }
 {
-    let holes = 8 + header::timestamp_octets(header::word(p)) + 2 * d;
+    let holes = 8 + descriptors::timestamp_octets(first_word::word(p)) + 2 * d;
     hole_list::hole_at(p, holes + index * (2 * d), d)
 }
 
@@ -98,7 +98,7 @@ pub fn listed_hole(p: &[u8], index: usize) -> Hole
     requires { ⌜ holeRefusal index (now p) ≡ 0 ⌝ }
     ensures { λ r. ⌜ r ≡ indexedHole index (now (p .entry)) ⌝ }
 {
-    let d = header::descriptor_octets(header::word(p));
+    let d = descriptors::descriptor_octets(first_word::word(p));
     if d == 2 {
         return hole_of_width(p, index, 2);
     }

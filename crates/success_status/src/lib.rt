@@ -66,7 +66,7 @@ pub fn put_fields(out: &mut [u8], f: Fields, kept: Kept)
 {
     let width = f.width;
     let flags = status_flags(kept.stamped, f);
-    octets::write_number(out, 0, 4, header::join(4, flags));
+    octets::write_number(out, 0, 4, first_word::join(4, flags));
     octets::write_number(out, 4, 4, f.id);
     let at = timestamp::put_stamp(out, 8, kept);
     octets::write_number(out, at, width, f.progress);

@@ -17,7 +17,7 @@ use Rattle.area.specs.Judge.{judged}
 use Rattle.area.specs.Places.{readTable}
 use Rattle.area.specs.Operations.{openArea}
 use Rattle.area.proofs.KeptLaws.{by-unjudged, by-judged, by-kept}
-use Rattle.area_open.proofs.OpenLaws.{packet-refused, packet-read}
+use Rattle.area_met.proofs.OpenLaws.{packet-refused, packet-read}
 use Rattle.area_open.proofs.open.Statement.{statement}
 use Rattle.area_open.proofs.open.Tie as tie
 

@@ -4,7 +4,7 @@ use mathlib.Core.Path.{_∙_}
 use borrow.Author.Needs.{needs}
 use native.Mathlib.Omega.{arith}
 use denote.Ref.{now}
-use Rattle.area_status.proofs.StampLaws.{stamp-read}
+use Rattle.area.proofs.StampLaws.{stamp-read}
 use Rattle.area_status.proofs.kept_at.Statement.{statement}
 use Rattle.area_status.proofs.kept_at.Tie as tie
 

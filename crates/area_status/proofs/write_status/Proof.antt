@@ -7,8 +7,8 @@ use borrow.Author.Tests.{not-true, not-false}
 use denote.Ref.{now}
 use Rattle.area.specs.Judge.{judged}
 use Rattle.area.proofs.AreaLaws.{judged-unheld}
-use Rattle.area_status.specs.Used.{UsedPlace}
-use Rattle.area_status.proofs.UsedLaws.{used-place, open-used}
+use Rattle.area.specs.Used.{UsedPlace}
+use Rattle.area.proofs.UsedLaws.{used-place, open-used}
 use Rattle.area_status.proofs.WriteStatusLaws.{status-unheld, status-missing, status-found}
 use Rattle.area_status.proofs.write_status.Statement.{statement}
 use Rattle.area_status.proofs.write_status.Tie as tie

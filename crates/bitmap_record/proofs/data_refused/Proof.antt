@@ -3,7 +3,7 @@
 use mathlib.Core.Path.{_∙_}
 use native.Mathlib.Omega.{arith}
 use borrow.Author.Needs.{needs}
-use Rattle.bitmap_record.proofs.RecordLaws.{another-id, same-id}
+use Rattle.bitmap_extend.proofs.RecordLaws.{another-id, same-id}
 use Rattle.bitmap_record.proofs.data_refused.Statement.{statement}
 use Rattle.bitmap_record.proofs.data_refused.Tie as tie
 

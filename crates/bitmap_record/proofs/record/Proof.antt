@@ -3,7 +3,7 @@
 use mathlib.Core.Path.{sym, _∙_}
 use borrow.Author.Needs.{needs}
 use denote.Ref.{now}
-use Rattle.bitmap_record.proofs.HeldLaws.{accepted-read, held-accepted, held-refused}
+use Rattle.bitmap_held.proofs.HeldLaws.{accepted-read, held-accepted, held-refused}
 use Rattle.bitmap_record.proofs.record.Statement.{statement}
 use Rattle.bitmap_record.proofs.record.Tie as tie
 

@@ -6,9 +6,9 @@ use borrow.Author.Needs.{needs}
 use denote.Ref.{now}
 use Rattle.packet_data.specs.Data.{dataRefusal}
 use Rattle.bitmap.specs.State.{stateRefusal}
-use Rattle.bitmap_record.specs.Record.{dataRefused}
+use Rattle.bitmap_extend.specs.Record.{dataRefused}
 use Rattle.bitmap.proofs.StateLaws.{state-known}
-use Rattle.bitmap_record.proofs.RecordLaws.{record-unfit, record-unread, record-refused, record-judged, judged-stop, payload-some}
+use Rattle.bitmap_extend.proofs.RecordLaws.{record-unfit, record-unread, record-refused, record-judged, judged-stop, payload-some}
 use Rattle.bitmap_record.proofs.record_marks.Statement.{statement}
 use Rattle.bitmap_record.proofs.record_marks.Tie as tie
 

@@ -1,0 +1,2 @@
+pub mod ListedAnswers
+pub mod ReportedListings

@@ -1,0 +1,5 @@
+pub mod ByIdLaws
+pub mod CountLaws
+pub mod ToldLaws
+pub mod LackLaws
+pub mod NumberLaws

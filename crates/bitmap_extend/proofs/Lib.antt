@@ -1,0 +1,5 @@
+pub mod ExtendLaws
+pub mod RecordLaws
+pub mod LimitLaws
+pub mod KeptLaws
+pub mod ToldLaws

@@ -1,7 +1,0 @@
-pub mod ExtendLaws
-pub mod RecordLaws
-pub mod LimitLaws
-pub mod KeptLaws
-pub mod ToldLaws
-pub mod HandedLaws
-pub mod HeldLaws

@@ -1,7 +1,0 @@
--- `header::id` meets its contract. Assumes nothing.
-use borrow.Author.Needs.{needs}
-use Rattle.header.proofs.id.Statement.{statement}
-use Rattle.header.proofs.id.Tie as tie
-
-pub id-spec : {M : Type 1} → statement M
-id-spec = tie.close (tie.spec (λ c κs. search needs) (λ c. search needs))

@@ -31,9 +31,9 @@ digestOf s = let d = md5 s in record { first = leValue (take 8 d); second = leVa
 unfoldable pub endedBy : Metadata → Bool
 endedBy m = eqb (bits 24 (m .flags) 4 4) 1
 
--- numbers of files and of syncs end here
+-- numbers of files and of syncs end here, so that the next one is a word still
 abbrev pub lastNumber : ℕ
-lastNumber = 2 ^ 64 - 1
+lastNumber = 2 ^ 64 - 2
 
 -- what METADATA m with the digest d would open in: where the Id is open for other METADATA, without it
 unfoldable pub isOther : Snapshot → ℕ → Digest → Bool

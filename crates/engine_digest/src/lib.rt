@@ -1,0 +1,1 @@
+// The digest of all octets of METADATA, as two numbers.

@@ -1,0 +1,3 @@
+pub mod SnapshotLaws
+pub mod LookLaws
+pub mod MeetLaws

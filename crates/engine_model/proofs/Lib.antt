@@ -1,3 +1,6 @@
+pub mod ListLaws
+pub mod PlaceLaws
+pub mod DataLaws
 pub mod SnapshotLaws
 pub mod LookLaws
 pub mod MeetLaws

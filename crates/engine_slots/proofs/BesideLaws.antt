@@ -2,26 +2,24 @@
 -- Assumes nothing.
 use Prim.Native.Nat.{ℕ, zero, suc, _+_, _*_, _-_, _^_, _≤_, _<_}
 use mathlib.Core.Path.{_≡_, refl, sym, ap, _∙_}
-use mathlib.Core.Bool.{Bool, true, false, cond}
+use mathlib.Core.Bool.{true}
 use mathlib.Core.List.{List, [], _∷_, _++_}
 use native.Mathlib.Omega.{arith}
 use lib.ListN.{length, drop, getD, take}
 use lib.Seq.{ext-getD}
-use lib.Dec.{leb}
-use Rattle.octets.specs.Numbers.{leDigits, Octets}
+use Rattle.octets.specs.Numbers.{leValue, leDigits, Octets}
 use Rattle.octets.specs.Put.{put}
 use Rattle.octets.proofs.NumberLaws.{octets-take, octets-drop}
 use Rattle.octets.proofs.OctetLaws.{octets-append}
 use Rattle.octets.proofs.LowFirstLaws.{low-digits-octets}
-use Rattle.runs.specs.Runs.{Run}
 use Rattle.words.specs.Words.{wordAt, putWord, movedWords}
 use Rattle.words.proofs.RowLaws.{put-length, put-at, put-other, put-after, moved-length, moved-before, moved-past}
 use Rattle.run_rows.specs.Rows.{runsFrom, runsIn}
 use Rattle.run_rows.proofs.RowsLaws.{length-runs, runs-same}
 use Rattle.transfer.specs.Transfers.{Transfer, transferOf}
-use Rattle.area.specs.Layout.{transferPlaces, runPlaces, idField, widthField, lengthField, countField, stampedField, areaWords, areaOctets, headAt, runAt, halfAt}
-use Rattle.area.specs.Places.{stampBy, stampAt, transferAt, rowsAt, readTable, nth, unused}
-use Rattle.area.specs.Judge.{fineTest, judged}
+use Rattle.area.specs.Layout.{transferPlaces, runPlaces, idField, widthField, lengthField, countField, stampedField, areaWords, headAt, runAt, halfAt}
+use Rattle.area.specs.Places.{stampBy, transferAt, rowsAt, readTable, unused}
+use Rattle.area.specs.Judge.{judged}
 use Rattle.area.proofs.PlaceLaws.{length-transfers, transfer-at}
 use Rattle.area.proofs.JudgeLaws.{judged-passed}
 use Rattle.area.proofs.StoredLaws.{valid-few}
@@ -108,6 +106,9 @@ words-past k [] a h q l = refl
 words-past k (v ∷ vs) a h q l =
     let e : length (putWord k v a) ≡ length a = put-length a k v (omega arith) in
     words-past (suc k) vs (putWord k v a) (omega arith) q (omega arith) ∙ put-after a k v (omega arith) q (omega arith)
+
+pub words-after : (k : ℕ) (vs a : List ℕ) → (k + length vs) * 8 ≤ length a → (m : ℕ) → k + length vs ≤ m → wordAt (putWords k vs a) m ≡ wordAt a m
+words-after k vs a h m l = ap (λ (x : List ℕ). leValue (take 8 x)) (words-past k vs a h (m * 8) (omega arith))
 
 pub words-in : (k : ℕ) (vs a : List ℕ) → (k + length vs) * 8 ≤ length a → (m : ℕ) → m < length vs → getD vs m 0 < 2 ^ 64
     → wordAt (putWords k vs a) (k + m) ≡ getD vs m 0

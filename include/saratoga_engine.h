@@ -149,8 +149,11 @@ struct saratoga_closed {
     uint64_t file; /* set aside, unless it was reported */
 };
 
-/* Closes an Id, by the operator or since saratoga_engine_next said so. Order of refusals: 22, 12. */
-struct saratoga_closed saratoga_engine_close(uint8_t *state, size_t state_len, uint64_t id);
+/*
+ * Closes an Id, by the operator or since saratoga_engine_next said so. With `spoilt` not 0 also where the page is complete and not reported:
+ * its octets are not what its METADATA says (saratoga_md5_check), or its file is gone. Order of refusals: 22, 12.
+ */
+struct saratoga_closed saratoga_engine_close(uint8_t *state, size_t state_len, uint64_t id, uint64_t spoilt);
 
 /* ---- syncs */
 

@@ -41,7 +41,7 @@ pub record Speaks (s : List ℕ) (e : Engine) : Type 0 where
       → Holds (openedState s t r p b) (opened e t r p (endOf b k))
   pub stores : (t : ℕ) (r : Sender) (p : List ℕ) (from : ℕ) (b : Bool) (k : ℕ → Bool) → t < 2 ^ 64 → Words r → Octets p
       → Holds (storedState s t r p from b) (stored e t r p from (endOf b k))
-  pub closes : (i : ℕ) → Holds (goneState s i) (closed e i)
+  pub closes : (i : ℕ) (b : Bool) → Holds (goneState s i b) (closed e i b)
   pub tells : (i : ℕ) (out : List ℕ) (x : Letter) → telling s i out ≡ told.Sent x → Holds (toldState s i out) (answered e i)
   pub names : (i : ℕ) (b : Bool) (k : ℕ → Bool) → Holds (namedState s i b) (named e i (endOf b k))
   pub reports : (i : ℕ) → Holds (reportedState s i) (reported e i)

@@ -61,8 +61,8 @@ pub data Event : Type 0 where
   opening : ℕ → Sender → Packet → Ended → Event
   -- DATA, from an offset on: a stretch that is written, and how that ended; or one that is compared, and is equal where it ended whole
   storing : ℕ → Sender → Packet → ℕ → Ended → Event
-  -- the operator, or time, ends a transfer
-  closing : ℕ → Event
+  -- the operator, or time, ends a transfer; or its page is not what its METADATA says, and then also one that is complete
+  closing : ℕ → Bool → Event
   -- a STATUS goes to the owner
   answering : ℕ → Event
   -- a complete page gets its name, and how that ended
@@ -148,7 +148,7 @@ maySync e = not (isSome (e .pending)) && ltb (e .number) lastNumber
 unfoldable pub actions : Engine → Event → List Action
 actions e (opening t r p x) = madeOf (meet (e .now) (e .next) (p .octets))
 actions e (storing t r p from x) = writeOf (p .octets) (readData (p .octets)) (lookData (e .now) r (p .octets) from)
-actions e (closing i) = []
+actions e (closing i b) = []
 actions e (answering i) = answerOf (keyIn (e .synced) i) (e .synced) i
 actions e (naming i x) = nameOf (mayName e i) e i
 actions e (reporting i) = reportOf (mayReport e i) (keyIn (e .synced) i) (e .synced) i
@@ -215,12 +215,12 @@ storedAs e t p x (data-read.Refused r) l = e
 unfoldable pub stored : Engine → ℕ → Sender → List ℕ → ℕ → Ended → Engine
 stored e t r p from x = storedAs e t p x (readData p) (lookData (e .now) r p from)
 
--- a page that is complete is reported first
-unfoldable pub mayClose : Engine → ℕ → Bool
-mayClose e i = isOpen (e .now) i && not (isBusy (e .now) i)
+-- a page that is complete is reported first, unless it is spoilt
+unfoldable pub mayClose : Snapshot → ℕ → Bool → Bool
+mayClose s i spoilt = isOpen s i && (spoilt || not (isBusy s i))
 
-unfoldable pub closed : Engine → ℕ → Engine
-closed e i = cond (mayClose e i) (withNow e (closedIn (e .now) i) (e .next) 1) e
+unfoldable pub closed : Engine → ℕ → Bool → Engine
+closed e i b = cond (mayClose (e .now) i b) (withNow e (closedIn (e .now) i) (e .next) 1) e
 
 -- the slot of an Id that is open for the same file in `now` and in `synced`
 unfoldable pub marked : Engine → ℕ → Bool → Slot → ℕ → Engine

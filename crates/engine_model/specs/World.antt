@@ -39,7 +39,7 @@ lost c (some s) w = record { engine = w .engine; writes = losing c (w .writes); 
 unfoldable pub step : World → Event → World
 step w (opening t r p x) = acts (opened (w .engine) t r (p .octets) x) (opening t r p x) x w
 step w (storing t r p from x) = acts (stored (w .engine) t r (p .octets) from x) (storing t r p from x) x w
-step w (closing i) = acts (closed (w .engine) i) (closing i) whole w
+step w (closing i b) = acts (closed (w .engine) i b) (closing i b) whole w
 step w (answering i) = acts (answered (w .engine) i) (answering i) whole w
 step w (naming i x) = acts (named (w .engine) i x) (naming i x) x w
 step w (reporting i) = acts (reported (w .engine) i) (reporting i) whole w

@@ -15,9 +15,9 @@ use Rattle.engine_slots.specs.declared.Files.{Files}
 use Rattle.engine_slots.specs.declared.Meeting.{Meeting}
 use Rattle.engine_slots.specs.declared.Meeting.the-variants as meeting
 use Rattle.engine_slots.specs.Slots.{setSlot, insertSlot}
-use Rattle.engine_model.specs.Snapshots.{isOpen, isBusy, slotOf, fileOf, ownedBy, heardAt, newSlot}
+use Rattle.engine_model.specs.Snapshots.{isOpen, slotOf, fileOf, ownedBy, heardAt, newSlot}
 use Rattle.engine_model.specs.Meetings.{digestOf, isOther, meet}
-use Rattle.engine_model.specs.Engine.{metadataId}
+use Rattle.engine_model.specs.Engine.{mayClose, metadataId}
 use Rattle.engine_state.specs.Layout.{numberField, nextField}
 use Rattle.engine_state.specs.State.{snapshotIn, numberIn, setNumber, heldState, changedState, closedState}
 use Rattle.engine_open.specs.declared.Closed.{Closed}
@@ -61,11 +61,11 @@ openedState s t r p b = openedBy s t r p b (meetState s p)
 
 -- ---- closing
 
--- 22, then 12; then it waits for the page's report
-unfoldable pub closing : List ℕ → ℕ → Closed
-closing s i =
+-- 22, then 12; then it waits for the page's report, unless the page is spoilt
+unfoldable pub closing : List ℕ → ℕ → Bool → Closed
+closing s i b =
     cond (heldState s)
-    (cond (isOpen (snapshotIn s) i) (cond (isBusy (snapshotIn s) i) closed.Wait (closed.Gone (fileOf (snapshotIn s) i))) (closed.Refused (refusalOf 12)))
+    (cond (isOpen (snapshotIn s) i) (cond (mayClose (snapshotIn s) i b) (closed.Gone (fileOf (snapshotIn s) i)) closed.Wait) (closed.Refused (refusalOf 12)))
     (closed.Refused (refusalOf 22))
 
 unfoldable pub goneBy : List ℕ → ℕ → Closed → List ℕ
@@ -73,5 +73,5 @@ goneBy s i (closed.Gone f) = changedState (closedState s i)
 goneBy s i closed.Wait = s
 goneBy s i (closed.Refused r) = s
 
-unfoldable pub goneState : List ℕ → ℕ → List ℕ
-goneState s i = goneBy s i (closing s i)
+unfoldable pub goneState : List ℕ → ℕ → Bool → List ℕ
+goneState s i b = goneBy s i (closing s i b)

@@ -151,7 +151,7 @@ struct saratoga_closed {
 
 /*
  * Closes an Id, by the operator or since saratoga_engine_next said so. With `spoilt` not 0 also where the page is complete and not reported:
- * its octets are not what its METADATA says (saratoga_md5_check), or its file is gone. Order of refusals: 22, 12.
+ * its octets are not what its METADATA says (saratoga_check_md5), or its file is gone. Order of refusals: 22, 12.
  */
 struct saratoga_closed saratoga_engine_close(uint8_t *state, size_t state_len, uint64_t id, uint64_t spoilt);
 

@@ -1,0 +1,2 @@
+pub mod DiskLaws
+pub mod FirmLaws

@@ -1,2 +1,5 @@
+pub mod SnapshotLaws
+pub mod LookLaws
+pub mod MeetLaws
 pub mod DiskLaws
 pub mod FirmLaws

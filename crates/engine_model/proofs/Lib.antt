@@ -3,3 +3,4 @@ pub mod LookLaws
 pub mod MeetLaws
 pub mod DiskLaws
 pub mod FirmLaws
+pub mod Backing

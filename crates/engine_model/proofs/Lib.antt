@@ -4,3 +4,6 @@ pub mod MeetLaws
 pub mod DiskLaws
 pub mod FirmLaws
 pub mod Backing
+pub mod History
+pub mod Turns
+pub mod MarkTurns

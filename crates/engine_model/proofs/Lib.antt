@@ -7,3 +7,4 @@ pub mod Backing
 pub mod History
 pub mod Turns
 pub mod MarkTurns
+pub mod OpenTurns

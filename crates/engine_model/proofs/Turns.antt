@@ -14,7 +14,7 @@ use Rattle.engine_slots.specs.declared.Slot.{Slot}
 use Rattle.engine_model.specs.Snapshots.{Snapshot, keyIn, isOpen, slotOf, fileOf, received, withSlot, closedIn}
 use Rattle.engine_model.specs.Engine.{Engine, Event, withNow, octetsPart, namePart}
 use Rattle.engine_model.specs.Disk.{Write, content}
-use Rattle.engine_model.specs.World.{World, run}
+use Rattle.engine_model.specs.World.{World, step, run}
 use Rattle.engine_model.proofs.SnapshotLaws.{Fit, Alike, alike-same, open-key, key-open, member-open, fit-slot, slot-key, slot-runs, slot-same, slot-other, fit-closed, closed-gone, closed-other}
 use Rattle.engine_model.proofs.DiskLaws.{Some, Carries, any, All, later-write}
 use Rattle.engine_model.proofs.FirmLaws.{At, Firm, silent-content}
@@ -65,7 +65,7 @@ pub record Turn (h : List Event) (x : Event) (u : World) : Type 0 where
   pub above : nextOf h ≤ next
   pub grown : Grown (nowOf h) (writesOf h) writes
   pub backed : Backed any (writesOf h) (nowOf h) → BackedAt any writes now touched
-  pub known : run (x ∷ h) ≡ u → Sound (Known h (nextOf h)) (nowOf h) → (k : Key) → keyIn now touched ≡ some k
+  pub known : step (run h) x ≡ u → Sound (Known h (nextOf h)) (nowOf h) → (k : Key) → keyIn now touched ≡ some k
       → Known (x ∷ h) next touched (slotOf now touched) k
   pub from : All (Origin h) (writesOf h) → All (Origin (x ∷ h)) writes
 
@@ -118,7 +118,7 @@ nothing h x fit = still h x (writesOf h) fit (none-added h x)
 pub slotted : (h : List Event) (x : Event) (us : List Write) (i : ℕ) (y : Slot) (c : ℕ) → Fit (nowOf h) → Adds h x us
     → isOpen (nowOf h) i ≡ true → y .file ≡ fileOf (nowOf h) i
     → (y .named ≡ 1 → (slotOf (nowOf h) i .named ≡ 1) ⊎ Some any us i (fileOf (nowOf h) i) namePart 0)
-    → (run (x ∷ h) ≡ puts (run h) (withSlot (nowOf h) i y) (nextOf h) c us → (k : Key) → Known (x ∷ h) (nextOf h) i (slotOf (nowOf h) i) k
+    → (step (run h) x ≡ puts (run h) (withSlot (nowOf h) i y) (nextOf h) c us → (k : Key) → Known (x ∷ h) (nextOf h) i (slotOf (nowOf h) i) k
     → Known (x ∷ h) (nextOf h) i y k)
     → Turn h x (puts (run h) (withSlot (nowOf h) i y) (nextOf h) c us)
 slotted h x us i y c fit a o file named known =

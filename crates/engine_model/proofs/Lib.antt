@@ -8,3 +8,4 @@ pub mod History
 pub mod Turns
 pub mod MarkTurns
 pub mod OpenTurns
+pub mod StoreTurns

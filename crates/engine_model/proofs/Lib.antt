@@ -9,3 +9,4 @@ pub mod Turns
 pub mod MarkTurns
 pub mod OpenTurns
 pub mod StoreTurns
+pub mod Invariant

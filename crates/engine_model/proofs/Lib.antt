@@ -10,3 +10,4 @@ pub mod MarkTurns
 pub mod OpenTurns
 pub mod StoreTurns
 pub mod Invariant
+pub mod Syncs

@@ -11,3 +11,4 @@ pub mod OpenTurns
 pub mod StoreTurns
 pub mod Invariant
 pub mod Syncs
+pub mod Histories

@@ -149,7 +149,7 @@ written-inv h w (some s) u v =
 
 -- ---- good: what it was for may be told
 
-pub confirms : World → Option Snapshot → World
+unfoldable pub confirms : World → Option Snapshot → World
 confirms w y = withEngine (confirmed y (w .engine)) (written y w)
 
 -- what may be told afterwards is backed for good
@@ -201,7 +201,7 @@ confirm-inv h w (some s) u v =
 
 -- ---- bad: it goes on from `synced`
 
-pub drops : (ℕ → ℕ → Bool) → World → Option Snapshot → World
+unfoldable pub drops : (ℕ → ℕ → Bool) → World → Option Snapshot → World
 drops c w y = lost c y (withEngine (dropped y (w .engine)) w)
 
 -- what the engine goes on with is backed, whatever was lost

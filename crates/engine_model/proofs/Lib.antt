@@ -12,3 +12,5 @@ pub mod StoreTurns
 pub mod Invariant
 pub mod Syncs
 pub mod Histories
+pub mod Told
+pub mod Theorems

@@ -1,0 +1,143 @@
+-- The claims.
+-- Assumes nothing.
+use Prim.Native.Nat.{ℕ, suc, _<_, _≤_}
+use mathlib.Core.Path.{_≡_, refl, sym, ap, subst, _∙_}
+use mathlib.Core.Bool.{Bool, true, false}
+use mathlib.Core.List.{List, [], _∷_, _++_}
+use mathlib.Core.Option.{Option, none, some}
+use native.Mathlib.Omega.{arith}
+use Rattle.runs.specs.Runs.{Run, Member}
+use Rattle.transfer.specs.declared.Key.{Key}
+use Rattle.engine_slots.specs.declared.Sender.{Sender}
+use Rattle.engine_slots.specs.declared.Slot.{Slot}
+use Rattle.engine_slots.specs.declared.Files.{Files}
+use Rattle.engine_slots.specs.declared.Meeting.{Meeting}
+use Rattle.engine_slots.specs.declared.Meeting.the-variants as meeting
+use Rattle.engine_model.specs.Snapshots.{Packet, Snapshot, isOpen, slotOf, fileOf, received}
+use Rattle.engine_model.specs.Meetings.{meet}
+use Rattle.engine_model.specs.Engine.{Engine, whole, Event, opening, octetsPart, namePart, metaPart, openedBy, opened, withNow}
+use Rattle.engine_model.specs.Disk.{Write, content, surviving}
+use Rattle.engine_model.specs.World.{World, acts, step, run}
+use Rattle.engine_model.specs.Claims.{Brought, Begun, FilesOnce, OwnersClaimed, Stays, Kept, Held, Whole, ReportedWhole, AnsweredKept, AnsweredInArea, AreaHeld}
+use Rattle.engine_model.proofs.SnapshotLaws.{complete-open, complete-member}
+use Rattle.engine_model.proofs.MeetLaws.{meet-make}
+use Rattle.engine_model.proofs.DiskLaws.{Some, isDurable, some-content, all-content, all-left, left-durable}
+use Rattle.engine_model.proofs.FirmLaws.{firm-content}
+use Rattle.engine_model.proofs.Backing.{sound-open}
+use Rattle.engine_model.proofs.History.{Known, Origin}
+use Rattle.engine_model.proofs.Turns.{nextOf}
+use Rattle.engine_model.proofs.Invariant.{Inv, Fixed}
+use Rattle.engine_model.proofs.Histories.{run-inv, run-leads}
+use Rattle.engine_model.proofs.Told.{Says, Completes, answer-says, report-completes}
+
+-- what `synced` has as received
+kept-of : (h : List Event) (i o : ℕ) → Member (received (run h .engine .synced) i) o → Kept h i (fileOf (run h .engine .synced) i) o
+kept-of h i o m =
+    let f : ℕ = fileOf (run h .engine .synced) i in
+    let v : Inv h (run h) = run-inv h in
+    let k : Fixed (run h) i f o = v .told i o m in
+    let x : (u : ℕ) × (content (run h .writes) i f octetsPart o ≡ some u) =
+    some-content isDurable (run h .writes) i f octetsPart o (v .synced-backed i .octets o m) in
+    record {
+      value = x .0;
+      origin = all-content (Origin h) (run h .writes) i f octetsPart o (x .0) (v .from) (x .1);
+      stays = λ g c. firm-content i f octetsPart o true c (run (g ++ h) .writes) (run-leads g h .fixed i f o k .firm)
+          ∙ run-leads g h .same-content i f o k ∙ x .1;
+    }
+
+-- a name that is on disk for good, or METADATA
+token-stays : (h : List Event) (i f p o : ℕ) → Some isDurable (run h .writes) i f (suc p) o → Stays h i f (suc p) o 1
+token-stays h i f p o m g c =
+    let ws : List Write = run (g ++ h) .writes in
+    let x : (u : ℕ) × (content (surviving c ws) i f (suc p) o ≡ some u) =
+    some-content isDurable (surviving c ws) i f (suc p) o (left-durable true c ws i f (suc p) o (run-leads g h .durable i f (suc p) o m)) in
+    let one : x .0 ≡ 1 =
+    all-content (Origin (g ++ h)) (surviving c ws) i f (suc p) o (x .0) (all-left (Origin (g ++ h)) true c ws (run-inv (g ++ h) .from)) (x .1) in
+    x .1 ∙ ap some one
+
+-- ---- (1)
+
+pub reported-whole : ReportedWhole
+reported-whole h x i f l m =
+    let s : Completes (run h .engine) i f l = report-completes (run h .engine) x i f l m in
+    let v : Inv h (run h) = run-inv h in
+    let o : isOpen (run h .engine .synced) i ≡ true = complete-open (run h .engine .synced) i (s .all) in
+    subst (λ (j : ℕ). Whole h i j l) (s .file-is)
+    (record {
+      key = s .key;
+      begun = v .synced-sound .each i (s .key) (s .found) .begun;
+      length-is = s .length-is;
+      kept = λ o y. kept-of h i o (complete-member (run h .engine .synced) i (s .key) o (v .synced-sound .fit) (s .found) (s .all) (rw (s .length-is) y));
+      name-stays = token-stays h i (fileOf (run h .engine .synced) i) 0 0 (v .synced-backed i .name o (s .named));
+      meta-stays = token-stays h i (fileOf (run h .engine .synced) i) 1 0 (v .synced-backed i .meta o);
+    })
+
+-- ---- (2)
+
+pub answered-kept : AnsweredKept
+answered-kept h x i f to rs m o y =
+    let s : Says (run h .engine) i f rs = answer-says (run h .engine) x i f to rs m in
+    subst (λ (j : ℕ). Kept h i j o) (s .file-is) (kept-of h i o (rw (s .runs-are) y))
+
+pub answered-in-area : AnsweredInArea
+answered-in-area h x i f to rs m o y g e z =
+    let s : Says (run h .engine) i f rs = answer-says (run h .engine) x i f to rs m in
+    let u : Fixed (run h) i (fileOf (run h .engine .synced) i) o = run-inv h .told i o (rw (s .runs-are) y) in
+    run-leads g h .fixed i _ o u .in-area e (z ∙ sym (s .file-is))
+
+-- ---- (3)
+
+pub area-held : AreaHeld
+area-held h i o m c =
+    let f : ℕ = fileOf (run h .area) i in
+    let v : Inv h (run h) = run-inv h in
+    let ws : List Write = surviving c (run h .writes) in
+    let x : (u : ℕ) × (content ws i f octetsPart o ≡ some u) =
+    some-content isDurable ws i f octetsPart o (left-durable true c (run h .writes) i f octetsPart o (v .area-backed i .octets o m)) in
+    record {
+      value = x .0;
+      origin = all-content (Origin h) ws i f octetsPart o (x .0) (all-left (Origin h) true c (run h .writes) (v .from)) (x .1);
+      holds = x .1;
+    }
+
+-- ---- owners and files
+
+pub owners-claimed : OwnersClaimed
+owners-claimed h i e = sound-open (Known h (nextOf h)) (run h .engine .now) i (run-inv h .now-sound) e .1 .claimed
+
+-- an opening that makes files takes a number that no later one takes
+opening-next : (h : List Event) (t : ℕ) (r : Sender) (p : Packet) (f : Files)
+    → meet (run h .engine .now) (nextOf h) (p .octets) ≡ meeting.Make f → nextOf h < nextOf (opening t r p whole ∷ h)
+unfolding run step acts opened openedBy withNow
+opening-next h t r p f e =
+    subst (λ (y : Meeting). nextOf h < openedBy (run h .engine) t r (p .octets) whole y .next) (sym e) (omega arith)
+
+-- of two openings with one file number neither is before the other
+once : (l m : List Event) (s t : ℕ) (x y : Sender) (p q : Packet) (f g : Files) (a b : List Event)
+    → l ++ (opening s x p whole ∷ a) ≡ m ++ (opening t y q whole ∷ b) → nextOf a ≡ nextOf b
+    → meet (run a .engine .now) (nextOf a) (p .octets) ≡ meeting.Make f → meet (run b .engine .now) (nextOf b) (q .octets) ≡ meeting.Make g
+    → a ≡ b
+once [] [] s t x y p q f g a b e n u v = cc
+once [] (z ∷ m) s t x y p q f g a b e n u v =
+    let r : a ≡ m ++ (opening t y q whole ∷ b) = cc in
+    let i : nextOf b < nextOf (opening t y q whole ∷ b) = opening-next b t y q g v in
+    let j : nextOf (opening t y q whole ∷ b) ≤ nextOf a = rw r (run-leads m (opening t y q whole ∷ b) .above) in
+    absurd (omega arith)
+once (z ∷ l) [] s t x y p q f g a b e n u v =
+    let r : b ≡ l ++ (opening s x p whole ∷ a) = cc in
+    let i : nextOf a < nextOf (opening s x p whole ∷ a) = opening-next a s x p f u in
+    let j : nextOf (opening s x p whole ∷ a) ≤ nextOf b = rw r (run-leads l (opening s x p whole ∷ a) .above) in
+    absurd (omega arith)
+once (z ∷ l) (w ∷ m) s t x y p q f g a b e n u v = once l m s t x y p q f g a b (cc) n u v
+
+-- the file that an opening makes has the next number
+made-next : (h : List Event) (p : Packet) (f : Files) → meet (run h .engine .now) (nextOf h) (p .octets) ≡ meeting.Make f → f .file ≡ nextOf h
+made-next h p f e = meet-make (run h .engine .now) (nextOf h) (p .octets) f e .file-is
+
+pub files-once : FilesOnce
+files-once h i j f k l a b =
+    once (a .later) (b .later) (a .time) (b .time) (a .sender) (b .sender) (a .packet) (b .packet) (a .files) (b .files) (a .earlier) (b .earlier)
+    (sym (a .split) ∙ b .split)
+    (sym (made-next (a .earlier) (a .packet) (a .files) (a .makes)) ∙ a .of-file ∙ sym (b .of-file)
+    ∙ made-next (b .earlier) (b .packet) (b .files) (b .makes))
+    (a .makes) (b .makes)

@@ -22,3 +22,4 @@ pub mod Syncs
 pub mod Histories
 pub mod Told
 pub mod Theorems
+pub mod Example

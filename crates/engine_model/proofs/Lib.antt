@@ -20,6 +20,7 @@ pub mod StoreTurns
 pub mod Invariant
 pub mod Syncs
 pub mod Histories
+pub mod KeptLaws
 pub mod Told
 pub mod Theorems
 pub mod Example

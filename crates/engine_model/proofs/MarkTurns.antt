@@ -13,12 +13,12 @@ use Rattle.refusals.proofs.TestLaws.{and-iff}
 use Rattle.transfer.specs.declared.Key.{Key}
 use Rattle.engine_slots.specs.declared.Slot.{Slot}
 use Rattle.engine_model.specs.Snapshots.{Snapshot, keyIn, isOpen, isComplete, slotOf, fileOf, sameFile, withSlot, closedIn, answeredSlot, namedSlot, reportedSlot}
-use Rattle.engine_model.specs.Engine.{Engine, Ended, whole, part, isWhole, Event, closing, answering, naming, reporting, Action, namePart, token, actions, answerOf, mayName, nameOf, mayReport, reportOf, mayClose, closed, marked, answered, named, reported, withNow}
+use Rattle.engine_model.specs.Engine.{Engine, Ended, whole, part, isWhole, Event, closing, answering, naming, reporting, Action, namePart, metaPart, token, actions, answerOf, mayName, nameOf, mayReport, reportOf, mayClose, closed, marked, answered, named, reported, withNow}
 use Rattle.engine_model.specs.Disk.{Write, writtenOf, does, doesAll}
 use Rattle.engine_model.specs.World.{World, acts, step, run}
 use Rattle.engine_model.proofs.SnapshotLaws.{Fit}
 use Rattle.engine_model.proofs.DiskLaws.{Some, any, cond-some}
-use Rattle.engine_model.proofs.History.{Known, known-slot}
+use Rattle.engine_model.proofs.History.{Known, Origin, known-slot}
 use Rattle.engine_model.proofs.Turns.{nowOf, nextOf, writesOf, puts, Turn, Adds, none-added, one-added, adds, still, nothing, slotted, closes}
 
 -- both have the Id open, for one file
@@ -43,9 +43,19 @@ unfolding writtenOf
 written-one whole o v e = token-one o v e
 written-one (part k) o v e = token-one o v (cond-some (k o) (token o) v e)
 
-pub token-added : (h : List Event) (x : Event) (i f p : ℕ) (r : Ended) → Adds h x (tokenWrite i f (suc p) r ∷ writesOf h)
-token-added h x i f p r =
-    one-added h x (tokenWrite i f (suc p) r) (λ j g o v k a. let y : suc p ≡ 0 = a .2 in omega arith) (λ o v e. written-one r o v e)
+token-added : (h : List Event) (x : Event) (i f p : ℕ) (r : Ended) → ((o v : ℕ) → v ≡ 1 → Origin (x ∷ h) i f (suc p) o v)
+    → Adds h x (tokenWrite i f (suc p) r ∷ writesOf h)
+token-added h x i f p r from =
+    one-added h x (tokenWrite i f (suc p) r) (λ j g o v k a. let y : suc p ≡ 0 = a .2 in omega arith) (λ o v e. from o v (written-one r o v e))
+
+pub meta-added : (h : List Event) (x : Event) (i f : ℕ) (r : Ended) → Adds h x (tokenWrite i f metaPart r ∷ writesOf h)
+meta-added h x i f r = token-added h x i f 1 r (λ o v e. e)
+
+name-added : (h : List Event) (i : ℕ) (q r : Ended) → mayName (run h .engine) i ≡ true
+    → Adds h (naming i q) (tokenWrite i (fileOf (run h .engine .synced) i) namePart r ∷ writesOf h)
+name-added h i q r t =
+    token-added h (naming i q) i (fileOf (run h .engine .synced) i) 0 r
+    (λ o v e. (e, record { later = []; earlier = h; ended = q; split = refl; allowed = t; of-file = refl }))
 
 pub token-there : (i f p : ℕ) (ws : List Write) → Some any (tokenWrite i f p whole ∷ ws) i f p 0
 unfolding writtenOf token
@@ -85,7 +95,7 @@ answer-writes (some k) s i ws = refl
 pub answer-turn : (h : List Event) (i : ℕ) → Fit (nowOf h) → Turn h (answering i) (step (run h) (answering i))
 unfolding step acts actions answered
 answer-turn h i fit =
-    rw (answer-writes (keyIn (run h .engine .synced) i) (run h .engine .synced) i (writesOf h))
+    rw answer-writes
     (mark-turn h (answering i) i (answeredSlot (slotOf (nowOf h) i)) (run h .engine .changed) (sameFile (nowOf h) (run h .engine .synced) i) fit
     (λ e. same-file (nowOf h) (run h .engine .synced) i e .0) refl refl refl)
 
@@ -98,7 +108,7 @@ report-writes false y s i ws = refl
 pub report-turn : (h : List Event) (i : ℕ) → Fit (nowOf h) → Turn h (reporting i) (step (run h) (reporting i))
 unfolding step acts actions reported
 report-turn h i fit =
-    rw (report-writes (mayReport (run h .engine) i) (keyIn (run h .engine .synced) i) (run h .engine .synced) i (writesOf h))
+    rw report-writes
     (mark-turn h (reporting i) i (reportedSlot (slotOf (nowOf h) i)) 1 (mayReport (run h .engine) i && sameFile (nowOf h) (run h .engine .synced) i) fit
     (λ e. same-file (nowOf h) (run h .engine .synced) i (and-iff (mayReport (run h .engine) i) _ .0 e .1) .0) refl refl refl)
 
@@ -126,10 +136,10 @@ name-turn h i r fit = go (mayName (run h .engine) i) r refl
     go false q e = nothing h (naming i r) fit
     go true (part k) e =
         let f : ℕ = fileOf (run h .engine .synced) i in
-        still h (naming i r) (tokenWrite i f namePart (part k) ∷ writesOf h) fit (token-added h (naming i r) i f 0 (part k))
+        still h (naming i r) (tokenWrite i f namePart (part k) ∷ writesOf h) fit (name-added h i r (part k) e)
     go true whole e =
         let f : ℕ = fileOf (run h .engine .synced) i in
         let o = name-open (run h .engine) i e in
         slotted h (naming i r) (tokenWrite i f namePart whole ∷ writesOf h) i (namedSlot (slotOf (nowOf h) i)) 1 fit
-        (token-added h (naming i r) i f 0 whole) (o .1) refl (λ z. inr (rw (o .2) (token-there i f namePart (writesOf h))))
+        (name-added h i r whole e) (o .1) refl (λ z. inr (rw (o .2) (token-there i f namePart (writesOf h))))
         (λ z k b. known-slot (naming i r ∷ h) (nextOf h) i (slotOf (nowOf h) i) (namedSlot (slotOf (nowOf h) i)) k refl refl b)

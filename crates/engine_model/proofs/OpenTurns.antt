@@ -32,7 +32,7 @@ use Rattle.engine_model.proofs.DiskLaws.{Some, any}
 use Rattle.engine_model.proofs.Backing.{BackedAt}
 use Rattle.engine_model.proofs.History.{Known}
 use Rattle.engine_model.proofs.Turns.{nowOf, nextOf, writesOf, puts, Turn, none-added, still, nothing, slotted, closes}
-use Rattle.engine_model.proofs.MarkTurns.{tokenWrite, token-added, token-there}
+use Rattle.engine_model.proofs.MarkTurns.{tokenWrite, meta-added, token-there}
 
 id-of : (p : List ℕ) (m : Metadata) → readMetadata p ≡ metadata-read.Accepted m → metadataId (readMetadata p) ≡ m .id
 unfolding metadataId
@@ -116,7 +116,7 @@ module _ (h : List Event) (t : ℕ) (r : Sender) (p : Packet) (f : Files) (fit :
             let u : nextOf h ≡ g = sym (a .file-is) ∙ sym (ap (λ (x : Slot). x .file) slot) ∙ v in
             absurd (omega arith);
         above = omega arith;
-        grown = token-added h (opening t r p whole) (f .id) (f .file) 1 whole .grown;
+        grown = meta-added h (opening t r p whole) (f .id) (f .file) whole .grown;
         backed = λ b. record {
           octets = λ o m. absurd (none-received (received n (a .m .id)) o (new-runs s k y (a .free)) m);
           meta = λ z. there (a .m .id) (fileOf n (a .m .id)) (a .id-is) (sym (ap (λ (x : Slot). x .file) slot));
@@ -131,7 +131,7 @@ module _ (h : List Event) (t : ℕ) (r : Sender) (p : Packet) (f : Files) (fit :
               claimed = claims h t r p whole _ (a .m .id) y (z ∙ is) (id-of (p .octets) (a .m) (a .read))
                   (key-open n (a .m .id) k (new-key s k y (a .free))) slot refl;
             });
-        from = token-added h (opening t r p whole) (f .id) (f .file) 1 whole .from;
+        from = meta-added h (opening t r p whole) (f .id) (f .file) whole .from;
       }
     where
       none-received : (rs : List Run) (o : ℕ) → rs ≡ [] → Member rs o → ⊥
@@ -173,7 +173,7 @@ open-turn h t r p x (meeting.Kept g) fit e = kept-turn h t r p x g (metadataId (
 open-turn h t r p x (meeting.Ended g) fit e = closes h (opening t r p x) (metadataId (readMetadata (p .octets))) fit
 open-turn h t r p (part c) (meeting.Make f) fit e =
     still h (opening t r p (part c)) (tokenWrite (f .id) (f .file) metaPart (part c) ∷ writesOf h) fit
-    (token-added h (opening t r p (part c)) (f .id) (f .file) 1 (part c))
+    (meta-added h (opening t r p (part c)) (f .id) (f .file) (part c))
 open-turn h t r p whole (meeting.Make f) fit e = made-turn h t r p f fit e
 
 pub opening-turn : (h : List Event) (t : ℕ) (r : Sender) (p : Packet) (x : Ended) → Fit (nowOf h) → Turn h (opening t r p x) (step (run h) (opening t r p x))

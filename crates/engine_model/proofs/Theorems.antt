@@ -13,47 +13,23 @@ use Rattle.engine_slots.specs.declared.Slot.{Slot}
 use Rattle.engine_slots.specs.declared.Files.{Files}
 use Rattle.engine_slots.specs.declared.Meeting.{Meeting}
 use Rattle.engine_slots.specs.declared.Meeting.the-variants as meeting
-use Rattle.engine_model.specs.Snapshots.{Packet, Snapshot, isOpen, slotOf, fileOf, received}
+use Rattle.engine_model.specs.Snapshots.{Packet, Snapshot, isOpen, isComplete, slotOf, fileOf, received}
 use Rattle.engine_model.specs.Meetings.{meet}
-use Rattle.engine_model.specs.Engine.{Engine, whole, Event, opening, octetsPart, namePart, metaPart, openedBy, opened, withNow}
+use Rattle.engine_model.specs.Engine.{Engine, whole, Event, opening, naming, octetsPart, namePart, metaPart, openedBy, opened, withNow}
 use Rattle.engine_model.specs.Disk.{Write, content, surviving}
 use Rattle.engine_model.specs.World.{World, acts, step, run}
-use Rattle.engine_model.specs.Claims.{Brought, Begun, FilesOnce, OwnersClaimed, Stays, Kept, Held, Whole, ReportedWhole, AnsweredKept, AnsweredInArea, AreaHeld}
-use Rattle.engine_model.proofs.SnapshotLaws.{complete-open, complete-member}
+use Rattle.engine_model.specs.Claims.{Begun, FilesOnce, OwnersClaimed, Kept, Held, Whole, ReportedWhole, AnsweredKept, AnsweredInArea, AreaHeld, Page, NamedWhole}
+use Rattle.engine_model.proofs.SnapshotLaws.{open-key, complete-open, complete-member}
 use Rattle.engine_model.proofs.MeetLaws.{meet-make}
-use Rattle.engine_model.proofs.DiskLaws.{Some, isDurable, some-content, all-content, all-left, left-durable}
-use Rattle.engine_model.proofs.FirmLaws.{firm-content}
+use Rattle.engine_model.proofs.DiskLaws.{isDurable, some-content, all-content, all-left, left-durable}
 use Rattle.engine_model.proofs.Backing.{sound-open}
-use Rattle.engine_model.proofs.History.{Known, Origin}
+use Rattle.engine_model.proofs.History.{Known, Origin, Named, begun-along}
 use Rattle.engine_model.proofs.Turns.{nextOf}
 use Rattle.engine_model.proofs.Invariant.{Inv, Fixed}
 use Rattle.engine_model.proofs.Histories.{run-inv, run-leads}
+use Rattle.engine_model.proofs.MarkTurns.{name-open}
+use Rattle.engine_model.proofs.KeptLaws.{kept-of, token-stays, kept-along}
 use Rattle.engine_model.proofs.Told.{Says, Completes, answer-says, report-completes}
-
--- what `synced` has as received
-kept-of : (h : List Event) (i o : ℕ) → Member (received (run h .engine .synced) i) o → Kept h i (fileOf (run h .engine .synced) i) o
-kept-of h i o m =
-    let f : ℕ = fileOf (run h .engine .synced) i in
-    let v : Inv h (run h) = run-inv h in
-    let k : Fixed (run h) i f o = v .told i o m in
-    let x : (u : ℕ) × (content (run h .writes) i f octetsPart o ≡ some u) =
-    some-content isDurable (run h .writes) i f octetsPart o (v .synced-backed i .octets o m) in
-    record {
-      value = x .0;
-      origin = all-content (Origin h) (run h .writes) i f octetsPart o (x .0) (v .from) (x .1);
-      stays = λ g c. firm-content i f octetsPart o true c (run (g ++ h) .writes) (run-leads g h .fixed i f o k .firm)
-          ∙ run-leads g h .same-content i f o k ∙ x .1;
-    }
-
--- a name that is on disk for good, or METADATA
-token-stays : (h : List Event) (i f p o : ℕ) → Some isDurable (run h .writes) i f (suc p) o → Stays h i f (suc p) o 1
-token-stays h i f p o m g c =
-    let ws : List Write = run (g ++ h) .writes in
-    let x : (u : ℕ) × (content (surviving c ws) i f (suc p) o ≡ some u) =
-    some-content isDurable (surviving c ws) i f (suc p) o (left-durable true c ws i f (suc p) o (run-leads g h .durable i f (suc p) o m)) in
-    let one : x .0 ≡ 1 =
-    all-content (Origin (g ++ h)) (surviving c ws) i f (suc p) o (x .0) (all-left (Origin (g ++ h)) true c ws (run-inv (g ++ h) .from)) (x .1) in
-    x .1 ∙ ap some one
 
 -- ---- (1)
 
@@ -99,6 +75,31 @@ area-held h i o m c =
       origin = all-content (Origin h) ws i f octetsPart o (x .0) (all-left (Origin h) true c (run h .writes) (v .from)) (x .1);
       holds = x .1;
     }
+
+-- ---- (4)
+
+pub named-whole : NamedWhole
+named-whole h i f o v c e =
+    let w : World = run h in
+    let n : Named h i f =
+    all-content (Origin h) (surviving c (w .writes)) i f namePart o v (all-left (Origin h) true c (w .writes) (run-inv h .from)) e .1 in
+    rw (n .split) (page n)
+  where
+    -- it was complete on disk when it got its name
+    page : (n : Named h i f) → Page (n .later ++ (naming i (n .ended) ∷ n .earlier)) i f
+    page n =
+        let g : List Event = n .earlier in
+        let s : Snapshot = run g .engine .synced in
+        let v : Inv g (run g) = run-inv g in
+        let all : isComplete s i ≡ true = name-open (run g .engine) i (n .allowed) .0 in
+        let k = open-key s i (complete-open s i all) in
+        let x : Event = naming i (n .ended) in
+        record {
+          key = k .0;
+          begun = rw (← n .of-file) (begun-along (n .later) (x ∷ g) i _ (k .0) (begun-along (x ∷ []) g i _ (k .0) (v .synced-sound .each i (k .0) (k .1) .begun)));
+          kept = λ o y. rw (← n .of-file) (kept-along (n .later) (x ∷ g) i _ o
+              (kept-along (x ∷ []) g i _ o (kept-of g i o (complete-member s i (k .0) o (v .synced-sound .fit) (k .1) all y))));
+        }
 
 -- ---- owners and files
 

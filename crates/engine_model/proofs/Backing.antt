@@ -1,13 +1,13 @@
 -- What is asked of a snapshot: its files have the writes for it, and of each open Id something holds. And a snapshot that differs from
 -- another in one Id alone.
 -- Assumes nothing.
-use Prim.Native.Nat.{ℕ, _<_}
-use mathlib.Core.Path.{_≡_, refl, sym, ap, subst, _∙_}
+use Prim.Native.Nat.{ℕ}
+use mathlib.Core.Path.{_≡_, sym, ap, subst, _∙_}
 use mathlib.Core.Bool.{Bool, true}
 use mathlib.Core.List.{List}
 use mathlib.Core.Option.{some}
 use native.Mathlib.Decide.{ℕ-discrete}
-use Rattle.runs.specs.Runs.{Run, Member}
+use Rattle.runs.specs.Runs.{Member}
 use Rattle.transfer.specs.declared.Key.{Key}
 use Rattle.engine_slots.specs.declared.Slot.{Slot}
 use Rattle.engine_model.specs.Snapshots.{Snapshot, keyIn, isOpen, slotOf, fileOf, received}

@@ -1,24 +1,22 @@
 -- Every history: the invariant holds, what is settled stays so with the same octet, what is durable stays so, and file numbers rise.
 -- Assumes nothing.
-use Prim.Native.Nat.{ℕ, suc, _+_, _≤_, _<_}
-use mathlib.Core.Path.{_≡_, refl, sym, ap, subst, _∙_}
+use Prim.Native.Nat.{ℕ, suc, _≤_}
+use mathlib.Core.Path.{_≡_, refl, ap, _∙_}
 use mathlib.Core.Bool.{Bool, true, false, cond}
-use mathlib.Core.List.{List, [], _∷_, _++_, map}
+use mathlib.Core.List.{List, [], _∷_, _++_}
 use mathlib.Core.Option.{Option, none, some}
 use native.Mathlib.Omega.{arith}
-use Rattle.runs.specs.Runs.{Member}
 use Rattle.table.specs.Tables.{keys, find, runsOf}
-use Rattle.transfer.specs.declared.Key.{Key}
-use Rattle.engine_model.specs.Snapshots.{Snapshot, emptySnapshot, isOpen, fileOf, received}
-use Rattle.engine_model.specs.Engine.{Engine, whole, Event, opening, storing, closing, answering, naming, reporting, syncing, good, bad, crash, Action, sync, octetsPart, maySync, actions, begunAt, current, confirmed, dropped, started, withNow}
-use Rattle.engine_model.specs.Disk.{Write, content, does, doesAll, forced, losing, surviving}
+use Rattle.engine_model.specs.Snapshots.{Snapshot, emptySnapshot, isOpen}
+use Rattle.engine_model.specs.Engine.{whole, Event, opening, storing, closing, answering, naming, reporting, syncing, good, bad, crash, sync, octetsPart, maySync, actions, begunAt, current, confirmed, dropped, started, withNow}
+use Rattle.engine_model.specs.Disk.{Write, content, does, doesAll}
 use Rattle.engine_model.specs.World.{World, written, restarted, withEngine, acts, lost, step, start, run}
 use Rattle.engine_model.proofs.SnapshotLaws.{Fit, fit-empty}
 use Rattle.engine_model.proofs.DiskLaws.{any, isDurable, Carries, due-durable, forced-durable, left-durable}
 use Rattle.engine_model.proofs.FirmLaws.{due-content, forced-content, firm-content}
 use Rattle.engine_model.proofs.Backing.{Backed, Sound}
 use Rattle.engine_model.proofs.History.{Known}
-use Rattle.engine_model.proofs.Turns.{nowOf, nextOf, writesOf, Turn}
+use Rattle.engine_model.proofs.Turns.{nowOf, Turn}
 use Rattle.engine_model.proofs.MarkTurns.{close-turn, answer-turn, name-turn, report-turn}
 use Rattle.engine_model.proofs.OpenTurns.{opening-turn}
 use Rattle.engine_model.proofs.StoreTurns.{storing-turn}

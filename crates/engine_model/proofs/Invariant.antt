@@ -1,15 +1,12 @@
 -- What holds after every history, and that a turn keeps it.
 -- Assumes nothing.
 use Prim.Native.Nat.{ℕ, _≤_, _<_}
-use mathlib.Core.Path.{_≡_, refl, sym, ap, subst, _∙_}
-use mathlib.Core.Bool.{Bool, true, false}
+use mathlib.Core.Path.{_≡_, sym, ap, subst, _∙_}
 use mathlib.Core.List.{List, _∷_}
 use mathlib.Core.Option.{Option, none, some}
 use native.Mathlib.Omega.{arith}
 use Rattle.runs.specs.Runs.{Member}
-use Rattle.transfer.specs.declared.Key.{Key}
-use Rattle.engine_slots.specs.declared.Slot.{Slot}
-use Rattle.engine_model.specs.Snapshots.{Snapshot, keyIn, isOpen, slotOf, fileOf, received}
+use Rattle.engine_model.specs.Snapshots.{Snapshot, fileOf, received}
 use Rattle.engine_model.specs.Engine.{Event, withNow, octetsPart}
 use Rattle.engine_model.specs.Disk.{Write, content}
 use Rattle.engine_model.specs.World.{World, step, run}

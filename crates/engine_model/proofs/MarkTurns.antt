@@ -1,10 +1,10 @@
 -- Closing, answering, naming and reporting are turns.
 -- Assumes nothing.
 use Prim.Native.Nat.{ℕ, suc}
-use mathlib.Core.Path.{_≡_, refl, sym, ap, subst, _∙_}
+use mathlib.Core.Path.{_≡_, refl, sym, _∙_}
 use mathlib.Core.Bool.{Bool, true, false, cond, _&&_}
 use mathlib.Core.List.{List, [], _∷_}
-use mathlib.Core.Logic.{_⊎_, inl, inr}
+use mathlib.Core.Logic.{inl, inr}
 use mathlib.Core.Option.{Option, none, some}
 use native.Mathlib.Omega.{arith}
 use borrow.Author.Tests.{eqb-true}
@@ -12,14 +12,14 @@ use lib.Dec.{eqb}
 use Rattle.refusals.proofs.TestLaws.{and-iff}
 use Rattle.transfer.specs.declared.Key.{Key}
 use Rattle.engine_slots.specs.declared.Slot.{Slot}
-use Rattle.engine_model.specs.Snapshots.{Snapshot, keyIn, isOpen, isComplete, slotOf, fileOf, sameFile, withSlot, closedIn, answeredSlot, namedSlot, reportedSlot}
-use Rattle.engine_model.specs.Engine.{Engine, Ended, whole, part, isWhole, Event, closing, answering, naming, reporting, Action, namePart, metaPart, token, actions, answerOf, mayName, nameOf, mayReport, reportOf, mayClose, closed, marked, answered, named, reported, withNow}
+use Rattle.engine_model.specs.Snapshots.{Snapshot, isOpen, isComplete, slotOf, fileOf, sameFile, closedIn, answeredSlot, namedSlot, reportedSlot}
+use Rattle.engine_model.specs.Engine.{Engine, Ended, whole, part, isWhole, Event, closing, answering, naming, reporting, namePart, metaPart, token, actions, answerOf, mayName, nameOf, mayReport, reportOf, mayClose, closed, marked, answered, named, reported, withNow}
 use Rattle.engine_model.specs.Disk.{Write, writtenOf, does, doesAll}
-use Rattle.engine_model.specs.World.{World, acts, step, run}
+use Rattle.engine_model.specs.World.{acts, step, run}
 use Rattle.engine_model.proofs.SnapshotLaws.{Fit}
 use Rattle.engine_model.proofs.DiskLaws.{Some, any, cond-some}
-use Rattle.engine_model.proofs.History.{Known, Origin, known-slot}
-use Rattle.engine_model.proofs.Turns.{nowOf, nextOf, writesOf, puts, Turn, Adds, none-added, one-added, adds, still, nothing, slotted, closes}
+use Rattle.engine_model.proofs.History.{Origin, known-slot}
+use Rattle.engine_model.proofs.Turns.{nowOf, nextOf, writesOf, Turn, Adds, none-added, one-added, still, nothing, slotted, closes}
 
 -- both have the Id open, for one file
 pub same-file : (s t : Snapshot) (i : ℕ) → sameFile s t i ≡ true → (isOpen s i ≡ true) × (isOpen t i ≡ true) × (fileOf s i ≡ fileOf t i)

@@ -1,21 +1,19 @@
 -- METADATA is a turn: whatever the meeting is.
 -- Assumes nothing.
-use Prim.Native.Nat.{ℕ, suc, _<_}
+use Prim.Native.Nat.{ℕ, suc}
 use mathlib.Core.Path.{_≡_, refl, sym, ap, subst, _∙_}
-use mathlib.Core.Bool.{Bool, true, false}
-use mathlib.Core.List.{List, [], _∷_, _++_}
-use mathlib.Core.Logic.{_⊎_, inl, inr}
-use mathlib.Core.Option.{Option, none, some}
+use mathlib.Core.Bool.{true, false}
+use mathlib.Core.List.{List, [], _∷_}
+use mathlib.Core.Logic.{inl}
+use mathlib.Core.Option.{Option, some}
 use native.Mathlib.Omega.{arith}
 use Rattle.packet_metadata.specs.Metadata.{readMetadata}
 use Rattle.packet_metadata.specs.declared.Metadata.{Metadata}
-use Rattle.packet_metadata.specs.declared.MetadataRead.{MetadataRead}
 use Rattle.packet_metadata.specs.declared.MetadataRead.the-variants as metadata-read
 use Rattle.runs.specs.Runs.{Run, Member}
 use Rattle.transfer.specs.declared.Key.{Key}
 use Rattle.transfer.specs.Transfers.{keyOf}
 use Rattle.engine_slots.specs.declared.Sender.{Sender}
-use Rattle.engine_slots.specs.declared.Digest.{Digest}
 use Rattle.engine_slots.specs.declared.Slot.{Slot}
 use Rattle.engine_slots.specs.declared.Files.{Files}
 use Rattle.engine_slots.specs.declared.Meeting.{Meeting}
@@ -26,11 +24,9 @@ use Rattle.engine_model.specs.Engine.{Engine, Ended, whole, part, Event,
 use Rattle.engine_model.specs.Disk.{Write, does, doesAll}
 use Rattle.engine_model.specs.World.{World, acts, step, run}
 use Rattle.engine_model.specs.Claims.{Begun, Claimed}
-use Rattle.engine_model.proofs.SnapshotLaws.{Fit, Alike, alike-then, key-open, slot-key, slot-same, withKey, new-key, new-runs, new-slot, new-other}
+use Rattle.engine_model.proofs.SnapshotLaws.{Fit, alike-then, key-open, slot-key, slot-same, withKey, new-key, new-runs, new-slot, new-other}
 use Rattle.engine_model.proofs.MeetLaws.{fit-room, room-other, madeIn, Made, meet-make, fit-made, meet-kept, kept-open}
 use Rattle.engine_model.proofs.DiskLaws.{Some, any}
-use Rattle.engine_model.proofs.Backing.{BackedAt}
-use Rattle.engine_model.proofs.History.{Known}
 use Rattle.engine_model.proofs.Turns.{nowOf, nextOf, writesOf, puts, Turn, none-added, still, nothing, slotted, closes}
 use Rattle.engine_model.proofs.MarkTurns.{tokenWrite, meta-added, token-there}
 

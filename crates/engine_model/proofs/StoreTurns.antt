@@ -1,19 +1,18 @@
 -- DATA is a turn: a stretch that is written and recorded, one that is compared and recorded or ends the transfer, or nothing.
 -- Assumes nothing.
-use Prim.Native.Nat.{ℕ, suc, _<_, _≤_}
+use Prim.Native.Nat.{ℕ, suc, _<_}
 use mathlib.Core.Path.{_≡_, refl, sym, ap, subst, _∙_}
-use mathlib.Core.Bool.{Bool, true, false, cond, _||_}
-use mathlib.Core.List.{List, [], _∷_, _++_}
+use mathlib.Core.Bool.{true, false, _||_}
+use mathlib.Core.List.{List, [], _∷_}
 use mathlib.Core.Logic.{_⊎_, inl, inr}
-use mathlib.Core.Option.{Option, none, some}
+use mathlib.Core.Option.{Option, some}
 use native.Mathlib.Omega.{arith}
 use lib.Dec.{eqb}
 use Rattle.packet_data.specs.Data.{readData}
 use Rattle.packet_data.specs.declared.Data.{Data}
 use Rattle.packet_data.specs.declared.DataRead.{DataRead}
 use Rattle.packet_data.specs.declared.DataRead.the-variants as data-read
-use Rattle.runs.specs.Runs.{Run, run, Within, Member}
-use Rattle.transfer.specs.declared.Key.{Key}
+use Rattle.runs.specs.Runs.{run, Within, Member}
 use Rattle.transfer.specs.Record.{stopOf, stampIn}
 use Rattle.transfer.proofs.StampLaws.{stamp-known}
 use Rattle.engine_slots.specs.declared.Sender.{Sender}
@@ -21,19 +20,19 @@ use Rattle.engine_slots.specs.declared.Slot.{Slot}
 use Rattle.engine_slots.specs.declared.Stretch.{Stretch}
 use Rattle.engine_slots.specs.declared.Look.{Look}
 use Rattle.engine_slots.specs.declared.Look.the-variants as look
-use Rattle.engine_model.specs.Snapshots.{Packet, Snapshot, keyIn, isOpen, isComplete, slotOf, fileOf, received, withSlot, heardAt}
+use Rattle.engine_model.specs.Snapshots.{Packet, Snapshot, isOpen, isComplete, slotOf, fileOf, received, withSlot, heardAt}
 use Rattle.engine_model.specs.Stretches.{bringsIn, pieceOf, lookData}
-use Rattle.engine_model.specs.Engine.{Engine, Ended, whole, part, Event, storing, octetsPart, namePart, metaPart, actions, writeOf, recordedIn, storedAs, stored, withNow}
+use Rattle.engine_model.specs.Engine.{Engine, Ended, whole, part, Event, storing, octetsPart, actions, writeOf, recordedIn, storedAs, stored}
 use Rattle.engine_model.specs.Disk.{Write, writtenOf, does, doesAll}
 use Rattle.engine_model.specs.World.{World, acts, step}
 use Rattle.engine_model.specs.World as world
-use Rattle.engine_model.proofs.SnapshotLaws.{Fit, Alike, alike-then, key-open, fit-slot, slot-key, slot-runs, slot-same, slot-other, recording, fit-recording, recording-key, recording-slot, recording-other, recording-only, recording-keeps}
+use Rattle.engine_model.proofs.SnapshotLaws.{Fit, alike-then, key-open, fit-slot, slot-key, slot-runs, slot-same, slot-other, recording, fit-recording, recording-key, recording-slot, recording-other, recording-only, recording-keeps}
 use Rattle.engine_model.proofs.LookLaws.{Looked, looked-open, look-new, look-known, brings-some, brings-only, piece-id, piece-offset, piece-some, piece-stop}
 use Rattle.engine_model.proofs.DiskLaws.{Some, any, cond-some}
 use Rattle.engine_model.proofs.FirmLaws.{At}
 use Rattle.engine_model.proofs.Backing.{BackedAt, Keeps}
 use Rattle.engine_model.proofs.History.{Known, known-later, known-slot}
-use Rattle.engine_model.proofs.Turns.{nowOf, nextOf, writesOf, puts, Turn, Adds, none-added, one-added, adds, still, nothing, closes}
+use Rattle.engine_model.proofs.Turns.{nowOf, nextOf, writesOf, Turn, Adds, none-added, one-added, still, nothing, closes}
 
 -- ---- a stretch is recorded
 

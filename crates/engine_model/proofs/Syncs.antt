@@ -1,18 +1,17 @@
 -- A sync begins, runs to its end, comes back good or bad; a crash: each keeps what is settled, and the invariant.
 -- Assumes nothing.
-use Prim.Native.Nat.{ℕ, suc, _+_, _≤_, _<_}
-use mathlib.Core.Path.{_≡_, refl, sym, ap, subst, _∙_}
+use Prim.Native.Nat.{ℕ, suc, _+_, _<_}
+use mathlib.Core.Path.{_≡_, refl, subst}
 use mathlib.Core.Bool.{Bool, true, false, cond}
 use mathlib.Core.List.{List, [], _∷_, map}
 use mathlib.Core.Option.{Option, none, some}
 use native.Mathlib.Omega.{arith}
 use lib.Dec.{eqb}
-use Rattle.runs.specs.Runs.{Member}
-use Rattle.engine_model.specs.Snapshots.{Snapshot, isOpen, fileOf, received}
-use Rattle.engine_model.specs.Engine.{Engine, Event, whole, Action, sync, octetsPart, current, confirmed, dropped, started}
-use Rattle.engine_model.specs.Disk.{Write, asDue, does, doesAll, forced, surviving, losing}
+use Rattle.engine_model.specs.Snapshots.{Snapshot, fileOf}
+use Rattle.engine_model.specs.Engine.{Event, sync, octetsPart, current, confirmed, dropped, started}
+use Rattle.engine_model.specs.Disk.{Write, asDue, forced, surviving, losing}
 use Rattle.engine_model.specs.World.{World, written, restarted, withEngine, lost}
-use Rattle.engine_model.proofs.DiskLaws.{any, isDue, isDurable, Carries, due-of-any, due-any, due-durable, forced-due, forced-durable, forced-any, forced-still-due, left-durable, durable-any, All, all-due, all-forced, all-left}
+use Rattle.engine_model.proofs.DiskLaws.{any, isDue, isDurable, due-of-any, due-any, due-durable, forced-due, forced-durable, forced-any, forced-still-due, left-durable, durable-any, all-due, all-forced, all-left}
 use Rattle.engine_model.proofs.FirmLaws.{due-firm, all-due-firm, forced-firm, forced-due-firm, forced-still-due-firm, surviving-firm, losing-firm}
 use Rattle.engine_model.proofs.Backing.{Backed, Keeps, Sound, backed-carried}
 use Rattle.engine_model.proofs.History.{Known, Origin, from-later}

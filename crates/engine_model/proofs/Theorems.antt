@@ -1,24 +1,21 @@
 -- The claims.
 -- Assumes nothing.
-use Prim.Native.Nat.{ℕ, suc, _<_, _≤_}
-use mathlib.Core.Path.{_≡_, refl, sym, ap, subst, _∙_}
-use mathlib.Core.Bool.{Bool, true, false}
+use Prim.Native.Nat.{ℕ, _<_, _≤_}
+use mathlib.Core.Path.{_≡_, sym, subst, _∙_}
+use mathlib.Core.Bool.{true}
 use mathlib.Core.List.{List, [], _∷_, _++_}
-use mathlib.Core.Option.{Option, none, some}
+use mathlib.Core.Option.{some}
 use native.Mathlib.Omega.{arith}
-use Rattle.runs.specs.Runs.{Run, Member}
-use Rattle.transfer.specs.declared.Key.{Key}
 use Rattle.engine_slots.specs.declared.Sender.{Sender}
-use Rattle.engine_slots.specs.declared.Slot.{Slot}
 use Rattle.engine_slots.specs.declared.Files.{Files}
 use Rattle.engine_slots.specs.declared.Meeting.{Meeting}
 use Rattle.engine_slots.specs.declared.Meeting.the-variants as meeting
-use Rattle.engine_model.specs.Snapshots.{Packet, Snapshot, isOpen, isComplete, slotOf, fileOf, received}
+use Rattle.engine_model.specs.Snapshots.{Packet, Snapshot, isOpen, isComplete, fileOf}
 use Rattle.engine_model.specs.Meetings.{meet}
-use Rattle.engine_model.specs.Engine.{Engine, whole, Event, opening, naming, octetsPart, namePart, metaPart, openedBy, opened, withNow}
+use Rattle.engine_model.specs.Engine.{whole, Event, opening, naming, octetsPart, namePart, openedBy, opened, withNow}
 use Rattle.engine_model.specs.Disk.{Write, content, surviving}
 use Rattle.engine_model.specs.World.{World, acts, step, run}
-use Rattle.engine_model.specs.Claims.{Begun, FilesOnce, OwnersClaimed, Kept, Held, Whole, ReportedWhole, AnsweredKept, AnsweredInArea, AreaHeld, Page, NamedWhole}
+use Rattle.engine_model.specs.Claims.{FilesOnce, OwnersClaimed, Kept, Whole, ReportedWhole, AnsweredKept, AnsweredInArea, AreaHeld, Page, NamedWhole}
 use Rattle.engine_model.proofs.SnapshotLaws.{open-key, complete-open, complete-member}
 use Rattle.engine_model.proofs.MeetLaws.{meet-make}
 use Rattle.engine_model.proofs.DiskLaws.{isDurable, some-content, all-content, all-left, left-durable}

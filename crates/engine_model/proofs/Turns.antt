@@ -8,18 +8,17 @@ use mathlib.Core.List.{List, _∷_}
 use mathlib.Core.Logic.{_⊎_, inl, inr}
 use mathlib.Core.Option.{some}
 use native.Mathlib.Omega.{arith}
-use Rattle.runs.specs.Runs.{Member}
 use Rattle.transfer.specs.declared.Key.{Key}
 use Rattle.engine_slots.specs.declared.Slot.{Slot}
 use Rattle.engine_model.specs.Snapshots.{Snapshot, keyIn, isOpen, slotOf, fileOf, received, withSlot, closedIn}
-use Rattle.engine_model.specs.Engine.{Engine, Event, withNow, octetsPart, namePart}
+use Rattle.engine_model.specs.Engine.{Event, withNow, octetsPart, namePart}
 use Rattle.engine_model.specs.Disk.{Write, content}
 use Rattle.engine_model.specs.World.{World, step, run}
-use Rattle.engine_model.proofs.SnapshotLaws.{Fit, Alike, alike-same, open-key, key-open, member-open, fit-slot, slot-key, slot-runs, slot-same, slot-other, fit-closed, closed-gone, closed-other}
+use Rattle.engine_model.proofs.SnapshotLaws.{Fit, alike-same, key-open, member-open, fit-slot, slot-key, slot-runs, slot-same, slot-other, fit-closed, closed-gone, closed-other}
 use Rattle.engine_model.proofs.DiskLaws.{Some, Carries, any, All, later-write}
 use Rattle.engine_model.proofs.FirmLaws.{At, Firm, silent-content}
 use Rattle.engine_model.proofs.Backing.{BackedAt, Backed, Keeps, Sound, Apart}
-use Rattle.engine_model.proofs.History.{Known, Origin, known-later, known-slot, from-later}
+use Rattle.engine_model.proofs.History.{Known, Origin, known-later, from-later}
 
 -- more writes, none of them to an octet that s has received
 pub record Grown (s : Snapshot) (ws us : List Write) : Type 0 where

@@ -3,9 +3,9 @@
 -- Assumes nothing.
 use Prim.Native.Nat.{ℕ, zero, suc, _%_}
 use mathlib.Core.Path.{_≡_, refl}
-use mathlib.Core.Bool.{Bool, true, false}
+use mathlib.Core.Bool.{true, false}
 use mathlib.Core.List.{List, [], _∷_, _++_, map}
-use mathlib.Core.Option.{Option, none, some}
+use mathlib.Core.Option.{none, some}
 use native.Mathlib.Omega.{arith}
 use lib.ListN.{length, replicate}
 use Rattle.octets.specs.Numbers.{beDigits, Octets, upperZero}
@@ -17,24 +17,23 @@ use Rattle.directory_entry.specs.Entry.{entryRefusal, entryOf}
 use Rattle.packet_metadata.specs.Checksum.{pairAllowed, pairRefusal}
 use Rattle.packet_metadata.specs.Metadata.{metadataRefusal, metadataOf, readMetadata}
 use Rattle.packet_data.specs.Data.{dataRefusal, dataOf, readData}
-use Rattle.runs.specs.Runs.{Run, run, insert, absorbed, adds}
-use Rattle.runs.specs.Holes.{edgeFrom, progress, complete}
+use Rattle.runs.specs.Runs.{run, insert}
+use Rattle.runs.specs.Holes.{progress, complete}
 use Rattle.timestamp.specs.Timestamps.{renewed}
 use Rattle.transfer.specs.Opening.{newRefusal}
-use Rattle.transfer.specs.Transfers.{reached}
-use Rattle.transfer.specs.Record.{stampIn, keyRefusal, extended, absorbedBy, addsBy, runsRefusal}
+use Rattle.transfer.specs.Record.{stampIn, keyRefusal, extended, runsRefusal}
 use Rattle.table.specs.Tables.{keys, find, runsOf, add, setRuns, remove}
 use Rattle.table.specs.Open.{judgeFound, judgeOpen, openAs, openKey, openRead, openPacket}
-use Rattle.table.specs.Record.{dataJudged, recordRefusal, grown, absorbedIn, addsIn, recordAs, recordData, recordRead, recordPacket}
+use Rattle.table.specs.Record.{dataJudged, recordRefusal, grown, recordAs, recordData, recordRead, recordPacket}
 use Rattle.table.specs.Close.{closeFound, closeId}
 use Rattle.area.specs.Places.{placeOf}
 use Rattle.engine_slots.specs.declared.Sender.{Sender}
 use Rattle.engine_slots.specs.Slots.{insertIn, removeIn}
 use Rattle.engine_stretch.specs.Stretch.{reachFrom}
-use Rattle.engine_model.specs.Snapshots.{Packet, isOpen, slotOf, completeOf, isComplete, isBusy, sameSender, sameFile, withSlot, withTable, withNew, without, closedIn, heardAt}
+use Rattle.engine_model.specs.Snapshots.{Packet, isOpen, slotOf, completeOf, isComplete, sameSender, sameFile, withSlot, withTable, withNew, without, closedIn, heardAt}
 use Rattle.engine_model.specs.Stretches.{brings, bringsIn, pieceOf, stretchOf, lookReach, lookFrom, lookOwned, lookJudged, lookData}
-use Rattle.engine_model.specs.Meetings.{endedBy, isOther, roomFor, filesFor, meetOpened, meetEnded, meetOther, meetRead, meet}
-use Rattle.engine_model.specs.Engine.{Ended, whole, part, Event, opening, storing, answering, naming, reporting, syncing, good, bad, crash, Action, answer, report, octetsPart, namePart, metaPart, token, madeOf, writeOf, answerOf, mayName, nameOf, mayReport, reportOf, maySync, actions, withNow, metadataId, openedBy, opened, recordedIn, storedAs, stored, marked, answered, named, reported, begunAt, current, confirmed, dropped, started}
+use Rattle.engine_model.specs.Meetings.{endedBy, isOther, roomFor, filesFor, meetOpened, meetOther, meetRead, meet}
+use Rattle.engine_model.specs.Engine.{whole, part, Event, opening, storing, answering, naming, reporting, syncing, good, bad, crash, answer, report, octetsPart, namePart, metaPart, token, madeOf, writeOf, answerOf, mayName, nameOf, mayReport, reportOf, maySync, actions, withNow, metadataId, openedBy, opened, recordedIn, storedAs, stored, marked, named, begunAt, current, confirmed, dropped, started}
 use Rattle.engine_model.specs.Disk.{orElse, octetIn, content, asDue, writtenOf, does, doesAll, asForced, forced, asLeft, left}
 use Rattle.engine_model.specs.World.{written, restarted, withEngine, acts, lost, step, start}
 use Rattle.engine_model.specs.World as world
@@ -113,5 +112,5 @@ runs-so : (actions (world.run before .engine) (answering 7) ≡ [])
     × (map (content (world.run saved .writes) 7 1 namePart) (0 ∷ 1 ∷ []) ≡ some 1 ∷ none ∷ [])
     × (content (world.run saved .writes) 7 1 metaPart 0 ≡ some 1)
     × (isOpen (world.run ended-by-other .engine .now) 7 ≡ false)
-unfolding octetsOf startRefusal typeRefusal fileRefusal descriptorRefusal upperZero propertyRefusal pathRefusal entryRefusal entryOf pairAllowed pairRefusal metadataRefusal metadataOf readMetadata dataRefusal dataOf readData insert absorbed adds edgeFrom progress complete keys find runsOf add renewed setRuns remove stampIn judgeFound newRefusal judgeOpen openAs openKey openRead openPacket reached keyRefusal runsRefusal extended absorbedBy addsBy dataJudged recordRefusal grown absorbedIn addsIn recordAs recordData recordRead recordPacket closeFound closeId placeOf insertIn removeIn reachFrom isOpen slotOf completeOf isComplete isBusy sameSender sameFile withSlot withTable withNew without closedIn heardAt brings bringsIn pieceOf stretchOf lookReach lookFrom lookOwned lookJudged lookData endedBy isOther roomFor filesFor meetOpened meetEnded meetOther meetRead meet token madeOf writeOf answerOf mayName nameOf mayReport reportOf maySync actions withNow metadataId openedBy opened recordedIn storedAs stored marked answered named reported begunAt current confirmed dropped started orElse octetIn content asDue writtenOf does doesAll asForced forced asLeft left written restarted withEngine acts lost step start world.run
+unfolding octetsOf startRefusal typeRefusal fileRefusal descriptorRefusal upperZero propertyRefusal pathRefusal entryRefusal entryOf pairAllowed pairRefusal metadataRefusal metadataOf readMetadata dataRefusal dataOf readData insert progress complete keys find runsOf add renewed setRuns remove stampIn judgeFound newRefusal judgeOpen openAs openKey openRead openPacket keyRefusal runsRefusal extended dataJudged recordRefusal grown recordAs recordData recordRead recordPacket closeFound closeId placeOf insertIn removeIn reachFrom isOpen slotOf completeOf isComplete sameSender sameFile withSlot withTable withNew without closedIn heardAt brings bringsIn pieceOf stretchOf lookReach lookFrom lookOwned lookJudged lookData endedBy isOther roomFor filesFor meetOpened meetOther meetRead meet token madeOf writeOf answerOf mayName nameOf mayReport reportOf maySync actions withNow metadataId openedBy opened recordedIn storedAs stored marked named begunAt current confirmed dropped started orElse octetIn content asDue writtenOf does doesAll asForced forced asLeft left written restarted withEngine acts lost step start world.run
 runs-so = (refl, refl, refl, refl, refl, refl, refl, refl, refl, refl)

@@ -1,4 +1,4 @@
--- The engine: what it keeps, what it is told, what it has done, and what it is afterwards. It does nothing itself.
+-- R19.5, R19.6, R19.7, R19.8, R19.9, R19.11: the engine: what it keeps, what it is told, what it has done, and what it is afterwards. It does nothing itself.
 -- Assumes nothing.
 use Prim.Native.Nat.{ℕ, suc, _+_}
 use mathlib.Core.Bool.{Bool, true, false, cond, _&&_, _||_, not}

@@ -1,4 +1,4 @@
--- A snapshot: the library's table, and a slot beside each transfer. What is looked up in it, and what changes it.
+-- R19.1, R19.2: a snapshot: the library's table, and a slot beside each transfer. What is looked up in it, and what changes it.
 -- Assumes nothing.
 use Prim.Native.Nat.{ℕ, suc}
 use mathlib.Core.Bool.{Bool, true, false, cond, _&&_, _||_, not}

@@ -1,6 +1,9 @@
 pub mod ListLaws
 pub mod PlaceLaws
 pub mod DataLaws
+pub mod FitLaws
+pub mod RecordingLaws
+pub mod OpenCloseLaws
 pub mod SnapshotLaws
 pub mod ReachLaws
 pub mod SameLaws

@@ -34,7 +34,8 @@ use Rattle.engine_slots.specs.Slots.{slotsFrom}
 use Rattle.engine_model.proofs.SnapshotLaws.{Fit, key-open}
 use Rattle.engine_state.specs.State.{snapshotIn, heldState}
 use Rattle.engine_state.proofs.StateLaws.{held-known, open-kept}
-use Rattle.engine_data.specs.Taken.{OpenIn, Taken}
+use Rattle.engine_piece.specs.Known.{OpenIn}
+use Rattle.engine_data.specs.Taken.{Taken}
 
 -- ---- its slots
 

@@ -1,13 +1,13 @@
--- `engine_data::heard` meets its contract: the slot of the Id changes, and there is something to save. Assumes nothing.
+-- `engine_piece::heard` meets its contract: the slot of the Id changes, and there is something to save. Assumes nothing.
 use native.Mathlib.Omega.{arith}
 use borrow.Author.Needs.{needs}
 use denote.Ref.{now}
 use mathlib.Core.Path.{_≡_, sym, ap, subst}
 use Rattle.area.specs.Places.{readTable, placeOf, placeIn, KeptAt}
 use Rattle.area.specs.declared.Place.{Place}
-use Rattle.engine_data.proofs.StoreLaws.{slot-asks, heard-is}
-use Rattle.engine_data.proofs.heard.Statement.{statement}
-use Rattle.engine_data.proofs.heard.Tie as tie
+use Rattle.engine_piece.proofs.HeardLaws.{slot-asks, heard-is}
+use Rattle.engine_piece.proofs.heard.Statement.{statement}
+use Rattle.engine_piece.proofs.heard.Tie as tie
 
 place-is : (c : tie.After-find-place)
     → let s = c .before .before .before .before .before .before in c .find-place .result .at ≡ placeOf (s .args .d .id) (readTable (now (s .args .state)))

@@ -1,9 +1,9 @@
--- `engine_data::piece_of` meets its contract. Assumes nothing.
+-- `engine_piece::piece_of` meets its contract. Assumes nothing.
 use mathlib.Core.Path.{refl}
 use borrow.Author.Needs.{needs}
 use Rattle.engine_model.specs.Stretches.{pieceOf}
-use Rattle.engine_data.proofs.piece_of.Statement.{statement}
-use Rattle.engine_data.proofs.piece_of.Tie as tie
+use Rattle.engine_piece.proofs.piece_of.Statement.{statement}
+use Rattle.engine_piece.proofs.piece_of.Tie as tie
 
 returns : tie.Need-returns
 unfolding pieceOf

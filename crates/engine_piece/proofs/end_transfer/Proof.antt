@@ -1,4 +1,4 @@
--- `engine_data::end_transfer` meets its contract: the Id is taken out, and there is something to save. Assumes nothing.
+-- `engine_piece::end_transfer` meets its contract: the Id is taken out, and there is something to save. Assumes nothing.
 use native.Mathlib.Omega.{arith}
 use borrow.Author.Needs.{needs}
 use denote.Ref.{now}
@@ -6,9 +6,9 @@ use mathlib.Core.Path.{_≡_, sym, ap, subst}
 use Rattle.area.specs.Places.{readTable, placeOf, placeIn, KeptAt}
 use Rattle.area.specs.declared.Place.{Place}
 use Rattle.engine_state.proofs.StateLaws.{held-known}
-use Rattle.engine_data.proofs.StoreLaws.{closed-is}
-use Rattle.engine_data.proofs.end_transfer.Statement.{statement}
-use Rattle.engine_data.proofs.end_transfer.Tie as tie
+use Rattle.engine_piece.proofs.HeardLaws.{closed-is}
+use Rattle.engine_piece.proofs.end_transfer.Statement.{statement}
+use Rattle.engine_piece.proofs.end_transfer.Tie as tie
 
 take-out-requires : tie.Need-take-out-requires
 unfolding placeIn

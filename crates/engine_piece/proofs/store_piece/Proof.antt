@@ -1,11 +1,11 @@
--- `engine_data::store_piece` meets its contract: the stretch is recorded, then its transfer heard. Assumes nothing.
+-- `engine_piece::store_piece` meets its contract: the stretch is recorded, then its transfer heard. Assumes nothing.
 use native.Mathlib.Omega.{arith}
 use borrow.Author.Needs.{needs}
 use mathlib.Core.Path.{_≡_, ap}
 use Rattle.engine_state.proofs.StateLaws.{held-known}
-use Rattle.engine_data.proofs.PieceLaws.{fields-asks, recorded-is, recorded-known, piece-is}
-use Rattle.engine_data.proofs.store_piece.Statement.{statement}
-use Rattle.engine_data.proofs.store_piece.Tie as tie
+use Rattle.engine_piece.proofs.PieceLaws.{fields-asks, recorded-is, recorded-known, piece-is}
+use Rattle.engine_piece.proofs.store_piece.Statement.{statement}
+use Rattle.engine_piece.proofs.store_piece.Tie as tie
 
 number-requires : tie.Need-number-requires
 number-requires c κs = let h = held-known _ (c .before .before .before .pre .held) .long in (omega arith, omega arith)

@@ -35,8 +35,8 @@ use Rattle.engine_model.proofs.LookLaws.{piece-some}
 use Rattle.engine_state.specs.Layout.{numberField}
 use Rattle.engine_state.specs.State.{snapshotIn, numberIn}
 use Rattle.engine_state.proofs.StateLaws.{held-known, kept-open, open-kept}
-use Rattle.engine_data.specs.Store.{pieceRecorded, heardState, pieceState}
-use Rattle.engine_data.specs.Taken.{Piece, Known}
+use Rattle.engine_piece.specs.Piece.{pieceRecorded, heardState, pieceState}
+use Rattle.engine_piece.specs.Known.{Piece, Known}
 
 -- R6.14: a packet that is read brings 16 octets, or none
 read-brings : (p : List ℕ) → dataRefusal p ≡ 0 → Brings p (dataOf p .timestamp)

@@ -1,8 +1,8 @@
--- `engine_data::heard_slot` meets its contract: two numbers differ, and the time. Assumes nothing.
+-- `engine_piece::heard_slot` meets its contract: two numbers differ, and the time. Assumes nothing.
 use borrow.Author.Needs.{needs}
 use Rattle.engine_model.specs.Snapshots.{heardAt}
-use Rattle.engine_data.proofs.heard_slot.Statement.{statement}
-use Rattle.engine_data.proofs.heard_slot.Tie as tie
+use Rattle.engine_piece.proofs.heard_slot.Statement.{statement}
+use Rattle.engine_piece.proofs.heard_slot.Tie as tie
 
 returns : tie.Need-returns
 unfolding heardAt

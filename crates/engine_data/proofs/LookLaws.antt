@@ -1,8 +1,8 @@
 -- The ways through looking at any packet: 22, a refusal of the table, or DATA that it takes.
 -- Assumes nothing.
 use Prim.Native.Nat.{ℕ}
-use mathlib.Core.Path.{_≡_, refl, sym, ap, _∙_}
-use mathlib.Core.Bool.{Bool, true, false, cond}
+use mathlib.Core.Path.{_≡_, sym, ap, _∙_}
+use mathlib.Core.Bool.{true, false}
 use mathlib.Core.List.{List}
 use Rattle.refusals.specs.Refusals.{refusalOf}
 use Rattle.refusals.specs.declared.Refusal.{Refusal}
@@ -19,7 +19,6 @@ use Rattle.area.specs.Operations.{OnArea, recordArea}
 use Rattle.area.proofs.AreaLaws.{judged-held}
 use Rattle.area.proofs.OperationLaws.{record-held}
 use Rattle.engine_slots.specs.declared.Sender.{Sender}
-use Rattle.engine_slots.specs.declared.Look.{Look}
 use Rattle.engine_slots.specs.declared.Look.the-variants as look
 use Rattle.engine_model.specs.Stretches.{lookOwned, lookJudged, lookData}
 use Rattle.engine_state.specs.State.{snapshotIn, heldState}

@@ -1,8 +1,8 @@
 -- The ways through looking at DATA that the table takes: another's, nothing more, or a stretch, received or not.
 -- Assumes nothing.
 use Prim.Native.Nat.{ℕ, _-_, _+_, _≤_, _<_, max}
-use mathlib.Core.Path.{_≡_, refl, sym, ap, subst, _∙_}
-use mathlib.Core.Bool.{Bool, true, false, cond}
+use mathlib.Core.Path.{_≡_, sym, ap, subst, _∙_}
+use mathlib.Core.Bool.{true, false}
 use mathlib.Core.List.{List}
 use native.Mathlib.Omega.{arith}
 use lib.ListN.{length}

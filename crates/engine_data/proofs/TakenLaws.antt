@@ -9,15 +9,14 @@ use native.Mathlib.Omega.{arith}
 use lib.ListN.{length}
 use Rattle.words.specs.Words.{wordAt}
 use Rattle.header.specs.Start.{wordOf}
-use Rattle.packet_data.specs.Data.{payloadAt, dataRefusal, dataOf, readData}
+use Rattle.packet_data.specs.Data.{payloadAt, dataRefusal, dataOf}
 use Rattle.packet_data.specs.declared.Data.{Data}
-use Rattle.packet_data.specs.declared.DataRead.the-variants as data-read
 use Rattle.packet_data.proofs.DataLaws.{data-fine, data-given}
 use Rattle.transfer.specs.declared.Key.{Key}
 use Rattle.transfer.specs.declared.Receipt.{Receipt}
 use Rattle.transfer.specs.Record.{stopOf}
 use Rattle.table.specs.Tables.{keys, find}
-use Rattle.table.specs.Record.{dataJudged, recordPacket}
+use Rattle.table.specs.Record.{dataJudged}
 use Rattle.table.specs.Outcome.{Outcome}
 use Rattle.table.specs.declared.Recorded.{Recorded}
 use Rattle.table.specs.declared.Recorded.the-variants as recorded
@@ -37,7 +36,7 @@ use Rattle.engine_state.proofs.StateLaws.{held-known, open-kept}
 use Rattle.engine_piece.specs.Known.{OpenIn}
 use Rattle.engine_data.specs.Taken.{Taken}
 
--- ---- its slots
+-- ---- a state that has a table
 
 length-slots : (a : List ℕ) (i n : ℕ) → length (slotsFrom a i n) ≡ n
 unfolding slotsFrom

@@ -1,7 +1,7 @@
 -- A stretch recorded: the state after it still has its tables, and the Id open.
 -- Assumes nothing.
-use Prim.Native.Nat.{ℕ, suc, _+_, _≤_, _<_}
-use mathlib.Core.Path.{_≡_, refl, sym, ap, subst, _∙_}
+use Prim.Native.Nat.{ℕ, suc, _+_, _<_}
+use mathlib.Core.Path.{_≡_, sym, ap, subst, _∙_}
 use mathlib.Core.Bool.{true}
 use mathlib.Core.List.{List}
 use mathlib.Core.Option.{Option}
@@ -13,7 +13,6 @@ use Rattle.packet_data.specs.Data.{payloadAt, dataRefusal, dataOf}
 use Rattle.packet_data.specs.declared.Data.{Data}
 use Rattle.packet_data.specs.declared.DataRead.the-variants as data-read
 use Rattle.packet_data.proofs.DataLaws.{data-fine, data-accepted}
-use Rattle.timestamp.specs.Timestamps.{Stamp}
 use Rattle.transfer.specs.declared.Key.{Key}
 use Rattle.transfer.specs.Transfers.{Transfer}
 use Rattle.transfer.specs.Record.{stampIn}

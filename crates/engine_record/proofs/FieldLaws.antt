@@ -1,11 +1,11 @@
 -- The steps one after the other, of fields that are known: what the last of them finds is what recording leaves.
 -- Assumes nothing.
-use Prim.Native.Nat.{ℕ, _+_, _≤_}
+use Prim.Native.Nat.{ℕ}
 use mathlib.Core.Path.{_≡_, refl, sym, ap, _∙_}
 use mathlib.Core.List.{List}
 use mathlib.Core.Logic.{_⊎_, inl, inr, ⊎-elim}
 use native.Mathlib.Omega.{arith}
-use lib.ListN.{length, take, drop, length-drop}
+use lib.ListN.{take, drop, length-drop}
 use Rattle.octets.specs.Numbers.{Octets}
 use Rattle.octets.proofs.NumberLaws.{octets-drop}
 use Rattle.runs.proofs.CompareLaws.{same-or}
@@ -17,9 +17,9 @@ use Rattle.table.specs.Record.{recordData}
 use Rattle.table.specs.declared.Recorded.{Recorded}
 use Rattle.area.specs.Places.{readTable}
 use Rattle.area.specs.Stored.{storedIn}
-use Rattle.area.specs.Operations.{OnArea, leaves}
+use Rattle.area.specs.Operations.{OnArea}
 use Rattle.area_splice.specs.Splice.{splicedArea, Brings, stampedArea}
-use Rattle.area_locate.specs.Locate.{refusedBy, Found, given, Located}
+use Rattle.area_locate.specs.Locate.{Found, Located}
 use Rattle.area_join.specs.Join.{Places, CutAt, recordedArea, Joins}
 use Rattle.area_locate.specs.declared.Target.{Target}
 use Rattle.area_join.specs.declared.Cuts.{Cuts}

@@ -1,8 +1,7 @@
 -- `engine_data::ended` meets its contract: a return for each case. Assumes nothing.
 use borrow.Author.Needs.{needs}
 use denote.Ref.{now}
-use mathlib.Core.Path.{_≡_, sym, ap, subst, _∙_}
-use Rattle.engine_slots.specs.declared.Look.{Look}
+use mathlib.Core.Path.{subst}
 use Rattle.engine_data.specs.Taken.{Looked}
 use Rattle.engine_data.proofs.StoreLaws.{by-look, over-same, stranger-same, refused-same}
 use Rattle.engine_data.proofs.ended.Statement.{statement}

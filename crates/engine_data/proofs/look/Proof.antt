@@ -1,10 +1,8 @@
 -- `engine_data::look` meets its contract: 22, the table's refusals, and else what is to be done for its owner. Assumes nothing.
-use Prim.Native.Nat.{_^_, _<_}
 use native.Mathlib.Omega.{arith}
 use borrow.Author.Needs.{needs}
 use borrow.Author.Tests.{not-true, not-false}
 use denote.Ref.{now}
-use lib.ListN.{length}
 use mathlib.Core.Path.{_≡_, sym, ap, _∙_}
 use mathlib.Core.Bool.{true}
 use Rattle.packet_data.specs.Data.{dataRefusal, dataOf}

@@ -5,7 +5,6 @@ use borrow.Author.Needs.{needs}
 use borrow.Author.Tests.{not-true, not-false}
 use denote.Ref.{now}
 use mathlib.Core.Path.{_≡_, sym, ap, _∙_}
-use mathlib.Core.Bool.{true}
 use Rattle.area.specs.Places.{readTable, placeOf, placeIn}
 use Rattle.area.specs.declared.Place.{Place}
 use Rattle.engine_state.proofs.StateLaws.{held-known}

@@ -1,6 +1,5 @@
 -- `engine_data::store` meets its contract: what was to be done is looked at again, and then it is recorded. Assumes nothing.
 use borrow.Author.Needs.{needs}
-use mathlib.Core.Path.{_≡_, ap, _∙_}
 use Rattle.engine_data.proofs.StoreLaws.{look-known-of, stored-is}
 use Rattle.engine_data.proofs.store.Statement.{statement}
 use Rattle.engine_data.proofs.store.Tie as tie

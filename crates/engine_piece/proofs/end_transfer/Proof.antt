@@ -2,8 +2,8 @@
 use native.Mathlib.Omega.{arith}
 use borrow.Author.Needs.{needs}
 use denote.Ref.{now}
-use mathlib.Core.Path.{_≡_, sym, ap, subst}
-use Rattle.area.specs.Places.{readTable, placeOf, placeIn, KeptAt}
+use mathlib.Core.Path.{sym, ap, subst}
+use Rattle.area.specs.Places.{readTable, placeIn, KeptAt}
 use Rattle.area.specs.declared.Place.{Place}
 use Rattle.engine_state.proofs.StateLaws.{held-known}
 use Rattle.engine_piece.proofs.HeardLaws.{closed-is}

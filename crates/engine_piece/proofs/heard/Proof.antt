@@ -2,8 +2,8 @@
 use native.Mathlib.Omega.{arith}
 use borrow.Author.Needs.{needs}
 use denote.Ref.{now}
-use mathlib.Core.Path.{_≡_, sym, ap, subst}
-use Rattle.area.specs.Places.{readTable, placeOf, placeIn, KeptAt}
+use mathlib.Core.Path.{_≡_, ap}
+use Rattle.area.specs.Places.{readTable, placeOf, placeIn}
 use Rattle.area.specs.declared.Place.{Place}
 use Rattle.engine_piece.proofs.HeardLaws.{slot-asks, heard-is}
 use Rattle.engine_piece.proofs.heard.Statement.{statement}

@@ -1,7 +1,6 @@
 -- `engine_piece::store_piece` meets its contract: the stretch is recorded, then its transfer heard. Assumes nothing.
 use native.Mathlib.Omega.{arith}
 use borrow.Author.Needs.{needs}
-use mathlib.Core.Path.{_≡_, ap}
 use Rattle.engine_state.proofs.StateLaws.{held-known}
 use Rattle.engine_piece.proofs.PieceLaws.{fields-asks, recorded-is, recorded-known, piece-is}
 use Rattle.engine_piece.proofs.store_piece.Statement.{statement}

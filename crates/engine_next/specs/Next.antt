@@ -1,4 +1,4 @@
--- What is to be done next, at a time: of each transfer in its order an answer, a name, a report, or its end; then a sync.
+-- R19.10: what is to be done next, at a time: of each transfer in its order an answer, a name, a report, or its end; then a sync.
 -- Assumes nothing.
 use Prim.Native.Nat.{ℕ, _-_}
 use mathlib.Core.Bool.{Bool, true, false, cond, _&&_, _||_, not}
@@ -15,56 +15,63 @@ use Rattle.engine_next.specs.declared.Waits.{Waits}
 use Rattle.engine_next.specs.declared.Next.{Next}
 use Rattle.engine_next.specs.declared.Next.the-variants.{Refused, Answer, Name, Report, Close, Sync, Nothing}
 
--- an answer is due, and what is synced covers it
-unfoldable pub isCovered : Engine → ℕ → Slot → Bool
-isCovered e i s = not (eqb (s .due) 0) && leb (s .due) (e .done) && sameFile (e .now) (e .synced) i
+-- ---- of one transfer
+
+-- an answer is due, and the last good sync covers it, for the same file
+unfoldable pub isCovered : ℕ → Bool → Slot → Bool
+isCovered done same s = not (eqb (s .due) 0) && leb (s .due) done && same
+
+unfoldable pub nameDue : Bool → Slot → Bool
+nameDue may s = may && not (eqb (s .named) 1)
+
+unfoldable pub reportDue : Bool → Bool → Slot → Bool
+reportDue may same s = may && same && not (eqb (s .reported) 1)
 
 -- so long ago
 unfoldable pub isOver : ℕ → ℕ → ℕ → Bool
 isOver time since wait = leb wait (time - since)
 
 -- a page that was reported lingers; a transfer that is not complete is forgotten, if ever
-unfoldable pub isAtEnd : Engine → ℕ → Waits → ℕ → Slot → Bool
-isAtEnd e t w i s =
-    cond (eqb (s .reported) 1) (isOver t (s .heard) (w .linger))
-    (not (isComplete (e .now) i) && not (eqb (w .forget) 0) && isOver t (s .heard) (w .forget))
+unfoldable pub isAtEnd : Bool → ℕ → Waits → Slot → Bool
+isAtEnd complete t w s =
+    cond (eqb (s .reported) 1) (isOver t (s .heard) (w .linger)) (not complete && not (eqb (w .forget) 0) && isOver t (s .heard) (w .forget))
+
+-- by the number that C has for it: 2 an answer, 3 a name, 4 a report, 5 its end, 0 nothing
+unfoldable pub kindFor : Engine → ℕ → Waits → ℕ → Slot → ℕ
+kindFor e t w i s =
+    let same = sameFile (e .now) (e .synced) i in
+    cond (isCovered (e .done) same s) 2
+    (cond (nameDue (mayName e i) s) 3
+    (cond (reportDue (mayReport e i) same s) 4 (cond (isAtEnd (isComplete (e .now) i) t w s) 5 0)))
 
 abbrev pub pageOf : Transfer → Slot → Page
 pageOf x s = record { id = x .key .id; file = s .file; length = x .key .length }
 
-unfoldable pub nextOf : Engine → ℕ → Waits → Transfer → Next
-nextOf e t w x =
-    let i = x .key .id in
-    let s = slotOf (e .now) i in
-    let page = pageOf x s in
-    cond (isCovered e i s) (Answer i)
-    (cond (mayName e i && not (eqb (s .named) 1)) (Name page)
-    (cond (mayReport e i && sameFile (e .now) (e .synced) i && not (eqb (s .reported) 1)) (Report page)
-    (cond (isAtEnd e t w i s) (Close i) Nothing)))
+unfoldable pub nextBy : ℕ → Page → Next
+nextBy k x = cond (eqb k 2) (Answer (x .id)) (cond (eqb k 3) (Name x) (cond (eqb k 4) (Report x) (Close (x .id))))
 
-unfoldable pub orNext : Next → Next → Next
-orNext Nothing n = n
-orNext (Refused r) n = Refused r
-orNext (Answer i) n = Answer i
-orNext (Name x) n = Name x
-orNext (Report x) n = Report x
-orNext (Close i) n = Close i
-orNext Sync n = Sync
+-- ---- a sync
 
--- a sync is wanted soon: an answer waits for it, or a name
-unfoldable pub isUrgent : Engine → Slot → Bool
-isUrgent e s = ltb (e .done) (s .due) || (eqb (s .named) 1 && not (eqb (s .reported) 1))
+-- it is wanted soon: an answer waits for it, or a name
+unfoldable pub isUrgent : ℕ → Slot → Bool
+isUrgent done s = ltb done (s .due) || (eqb (s .named) 1 && not (eqb (s .reported) 1))
 
-unfoldable pub anyUrgent : Engine → List Slot → Bool
-anyUrgent e [] = false
-anyUrgent e (s ∷ ss) = isUrgent e s || anyUrgent e ss
+unfoldable pub anyUrgent : ℕ → List Slot → Bool
+anyUrgent done [] = false
+anyUrgent done (s ∷ ss) = let later = anyUrgent done ss in cond (isUrgent done s) true later
 
-unfoldable pub syncNext : Engine → ℕ → Waits → Next
-syncNext e t w = cond (maySync e && eqb (e .changed) 1 && (anyUrgent e (e .now .slots) || isOver t (e .begun) (w .interval))) Sync Nothing
+unfoldable pub syncDue : Engine → ℕ → Waits → Bool
+syncDue e t w = eqb (e .changed) 1 && maySync e && (anyUrgent (e .done) (e .now .slots) || isOver t (e .begun) (w .interval))
+
+-- ---- the first of all
 
 unfoldable pub firstNext : Engine → ℕ → Waits → List Transfer → Next
-firstNext e t w [] = syncNext e t w
-firstNext e t w (x ∷ xs) = orNext (nextOf e t w x) (firstNext e t w xs)
+firstNext e t w [] = cond (syncDue e t w) Sync Nothing
+firstNext e t w (x ∷ xs) =
+    let later = firstNext e t w xs in
+    let s = slotOf (e .now) (x .key .id) in
+    let k = kindFor e t w (x .key .id) s in
+    cond (eqb k 0) later (nextBy k (pageOf x s))
 
 -- 22 first
 unfoldable pub nextState : List ℕ → ℕ → Waits → Next

@@ -97,6 +97,17 @@ fn is_at_end(complete: bool, time: u64, waits: Waits, s: Slot) -> bool
     is_over(time, s.heard, waits.forget)
 }
 
+fn page_at(state: &[u8], i: usize) -> Page
+    requires { ⌜ (heldState (now state) ≡ true) × (i < length (readTable (now state))) ⌝ }
+    ensures { λ r. ⌜ r ≡ pageOf (transferAt (now (state .entry)) i) (slotAt (now (state .entry)) i) ⌝ }
+{
+    Page {
+        id: area::head(state, i, area::ID),
+        file: engine_slots::slot_at(state, i).file,
+        length: area::head(state, i, area::LENGTH),
+    }
+}
+
 fn next_by(kind: u64, page: Page) -> Next
     ensures { λ r. ⌜ r ≡ nextBy kind page ⌝ }
 {
@@ -124,6 +135,22 @@ fn is_urgent(done: u64, s: Slot) -> bool
         return false;
     }
     s.reported != 1
+}
+
+fn any_urgent(state: &[u8]) -> bool
+    requires { ⌜ heldState (now state) ≡ true ⌝ }
+    ensures { λ r. ⌜ r ≡ anyUrgent (engineIn (now (state .entry)) .done) (engineIn (now (state .entry)) .now .slots) ⌝ }
+{
+    let done = engine_state::number(state, engine_state::DONE);
+    let n = area::open_count(state) as usize;
+    let mut i: usize = 0;
+    while i < n {
+        if is_urgent(done, engine_slots::slot_at(state, i)) {
+            return true;
+        }
+        i += 1;
+    }
+    false
 }
 
 // ---- the first of all

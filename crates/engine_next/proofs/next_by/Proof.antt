@@ -4,6 +4,5 @@ use Rattle.engine_next.proofs.NextLaws.{by-answer, by-name, by-report, 
 use Rattle.engine_next.proofs.next_by.Statement.{statement}
 use Rattle.engine_next.proofs.next_by.Tie as tie
 
-
 pub next-by-spec : {M : Type 1} → statement M
 next-by-spec = tie.close (tie.spec (λ c. by-answer _ _ (omega arith)) (λ c. by-name _ _ (omega arith)) (λ c. by-report _ _ (omega arith)) (λ c. by-close _ _ (omega arith) (omega arith) (omega arith)))

@@ -40,15 +40,15 @@ module _ (a : List ℕ) (n i done : ℕ) (l : i < n) (x : Slot) (is : x ≡ slot
   here b e = rw (e, is) (ap (anyUrgent done) (sym (step a n i l)) ∙ inv)
 
   pub urgent-here : (b : Bool) → b ≡ isUrgent done x → b ≡ true → true ≡ all
-  urgent-here b e t = let h : cond true true (anyUrgent done (slotsFrom a (suc i) (n - suc i))) ≡ all = rw (← t) (here b e) in h
+  urgent-here b e t = here true (sym t ∙ e)
 
   pub urgent-later : (b : Bool) → b ≡ isUrgent done x → b ≡ false → anyUrgent done (slotsFrom a (i + 1) (n - (i + 1))) ≡ all
   urgent-later b e f =
-      let h : cond false true (anyUrgent done (slotsFrom a (suc i) (n - suc i))) ≡ all = rw (← f) (here b e) in
-      let k : i + 1 ≡ suc i = omega arith in rw k h
+      let k : i + 1 ≡ suc i = omega arith in
+      ap (λ (j : ℕ). anyUrgent done (slotsFrom a j (n - j))) k ∙ here false (sym f ∙ e)
 
 pub urgent-none : (a : List ℕ) (n i done : ℕ) (all : Bool) → n ≤ i → anyUrgent done (slotsFrom a i (n - i)) ≡ all → false ≡ all
 unfolding anyUrgent slotsFrom
 urgent-none a n i done all l inv =
-    let k : n - i ≡ 0 = omega arith in
-    let h : anyUrgent done (slotsFrom a i 0) ≡ all = rw (← k) inv in h
+    let k : 0 ≡ n - i = omega arith in
+    ap (λ (j : ℕ). anyUrgent done (slotsFrom a i j)) k ∙ inv

@@ -1,2 +1,4 @@
 pub mod NextLaws
+pub mod KindLaws
+pub mod PageLaws
 pub mod PlaceLaws

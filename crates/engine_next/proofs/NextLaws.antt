@@ -1,17 +1,22 @@
 -- What the tests of one transfer come to, case by case.
 -- Assumes nothing.
 use Prim.Native.Nat.{ℕ, _-_, _≤_, _<_}
-use mathlib.Core.Path.{_≡_, refl, sym}
+use mathlib.Core.Path.{_≡_, refl, sym, ap}
 use mathlib.Core.Bool.{Bool, true, false, not}
+use mathlib.Core.List.{List}
 use native.Mathlib.Omega.{arith}
 use lib.Dec.{leb, eqb}
 use borrow.Author.Tests.{lt-ltb, le-ltb, lt-leb, le-leb, eq-eqb, ne-eqb, eqb-true, eqb-false}
+use Rattle.refusals.specs.Refusals.{refusalOf}
+use Rattle.refusals.specs.declared.Refusal.{Refusal}
+use Rattle.area.specs.Places.{readTable}
 use Rattle.engine_slots.specs.declared.Slot.{Slot}
+use Rattle.engine_state.specs.State.{engineIn, heldState}
 use Rattle.engine_next.specs.declared.Page.{Page}
 use Rattle.engine_next.specs.declared.Waits.{Waits}
 use Rattle.engine_next.specs.declared.Next.{Next}
-use Rattle.engine_next.specs.declared.Next.the-variants.{Answer, Name, Report, Close}
-use Rattle.engine_next.specs.Next.{isCovered, nameDue, reportDue, isOver, isAtEnd, nextBy, isUrgent}
+use Rattle.engine_next.specs.declared.Next.the-variants.{Refused, Answer, Name, Report, Close}
+use Rattle.engine_next.specs.Next.{isCovered, nameDue, reportDue, isOver, isAtEnd, nextBy, isUrgent, firstNext, nextState}
 
 module _ (done : ℕ) (same : Bool) (s : Slot) where
   pub covered-none : s .due ≡ 0 → false ≡ isCovered done same s
@@ -107,3 +112,14 @@ module _ (done : ℕ) (s : Slot) where
   pub urgent-name : s .due ≤ done → s .named ≡ 1 → not (eqb (s .reported) 1) ≡ isUrgent done s
   unfolding isUrgent
   urgent-name h g = rw (le-ltb done (s .due) h, eq-eqb (s .named) 1 g)
+
+-- ---- the first of all
+
+module _ (s : List ℕ) (t : ℕ) (w : Waits) where
+  pub next-refused : heldState s ≡ false → (r : Refusal) → r ≡ refusalOf 22 → Refused r ≡ nextState s t w
+  unfolding nextState
+  next-refused h r e = rw h (ap Refused e)
+
+  pub next-held : heldState s ≡ true → firstNext (engineIn s) t w (readTable s) ≡ nextState s t w
+  unfolding nextState
+  next-held h = rw h

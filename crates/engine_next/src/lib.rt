@@ -5,7 +5,7 @@ ghost use Prim.Native.Nat.{_<_};
 ghost use lib.ListN.{length};
 ghost use Rattle.words.specs.Words.{wordAt};
 ghost use Rattle.area.specs.Layout.{idField, headAt};
-ghost use Rattle.area.specs.Places.{transferAt, readTable};
+ghost use Rattle.area.specs.Places.{readTable};
 ghost use Rattle.engine_slots.specs.Slots.{slotAt};
 ghost use Rattle.engine_state.specs.State.{engineIn, heldState};
 ghost use Rattle.engine_next.specs.Next.{isCovered, nameDue, reportDue, isOver, isAtEnd, kindFor, pageOf, nextBy, isUrgent, anyUrgent, syncDue, firstNext, nextState};
@@ -97,14 +97,48 @@ fn is_at_end(complete: bool, time: u64, waits: Waits, s: Slot) -> bool
     is_over(time, s.heard, waits.forget)
 }
 
-fn page_at(state: &[u8], i: usize) -> Page
+// What is to be done for the transfer at place i, by the number that C has for it, and 0 for nothing.
+fn kind_at(state: &[u8], i: usize, time: u64, waits: Waits) -> u64
     requires { ⌜ (heldState (now state) ≡ true) × (i < length (readTable (now state))) ⌝ }
-    ensures { λ r. ⌜ r ≡ pageOf (transferAt (now (state .entry)) i) (slotAt (now (state .entry)) i) ⌝ }
+    ensures { λ r. ⌜ r ≡ kindFor (engineIn (now (state .entry))) time waits (wordAt (now (state .entry)) (headAt i idField)) (slotAt (now (state .entry)) i) ⌝ }
 {
+    let id = area::head(state, i, area::ID);
+    let s = engine_slots::slot_at(state, i);
+    let same = engine_state::same_file(state, id);
+    if is_covered(engine_state::number(state, engine_state::DONE), same, s) {
+        return 2;
+    }
+    if name_due(engine_may::may_name(state, id), s) {
+        return 3;
+    }
+    if report_due(engine_may::may_report(state, id), same, s) {
+        return 4;
+    }
+    if is_at_end(engine_state::is_complete(state, id), time, waits, s) {
+        return 5;
+    }
+    0
+}
+
+// The page of an Id, as it is on disk.
+fn page_of(state: &[u8], id: u64) -> Page
+    requires { ⌜ heldState (now state) ≡ true ⌝ }
+    ensures { λ r. ⌜ r ≡ pageOf (engineIn (now (state .entry))) id ⌝ }
+{
+    let synced = &state[engine_state::SYNCED..];
+    let kept = area::find_place(synced, id);
+    if !kept.open {
+        return Page {
+            id,
+            file: 0,
+            length: 0,
+        };
+    }
+    let at = kept.at;
     Page {
-        id: area::head(state, i, area::ID),
-        file: engine_slots::slot_at(state, i).file,
-        length: area::head(state, i, area::LENGTH),
+        id,
+        file: engine_slots::slot_at(synced, at).file,
+        length: area::head(synced, at, area::LENGTH),
     }
 }
 
@@ -153,4 +187,54 @@ fn any_urgent(state: &[u8]) -> bool
     false
 }
 
+fn sync_due(state: &[u8], time: u64, waits: Waits) -> bool
+    requires { ⌜ heldState (now state) ≡ true ⌝ }
+    ensures { λ r. ⌜ r ≡ syncDue (engineIn (now (state .entry))) time waits ⌝ }
+{
+    if engine_state::number(state, engine_state::CHANGED) != 1 {
+        return false;
+    }
+    if !engine_sync::may_begin(state) {
+        return false;
+    }
+    if any_urgent(state) {
+        return true;
+    }
+    is_over(
+        time,
+        engine_state::number(state, engine_state::BEGUN),
+        waits.interval,
+    )
+}
+
 // ---- the first of all
+
+fn first_next(state: &[u8], time: u64, waits: Waits) -> Next
+    requires { ⌜ heldState (now state) ≡ true ⌝ }
+    ensures { λ r. ⌜ r ≡ firstNext (engineIn (now (state .entry))) time waits (readTable (now (state .entry))) ⌝ }
+{
+    let n = area::open_count(state) as usize;
+    let mut i: usize = 0;
+    while i < n {
+        let kind = kind_at(state, i, time, waits);
+        if kind != 0 {
+            let page = page_of(state, area::head(state, i, area::ID));
+            return next_by(kind, page);
+        }
+        i += 1;
+    }
+    if sync_due(state, time, waits) {
+        return Next::Sync;
+    }
+    Next::Nothing
+}
+
+// What is to be done next. Nothing changes by asking.
+pub fn decide(state: &[u8], time: u64, waits: Waits) -> Next
+    ensures { λ r. ⌜ r ≡ nextState (now (state .entry)) time waits ⌝ }
+{
+    if !engine_state::held(state) {
+        return Next::Refused(refusals::refuse(22));
+    }
+    first_next(state, time, waits)
+}

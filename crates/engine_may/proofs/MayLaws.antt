@@ -1,8 +1,8 @@
 -- What the tests of a page come to, case by case: of what is synced, as it is lent.
 -- Assumes nothing.
 use Prim.Native.Nat.{ℕ, _-_, _<_}
-use mathlib.Core.Path.{_≡_, refl, sym, ap, _∙_}
-use mathlib.Core.Bool.{Bool, true, false, _&&_}
+use mathlib.Core.Path.{_≡_, sym, ap, _∙_}
+use mathlib.Core.Bool.{Bool, true, false}
 use mathlib.Core.List.{List}
 use lib.ListN.{length, take, drop}
 use lib.Dec.{eqb}
@@ -19,7 +19,10 @@ use Rattle.engine_state.specs.Layout.{syncedOctet}
 use Rattle.engine_state.specs.State.{snapshotIn, engineIn, heldState}
 use Rattle.engine_state.proofs.StateLaws.{rest-is, held-known, open-kept, slot-known, kept-used}
 
-module _ (s : List ℕ) (id : ℕ) (b : Bool) (e : b ≡ isComplete (snapshotIn (take (length s - syncedOctet) (drop syncedOctet s))) id) where
+abbrev pub rest : List ℕ → List ℕ
+rest s = take (length s - syncedOctet) (drop syncedOctet s)
+
+module _ (s : List ℕ) (id : ℕ) (b : Bool) (e : b ≡ isComplete (snapshotIn (rest s)) id) where
   complete : isComplete (snapshotIn (drop syncedOctet s)) id ≡ b
   complete = ap (λ (l : List ℕ). isComplete (snapshotIn l) id) (sym (rest-is syncedOctet s)) ∙ sym e
 
@@ -36,7 +39,7 @@ module _ (s : List ℕ) (id : ℕ) (b : Bool) (e : b ≡ isComplete (snapshotIn 
   report-not f = rw (complete, f)
 
   -- where it is complete, it is open, and its slot stands at its place
-  module _ (h : heldState s ≡ true) (f : b ≡ true) (p : Place) (g : p ≡ placeIn id (readTable (take (length s - syncedOctet) (drop syncedOctet s)))) where
+  module _ (h : heldState s ≡ true) (f : b ≡ true) (p : Place) (g : p ≡ placeIn id (readTable (rest s))) where
     kept : KeptAt id (readTable (drop syncedOctet s)) (p .at)
     unfolding placeIn
     kept =
@@ -48,7 +51,7 @@ module _ (s : List ℕ) (id : ℕ) (b : Bool) (e : b ≡ isComplete (snapshotIn 
     pub place-few : p .at < transferPlaces
     place-few = let u = kept-used (drop syncedOctet s) id (p .at) (held-known s h .synced-judged) kept in omega arith
 
-    pub report-complete : (x : Slot) → x ≡ slotAt (take (length s - syncedOctet) (drop syncedOctet s)) (p .at) → eqb (x .named) 1 ≡ mayReport (engineIn s) id
+    pub report-complete : (x : Slot) → x ≡ slotAt (rest s) (p .at) → eqb (x .named) 1 ≡ mayReport (engineIn s) id
     unfolding mayReport
     report-complete x q =
         let is : slotOf (snapshotIn (drop syncedOctet s)) id ≡ x

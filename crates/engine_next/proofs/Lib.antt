@@ -2,3 +2,4 @@ pub mod NextLaws
 pub mod KindLaws
 pub mod PageLaws
 pub mod PlaceLaws
+pub mod ReportLaws

@@ -14,7 +14,6 @@ use Rattle.engine_slots.specs.declared.Slot.{Slot}
 use Rattle.engine_state.specs.State.{engineIn, heldState}
 use Rattle.engine_next.specs.declared.Page.{Page}
 use Rattle.engine_next.specs.declared.Waits.{Waits}
-use Rattle.engine_next.specs.declared.Next.{Next}
 use Rattle.engine_next.specs.declared.Next.the-variants.{Refused, Answer, Name, Report, Close}
 use Rattle.engine_next.specs.Next.{isCovered, nameDue, reportDue, isOver, isAtEnd, nextBy, isUrgent, firstNext, nextState}
 

@@ -1,17 +1,17 @@
 -- The page of an Id on disk: of what is synced, as it is lent.
 -- Assumes nothing.
-use Prim.Native.Nat.{ℕ, _-_, _<_}
+use Prim.Native.Nat.{ℕ, _<_}
 use mathlib.Core.Path.{_≡_, sym, ap, _∙_}
 use mathlib.Core.Bool.{true, false}
 use mathlib.Core.List.{List}
 use mathlib.Core.Option.{Option}
-use lib.ListN.{length, take, drop}
+use lib.ListN.{drop}
 use native.Mathlib.Omega.{arith}
 use Rattle.words.specs.Words.{wordAt}
 use Rattle.transfer.specs.declared.Key.{Key}
 use Rattle.transfer.specs.Transfers.{Transfer}
 use Rattle.area.specs.Layout.{transferPlaces, lengthField, headAt}
-use Rattle.area.specs.Places.{readTable, nth, placeIn, KeptAt}
+use Rattle.area.specs.Places.{readTable, placeIn, KeptAt}
 use Rattle.area.specs.declared.Place.{Place}
 use Rattle.area.proofs.KeptLaws.{place-open, kept-found, kept-transfer}
 use Rattle.engine_slots.specs.declared.Slot.{Slot}
@@ -21,11 +21,9 @@ use Rattle.engine_model.proofs.FitLaws.{shut-key}
 use Rattle.engine_state.specs.Layout.{syncedOctet}
 use Rattle.engine_state.specs.State.{snapshotIn, engineIn, heldState}
 use Rattle.engine_state.proofs.StateLaws.{rest-is, held-known, open-told, slot-known, kept-used}
+use Rattle.engine_may.proofs.MayLaws.{rest}
 use Rattle.engine_next.specs.declared.Page.{Page}
 use Rattle.engine_next.specs.Next.{pageBy, pageOf}
-
-abbrev pub rest : List ℕ → List ℕ
-rest s = take (length s - syncedOctet) (drop syncedOctet s)
 
 module _ (s : List ℕ) (id : ℕ) (h : heldState s ≡ true) (p : Place) (e : p ≡ placeIn id (readTable (rest s))) where
   told : p ≡ placeIn id (readTable (drop syncedOctet s))

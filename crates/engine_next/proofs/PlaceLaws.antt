@@ -1,7 +1,7 @@
 -- The places that are walked: what is known of each, and what the walks come to.
 -- Assumes nothing.
 use Prim.Native.Nat.{ℕ, zero, suc, _+_, _-_, _≤_, _<_}
-use mathlib.Core.Path.{_≡_, refl, sym, ap, _∙_}
+use mathlib.Core.Path.{_≡_, sym, ap, _∙_}
 use mathlib.Core.Bool.{Bool, true, false, cond}
 use mathlib.Core.List.{List, [], _∷_}
 use lib.ListN.{length}
@@ -20,7 +20,7 @@ use Rattle.engine_slots.specs.Slots.{slotAt, slotsFrom}
 use Rattle.engine_model.specs.Snapshots.{slotOf}
 use Rattle.engine_state.specs.Layout.{stateOctets}
 use Rattle.engine_state.specs.State.{snapshotIn, engineIn, heldState}
-use Rattle.engine_state.proofs.StateLaws.{Held, held-known, slot-known}
+use Rattle.engine_state.proofs.StateLaws.{held-known, slot-known}
 use Rattle.engine_next.specs.declared.Page.{Page}
 use Rattle.engine_next.specs.declared.Waits.{Waits}
 use Rattle.engine_next.specs.declared.Next.{Next}

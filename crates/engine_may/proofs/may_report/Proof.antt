@@ -12,12 +12,16 @@ use Rattle.area.specs.Judge.{judged}
 use Rattle.engine_slots.specs.Layout.{snapshotOctets}
 use Rattle.engine_state.specs.Layout.{syncedOctet}
 use Rattle.engine_state.proofs.StateLaws.{rest-is, Held, held-known}
-use Rattle.engine_may.proofs.MayLaws.{report-not, place-few, report-complete}
+use Rattle.engine_may.proofs.MayLaws.{rest, report-not, place-few, report-complete}
 use Rattle.engine_may.proofs.may_report.Statement.{statement}
 use Rattle.engine_may.proofs.may_report.Tie as tie
 
 known : (c : tie.Start) → Held (now (c .args .state))
 known c = held-known (now (c .args .state)) (c .pre)
+
+-- what is synced, as it is lent
+synced : (c : tie.Start) → judged (rest (now (c .args .state))) ≡ true
+synced c = ap judged (rest-is syncedOctet (now (c .args .state))) ∙ known c .synced-judged
 
 returns : tie.Need-returns
 returns c =
@@ -45,7 +49,6 @@ may-report-spec =
     tie.close
     (tie.spec
     (λ c. omega (arith, known (c .before) .long)) (λ c. omega (arith, known (c .before) .long)) (λ c. search needs)
-    (λ c κs. let s = c .before .before in ap judged (rest-is syncedOctet (now (s .args .state))) ∙ known s .synced-judged)
-    returns
-    (λ c κs. let s = c .before .before .before .before in ap judged (rest-is syncedOctet (now (s .args .state))) ∙ known s .synced-judged)
+    (λ c κs. let s = c .before .before in search (known s .now-judged, synced s)) returns
+    (λ c κs. synced (c .before .before .before .before))
     slot-at-requires returns-2)

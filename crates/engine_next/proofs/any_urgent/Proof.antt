@@ -1,9 +1,9 @@
 -- `engine_next::any_urgent` meets its contract: what is left of the slots decides. Assumes nothing.
 use native.Mathlib.Omega.{arith}
 use native.Mathlib.Nat.{sub-zero}
-use Prim.Native.Nat.{ℕ, _-_, _≤_}
+use Prim.Native.Nat.{_-_, _≤_}
 use borrow.Author.Needs.{needs}
-use mathlib.Core.Path.{_≡_, refl, sym, ap, _∙_}
+use mathlib.Core.Path.{_≡_, _∙_}
 use denote.Ref.{now}
 use Rattle.words.specs.Words.{wordAt}
 use Rattle.engine_slots.specs.Slots.{slotsFrom}

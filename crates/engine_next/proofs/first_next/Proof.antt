@@ -3,11 +3,10 @@ use Prim.Native.Nat.{ℕ, _-_, _≤_, _<_}
 use native.Mathlib.Omega.{arith}
 use native.Mathlib.Nat.{sub-zero}
 use borrow.Author.Needs.{needs}
-use mathlib.Core.Path.{_≡_, refl, sym, ap, _∙_}
+use mathlib.Core.Path.{_≡_, sym, ap, _∙_}
 use mathlib.Core.Bool.{Bool, cond}
 use lib.ListN.{length}
 use denote.Ref.{now}
-use Rattle.words.specs.Words.{wordAt}
 use Rattle.area.specs.Places.{transfersFrom, readTable}
 use Rattle.engine_state.specs.State.{engineIn}
 use Rattle.engine_next.specs.declared.Next.the-variants.{Sync, Nothing}

@@ -3,7 +3,7 @@ use Prim.Native.Nat.{ℕ, _≤_}
 use native.Mathlib.Omega.{arith}
 use borrow.Author.Needs.{needs}
 use borrow.Author.Tests.{not-true, not-false}
-use mathlib.Core.Path.{_≡_, refl, sym, ap, subst, _∙_}
+use mathlib.Core.Path.{refl, sym, ap, subst, _∙_}
 use mathlib.Core.List.{List}
 use lib.ListN.{length, drop, length-drop}
 use denote.Ref.{now}
@@ -11,7 +11,8 @@ use Rattle.area.specs.Judge.{judged}
 use Rattle.engine_slots.specs.Layout.{snapshotOctets}
 use Rattle.engine_state.specs.Layout.{syncedOctet}
 use Rattle.engine_state.proofs.StateLaws.{rest-is, Held, held-known}
-use Rattle.engine_next.proofs.PageLaws.{rest, page-none, page-few, page-kept}
+use Rattle.engine_may.proofs.MayLaws.{rest}
+use Rattle.engine_next.proofs.PageLaws.{page-none, page-few, page-kept}
 use Rattle.engine_next.proofs.page_of.Statement.{statement}
 use Rattle.engine_next.proofs.page_of.Tie as tie
 

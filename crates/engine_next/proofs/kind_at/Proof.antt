@@ -6,7 +6,8 @@ use denote.Ref.{now}
 use Rattle.words.specs.Words.{wordAt}
 use Rattle.area.specs.Layout.{idField, headAt}
 use Rattle.engine_slots.specs.Slots.{slotAt}
-use Rattle.engine_state.specs.State.{engineIn}
+use Rattle.engine_state.specs.Layout.{doneField}
+use Rattle.engine_state.specs.State.{numberIn, engineIn}
 use Rattle.engine_state.proofs.StateLaws.{held-known}
 use Rattle.engine_next.specs.Next.{kindFor}
 use Rattle.engine_next.proofs.KindLaws.{kind-answer, kind-name, kind-report, kind-close, kind-none}
@@ -16,6 +17,10 @@ use Rattle.engine_next.proofs.kind_at.Tie as tie
 
 known : (c : tie.Start) → Walked (now (c .args .state))
 known c = walked (now (c .args .state)) (c .pre .0)
+
+-- the last sync that came back good
+done : (c : tie.After-number) → c .number .result ≡ numberIn (now (c .before .before .before .before .before .args .state)) doneField
+done c = c .number .ensures
 
 -- the Id and the slot are those of the place
 there : (c : tie.After-slot-at)
@@ -29,7 +34,7 @@ there c =
 returns : tie.Need-returns
 returns c =
     let v = c .before in let n = v .before in let f = n .before in let l = f .before in let s = l .before .before .before in
-    kind-answer (engineIn (now (s .args .state))) _ _ _ _ _ (f .same-file .ensures) _ (n .number .ensures) (v .is-covered .result) (v .is-covered .ensures)
+    kind-answer (engineIn (now (s .args .state))) _ _ _ _ _ (f .same-file .ensures) _ (done n) (v .is-covered .result) (v .is-covered .ensures)
     (c .if1 .taken)
     ∙ there l
 
@@ -37,7 +42,7 @@ returns-2 : tie.Need-returns-2
 returns-2 c =
     let d = c .before in let m = d .before in let e = m .before in
     let v = e .before in let n = v .before in let f = n .before in let l = f .before in let s = l .before .before .before in
-    kind-name (engineIn (now (s .args .state))) _ _ _ _ _ (f .same-file .ensures) _ (n .number .ensures) (v .is-covered .result) (v .is-covered .ensures)
+    kind-name (engineIn (now (s .args .state))) _ _ _ _ _ (f .same-file .ensures) _ (done n) (v .is-covered .result) (v .is-covered .ensures)
     (e .if1 .left) _ (m .may-name .ensures) (d .name-due .result) (d .name-due .ensures) (c .if2 .taken)
     ∙ there l
 
@@ -46,7 +51,7 @@ returns-3 c =
     let r = c .before in let p = r .before in let g = p .before in
     let d = g .before in let m = d .before in let e = m .before in
     let v = e .before in let n = v .before in let f = n .before in let l = f .before in let s = l .before .before .before in
-    kind-report (engineIn (now (s .args .state))) _ _ _ _ _ (f .same-file .ensures) _ (n .number .ensures) (v .is-covered .result) (v .is-covered .ensures)
+    kind-report (engineIn (now (s .args .state))) _ _ _ _ _ (f .same-file .ensures) _ (done n) (v .is-covered .result) (v .is-covered .ensures)
     (e .if1 .left) _ (m .may-name .ensures) (d .name-due .result) (d .name-due .ensures) (g .if2 .left) _ (p .may-report .ensures)
     (r .report-due .result) (r .report-due .ensures) (c .if3 .taken)
     ∙ there l
@@ -57,7 +62,7 @@ returns-4 c =
     let r = h .before in let p = r .before in let g = p .before in
     let d = g .before in let m = d .before in let e = m .before in
     let v = e .before in let n = v .before in let f = n .before in let l = f .before in let s = l .before .before .before in
-    kind-close (engineIn (now (s .args .state))) _ _ _ _ _ (f .same-file .ensures) _ (n .number .ensures) (v .is-covered .result) (v .is-covered .ensures)
+    kind-close (engineIn (now (s .args .state))) _ _ _ _ _ (f .same-file .ensures) _ (done n) (v .is-covered .result) (v .is-covered .ensures)
     (e .if1 .left) _ (m .may-name .ensures) (d .name-due .result) (d .name-due .ensures) (g .if2 .left) _ (p .may-report .ensures)
     (r .report-due .result) (r .report-due .ensures) (h .if3 .left) _ (w .is-complete .ensures) (z .is-at-end .result) (z .is-at-end .ensures)
     (c .if4 .taken)
@@ -69,7 +74,7 @@ returns-5 c =
     let r = h .before in let p = r .before in let g = p .before in
     let d = g .before in let m = d .before in let e = m .before in
     let v = e .before in let n = v .before in let f = n .before in let l = f .before in let s = l .before .before .before in
-    kind-none (engineIn (now (s .args .state))) _ _ _ _ _ (f .same-file .ensures) _ (n .number .ensures) (v .is-covered .result) (v .is-covered .ensures)
+    kind-none (engineIn (now (s .args .state))) _ _ _ _ _ (f .same-file .ensures) _ (done n) (v .is-covered .result) (v .is-covered .ensures)
     (e .if1 .left) _ (m .may-name .ensures) (d .name-due .result) (d .name-due .ensures) (g .if2 .left) _ (p .may-report .ensures)
     (r .report-due .result) (r .report-due .ensures) (h .if3 .left) _ (w .is-complete .ensures) (z .is-at-end .result) (z .is-at-end .ensures)
     (c .if4 .left)

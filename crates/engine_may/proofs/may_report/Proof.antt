@@ -49,6 +49,6 @@ may-report-spec =
     tie.close
     (tie.spec
     (λ c. omega (arith, known (c .before) .long)) (λ c. omega (arith, known (c .before) .long)) (λ c. search needs)
-    (λ c κs. let s = c .before .before in search (known s .now-judged, synced s)) returns
+    (λ c κs. synced (c .before .before)) returns
     (λ c κs. synced (c .before .before .before .before))
     slot-at-requires returns-2)

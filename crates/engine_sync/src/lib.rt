@@ -93,7 +93,7 @@ const PENDING_AT: usize = engine_state::PENDING / 8;
 const SYNCED_AT: usize = engine_state::SYNCED / 8;
 
 // Whether a sync may begin: none is under way, and there is a number for it.
-fn may_begin(state: &[u8]) -> bool
+pub fn may_begin(state: &[u8]) -> bool
     requires { ⌜ stateOctets ≤ length (now state) ⌝ }
     ensures { λ r. ⌜ r ≡ maySync (engineIn (now (state .entry))) ⌝ }
 {

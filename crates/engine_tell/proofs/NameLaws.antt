@@ -29,18 +29,6 @@ only-middle false = refl
 module _ (s : List ℕ) (i : ℕ) where
   -- ---- what may be done
 
-  module _ (x : Bool) (is : x ≡ isComplete (snapshotIn (lent s)) i) where
-    complete-is : isComplete (snapshotIn (syncedIn s)) i ≡ x
-    complete-is = sym (is ∙ ap (λ (l : List ℕ). isComplete (snapshotIn l) i) (rest-is syncedOctet s))
-
-    pub name-incomplete : x ≡ false → false ≡ mayName (engineIn s) i
-    unfolding mayName
-    name-incomplete e = rw (complete-is ∙ e)
-
-    pub name-complete : x ≡ true → (y : Bool) → y ≡ sameNow s i → y ≡ mayName (engineIn s) i
-    unfolding mayName
-    name-complete e y f = rw (complete-is ∙ e) f
-
   pub name-known : mayName (engineIn s) i ≡ true → (isComplete (snapshotIn (syncedIn s)) i ≡ true) × (sameNow s i ≡ true)
   unfolding mayName
   name-known e = and-iff (isComplete (snapshotIn (syncedIn s)) i) (sameNow s i) .0 e

@@ -4,7 +4,7 @@ ghost use mathlib.Core.Bool.{true, _&&_};
 ghost use Prim.Native.Nat.{_≤_};
 ghost use lib.ListN.{length};
 ghost use Rattle.engine_model.specs.Snapshots.{slotOf, answeredSlot, namedSlot, reportedSlot};
-ghost use Rattle.engine_model.specs.Engine.{mayName, mayReport};
+ghost use Rattle.engine_model.specs.Engine.{mayReport};
 ghost use Rattle.engine_state.specs.Layout.{stateOctets};
 ghost use Rattle.engine_state.specs.State.{snapshotIn, engineIn, heldState, changedState};
 ghost use Rattle.engine_sync.specs.Syncs.{heldRefusal};
@@ -124,23 +124,12 @@ pub fn tell(state: &mut [u8], id: u64, out: &mut [u8]) -> Told
 
 // ---- names and reports
 
-// Whether the page may get its name: it is complete on disk, and still open for the same file.
-fn may_name(state: &[u8], id: u64) -> bool
-    requires { ⌜ heldState (now state) ≡ true ⌝ }
-    ensures { λ r. ⌜ r ≡ mayName (engineIn (now (state .entry))) id ⌝ }
-{
-    if !engine_state::is_complete(&state[engine_state::SYNCED..], id) {
-        return false;
-    }
-    engine_state::same_file(state, id)
-}
-
-// Whether it was reported: besides, its name is on disk.
+// Whether it was reported: it may have its name, and has it on disk.
 fn may_report(state: &[u8], id: u64) -> bool
     requires { ⌜ heldState (now state) ≡ true ⌝ }
     ensures { λ r. ⌜ r ≡ mayReport (engineIn (now (state .entry))) id && sameNow (now (state .entry)) id ⌝ }
 {
-    if !may_name(state, id) {
+    if !engine_may::may_name(state, id) {
         return false;
     }
     slot_of(&state[engine_state::SYNCED..], id).named == 1
@@ -196,7 +185,7 @@ pub fn named(state: &mut [u8], id: u64, well: bool) -> u64
     if !engine_state::held(state) {
         return 22;
     }
-    if !may_name(state, id) {
+    if !engine_may::may_name(state, id) {
         return 0;
     }
     if !well {

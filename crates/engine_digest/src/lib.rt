@@ -12,5 +12,8 @@ pub fn digest_of(packet: &[u8]) -> Digest
     md5_feed::add(&mut state, packet);
     let mut out = [0u8; 16];
     md5_digest::end(&state, &mut out);
-    Digest { first: octets_stored::read_low_eight(&out, 0), second: octets_stored::read_low_eight(&out, 8) }
+    Digest {
+        first: octets_stored::read_low_eight(&out, 0),
+        second: octets_stored::read_low_eight(&out, 8),
+    }
 }

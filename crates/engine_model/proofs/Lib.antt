@@ -1,0 +1,11 @@
+pub mod ListLaws
+pub mod PlaceLaws
+pub mod DataLaws
+pub mod FitLaws
+pub mod RecordingLaws
+pub mod OpenCloseLaws
+pub mod SnapshotLaws
+pub mod ReachLaws
+pub mod SameLaws
+pub mod LookLaws
+pub mod MeetLaws

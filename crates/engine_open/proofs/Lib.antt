@@ -1,2 +1,4 @@
 pub mod CaseLaws
 pub mod RoomLaws
+pub mod HeldLaws
+pub mod FrontLaws

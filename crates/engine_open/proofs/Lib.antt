@@ -2,3 +2,4 @@ pub mod CaseLaws
 pub mod RoomLaws
 pub mod HeldLaws
 pub mod FrontLaws
+pub mod TakenLaws

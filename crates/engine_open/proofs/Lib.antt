@@ -3,3 +3,4 @@ pub mod RoomLaws
 pub mod HeldLaws
 pub mod FrontLaws
 pub mod TakenLaws
+pub mod MadeLaws

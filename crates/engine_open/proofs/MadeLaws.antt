@@ -1,0 +1,124 @@
+-- What is known where METADATA meets something that changes the state.
+-- Assumes nothing.
+use Prim.Native.Nat.{ℕ, zero, suc, _≤_, _<_}
+use mathlib.Core.Path.{_≡_, refl, sym, ap, subst, _∙_}
+use mathlib.Core.Bool.{Bool, true, false, cond, not, _&&_}
+use mathlib.Core.List.{List}
+use native.Mathlib.Omega.{arith}
+use lib.ListN.{length}
+use lib.Dec.{eqb}
+use Rattle.octets.specs.Numbers.{Octets}
+use Rattle.refusals.specs.Refusals.{refusalOf, answered}
+use Rattle.words.specs.Words.{wordAt}
+use Rattle.packet_metadata.specs.Metadata.{metadataRefusal, metadataOf, readMetadata}
+use Rattle.packet_metadata.specs.declared.Metadata.{Metadata}
+use Rattle.packet_metadata.specs.declared.MetadataRead.{MetadataRead}
+use Rattle.packet_metadata.specs.declared.MetadataRead.the-variants as metadata-read
+use Rattle.transfer.specs.Transfers.{Transfer, keyOf}
+use Rattle.table.specs.Tables.{Valid, add}
+use Rattle.table.specs.Open.{openPacket}
+use Rattle.table.proofs.TableLaws.{length-add}
+use Rattle.table.proofs.ValidLaws.{open-valid}
+use Rattle.area.specs.Layout.{transferPlaces}
+use Rattle.area.specs.Places.{readTable, placeOf}
+use Rattle.area.specs.Judge.{judged}
+use Rattle.area.proofs.PlaceLaws.{length-transfers}
+use Rattle.area.proofs.JudgeLaws.{judged-passed}
+use Rattle.engine_slots.specs.Slots.{slotsFrom}
+use Rattle.engine_slots.specs.declared.Digest.{Digest}
+use Rattle.engine_slots.specs.declared.Files.{Files}
+use Rattle.engine_slots.specs.declared.Meeting.{Meeting}
+use Rattle.engine_slots.specs.declared.Meeting.the-variants as meeting
+use Rattle.engine_model.specs.Snapshots.{isOpen, slotOf, sameDigest, without, closedIn}
+use Rattle.engine_model.specs.Meetings.{digestOf, isOther, roomFor, filesFor, meet}
+use Rattle.engine_model.specs.Engine.{metadataId}
+use Rattle.engine_model.proofs.PlaceLaws.{place-inside}
+use Rattle.engine_model.proofs.FitLaws.{Fit, open-key}
+use Rattle.engine_model.proofs.MeetLaws.{meet-cases, Made, meet-make, Kept, meet-kept, kept-open, EndedBy, meet-ended}
+use Rattle.engine_state.specs.Layout.{nextField}
+use Rattle.engine_state.specs.State.{snapshotIn, numberIn, heldState, takenOut, closedState}
+use Rattle.engine_open.specs.Opened.{meetState, roomState}
+use Rattle.engine_open.proofs.TakenLaws.{Held, held-known, taken-held}
+
+-- ---- the state is held, and the packet is METADATA
+
+-- nothing is told of octets that hold no state but 22
+module _ (s p : List ℕ) (x : Meeting) (other : meeting.Refused (refusalOf 22) ≡ x → ⊥) (e : meetState s p ≡ x) where
+  state-held : (heldState s ≡ true) × (meet (snapshotIn s) (numberIn s nextField) p ≡ x)
+  unfolding meetState
+  state-held = go (heldState s) refl e
+    where
+      go : (b : Bool) → heldState s ≡ b → cond b (meet (snapshotIn s) (numberIn s nextField) p) (meeting.Refused (refusalOf 22)) ≡ x
+          → (heldState s ≡ true) × (meet (snapshotIn s) (numberIn s nextField) p ≡ x)
+      go true h q = (h, q)
+      go false h q = absurd (other q)
+
+-- what was read
+pub read-known : (p : List ℕ) (m : Metadata) → readMetadata p ≡ metadata-read.Accepted m → (metadataRefusal p ≡ 0) × (metadataOf p ≡ m)
+unfolding readMetadata
+read-known p m = go (metadataRefusal p) refl
+  where
+    go : (n : ℕ) → metadataRefusal p ≡ n → answered metadata-read.Refused n (metadata-read.Accepted (metadataOf p)) ≡ metadata-read.Accepted m
+        → (metadataRefusal p ≡ 0) × (metadataOf p ≡ m)
+    go zero z q = (z, cc)
+    go (suc n) z q = absurd (let y : _≡_ {A = ℕ} 0 1 = cc in omega arith)
+
+pub id-read : (p : List ℕ) → metadataRefusal p ≡ 0 → metadataId (readMetadata p) ≡ metadataOf p .id
+unfolding readMetadata metadataId
+id-read p z = rw z
+
+-- ---- a slot for each transfer
+
+length-slots : (a : List ℕ) (i n : ℕ) → length (slotsFrom a i n) ≡ n
+unfolding slotsFrom
+length-slots a i zero = refl
+length-slots a i (suc n) = ap suc (length-slots a (suc i) n)
+
+fit-held : (s : List ℕ) → heldState s ≡ true → Fit (snapshotIn s)
+fit-held s h = record {
+  valid = judged-passed s (held-known s h .table) .1;
+  paired = length-slots s 0 (wordAt s 0) ∙ sym (length-transfers s 0 (wordAt s 0));
+}
+
+-- ---- METADATA of an open transfer, or that ends it
+
+pub record OpenFor (s p : List ℕ) : Type 0 where
+  pub held : heldState s ≡ true
+  pub fine : metadataRefusal p ≡ 0
+  pub is-open : isOpen (snapshotIn s) (metadataOf p .id) ≡ true
+
+open-for : (s p : List ℕ) (m : Metadata) → heldState s ≡ true → readMetadata p ≡ metadata-read.Accepted m → isOpen (snapshotIn s) (m .id) ≡ true → OpenFor s p
+open-for s p m h r o = let k = read-known p m r in
+    record { held = h; fine = k .0; is-open = ap (λ (x : Metadata). isOpen (snapshotIn s) (x .id)) (k .1) ∙ o }
+
+pub kept-known : (s p : List ℕ) (g : ℕ) → meetState s p ≡ meeting.Kept g → OpenFor s p
+kept-known s p g e =
+    let h = state-held s p (meeting.Kept g) (λ q. let y : _≡_ {A = ℕ} 0 1 = cc in omega arith) e in
+    let k = meet-kept (snapshotIn s) (numberIn s nextField) p g (fit-held s (h .0)) (h .1) in
+    open-for s p (k .m) (h .0) (k .read) (kept-open k)
+
+pub ended-known : (s p : List ℕ) (g : ℕ) → meetState s p ≡ meeting.Ended g → OpenFor s p
+ended-known s p g e =
+    let h = state-held s p (meeting.Ended g) (λ q. let y : _≡_ {A = ℕ} 0 1 = cc in omega arith) e in
+    let k = meet-ended (snapshotIn s) (numberIn s nextField) p g (h .1) in
+    open-for s p (k .m) (h .0) (k .read) (k .is-open)
+
+-- ---- the room for other METADATA
+
+-- an open Id's place
+place-inside-held : (s : List ℕ) (i : ℕ) → isOpen (snapshotIn s) i ≡ true → placeOf i (readTable s) < wordAt s 0
+place-inside-held s i o =
+    let k = open-key (snapshotIn s) i o in
+    omega (arith, place-inside i (readTable s) (k .0) (k .1), length-transfers s 0 (wordAt s 0))
+
+module _ (s : List ℕ) (i : ℕ) (d : Digest) (o : Octets s) (h : heldState s ≡ true) where
+  room-held : (judged (roomState s i d) ≡ true) × (readTable (roomState s i d) ≡ roomFor (snapshotIn s) i d .table)
+  unfolding roomState roomFor isOther closedState closedIn without
+  room-held = go (isOpen (snapshotIn s) i) refl (not (sameDigest (slotOf (snapshotIn s) i .digest) d))
+    where
+      go : (b : Bool) → isOpen (snapshotIn s) i ≡ b → (c : Bool)
+          → (judged (cond (b && c) (cond b (takenOut s i) s) s) ≡ true)
+          × (readTable (cond (b && c) (cond b (takenOut s i) s) s) ≡ cond (b && c) (cond b (without (snapshotIn s) i) (snapshotIn s)) (snapshotIn s) .table)
+      go false e c = (held-known s h .table, refl)
+      go true e false = (held-known s h .table, refl)
+      go true e true = taken-held s i o (held-known s h) (place-inside-held s i e)

@@ -29,8 +29,8 @@ use Rattle.engine_slots.specs.declared.Digest.{Digest}
 use Rattle.engine_slots.specs.declared.Files.{Files}
 use Rattle.engine_slots.specs.declared.Meeting.{Meeting}
 use Rattle.engine_slots.specs.declared.Meeting.the-variants as meeting
-use Rattle.engine_model.specs.Snapshots.{isOpen, slotOf, sameDigest, without, closedIn}
-use Rattle.engine_model.specs.Meetings.{digestOf, isOther, roomFor, filesFor, meet}
+use Rattle.engine_model.specs.Snapshots.{Snapshot, isOpen, slotOf, sameDigest, without, closedIn}
+use Rattle.engine_model.specs.Meetings.{lastNumber, digestOf, isOther, roomFor, filesFor, meet}
 use Rattle.engine_model.specs.Engine.{metadataId}
 use Rattle.engine_model.proofs.PlaceLaws.{place-inside}
 use Rattle.engine_model.proofs.FitLaws.{Fit, open-key}
@@ -122,3 +122,58 @@ module _ (s : List ℕ) (i : ℕ) (d : Digest) (o : Octets s) (h : heldState s �
       go false e c = (held-known s h .table, refl)
       go true e false = (held-known s h .table, refl)
       go true e true = taken-held s i o (held-known s h) (place-inside-held s i e)
+
+-- ---- files are made
+
+pub record Making (s p : List ℕ) (f : Files) : Type 0 where
+  pub held : heldState s ≡ true
+  pub number : f .file ≡ numberIn s nextField
+  pub below : f .file < lastNumber
+  -- the transfer that ends for it is open, and the room is without it
+  pub ends-open : f .ends ≡ 1 → isOpen (snapshotIn s) (f .id) ≡ true
+  pub room-is : cond (eqb (f .ends) 1) (closedState s (f .id)) s ≡ roomState s (f .id) (digestOf p)
+  -- the room holds a table, with a place for one transfer more
+  pub has-room : Octets s → Octets p → (judged (roomState s (f .id) (digestOf p)) ≡ true) × (wordAt (roomState s (f .id) (digestOf p)) 0 < transferPlaces)
+
+-- the files say whether a transfer ends
+files-end : (s : List ℕ) (i : ℕ) (d : Digest) (n : ℕ)
+    → (filesFor (snapshotIn s) i d n .ends ≡ 1 → isOpen (snapshotIn s) i ≡ true)
+    × (cond (eqb (filesFor (snapshotIn s) i d n .ends) 1) (closedState s i) s ≡ roomState s i d)
+unfolding filesFor roomState isOther
+files-end s i d n = go (isOpen (snapshotIn s) i) (not (sameDigest (slotOf (snapshotIn s) i .digest) d))
+  where
+    go : (b c : Bool)
+        → (cond (b && c) 1 0 ≡ 1 → b ≡ true) × (cond (eqb (cond (b && c) 1 0) 1) (closedState s i) s ≡ cond (b && c) (closedState s i) s)
+    go true true = ((λ q. refl), refl)
+    go true false = ((λ q. refl), refl)
+    go false c = ((λ q. absurd (omega arith)), refl)
+
+pub make-known : (s p : List ℕ) (f : Files) → meetState s p ≡ meeting.Make f → Making s p f
+unfolding filesFor
+make-known s p f e =
+    let h = state-held s p (meeting.Make f) (λ q. let y : _≡_ {A = ℕ} 0 1 = cc in omega arith) e in
+    let k = meet-make (snapshotIn s) (numberIn s nextField) p f (h .1) in
+    let r = files-are (snapshotIn s) (numberIn s nextField) p f (h .1) in
+    let ends = files-end s (f .id) (digestOf p) (numberIn s nextField) in
+    record {
+      held = h .0;
+      number = k .file-is;
+      below = omega (arith, k .file-is, k .below);
+      ends-open = λ q. ends .0 (sym (ap (λ (x : Files). x .ends) r) ∙ q);
+      room-is = ap (λ (x : Files). cond (eqb (x .ends) 1) (closedState s (f .id)) s) r ∙ ends .1;
+      has-room = λ o q.
+          let w = room-held s (f .id) (digestOf p) o (h .0) in
+          let t = roomFor (snapshotIn s) (f .id) (digestOf p) .table in
+          let v : Valid (openPacket t p .table) = open-valid t p q (rw (w .1) at (judged-passed (roomState s (f .id) (digestOf p)) (w .0) .1)) in
+          let l : length (openPacket t p .table) ≡ suc (length t) = ? in
+          (w .0, omega (arith, v .few, ap (λ (u : List Transfer). length u) (w .1), length-transfers (roomState s (f .id) (digestOf p)) 0 (wordAt (roomState s (f .id) (digestOf p)) 0)));
+    }
+  where
+    files-are : (s : Snapshot) (n : ℕ) (p : List ℕ) (f : Files) → meet s n p ≡ meeting.Make f → f ≡ filesFor s (f .id) (digestOf p) n
+    files-are s n p f =
+        meet-cases s n p (λ (x : Meeting). x ≡ meeting.Make f → f ≡ filesFor s (f .id) (digestOf p) n)
+        (λ r e. absurd (let z : _≡_ {A = ℕ} 0 1 = cc in omega arith))
+        (λ e. absurd (let z : _≡_ {A = ℕ} 0 1 = cc in omega arith))
+        (λ m r o b e. absurd (let z : _≡_ {A = ℕ} 0 1 = cc in omega arith))
+        (λ m r k e. absurd (let z : _≡_ {A = ℕ} 0 1 = cc in omega arith))
+        (λ m r k t l e. let y : filesFor s (m .id) (digestOf p) n ≡ f = cc in subst (λ (x : Files). x ≡ filesFor s (x .id) (digestOf p) n) y refl)

@@ -79,6 +79,9 @@ const SLOT_WORDS: usize = 11;
 
 const SLOTS_AT: usize = area::AREA_OCTETS / 8;
 
+// The octets of an area and its slots.
+pub const SNAPSHOT_OCTETS: usize = (SLOTS_AT + area::TRANSFERS * SLOT_WORDS) * 8;
+
 // The word where the slot at place i begins.
 fn word_of(i: usize) -> usize
     requires { ⌜ i ≤ transferPlaces ⌝ }

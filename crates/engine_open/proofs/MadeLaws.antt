@@ -37,8 +37,9 @@ use Rattle.engine_model.proofs.FitLaws.{Fit, open-key}
 use Rattle.engine_model.proofs.MeetLaws.{meet-cases, Made, meet-make, Kept, meet-kept, kept-open, EndedBy, meet-ended}
 use Rattle.engine_state.specs.Layout.{nextField}
 use Rattle.engine_state.specs.State.{snapshotIn, numberIn, heldState, takenOut, closedState}
+use Rattle.engine_state.proofs.StateLaws.{held-known}
 use Rattle.engine_open.specs.Opened.{meetState, roomState}
-use Rattle.engine_open.proofs.TakenLaws.{Held, held-known, taken-held}
+use Rattle.engine_open.proofs.TakenLaws.{taken-held}
 
 -- ---- the state is held, and the packet is METADATA
 
@@ -76,7 +77,7 @@ length-slots a i (suc n) = ap suc (length-slots a (suc i) n)
 
 fit-held : (s : List ℕ) → heldState s ≡ true → Fit (snapshotIn s)
 fit-held s h = record {
-  valid = judged-passed s (held-known s h .table) .1;
+  valid = judged-passed s (held-known s h .now-judged) .1;
   paired = length-slots s 0 (wordAt s 0) ∙ sym (length-transfers s 0 (wordAt s 0));
 }
 
@@ -119,8 +120,8 @@ module _ (s : List ℕ) (i : ℕ) (d : Digest) (o : Octets s) (h : heldState s �
       go : (b : Bool) → isOpen (snapshotIn s) i ≡ b → (c : Bool)
           → (judged (cond (b && c) (cond b (takenOut s i) s) s) ≡ true)
           × (readTable (cond (b && c) (cond b (takenOut s i) s) s) ≡ cond (b && c) (cond b (without (snapshotIn s) i) (snapshotIn s)) (snapshotIn s) .table)
-      go false e c = (held-known s h .table, refl)
-      go true e false = (held-known s h .table, refl)
+      go false e c = (held-known s h .now-judged, refl)
+      go true e false = (held-known s h .now-judged, refl)
       go true e true = taken-held s i o (held-known s h) (place-inside-held s i e)
 
 -- ---- files are made
@@ -143,7 +144,7 @@ unfolding filesFor roomState isOther
 files-end s i d n = go (isOpen (snapshotIn s) i) (not (sameDigest (slotOf (snapshotIn s) i .digest) d))
   where
     go : (b c : Bool)
-        → (cond (b && c) 1 0 ≡ 1 → b ≡ true) × (cond (eqb (cond (b && c) 1 0) 1) (closedState s i) s ≡ cond (b && c) (closedState s i) s)
+        → (_≡_ {A = ℕ} (cond (b && c) 1 0) 1 → b ≡ true) × (cond (eqb (cond (b && c) 1 0) 1) (closedState s i) s ≡ cond (b && c) (closedState s i) s)
     go true true = ((λ q. refl), refl)
     go true false = ((λ q. refl), refl)
     go false c = ((λ q. absurd (omega arith)), refl)
@@ -165,10 +166,16 @@ make-known s p f e =
           let w = room-held s (f .id) (digestOf p) o (h .0) in
           let t = roomFor (snapshotIn s) (f .id) (digestOf p) .table in
           let v : Valid (openPacket t p .table) = open-valid t p q (rw (w .1) at (judged-passed (roomState s (f .id) (digestOf p)) (w .0) .1)) in
-          let l : length (openPacket t p .table) ≡ suc (length t) = ? in
+          let l : length (openPacket t p .table) ≡ suc (length t) =
+          ap (λ (u : List Transfer). length u) (table-made (k .m) (f .id) (k .id-is) (k .table-is)) ∙ length-add (keyOf (k .m)) t in
           (w .0, omega (arith, v .few, ap (λ (u : List Transfer). length u) (w .1), length-transfers (roomState s (f .id) (digestOf p)) 0 (wordAt (roomState s (f .id) (digestOf p)) 0)));
     }
   where
+    table-made : (m : Metadata) (i : ℕ) → i ≡ m .id
+        → openPacket (roomFor (snapshotIn s) (m .id) (digestOf p) .table) p .table ≡ add (keyOf m) (roomFor (snapshotIn s) (m .id) (digestOf p) .table)
+        → openPacket (roomFor (snapshotIn s) i (digestOf p) .table) p .table ≡ add (keyOf m) (roomFor (snapshotIn s) i (digestOf p) .table)
+    table-made m i e t = rw e t
+
     files-are : (s : Snapshot) (n : ℕ) (p : List ℕ) (f : Files) → meet s n p ≡ meeting.Make f → f ≡ filesFor s (f .id) (digestOf p) n
     files-are s n p f =
         meet-cases s n p (λ (x : Meeting). x ≡ meeting.Make f → f ≡ filesFor s (f .id) (digestOf p) n)

@@ -4,3 +4,5 @@ pub mod HeldLaws
 pub mod FrontLaws
 pub mod TakenLaws
 pub mod MadeLaws
+pub mod SlotLaws
+pub mod ReadLaws

@@ -41,12 +41,13 @@ module _ (s : Snapshot) (n : ℕ) (p : List ℕ) (z : metadataRefusal p ≡ 0) (
     unfolding meetRead endedBy
     read-ended t f = rw (is-read, ← says, t) (f ∙ ap (λ (x : Key). meetEnded s (x .id)) key)
 
-    pub read-other : b ≡ false → (u : ℕ) → u ≡ newRefusal (m .flags) → (d : Digest) → d ≡ digestOf p
-        → r ≡ meetOther s (k .id) d n (openKey (roomFor s (k .id) d .table) u k .answer) → r ≡ meetRead s n p (readMetadata p)
+    pub read-other : b ≡ false → (u : ℕ) → u ≡ newRefusal (m .flags) → (d : Digest) → d ≡ digestOf p → (x : ℕ) → x ≡ n
+        → r ≡ meetOther s (k .id) d x (openKey (roomFor s (k .id) d .table) u k .answer) → r ≡ meetRead s n p (readMetadata p)
     unfolding meetRead endedBy
-    read-other t u unwanted d digest f =
+    read-other t u unwanted d digest x next f =
         rw (is-read, ← says, t)
         (f
+        ∙ ap (λ (y : ℕ). meetOther s (k .id) d y (openKey (roomFor s (k .id) d .table) u k .answer)) next
         ∙ ap (λ (x : Digest). meetOther s (k .id) x n (openKey (roomFor s (k .id) x .table) u k .answer)) digest
         ∙ ap (λ (o : Outcome Opened). meetOther s (k .id) (digestOf p) n (o .answer)) (sym opened)
         ∙ ap (λ (x : Key). meetOther s (x .id) (digestOf p) n (openPacket (roomFor s (x .id) (digestOf p) .table) p .answer)) key)

@@ -82,7 +82,7 @@ module _ (s : List ℕ) (k : Key) (d : Digest) (n u p : ℕ) (h : KeptAt (k .id)
 -- ---- an Id that is not open
 
 pub free-opens : (s : List ℕ) (k : Key) (d : Digest) (n u p : ℕ) → judged s ≡ true → FreeAt (k .id) (readTable s) p → (c : ℕ) → c ≡ wordAt s 0
-    → newMeeting u c (record { id = k .id; file = n; ends = 0; old = 0 }) 
+    → newMeeting u c (record { id = k .id; file = n; ends = 0; old = 0 })
     ≡ meetOther (snapshotIn s) (k .id) d n (openKey (roomFor (snapshotIn s) (k .id) d .table) u k .answer)
 free-opens s k d n u p j h c z =
     ap (λ (m : ℕ). newMeeting u m (record { id = k .id; file = n; ends = 0; old = 0 })) (z ∙ sym (length-transfers s 0 (wordAt s 0)))

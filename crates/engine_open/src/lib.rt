@@ -116,7 +116,16 @@ fn meet_open(state: &[u8], at: usize, next: u64, unwanted: u64, key: Key, digest
         return Meeting::Wait;
     }
     let others = area::open_count(state) - 1;
-    meet_new(unwanted, others, Files { id: key.id, file: next, ends: 1, old: slot.file })
+    meet_new(
+        unwanted,
+        others,
+        Files {
+            id: key.id,
+            file: next,
+            ends: 1,
+            old: slot.file,
+        },
+    )
 }
 
 // METADATA that was read.
@@ -133,9 +142,25 @@ fn meet_read(state: &[u8], packet: &[u8]) -> Meeting
     let next = engine_state::number(state, engine_state::NEXT);
     let place = area::find_place(state, key.id);
     if place.open {
-        return meet_open(state, place.at, next, unwanted, key, engine_digest::digest_of(packet));
+        return meet_open(
+            state,
+            place.at,
+            next,
+            unwanted,
+            key,
+            engine_digest::digest_of(packet),
+        );
     }
-    meet_new(unwanted, area::open_count(state), Files { id: key.id, file: next, ends: 0, old: 0 })
+    meet_new(
+        unwanted,
+        area::open_count(state),
+        Files {
+            id: key.id,
+            file: next,
+            ends: 0,
+            old: 0,
+        },
+    )
 }
 
 // What is to be done for METADATA. Nothing changes.

@@ -39,6 +39,7 @@ use Rattle.engine_state.specs.Layout.{nextField}
 use Rattle.engine_state.specs.State.{snapshotIn, numberIn, heldState, takenOut, closedState}
 use Rattle.engine_state.proofs.StateLaws.{held-known}
 use Rattle.engine_open.specs.Opened.{meetState, roomState}
+use Rattle.engine_open.specs.Making.{emptied}
 use Rattle.engine_open.proofs.TakenLaws.{taken-held}
 
 -- ---- the state is held, and the packet is METADATA
@@ -132,7 +133,7 @@ pub record Making (s p : List ℕ) (f : Files) : Type 0 where
   pub below : f .file < lastNumber
   -- the transfer that ends for it is open, and the room is without it
   pub ends-open : f .ends ≡ 1 → isOpen (snapshotIn s) (f .id) ≡ true
-  pub room-is : cond (eqb (f .ends) 1) (closedState s (f .id)) s ≡ roomState s (f .id) (digestOf p)
+  pub room-is : emptied s (f .id) (f .ends) ≡ roomState s (f .id) (digestOf p)
   -- the room holds a table, with a place for one transfer more
   pub has-room : Octets s → Octets p → (judged (roomState s (f .id) (digestOf p)) ≡ true) × (wordAt (roomState s (f .id) (digestOf p)) 0 < transferPlaces)
 
@@ -150,7 +151,7 @@ files-end s i d n = go (isOpen (snapshotIn s) i) (not (sameDigest (slotOf (snaps
     go false c = ((λ q. absurd (omega arith)), refl)
 
 pub make-known : (s p : List ℕ) (f : Files) → meetState s p ≡ meeting.Make f → Making s p f
-unfolding filesFor
+unfolding filesFor emptied
 make-known s p f e =
     let h = state-held s p (meeting.Make f) (λ q. let y : _≡_ {A = ℕ} 0 1 = cc in omega arith) e in
     let k = meet-make (snapshotIn s) (numberIn s nextField) p f (h .1) in

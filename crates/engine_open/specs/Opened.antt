@@ -16,18 +16,15 @@ use Rattle.engine_slots.specs.declared.Meeting.{Meeting}
 use Rattle.engine_slots.specs.declared.Meeting.the-variants as meeting
 use Rattle.engine_slots.specs.Slots.{setSlot, insertSlot}
 use Rattle.engine_model.specs.Snapshots.{isOpen, isBusy, slotOf, fileOf, ownedBy, heardAt, newSlot}
-use Rattle.engine_model.specs.Meetings.{digestOf, isOther, meet}
+use Rattle.engine_model.specs.Meetings.{digestOf, isOther}
 use Rattle.engine_model.specs.Engine.{metadataId}
 use Rattle.engine_state.specs.Layout.{numberField, nextField}
 use Rattle.engine_state.specs.State.{snapshotIn, numberIn, setNumber, heldState, changedState, closedState}
+unfoldable pub use Rattle.engine_meet.specs.Meet.{meetState}
 use Rattle.engine_open.specs.declared.Closed.{Closed}
 use Rattle.engine_open.specs.declared.Closed.the-variants as closed
 
 -- ---- METADATA
-
--- 22 first
-unfoldable pub meetState : List ℕ → List ℕ → Meeting
-meetState s p = cond (heldState s) (meet (snapshotIn s) (numberIn s nextField) p) (meeting.Refused (refusalOf 22))
 
 -- the owner sends its METADATA again, or another sender the same; n is the number of the next sync
 unfoldable pub keptState : List ℕ → ℕ → Sender → ℕ → ℕ → List ℕ

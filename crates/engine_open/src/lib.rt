@@ -1,26 +1,21 @@
-// METADATA: what is to be done for it, and opening once that was done. And closing.
+// METADATA once what it asks for was done, and closing.
 ghost use mathlib.Core.Path.{_≡_};
 ghost use mathlib.Core.Bool.{true};
-ghost use Prim.Native.Nat.{_≤_};
+ghost use Prim.Native.Nat.{suc, _≤_, _<_};
 ghost use lib.ListN.{length};
-ghost use lib.Dec.{eqb};
-ghost use mathlib.Core.Bool.{not, _&&_};
-ghost use Rattle.header.specs.FirstWord.{bits};
-ghost use Rattle.packet_metadata.specs.Metadata.{metadataRefusal, readMetadata};
-ghost use Rattle.table.specs.Open.{openKey};
-ghost use Rattle.area.specs.Places.{readTable, KeptAt};
+ghost use Rattle.words.specs.Words.{wordAt};
+ghost use Rattle.area.specs.Layout.{transferPlaces};
 ghost use Rattle.area.specs.Judge.{judged};
-ghost use Rattle.engine_model.specs.Snapshots.{isComplete, sameDigest};
-ghost use Rattle.engine_model.specs.Meetings.{roomFor, meetEnded, meetOther, meetRead};
-ghost use Rattle.engine_state.specs.Layout.{stateOctets, nextField};
-ghost use Rattle.engine_state.specs.State.{snapshotIn, numberIn, heldState};
-ghost use Rattle.engine_open.specs.Cases.{newMeeting, sameMeeting};
-ghost use Rattle.engine_open.specs.Opened.{meetState};
-use engine_slots::Digest;
+ghost use Rattle.engine_model.specs.Snapshots.{isOpen};
+ghost use Rattle.engine_state.specs.Layout.{stateOctets, numberField};
+ghost use Rattle.engine_state.specs.State.{snapshotIn, numberIn, heldState, changedState, closedState};
+ghost use Rattle.engine_open.specs.Opened.{meetState, keptState, putIn, madeState, openedState, closing, goneState};
+ghost use Rattle.engine_open.specs.Making.{Makes, emptied};
 use engine_slots::Files;
 use engine_slots::Meeting;
+use engine_slots::Sender;
+use engine_slots::Slot;
 use refusals::Refusal;
-use transfer::Key;
 
 // What closing answers: refused; nothing yet, since the page is complete and not reported; or the file of what was closed.
 pub enum Closed {
@@ -29,150 +24,134 @@ pub enum Closed {
     Gone(u64),
 }
 
-// Bit 12 of a packet, by its flags: the sender has ended the transfer.
-fn says_ended(flags: u64) -> bool
-    ensures { λ r. ⌜ r ≡ eqb (bits 24 flags 4 4) 1 ⌝ }
-{
-    (flags >> 19) % 2 == 1
-}
-
-fn same_digest(d: Digest, e: Digest) -> bool
-    ensures { λ r. ⌜ r ≡ sameDigest d e ⌝ }
-{
-    if d.first != e.first {
-        return false;
-    }
-    d.second == e.second
-}
-
-// A transfer is to be opened with these files, beside `count` others.
-fn meet_new(unwanted: u64, count: u64, files: Files) -> Meeting
-    ensures { λ r. ⌜ r ≡ newMeeting unwanted count files ⌝ }
-{
-    if unwanted != 0 {
-        return Meeting::Refused(refusals::refuse(unwanted));
-    }
-    if (area::TRANSFERS as u64) <= count {
-        return Meeting::Refused(refusals::refuse(17));
-    }
-    if engine_state::LAST_NUMBER <= files.file {
-        return Meeting::Refused(refusals::refuse(17));
-    }
-    Meeting::Make(files)
-}
-
-// The METADATA of the open transfer comes again.
-fn meet_same(held: Key, key: Key, file: u64) -> Meeting
-    ensures { λ r. ⌜ r ≡ sameMeeting held key file ⌝ }
-{
-    if held.width != key.width {
-        return Meeting::Refused(refusals::refuse(18));
-    }
-    if held.length != key.length {
-        return Meeting::Refused(refusals::refuse(18));
-    }
-    Meeting::Kept(file)
-}
-
-// Whether the page of an Id is complete and was not reported yet, by what its slot says of that.
-fn busy(state: &[u8], id: u64, reported: u64) -> bool
-    requires { ⌜ judged (now state) ≡ true ⌝ }
-    ensures { λ r. ⌜ r ≡ isComplete (snapshotIn (now (state .entry))) id && not (eqb reported 1) ⌝ }
-{
-    if engine_state::is_complete(state, id) {
-        return reported != 1;
-    }
-    false
-}
-
-// METADATA that ends the transfer of its Id.
-fn meet_ended(state: &[u8], id: u64) -> Meeting
-    requires { ⌜ heldState (now state) ≡ true ⌝ }
-    ensures { λ r. ⌜ r ≡ meetEnded (snapshotIn (now (state .entry))) id ⌝ }
+// An open Id is taken out of what is now.
+fn take(state: &mut [u8], id: u64)
+    requires { ⌜ (heldState (now state) ≡ true) × (isOpen (snapshotIn (now state)) id ≡ true) ⌝ }
+    ensures { λ _. ⌜ now (state .exit) ≡ closedState (now (state .entry)) id ⌝ }
 {
     let place = area::find_place(state, id);
-    if !place.open {
-        return Meeting::Refused(refusals::refuse(12));
-    }
-    let slot = engine_slots::slot_at(state, place.at);
-    if busy(state, id, slot.reported) {
-        return Meeting::Wait;
-    }
-    Meeting::Ended(slot.file)
+    engine_state::take_out(state, place.at, id);
 }
 
-// METADATA of an Id that is open at a place: its own, or other METADATA, for which that transfer ends.
-fn meet_open(state: &[u8], at: usize, next: u64, unwanted: u64, key: Key, digest: Digest) -> Meeting
-    requires { ⌜ (heldState (now state) ≡ true) × KeptAt (key .id) (readTable (now state)) at ⌝ }
-    ensures { λ r. ⌜ r ≡ meetOther (snapshotIn (now (state .entry))) (key .id) digest next
-        (openKey (roomFor (snapshotIn (now (state .entry))) (key .id) digest .table) unwanted key .answer) ⌝ }
+// The same, and that something is to be saved.
+fn end(state: &mut [u8], id: u64)
+    requires { ⌜ (heldState (now state) ≡ true) × (isOpen (snapshotIn (now state)) id ≡ true) ⌝ }
+    ensures { λ _. ⌜ now (state .exit) ≡ changedState (closedState (now (state .entry)) id) ⌝ }
 {
-    let slot = engine_slots::slot_at(state, at);
-    let held = slot.digest;
-    if same_digest(held, digest) {
-        return meet_same(area::key_at(state, at), key, slot.file);
-    }
-    if busy(state, key.id, slot.reported) {
-        return Meeting::Wait;
-    }
-    let others = area::open_count(state) - 1;
-    meet_new(
-        unwanted,
-        others,
-        Files {
-            id: key.id,
-            file: next,
-            ends: 1,
-            old: slot.file,
-        },
-    )
+    take(state, id);
+    engine_state::set_number(state, engine_state::CHANGED, 1);
 }
 
-// METADATA that was read.
-fn meet_read(state: &[u8], packet: &[u8]) -> Meeting
-    requires { ⌜ (heldState (now state) ≡ true) × (metadataRefusal (now packet) ≡ 0) ⌝ }
-    ensures { λ r. ⌜ r ≡ meetRead (snapshotIn (now (state .entry))) (numberIn (now (state .entry)) nextField) (now (packet .entry)) (readMetadata (now (packet .entry))) ⌝ }
+// METADATA of the open transfer: its sender is the owner, and an answer is due once the next sync came back.
+fn keep(state: &mut [u8], time: u64, sender: Sender, id: u64)
+    requires { ⌜ (heldState (now state) ≡ true) × (isOpen (snapshotIn (now state)) id ≡ true) ⌝ }
+    ensures { λ _. ⌜ now (state .exit) ≡ keptState (now (state .entry)) time sender (suc (numberIn (now (state .entry)) numberField)) id ⌝ }
 {
-    let fields = packet_metadata::metadata_fields(packet);
-    let key = transfer::key_of(fields);
-    if says_ended(fields.flags) {
-        return meet_ended(state, key.id);
-    }
-    let unwanted = transfer::new_refusal(fields.flags);
-    let next = engine_state::number(state, engine_state::NEXT);
-    let place = area::find_place(state, key.id);
-    if place.open {
-        return meet_open(
-            state,
-            place.at,
-            next,
-            unwanted,
-            key,
-            engine_digest::digest_of(packet),
-        );
-    }
-    meet_new(
-        unwanted,
-        area::open_count(state),
-        Files {
-            id: key.id,
-            file: next,
-            ends: 0,
-            old: 0,
-        },
-    )
+    let place = area::find_place(state, id);
+    let at = place.at;
+    let old = engine_slots::slot_at(state, at);
+    let digest = old.digest;
+    let due = engine_state::number(state, engine_state::NUMBER) + 1;
+    let slot = Slot {
+        file: old.file,
+        owner: sender,
+        digest,
+        named: old.named,
+        reported: old.reported,
+        due,
+        asked: old.asked,
+        heard: time,
+    };
+    engine_slots::set_slot(state, at, slot);
+    engine_state::set_number(state, engine_state::CHANGED, 1);
 }
 
-// What is to be done for METADATA. Nothing changes.
-pub fn meet(state: &[u8], packet: &[u8]) -> Meeting
-    ensures { λ r. ⌜ r ≡ meetState (now (state .entry)) (now (packet .entry)) ⌝ }
+// Where the Id is open for other METADATA, that transfer is taken out.
+fn make_room(state: &mut [u8], id: u64, ends: u64)
+    requires { ⌜ (heldState (now state) ≡ true) × (ends ≡ 1 → isOpen (snapshotIn (now state)) id ≡ true) ⌝ }
+    ensures { λ _. ⌜ now (state .exit) ≡ emptied (now (state .entry)) id ends ⌝ }
+{
+    if ends == 1 {
+        take(state, id);
+    }
+}
+
+// A new transfer is put in, and its slot beside it. Sync `due` will cover its answer.
+fn put_in(state: &mut [u8], time: u64, due: u64, sender: Sender, packet: &[u8], files: Files)
+    requires { ⌜ (stateOctets ≤ length (now state)) × (judged (now state) ≡ true) × (wordAt (now state) 0 < transferPlaces) ⌝ }
+    ensures { λ _. ⌜ now (state .exit) ≡ putIn (now (state .entry)) time due sender (now (packet .entry)) files ⌝ }
+{
+    let digest = engine_digest::digest_of(packet);
+    let count = area::open_count(state) as usize;
+    let place = area::find_place(state, files.id);
+    let at = place.at;
+    area_open::open(state, packet);
+    let slot = Slot {
+        file: files.file,
+        owner: sender,
+        digest,
+        named: 0,
+        reported: 0,
+        due,
+        asked: 0,
+        heard: time,
+    };
+    engine_slots::insert_slot(state, count, at, slot);
+}
+
+// The files were made: the transfer is opened, in the place of another one where that ends for it.
+fn make(state: &mut [u8], time: u64, sender: Sender, packet: &[u8], files: Files)
+    requires { ⌜ Makes (now state) (now packet) files ⌝ }
+    ensures { λ _. ⌜ now (state .exit) ≡ madeState (now (state .entry)) time sender (now (packet .entry)) files ⌝ }
+{
+    let due = engine_state::number(state, engine_state::NUMBER) + 1;
+    make_room(state, files.id, files.ends);
+    put_in(state, time, due, sender, packet, files);
+    engine_state::set_number(state, engine_state::NEXT, files.file + 1);
+    engine_state::set_number(state, engine_state::CHANGED, 1);
+}
+
+// What METADATA asked for was done; where files were to be made, they were made well or not. Answers what was to be done.
+pub fn open(state: &mut [u8], time: u64, sender: Sender, packet: &[u8], well: bool) -> Meeting
+    ensures { λ r. ⌜ (r ≡ meetState (now (state .entry)) (now (packet .entry)))
+        × (now (state .exit) ≡ openedState (now (state .entry)) time sender (now (packet .entry)) well) ⌝ }
+{
+    let met = engine_meet::meet(state, packet);
+    match met {
+        Meeting::Refused(_) => {}
+        Meeting::Wait => {}
+        Meeting::Kept(_) => {
+            let fields = packet_metadata::metadata_fields(packet);
+            keep(state, time, sender, fields.id);
+        }
+        Meeting::Ended(_) => {
+            let fields = packet_metadata::metadata_fields(packet);
+            end(state, fields.id);
+        }
+        Meeting::Make(files) => {
+            if well {
+                make(state, time, sender, packet, files);
+            }
+        }
+    }
+    met
+}
+
+// Closes an Id, by the operator or since its time is over.
+pub fn close(state: &mut [u8], id: u64) -> Closed
+    ensures { λ r. ⌜ (r ≡ closing (now (state .entry)) id) × (now (state .exit) ≡ goneState (now (state .entry)) id) ⌝ }
 {
     if !engine_state::held(state) {
-        return Meeting::Refused(refusals::refuse(22));
+        return Closed::Refused(refusals::refuse(22));
     }
-    let unread = packet_metadata::metadata_refusal(packet);
-    if unread != 0 {
-        return Meeting::Refused(refusals::refuse(unread));
+    let place = area::find_place(state, id);
+    if !place.open {
+        return Closed::Refused(refusals::refuse(12));
     }
-    meet_read(state, packet)
+    let slot = engine_slots::slot_at(state, place.at);
+    if engine_meet::busy(state, id, slot.reported) {
+        return Closed::Wait;
+    }
+    end(state, id);
+    Closed::Gone(slot.file)
 }

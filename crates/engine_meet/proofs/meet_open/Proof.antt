@@ -1,4 +1,4 @@
--- `engine_open::meet_open` meets its contract: kept or 18, nothing yet, or what a new transfer meets. Assumes nothing.
+-- `engine_meet::meet_open` meets its contract: kept or 18, nothing yet, or what a new transfer meets. Assumes nothing.
 use Prim.Native.Nat.{ℕ, suc, _<_, _≤_}
 use mathlib.Core.Path.{_≡_, sym, _∙_}
 use mathlib.Core.Bool.{true}
@@ -12,9 +12,9 @@ use Rattle.area.proofs.KeptLaws.{kept-known}
 use Rattle.engine_state.specs.Layout.{stateOctets}
 use Rattle.engine_state.proofs.StateLaws.{held-known, kept-used}
 use lib.ListN.{length}
-use Rattle.engine_open.proofs.SlotLaws.{kept-told, other-waits, other-opens}
-use Rattle.engine_open.proofs.meet_open.Statement.{statement}
-use Rattle.engine_open.proofs.meet_open.Tie as tie
+use Rattle.engine_meet.proofs.SlotLaws.{kept-told, other-waits, other-opens}
+use Rattle.engine_meet.proofs.meet_open.Statement.{statement}
+use Rattle.engine_meet.proofs.meet_open.Tie as tie
 
 held : (s : tie.Start) → judged (now (s .args .state)) ≡ true
 held s = held-known (now (s .args .state)) (s .pre .0) .now-judged

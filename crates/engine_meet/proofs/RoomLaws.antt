@@ -28,8 +28,8 @@ use Rattle.engine_slots.specs.declared.Meeting.the-variants as meeting
 use Rattle.engine_model.specs.Snapshots.{Snapshot, keyIn, isOpen, isBusy, slotOf, fileOf, sameDigest, without, closedIn}
 use Rattle.engine_model.specs.Meetings.{lastNumber, isOther, roomFor, filesFor, meetOpened, meetEnded, meetOther}
 use Rattle.engine_model.proofs.PlaceLaws.{removed-one}
-use Rattle.engine_open.specs.Cases.{newMeeting, sameMeeting}
-use Rattle.engine_open.proofs.CaseLaws.{new-unwanted, new-full, new-last, new-made}
+use Rattle.engine_meet.specs.Cases.{newMeeting, sameMeeting}
+use Rattle.engine_meet.proofs.CaseLaws.{new-unwanted, new-full, new-last, new-made}
 
 -- ---- the sender ends the transfer
 

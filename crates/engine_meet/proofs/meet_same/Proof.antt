@@ -1,11 +1,11 @@
--- `engine_open::meet_same` meets its contract: 18, or kept. Assumes nothing.
+-- `engine_meet::meet_same` meets its contract: 18, or kept. Assumes nothing.
 use mathlib.Core.Path.{ap, _∙_}
 use native.Mathlib.Omega.{arith}
 use borrow.Author.Needs.{needs}
 use Rattle.engine_slots.specs.declared.Meeting.the-variants as meeting
-use Rattle.engine_open.proofs.CaseLaws.{other-width, other-length, same-key}
-use Rattle.engine_open.proofs.meet_same.Statement.{statement}
-use Rattle.engine_open.proofs.meet_same.Tie as tie
+use Rattle.engine_meet.proofs.CaseLaws.{other-width, other-length, same-key}
+use Rattle.engine_meet.proofs.meet_same.Statement.{statement}
+use Rattle.engine_meet.proofs.meet_same.Tie as tie
 
 returns : tie.Need-returns
 returns c = ap meeting.Refused (c .refuse .ensures) ∙ other-width _ _ _ (λ q. omega arith)

@@ -1,11 +1,11 @@
--- `engine_open::meet_new` meets its contract: the first refusal, or the files. Assumes nothing.
+-- `engine_meet::meet_new` meets its contract: the first refusal, or the files. Assumes nothing.
 use mathlib.Core.Path.{ap, _∙_}
 use native.Mathlib.Omega.{arith}
 use borrow.Author.Needs.{needs}
 use Rattle.engine_slots.specs.declared.Meeting.the-variants as meeting
-use Rattle.engine_open.proofs.CaseLaws.{new-unwanted, new-full, new-last, new-made}
-use Rattle.engine_open.proofs.meet_new.Statement.{statement}
-use Rattle.engine_open.proofs.meet_new.Tie as tie
+use Rattle.engine_meet.proofs.CaseLaws.{new-unwanted, new-full, new-last, new-made}
+use Rattle.engine_meet.proofs.meet_new.Statement.{statement}
+use Rattle.engine_meet.proofs.meet_new.Tie as tie
 
 returns : tie.Need-returns
 returns c = ap meeting.Refused (c .refuse .ensures) ∙ new-unwanted _ _ _ (λ q. omega arith)

@@ -1,8 +1,8 @@
--- `engine_open::busy` meets its contract. Assumes nothing.
+-- `engine_meet::busy` meets its contract. Assumes nothing.
 use mathlib.Core.Path.{_≡_, sym, _∙_}
 use borrow.Author.Needs.{needs}
-use Rattle.engine_open.proofs.busy.Statement.{statement}
-use Rattle.engine_open.proofs.busy.Tie as tie
+use Rattle.engine_meet.proofs.busy.Statement.{statement}
+use Rattle.engine_meet.proofs.busy.Tie as tie
 
 returns : tie.Need-returns
 returns c = rw (← c .before .is-complete .ensures, c .if1 .taken)

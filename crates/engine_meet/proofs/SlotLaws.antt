@@ -25,9 +25,9 @@ use Rattle.engine_model.specs.Snapshots.{isComplete, isBusy, slotOf, fileOf, sa
 use Rattle.engine_model.specs.Meetings.{roomFor, meetEnded, meetOther}
 use Rattle.engine_state.specs.State.{snapshotIn}
 use Rattle.engine_state.proofs.StateLaws.{slot-known, kept-open, free-closed}
-use Rattle.engine_open.specs.Cases.{newMeeting, sameMeeting}
-use Rattle.engine_open.proofs.RoomLaws.{ended-busy, ended-idle, meet-free, meet-alike, meet-busy, meet-again}
-use Rattle.engine_open.proofs.HeldLaws.{key-kept, key-free}
+use Rattle.engine_meet.specs.Cases.{newMeeting, sameMeeting}
+use Rattle.engine_meet.proofs.RoomLaws.{ended-busy, ended-idle, meet-free, meet-alike, meet-busy, meet-again}
+use Rattle.engine_meet.proofs.HeldLaws.{key-kept, key-free}
 
 -- ---- an Id that is open at place p, with the slot x
 

@@ -10,7 +10,7 @@ use Rattle.area.specs.Layout.{transferPlaces}
 use Rattle.engine_slots.specs.declared.Files.{Files}
 use Rattle.engine_slots.specs.declared.Meeting.the-variants as meeting
 use Rattle.engine_model.specs.Meetings.{lastNumber}
-use Rattle.engine_open.specs.Cases.{newMeeting, sameMeeting}
+use Rattle.engine_meet.specs.Cases.{newMeeting, sameMeeting}
 
 module _ (u c : ℕ) (f : Files) where
   pub new-unwanted : (u ≡ 0 → ⊥) → meeting.Refused (refusalOf u) ≡ newMeeting u c f

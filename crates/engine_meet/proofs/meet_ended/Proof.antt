@@ -1,4 +1,4 @@
--- `engine_open::meet_ended` meets its contract: 12, nothing yet, or the file that ends. Assumes nothing.
+-- `engine_meet::meet_ended` meets its contract: 12, nothing yet, or the file that ends. Assumes nothing.
 use mathlib.Core.Path.{_≡_, sym, ap, _∙_}
 use mathlib.Core.Bool.{true}
 use native.Mathlib.Omega.{arith}
@@ -10,11 +10,11 @@ use Rattle.area.specs.Judge.{judged}
 use Rattle.area.proofs.KeptLaws.{place-open, place-free, kept-known}
 use Rattle.engine_slots.specs.declared.Meeting.the-variants as meeting
 use Rattle.engine_state.proofs.StateLaws.{held-known, free-closed}
-use Rattle.engine_open.proofs.RoomLaws.{ended-none}
-use Rattle.engine_open.proofs.SlotLaws.{end-waits, end-told}
+use Rattle.engine_meet.proofs.RoomLaws.{ended-none}
+use Rattle.engine_meet.proofs.SlotLaws.{end-waits, end-told}
 use Rattle.engine_state.specs.State.{snapshotIn}
-use Rattle.engine_open.proofs.meet_ended.Statement.{statement}
-use Rattle.engine_open.proofs.meet_ended.Tie as tie
+use Rattle.engine_meet.proofs.meet_ended.Statement.{statement}
+use Rattle.engine_meet.proofs.meet_ended.Tie as tie
 
 held : (s : tie.Start) → judged (now (s .args .state)) ≡ true
 held s = held-known (now (s .args .state)) (s .pre) .now-judged

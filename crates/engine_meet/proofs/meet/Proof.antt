@@ -1,4 +1,4 @@
--- `engine_open::meet` meets its contract: 22, then the reader's refusals, then what METADATA meets. Assumes nothing.
+-- `engine_meet::meet` meets its contract: 22, then the reader's refusals, then what METADATA meets. Assumes nothing.
 use mathlib.Core.Path.{_≡_, sym, ap, _∙_}
 use mathlib.Core.Bool.{true}
 use native.Mathlib.Omega.{arith}
@@ -8,9 +8,9 @@ use borrow.Author.Tests.{not-true, not-false}
 use Rattle.refusals.specs.Refusals.{refusalOf}
 use Rattle.engine_slots.specs.declared.Meeting.the-variants as meeting
 use Rattle.engine_state.specs.State.{heldState}
-use Rattle.engine_open.proofs.ReadLaws.{state-refused, packet-refused, packet-met}
-use Rattle.engine_open.proofs.meet.Statement.{statement}
-use Rattle.engine_open.proofs.meet.Tie as tie
+use Rattle.engine_meet.proofs.ReadLaws.{state-refused, packet-refused, packet-met}
+use Rattle.engine_meet.proofs.meet.Statement.{statement}
+use Rattle.engine_meet.proofs.meet.Tie as tie
 
 returns : tie.Need-returns
 returns c =

@@ -1,4 +1,4 @@
--- `engine_open::meet_read` meets its contract: METADATA that ends, of an open Id, or of a new one. Assumes nothing.
+-- `engine_meet::meet_read` meets its contract: METADATA that ends, of an open Id, or of a new one. Assumes nothing.
 use Prim.Native.Nat.{ℕ}
 use mathlib.Core.Path.{_≡_, refl, sym, ap, _∙_}
 use mathlib.Core.Bool.{true}
@@ -12,10 +12,10 @@ use Rattle.engine_model.specs.Meetings.{digestOf}
 use Rattle.engine_state.specs.Layout.{nextField}
 use Rattle.engine_state.specs.State.{snapshotIn, numberIn}
 use Rattle.engine_state.proofs.StateLaws.{held-known}
-use Rattle.engine_open.proofs.SlotLaws.{free-opens}
-use Rattle.engine_open.proofs.ReadLaws.{read-ended, read-other}
-use Rattle.engine_open.proofs.meet_read.Statement.{statement}
-use Rattle.engine_open.proofs.meet_read.Tie as tie
+use Rattle.engine_meet.proofs.SlotLaws.{free-opens}
+use Rattle.engine_meet.proofs.ReadLaws.{read-ended, read-other}
+use Rattle.engine_meet.proofs.meet_read.Statement.{statement}
+use Rattle.engine_meet.proofs.meet_read.Tie as tie
 
 held : (s : tie.Start) → judged (now (s .args .state)) ≡ true
 held s = held-known (now (s .args .state)) (s .pre .0) .now-judged

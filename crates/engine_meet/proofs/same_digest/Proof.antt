@@ -1,9 +1,9 @@
--- `engine_open::same_digest` meets its contract. Assumes nothing.
+-- `engine_meet::same_digest` meets its contract. Assumes nothing.
 use native.Mathlib.Omega.{arith}
 use borrow.Author.Tests.{eq-eqb, ne-eqb}
 use Rattle.engine_model.specs.Snapshots.{sameDigest}
-use Rattle.engine_open.proofs.same_digest.Statement.{statement}
-use Rattle.engine_open.proofs.same_digest.Tie as tie
+use Rattle.engine_meet.proofs.same_digest.Statement.{statement}
+use Rattle.engine_meet.proofs.same_digest.Tie as tie
 
 returns : tie.Need-returns
 unfolding sameDigest

@@ -26,7 +26,7 @@ use Rattle.engine_model.specs.Snapshots.{Snapshot}
 use Rattle.engine_model.specs.Meetings.{digestOf, endedBy, roomFor, meetEnded, meetOther, meetRead, meet}
 use Rattle.engine_state.specs.Layout.{nextField}
 use Rattle.engine_state.specs.State.{snapshotIn, numberIn, heldState}
-use Rattle.engine_open.specs.Opened.{meetState}
+use Rattle.engine_meet.specs.Meet.{meetState}
 
 pub read-accepted : (p : List ℕ) → metadataRefusal p ≡ 0 → readMetadata p ≡ metadata-read.Accepted (metadataOf p)
 unfolding readMetadata

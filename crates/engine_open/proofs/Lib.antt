@@ -1,3 +1,4 @@
 pub mod FrontLaws
 pub mod TakenLaws
 pub mod MadeLaws
+pub mod ChangeLaws

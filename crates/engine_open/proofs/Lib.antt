@@ -2,3 +2,4 @@ pub mod FrontLaws
 pub mod TakenLaws
 pub mod MadeLaws
 pub mod ChangeLaws
+pub mod OpenedLaws

@@ -1,7 +1,7 @@
 -- What METADATA meets, test by test.
 -- Assumes nothing.
 use Prim.Native.Nat.{ℕ, _≤_, _<_}
-use mathlib.Core.Path.{_≡_, refl, sym}
+use mathlib.Core.Path.{_≡_}
 use borrow.Author.Tests.{le-leb, lt-leb, eq-eqb, ne-eqb}
 use Rattle.refusals.specs.Refusals.{refusalOf}
 use Rattle.refusals.proofs.RefusalLaws.{stays, answered-refused}

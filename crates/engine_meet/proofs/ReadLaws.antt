@@ -1,19 +1,18 @@
 -- METADATA that was read: it ends the transfer of its Id, or is to open one.
 -- Assumes nothing.
 use Prim.Native.Nat.{ℕ}
-use mathlib.Core.Path.{_≡_, refl, sym, ap, _∙_}
+use mathlib.Core.Path.{_≡_, sym, ap, _∙_}
 use mathlib.Core.Bool.{Bool, true, false}
 use mathlib.Core.List.{List}
 use lib.Dec.{eqb}
 use Rattle.header.specs.FirstWord.{bits}
 use Rattle.packet_metadata.specs.Metadata.{metadataRefusal, metadataOf, readMetadata}
 use Rattle.packet_metadata.specs.declared.Metadata.{Metadata}
-use Rattle.packet_metadata.specs.declared.MetadataRead.{MetadataRead}
 use Rattle.packet_metadata.specs.declared.MetadataRead.the-variants as metadata-read
 use Rattle.refusals.specs.Refusals.{refusalOf}
 use Rattle.refusals.proofs.RefusalLaws.{answered-refused}
 use Rattle.transfer.specs.declared.Key.{Key}
-use Rattle.transfer.specs.Transfers.{Transfer, keyOf}
+use Rattle.transfer.specs.Transfers.{keyOf}
 use Rattle.transfer.specs.Opening.{newRefusal}
 use Rattle.table.specs.Open.{openKey, openPacket}
 use Rattle.table.specs.Outcome.{Outcome}

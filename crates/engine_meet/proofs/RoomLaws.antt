@@ -22,10 +22,9 @@ use Rattle.table.proofs.TableLaws.{length-keys}
 use Rattle.table.proofs.FineLaws.{find-remove-same}
 use Rattle.area.specs.Layout.{transferPlaces}
 use Rattle.engine_slots.specs.declared.Digest.{Digest}
-use Rattle.engine_slots.specs.declared.Files.{Files}
 use Rattle.engine_slots.specs.declared.Meeting.{Meeting}
 use Rattle.engine_slots.specs.declared.Meeting.the-variants as meeting
-use Rattle.engine_model.specs.Snapshots.{Snapshot, keyIn, isOpen, isBusy, slotOf, fileOf, sameDigest, without, closedIn}
+use Rattle.engine_model.specs.Snapshots.{Snapshot, isOpen, isBusy, slotOf, fileOf, sameDigest, without, closedIn}
 use Rattle.engine_model.specs.Meetings.{lastNumber, isOther, roomFor, filesFor, meetOpened, meetEnded, meetOther}
 use Rattle.engine_model.proofs.PlaceLaws.{removed-one}
 use Rattle.engine_meet.specs.Cases.{newMeeting, sameMeeting}

@@ -4,8 +4,6 @@ use Prim.Native.Nat.{ℕ, suc}
 use mathlib.Core.Path.{_≡_, sym, ap, _∙_}
 use mathlib.Core.Bool.{Bool, true, false, not, _&&_}
 use mathlib.Core.List.{List}
-use native.Mathlib.Omega.{arith}
-use lib.ListN.{length}
 use lib.Dec.{eqb}
 use Rattle.words.specs.Words.{wordAt}
 use Rattle.transfer.specs.declared.Key.{Key}
@@ -17,7 +15,6 @@ use Rattle.area.proofs.JudgeLaws.{judged-passed}
 use Rattle.area.proofs.KeptLaws.{FreeAt}
 use Rattle.engine_slots.specs.declared.Digest.{Digest}
 use Rattle.engine_slots.specs.declared.Slot.{Slot}
-use Rattle.engine_slots.specs.declared.Files.{Files}
 use Rattle.engine_slots.specs.declared.Meeting.{Meeting}
 use Rattle.engine_slots.specs.declared.Meeting.the-variants as meeting
 use Rattle.engine_slots.specs.Slots.{slotAt}

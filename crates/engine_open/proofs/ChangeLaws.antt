@@ -1,7 +1,7 @@
 -- What each change leaves of the state, by what the functions that it calls leave, in their order.
 -- Assumes nothing.
 use Prim.Native.Nat.{ℕ, suc, _<_}
-use mathlib.Core.Path.{_≡_, refl, sym, ap, _∙_}
+use mathlib.Core.Path.{_≡_, sym, ap, _∙_}
 use mathlib.Core.Bool.{true, false}
 use mathlib.Core.List.{List}
 use borrow.Author.Tests.{eq-eqb, ne-eqb}
@@ -49,44 +49,28 @@ module _ (s : List ℕ) (i ends : ℕ) where
 
 -- ---- METADATA of the open transfer
 
--- the slot with another owner, an answer that is due, and a time
-abbrev pub heardSlot : Slot → ℕ → Sender → Digest → ℕ → Slot
-heardSlot old t r d n = record {
-  file = old .file;
-  owner = r;
-  digest = d;
-  named = old .named;
-  reported = old .reported;
-  due = n;
-  asked = old .asked;
-  heard = t;
-}
-
-pub kept-is : (s : List ℕ) (i p : ℕ) → KeptAt i (readTable s) p → (old : Slot) → old ≡ slotAt s p → (t : ℕ) (r : Sender) (d : Digest) → d ≡ old .digest
-    → (n : ℕ) → n ≡ suc (numberIn s numberField) → (b c : List ℕ) → b ≡ setSlot s p (heardSlot old t r d n) → c ≡ setNumber b changedField 1
+pub kept-is : (s : List ℕ) (i p : ℕ) → KeptAt i (readTable s) p → (old : Slot) → old ≡ slotAt s p → (n : ℕ) → n ≡ suc (numberIn s numberField) → (t : ℕ) (r : Sender)
+    → (x : Slot) → x ≡ heardAt t n true false (ownedBy r old) → (b c : List ℕ) → b ≡ setSlot s p x → c ≡ setNumber b changedField 1
     → c ≡ keptState s t r (suc (numberIn s numberField)) i
-unfolding keptState heardAt
-kept-is s i p h old e t r d de n ne b c f g =
+unfolding keptState
+kept-is s i p h old e n ne t r x xe b c f g =
     let same : old ≡ slotOf (snapshotIn s) i = e ∙ sym (slot-known s i p h) in
-    g
-    ∙ ap (λ (a : List ℕ). setNumber a changedField 1)
-    (f
-    ∙ ap (λ (y : Digest). setSlot s p (heardSlot old t r y n)) de
-    ∙ ap (λ (m : ℕ). setSlot s p (heardSlot old t r (old .digest) m)) ne
-    ∙ ap (λ (x : Slot). setSlot s p (heardSlot x t r (x .digest) (suc (numberIn s numberField)))) same
-    ∙ ap (λ (q : ℕ). setSlot s q (heardAt t (suc (numberIn s numberField)) true false (ownedBy r (slotOf (snapshotIn s) i)))) (h .place))
+    let slot : x ≡ heardAt t (suc (numberIn s numberField)) true false (ownedBy r (slotOf (snapshotIn s) i)) =
+    xe ∙ (λ k. heardAt t (ne k) true false (ownedBy r (same k))) in
+    g ∙ ap (λ (a : List ℕ). setNumber a changedField 1) (f ∙ (λ k. setSlot s (h .place k) (slot k)))
 
 -- ---- a transfer put in
 
 pub put-is : (a p : List ℕ) (f : Files) → judged a ≡ true → (d : Digest) → d ≡ digestOf p → (n : ℕ) → n ≡ wordAt a 0
-    → (q : Place) → q ≡ placeIn (f .id) (readTable a) → (t due : ℕ) (r : Sender) (b c : List ℕ) → b ≡ openArea a p .area
-    → c ≡ insertSlot b n (q .at) (newSlot (f .file) r d due t) → c ≡ putIn a t due r p f
+    → (q : Place) → q ≡ placeIn (f .id) (readTable a) → (t due : ℕ) (r : Sender) (b : List ℕ) → b ≡ openArea a p .area
+    → (x : Slot) → x ≡ newSlot (f .file) r d due t → (c : List ℕ) → c ≡ insertSlot b n (q .at) x → c ≡ putIn a t due r p f
 unfolding putIn openArea placeIn
-put-is a p f j d de n ne q qe t due r b c g h =
+put-is a p f j d de n ne q qe t due r b g x xe c h =
     let stored : b ≡ storedIn a (openPacket (readTable a) p .table) =
     g ∙ ap (λ (x : OnArea Opened). x .area) (on-judged (opened.Refused (refusalOf 22)) (λ u. openPacket u p) a j) in
     let at : q .at ≡ placeOf (f .id) (readTable a) = ap (λ (x : Place). x .at) qe in
-    h ∙ (λ k. insertSlot (stored k) (ne k) (at k) (newSlot (f .file) r (de k) due t))
+    let slot : x ≡ newSlot (f .file) r (digestOf p) due t = xe ∙ ap (λ (y : Digest). newSlot (f .file) r y due t) de in
+    h ∙ (λ k. insertSlot (stored k) (ne k) (at k) (slot k))
 
 -- ---- files are made
 

@@ -1,19 +1,16 @@
 -- What is past the words of the area does not count for the table: octets with the same first words hold the same one.
 -- Assumes nothing.
 use Prim.Native.Nat.{ℕ, _≤_, _<_}
-use mathlib.Core.Path.{_≡_, sym, _∙_}
+use mathlib.Core.Path.{_≡_, _∙_}
 use mathlib.Core.Bool.{true}
 use mathlib.Core.List.{List}
-use mathlib.Core.Option.{some}
 use native.Mathlib.Omega.{arith}
 use lib.ListN.{length}
 use Rattle.octets.specs.Numbers.{Octets}
 use Rattle.words.specs.Words.{wordAt}
-use Rattle.transfer.specs.Transfers.{Transfer}
-use Rattle.table.specs.Tables.{Valid}
 use Rattle.area.specs.Layout.{areaWords, areaOctets, headAt, runAt, halfAt}
 use Rattle.area.specs.Places.{readTable, Holds, HoldsHalves}
-use Rattle.area.specs.Judge.{judged, tableOf}
+use Rattle.area.specs.Judge.{judged}
 use Rattle.area.proofs.PlaceLaws.{Few, length-transfers, read-holds, read-halves}
 use Rattle.area.proofs.JudgeLaws.{judged-passed, held-passes, held-passed}
 use Rattle.area.proofs.StoredLaws.{valid-few}

@@ -1,6 +1,6 @@
 -- What is known where METADATA meets something that changes the state.
 -- Assumes nothing.
-use Prim.Native.Nat.{ℕ, zero, suc, _≤_, _<_}
+use Prim.Native.Nat.{ℕ, zero, suc, _<_}
 use mathlib.Core.Path.{_≡_, refl, sym, ap, subst, _∙_}
 use mathlib.Core.Bool.{Bool, true, false, cond, not, _&&_}
 use mathlib.Core.List.{List}
@@ -12,7 +12,6 @@ use Rattle.refusals.specs.Refusals.{refusalOf, answered}
 use Rattle.words.specs.Words.{wordAt}
 use Rattle.packet_metadata.specs.Metadata.{metadataRefusal, metadataOf, readMetadata}
 use Rattle.packet_metadata.specs.declared.Metadata.{Metadata}
-use Rattle.packet_metadata.specs.declared.MetadataRead.{MetadataRead}
 use Rattle.packet_metadata.specs.declared.MetadataRead.the-variants as metadata-read
 use Rattle.transfer.specs.Transfers.{Transfer, keyOf}
 use Rattle.table.specs.Tables.{Valid, add}
@@ -34,7 +33,7 @@ use Rattle.engine_model.specs.Meetings.{lastNumber, digestOf, isOther, roomFor,
 use Rattle.engine_model.specs.Engine.{metadataId}
 use Rattle.engine_model.proofs.PlaceLaws.{place-inside}
 use Rattle.engine_model.proofs.FitLaws.{Fit, open-key}
-use Rattle.engine_model.proofs.MeetLaws.{meet-cases, Made, meet-make, Kept, meet-kept, kept-open, EndedBy, meet-ended}
+use Rattle.engine_model.proofs.MeetLaws.{meet-cases, meet-make, Kept, meet-kept, kept-open, meet-ended}
 use Rattle.engine_state.specs.Layout.{nextField}
 use Rattle.engine_state.specs.State.{snapshotIn, numberIn, heldState, takenOut, closedState}
 use Rattle.engine_state.proofs.StateLaws.{held-known}

@@ -16,7 +16,7 @@ use Rattle.engine_slots.specs.declared.Files.{Files}
 use Rattle.engine_slots.specs.declared.Meeting.{Meeting}
 use Rattle.engine_slots.specs.declared.Meeting.the-variants as meeting
 use Rattle.engine_slots.specs.Slots.{slotAt}
-use Rattle.engine_model.specs.Snapshots.{isOpen, isComplete, isBusy, fileOf}
+use Rattle.engine_model.specs.Snapshots.{isOpen, isComplete}
 use Rattle.engine_model.specs.Engine.{metadataId}
 use Rattle.engine_state.specs.Layout.{numberField}
 use Rattle.engine_state.specs.State.{snapshotIn, numberIn, heldState, changedState, closedState}

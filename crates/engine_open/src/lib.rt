@@ -1,16 +1,17 @@
 // METADATA once what it asks for was done, and closing.
 ghost use mathlib.Core.Path.{_≡_};
-ghost use mathlib.Core.Bool.{true};
+ghost use mathlib.Core.Bool.{true, false};
 ghost use Prim.Native.Nat.{suc, _≤_, _<_};
 ghost use lib.ListN.{length};
 ghost use Rattle.words.specs.Words.{wordAt};
 ghost use Rattle.area.specs.Layout.{transferPlaces};
 ghost use Rattle.area.specs.Judge.{judged};
-ghost use Rattle.engine_model.specs.Snapshots.{isOpen};
+ghost use Rattle.engine_model.specs.Snapshots.{isOpen, ownedBy, heardAt, newSlot};
 ghost use Rattle.engine_state.specs.Layout.{stateOctets, numberField};
 ghost use Rattle.engine_state.specs.State.{snapshotIn, numberIn, heldState, changedState, closedState};
 ghost use Rattle.engine_open.specs.Opened.{meetState, keptState, putIn, madeState, openedState, closing, goneState};
 ghost use Rattle.engine_open.specs.Making.{Makes, emptied};
+use engine_slots::Digest;
 use engine_slots::Files;
 use engine_slots::Meeting;
 use engine_slots::Sender;
@@ -22,6 +23,39 @@ pub enum Closed {
     Refused(Refusal),
     Wait,
     Gone(u64),
+}
+
+// The slot of a transfer whose METADATA came again, from any sender: that is the owner now, and sync `due` will cover the answer.
+fn heard_slot(old: Slot, sender: Sender, due: u64, time: u64) -> Slot
+    ensures { λ r. ⌜ r ≡ heardAt time due true false (ownedBy sender old) ⌝ }
+{
+    let digest = old.digest;
+    Slot {
+        file: old.file,
+        owner: sender,
+        digest,
+        named: old.named,
+        reported: old.reported,
+        due,
+        asked: old.asked,
+        heard: time,
+    }
+}
+
+// The slot of a transfer that METADATA opens.
+fn new_slot(file: u64, sender: Sender, digest: Digest, due: u64, time: u64) -> Slot
+    ensures { λ r. ⌜ r ≡ newSlot file sender digest due time ⌝ }
+{
+    Slot {
+        file,
+        owner: sender,
+        digest,
+        named: 0,
+        reported: 0,
+        due,
+        asked: 0,
+        heard: time,
+    }
 }
 
 // An open Id is taken out of what is now.
@@ -50,18 +84,8 @@ fn keep(state: &mut [u8], time: u64, sender: Sender, id: u64)
     let place = area::find_place(state, id);
     let at = place.at;
     let old = engine_slots::slot_at(state, at);
-    let digest = old.digest;
     let due = engine_state::number(state, engine_state::NUMBER) + 1;
-    let slot = Slot {
-        file: old.file,
-        owner: sender,
-        digest,
-        named: old.named,
-        reported: old.reported,
-        due,
-        asked: old.asked,
-        heard: time,
-    };
+    let slot = heard_slot(old, sender, due, time);
     engine_slots::set_slot(state, at, slot);
     engine_state::set_number(state, engine_state::CHANGED, 1);
 }
@@ -86,16 +110,7 @@ fn put_in(state: &mut [u8], time: u64, due: u64, sender: Sender, packet: &[u8], 
     let place = area::find_place(state, files.id);
     let at = place.at;
     area_open::open(state, packet);
-    let slot = Slot {
-        file: files.file,
-        owner: sender,
-        digest,
-        named: 0,
-        reported: 0,
-        due,
-        asked: 0,
-        heard: time,
-    };
+    let slot = new_slot(files.file, sender, digest, due, time);
     engine_slots::insert_slot(state, count, at, slot);
 }
 

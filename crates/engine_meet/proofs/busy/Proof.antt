@@ -1,5 +1,4 @@
 -- `engine_meet::busy` meets its contract. Assumes nothing.
-use mathlib.Core.Path.{_≡_, sym, _∙_}
 use borrow.Author.Needs.{needs}
 use Rattle.engine_meet.proofs.busy.Statement.{statement}
 use Rattle.engine_meet.proofs.busy.Tie as tie

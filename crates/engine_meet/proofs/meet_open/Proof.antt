@@ -1,14 +1,13 @@
 -- `engine_meet::meet_open` meets its contract: kept or 18, nothing yet, or what a new transfer meets. Assumes nothing.
-use Prim.Native.Nat.{ℕ, suc, _<_, _≤_}
-use mathlib.Core.Path.{_≡_, sym, _∙_}
+use Prim.Native.Nat.{_<_, _≤_}
+use mathlib.Core.Path.{_≡_, _∙_}
 use mathlib.Core.Bool.{true}
 use native.Mathlib.Omega.{arith}
 use denote.Ref.{now}
 use borrow.Author.Needs.{needs}
 use Rattle.words.specs.Words.{wordAt}
-use Rattle.area.specs.Layout.{transferPlaces, areaOctets}
+use Rattle.area.specs.Layout.{transferPlaces}
 use Rattle.area.specs.Judge.{judged}
-use Rattle.area.proofs.KeptLaws.{kept-known}
 use Rattle.engine_state.specs.Layout.{stateOctets}
 use Rattle.engine_state.proofs.StateLaws.{held-known, kept-used}
 use lib.ListN.{length}

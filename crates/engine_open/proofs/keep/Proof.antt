@@ -1,7 +1,6 @@
 -- `engine_open::keep` meets its contract: the slot at the place of the Id, with another owner. Assumes nothing.
-use Prim.Native.Nat.{suc, _<_, _≤_, _+_}
-use mathlib.Core.Path.{_≡_, refl, ap, _∙_}
-use mathlib.Core.Bool.{true}
+use Prim.Native.Nat.{suc, _<_, _≤_}
+use mathlib.Core.Path.{ap, _∙_}
 use native.Mathlib.Numerals.{add-one}
 use native.Mathlib.Omega.{arith}
 use lib.ListN.{length}
@@ -36,10 +35,10 @@ slot-at-requires : tie.Need-slot-at-requires
 slot-at-requires c κs = let k = known (c .before) in (omega (arith, k .0), k .1)
 
 number-requires : tie.Need-number-requires
-number-requires c κs = let k = known (c .before .before .before .before) in (k .0, omega arith)
+number-requires c κs = let k = known (c .before .before .before) in (k .0, omega arith)
 
 add-due : tie.Need-add-due
-add-due c = let s = c .before .before .before .before .before .before .before .before in omega (arith, c .number .ensures, held s .low)
+add-due c = let s = c .before .before .before .before .before .before .before in omega (arith, c .number .ensures, held s .low)
 
 set-slot-requires : tie.Need-set-slot-requires
 set-slot-requires c κs = let k = known (c .before .before .before .before .before .before) in (omega (arith, k .0), k .1)
@@ -51,15 +50,17 @@ returns : tie.Need-returns
 returns c =
     let m = c .before .before in
     let t = m .before .before .before .before in
-    let n = t .before .before in
-    let x = n .before .before .before in
+    let y = t .before .before in
+    let n = y .before in
+    let x = n .before .before in
     let f = x .before .before in
     let s = f .before .before .before in
-    kept-is (now (s .args .state)) (s .args .id) _ (kept f) (x .slot-at .result) (x .slot-at .ensures) (s .args .time) (s .args .sender) _ refl _
-    (add-one (n .number .result) ∙ ap suc (n .number .ensures)) _ _ (t .set-slot .ensures) (m .set-number .ensures)
+    kept-is (now (s .args .state)) (s .args .id) _ (kept f) (x .slot-at .result) (x .slot-at .ensures) _ (add-one (n .number .result) ∙ ap suc (n .number .ensures))
+    (s .args .time) (s .args .sender) _ (y .heard-slot .ensures) _ _ (t .set-slot .ensures) (m .set-number .ensures)
 
 pub keep-spec : {M : Type 1} → statement M
 keep-spec =
     tie.close
     (tie.spec
-    (λ c κs. held (c .before .before) .now-judged) slot-at-requires number-requires add-due set-slot-requires set-number-requires (λ c. search needs) returns)
+    (λ c κs. held (c .before .before) .now-judged) slot-at-requires number-requires add-due (λ c κs. search needs) set-slot-requires set-number-requires
+    (λ c. search needs) returns)

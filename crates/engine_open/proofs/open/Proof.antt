@@ -1,6 +1,5 @@
 -- `engine_open::open` meets its contract: each meeting in turn. Assumes nothing.
-use mathlib.Core.Path.{_≡_, sym, ap, _∙_}
-use mathlib.Core.Bool.{true}
+use mathlib.Core.Path.{_≡_, sym, _∙_}
 use denote.Ref.{now}
 use borrow.Author.Needs.{needs}
 use Rattle.engine_slots.specs.declared.Meeting.the-variants as meeting

@@ -2,7 +2,6 @@
 use Prim.Native.Nat.{_≤_}
 use mathlib.Core.Path.{_≡_, ap}
 use native.Mathlib.Omega.{arith}
-use lib.ListN.{length}
 use denote.Ref.{now}
 use borrow.Author.Needs.{needs}
 use Rattle.area.specs.Places.{readTable, placeOf, placeIn}
@@ -26,7 +25,7 @@ at-most f =
 
 insert-slot-requires : tie.Need-insert-slot-requires
 insert-slot-requires c κs =
-    let f = c .before .before .before .before .before in
+    let f = c .before .before .before .before .before .before in
     let n = f .before .before in
     let s = n .before .before .before .before .before in
     (omega (arith, s .pre .0), omega (arith, at-most f, n .open-count .ensures), omega (arith, s .pre .2, n .open-count .ensures))
@@ -34,17 +33,19 @@ insert-slot-requires c κs =
 returns : tie.Need-returns
 returns c =
     let i = c .before .before in
-    let o = i .before .before .before .before in
+    let y = i .before .before in
+    let o = y .before .before .before in
     let f = o .before .before in
     let n = f .before .before in
     let d = n .before .before in
     let s = d .before .before .before in
     let g = s .args in
     put-is (now (g .state)) (now (g .packet)) (g .files) (s .pre .1) (d .digest-of .result) (d .digest-of .ensures) (n .open-count .result) (n .open-count .ensures)
-    (f .find-place .result) (f .find-place .ensures) (g .time) (g .due) (g .sender) _ _ (o .«open» .ensures .1) (i .insert-slot .ensures)
+    (f .find-place .result) (f .find-place .ensures) (g .time) (g .due) (g .sender) _ (o .«open» .ensures .1)
+    _ (y .new-slot .ensures) _ (i .insert-slot .ensures)
 
 pub put-in-spec : {M : Type 1} → statement M
 put-in-spec =
     tie.close
     (tie.spec
-    (λ c κs. search needs) (λ c κs. search needs) (λ c κs. search needs) (λ c κs. search needs) insert-slot-requires (λ c. search needs) returns)
+    (λ c κs. search needs) (λ c κs. search needs) (λ c κs. search needs) (λ c κs. search needs) (λ c κs. search needs) insert-slot-requires (λ c. search needs) returns)

@@ -1,0 +1,13 @@
+-- `engine_open::heard_slot` meets its contract. Assumes nothing.
+use mathlib.Core.Path.{refl}
+use borrow.Author.Needs.{needs}
+use Rattle.engine_model.specs.Snapshots.{heardAt}
+use Rattle.engine_open.proofs.heard_slot.Statement.{statement}
+use Rattle.engine_open.proofs.heard_slot.Tie as tie
+
+returns : tie.Need-returns
+unfolding heardAt
+returns c = refl
+
+pub heard-slot-spec : {M : Type 1} → statement M
+heard-slot-spec = tie.close (tie.spec returns)

@@ -1,17 +1,16 @@
 -- What is known of octets that hold an engine, what stands there for an Id, and what the functions give by what they call.
 -- Assumes nothing.
-use Prim.Native.Nat.{ℕ, _+_, _-_, _≤_, _<_}
+use Prim.Native.Nat.{ℕ, _-_, _≤_, _<_}
 use mathlib.Core.Path.{_≡_, refl, sym, ap, _∙_}
-use mathlib.Core.Bool.{Bool, true, false, cond, _&&_}
+use mathlib.Core.Bool.{Bool, true, false, cond}
 use mathlib.Core.List.{List}
-use mathlib.Core.Option.{Option, none, some}
+use mathlib.Core.Option.{Option, none}
 use native.Mathlib.Omega.{arith}
 use native.Mathlib.Nat.{zero-add}
 use lib.ListN.{length, take, drop, getD, length-drop}
 use lib.Seq.{take-all}
 use lib.Dec.{leb, eqb}
 use borrow.Author.Tests.{leb-true, le-leb, lt-leb}
-use Rattle.runs.specs.Runs.{Run}
 use Rattle.runs.specs.Holes.{complete}
 use Rattle.words.specs.Words.{wordAt}
 use Rattle.run_judge.proofs.JudgeLaws.{both-true}
@@ -29,11 +28,11 @@ use Rattle.area.specs.declared.Place.{Place}
 use Rattle.area.proofs.PlaceLaws.{length-transfers}
 use Rattle.area.proofs.JudgeLaws.{judged-passed}
 use Rattle.area.proofs.FindLaws.{remove-at}
-use Rattle.area.proofs.KeptLaws.{FreeAt, place-open, place-free, kept-placed, kept-found, kept-runs, free-missing, kept-transfer, kept-runs-in, kept-known}
+use Rattle.area.proofs.KeptLaws.{FreeAt, place-open, place-free, kept-placed, kept-found, kept-runs, free-missing, kept-transfer, kept-runs-in}
 use Rattle.engine_slots.specs.declared.Slot.{Slot}
 use Rattle.engine_slots.specs.Slots.{slotAt, slotsFrom, noSlot, removeSlot}
 use Rattle.engine_slots.proofs.SlotLaws.{slot-from}
-use Rattle.engine_model.specs.Snapshots.{Snapshot, isSome, isOpen, slotOf, fileOf, completeOf, isComplete, sameFile}
+use Rattle.engine_model.specs.Snapshots.{isOpen, slotOf, completeOf, isComplete, sameFile}
 use Rattle.engine_model.specs.Meetings.{lastNumber}
 use Rattle.engine_state.specs.Layout.{pendingOctet, syncedOctet, numberField, stateOctets}
 use Rattle.engine_state.specs.State.{snapshotIn, numberIn, heldState, takenOut}

@@ -1,8 +1,8 @@
 -- How far octets are alike, run after run, by the words of the rows. Assumes nothing.
 use Prim.Native.Nat.{ℕ, suc, _+_, _≤_, _<_, min}
 use mathlib.Core.Path.{_≡_, sym, ap, _∙_}
-use mathlib.Core.Bool.{Bool, true, false, cond}
-use mathlib.Core.List.{List, []}
+use mathlib.Core.Bool.{true, false, cond}
+use mathlib.Core.List.{List}
 use native.Mathlib.Omega.{arith}
 use native.Mathlib.Numerals.{add-one}
 use lib.ListN.{length, drop}
@@ -15,7 +15,6 @@ use Rattle.run_rows.specs.Rows.{runsIn}
 use Rattle.run_rows.specs.declared.Rows.{Rows}
 use Rattle.run_rows.proofs.RowsLaws.{length-runs}
 use Rattle.run_rows.proofs.RowReads.{start-is, stop-is}
-use Rattle.engine_stretch.specs.declared.Reach.{Reach}
 use Rattle.engine_stretch.specs.Stretch.{reach, reachFrom}
 
 -- x lies at no run before the i-th, so those from there on decide

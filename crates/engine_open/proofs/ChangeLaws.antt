@@ -75,9 +75,9 @@ put-is a p f j d de n ne q qe t due r b g x xe c h =
 -- ---- files are made
 
 -- the room has a place for it
-pub room-has : (s p : List ℕ) (f : Files) → Makes s p f → Octets s → Octets p → (a : List ℕ) → a ≡ emptied s (f .id) (f .ends)
+pub room-has : (s p : List ℕ) (f : Files) → Makes s p f → Octets p → (a : List ℕ) → a ≡ emptied s (f .id) (f .ends)
     → (judged a ≡ true) × (wordAt a 0 < transferPlaces)
-room-has s p f m o q a e = let k = make-known s p f m in rw (e ∙ k .room-is) (k .has-room o q)
+room-has s p f m q a e = let k = make-known s p f m in rw (e ∙ k .room-is) (k .has-room q)
 
 pub made-is : (s p : List ℕ) (f : Files) → Makes s p f → (t : ℕ) (r : Sender) (due : ℕ) → due ≡ suc (numberIn s numberField) → (next : ℕ) → next ≡ suc (f .file)
     → (a b c d : List ℕ) → a ≡ emptied s (f .id) (f .ends) → b ≡ putIn a t due r p f → c ≡ setNumber b nextField next → d ≡ setNumber c changedField 1

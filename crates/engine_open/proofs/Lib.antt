@@ -1,4 +1,3 @@
-pub mod FrontLaws
 pub mod TakenLaws
 pub mod MadeLaws
 pub mod ChangeLaws

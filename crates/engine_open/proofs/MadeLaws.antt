@@ -23,7 +23,7 @@ use Rattle.area.specs.Places.{readTable, placeOf}
 use Rattle.area.specs.Judge.{judged}
 use Rattle.area.proofs.PlaceLaws.{length-transfers}
 use Rattle.area.proofs.JudgeLaws.{judged-passed}
-use Rattle.engine_slots.specs.Slots.{slotsFrom}
+use Rattle.engine_slots.proofs.SlotLaws.{length-slots}
 use Rattle.engine_slots.specs.declared.Digest.{Digest}
 use Rattle.engine_slots.specs.declared.Files.{Files}
 use Rattle.engine_slots.specs.declared.Meeting.{Meeting}
@@ -70,11 +70,6 @@ id-read p z = rw z
 
 -- ---- a slot for each transfer
 
-length-slots : (a : List ℕ) (i n : ℕ) → length (slotsFrom a i n) ≡ n
-unfolding slotsFrom
-length-slots a i zero = refl
-length-slots a i (suc n) = ap suc (length-slots a (suc i) n)
-
 fit-held : (s : List ℕ) → heldState s ≡ true → Fit (snapshotIn s)
 fit-held s h = record {
   valid = judged-passed s (held-known s h .now-judged) .1;
@@ -112,7 +107,7 @@ place-inside-held s i o =
     let k = open-key (snapshotIn s) i o in
     omega (arith, place-inside i (readTable s) (k .0) (k .1), length-transfers s 0 (wordAt s 0))
 
-module _ (s : List ℕ) (i : ℕ) (d : Digest) (o : Octets s) (h : heldState s ≡ true) where
+module _ (s : List ℕ) (i : ℕ) (d : Digest) (h : heldState s ≡ true) where
   room-held : (judged (roomState s i d) ≡ true) × (readTable (roomState s i d) ≡ roomFor (snapshotIn s) i d .table)
   unfolding roomState roomFor isOther closedState closedIn without
   room-held = go (isOpen (snapshotIn s) i) refl (not (sameDigest (slotOf (snapshotIn s) i .digest) d))
@@ -122,7 +117,7 @@ module _ (s : List ℕ) (i : ℕ) (d : Digest) (o : Octets s) (h : heldState s �
           × (readTable (cond (b && c) (cond b (takenOut s i) s) s) ≡ cond (b && c) (cond b (without (snapshotIn s) i) (snapshotIn s)) (snapshotIn s) .table)
       go false e c = (held-known s h .now-judged, refl)
       go true e false = (held-known s h .now-judged, refl)
-      go true e true = taken-held s i o (held-known s h) (place-inside-held s i e)
+      go true e true = taken-held s i (held-known s h) (place-inside-held s i e)
 
 -- ---- files are made
 
@@ -134,7 +129,7 @@ pub record Making (s p : List ℕ) (f : Files) : Type 0 where
   pub ends-open : f .ends ≡ 1 → isOpen (snapshotIn s) (f .id) ≡ true
   pub room-is : emptied s (f .id) (f .ends) ≡ roomState s (f .id) (digestOf p)
   -- the room holds a table, with a place for one transfer more
-  pub has-room : Octets s → Octets p → (judged (roomState s (f .id) (digestOf p)) ≡ true) × (wordAt (roomState s (f .id) (digestOf p)) 0 < transferPlaces)
+  pub has-room : Octets p → (judged (roomState s (f .id) (digestOf p)) ≡ true) × (wordAt (roomState s (f .id) (digestOf p)) 0 < transferPlaces)
 
 -- the files say whether a transfer ends
 files-end : (s : List ℕ) (i : ℕ) (d : Digest) (n : ℕ)
@@ -162,8 +157,8 @@ make-known s p f e =
       below = omega (arith, k .file-is, k .below);
       ends-open = λ q. ends .0 (sym (ap (λ (x : Files). x .ends) r) ∙ q);
       room-is = ap (λ (x : Files). cond (eqb (x .ends) 1) (closedState s (f .id)) s) r ∙ ends .1;
-      has-room = λ o q.
-          let w = room-held s (f .id) (digestOf p) o (h .0) in
+      has-room = λ q.
+          let w = room-held s (f .id) (digestOf p) (h .0) in
           let t = roomFor (snapshotIn s) (f .id) (digestOf p) .table in
           let v : Valid (openPacket t p .table) = open-valid t p q (rw (w .1) at (judged-passed (roomState s (f .id) (digestOf p)) (w .0) .1)) in
           let l : length (openPacket t p .table) ≡ suc (length t) =

@@ -44,7 +44,7 @@ put-in-requires c κs = (long c, has c .0, has c .1)
         let m = c .before .before .before in
         let k = m .before .before .before .before in
         let s = k .before .before in
-        room-has (now (s .args .state)) (now (s .args .packet)) (s .args .files) (s .pre) (λ i. k .before .slice-known .given i .fits)
+        room-has (now (s .args .state)) (now (s .args .packet)) (s .args .files) (s .pre)
         (λ i. k .shared-slice-known .given i .fits) _ (m .make-room .ensures)
 
 add-set-number : tie.Need-add-set-number

@@ -1,4 +1,1 @@
-pub mod TakenLaws
-pub mod MadeLaws
-pub mod ChangeLaws
 pub mod OpenedLaws

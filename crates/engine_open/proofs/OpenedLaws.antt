@@ -25,7 +25,7 @@ use Rattle.engine_meet.proofs.SlotLaws.{busy-is, file-is}
 use Rattle.engine_open.specs.Opened.{meetState, keptState, madeState, openedBy, openedState, closing, goneBy, goneState}
 use Rattle.engine_open.specs.declared.Closed.{Closed}
 use Rattle.engine_open.specs.declared.Closed.the-variants as closed
-use Rattle.engine_open.proofs.MadeLaws.{OpenFor, kept-known, ended-known, id-read}
+use Rattle.engine_change.proofs.MadeLaws.{OpenFor, kept-known, ended-known, id-read}
 
 -- ---- METADATA
 

@@ -4,7 +4,7 @@ use denote.Ref.{now}
 use borrow.Author.Needs.{needs}
 use Rattle.engine_slots.specs.declared.Meeting.the-variants as meeting
 use Rattle.engine_open.specs.Opened.{meetState}
-use Rattle.engine_open.proofs.MadeLaws.{kept-known, ended-known}
+use Rattle.engine_change.proofs.MadeLaws.{kept-known, ended-known}
 use Rattle.engine_open.proofs.OpenedLaws.{open-read, opened-refused, opened-waits, opened-kept, opened-ended, opened-made, opened-failed}
 use Rattle.engine_open.proofs.open.Statement.{statement}
 use Rattle.engine_open.proofs.open.Tie as tie

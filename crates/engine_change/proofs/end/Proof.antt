@@ -1,4 +1,4 @@
--- `engine_open::end` meets its contract. Assumes nothing.
+-- `engine_change::end` meets its contract. Assumes nothing.
 use Prim.Native.Nat.{ℕ}
 use mathlib.Core.List.{List}
 use mathlib.Core.Path.{ap, _∙_}
@@ -8,8 +8,8 @@ use borrow.Author.Needs.{needs}
 use Rattle.engine_state.specs.Layout.{changedField}
 use Rattle.engine_state.specs.State.{setNumber}
 use Rattle.engine_state.proofs.StateLaws.{held-known}
-use Rattle.engine_open.proofs.end.Statement.{statement}
-use Rattle.engine_open.proofs.end.Tie as tie
+use Rattle.engine_change.proofs.end.Statement.{statement}
+use Rattle.engine_change.proofs.end.Tie as tie
 
 set-number-requires : tie.Need-set-number-requires
 set-number-requires c κs =

@@ -28,9 +28,9 @@ use Rattle.engine_model.specs.Meetings.{digestOf}
 use Rattle.engine_state.specs.Layout.{numberField, nextField, changedField}
 use Rattle.engine_state.specs.State.{snapshotIn, numberIn, setNumber, takenOut, closedState}
 use Rattle.engine_state.proofs.StateLaws.{slot-known}
-use Rattle.engine_open.specs.Opened.{keptState, putIn, madeState}
-use Rattle.engine_open.specs.Making.{Makes, emptied}
-use Rattle.engine_open.proofs.MadeLaws.{make-known}
+use Rattle.engine_change.specs.Changed.{keptState, putIn, madeState}
+use Rattle.engine_change.specs.Making.{Makes, emptied}
+use Rattle.engine_change.proofs.MadeLaws.{make-known}
 
 -- ---- an Id taken out
 

@@ -1,4 +1,4 @@
--- `engine_open::make` meets its contract: room, the transfer, the next file number. Assumes nothing.
+-- `engine_change::make` meets its contract: room, the transfer, the next file number. Assumes nothing.
 use Prim.Native.Nat.{suc, _≤_, _<_}
 use mathlib.Core.Path.{_≡_, ap, _∙_}
 use mathlib.Core.Bool.{true}
@@ -12,10 +12,10 @@ use Rattle.area.specs.Layout.{transferPlaces}
 use Rattle.area.specs.Judge.{judged}
 use Rattle.engine_state.specs.Layout.{stateOctets}
 use Rattle.engine_state.proofs.StateLaws.{Held, held-known}
-use Rattle.engine_open.proofs.MadeLaws.{Making, make-known}
-use Rattle.engine_open.proofs.ChangeLaws.{room-has, made-is}
-use Rattle.engine_open.proofs.make.Statement.{statement}
-use Rattle.engine_open.proofs.make.Tie as tie
+use Rattle.engine_change.proofs.MadeLaws.{Making, make-known}
+use Rattle.engine_change.proofs.ChangeLaws.{room-has, made-is}
+use Rattle.engine_change.proofs.make.Statement.{statement}
+use Rattle.engine_change.proofs.make.Tie as tie
 
 making : (s : tie.Start) → Making (now (s .args .state)) (now (s .args .packet)) (s .args .files)
 making s = make-known (now (s .args .state)) (now (s .args .packet)) (s .args .files) (s .pre)

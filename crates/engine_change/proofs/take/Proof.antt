@@ -1,4 +1,4 @@
--- `engine_open::take` meets its contract: an Id that is open stands at the place that the search gives. Assumes nothing.
+-- `engine_change::take` meets its contract: an Id that is open stands at the place that the search gives. Assumes nothing.
 use mathlib.Core.Path.{_≡_}
 use mathlib.Core.Bool.{true}
 use denote.Ref.{now}
@@ -6,9 +6,9 @@ use borrow.Author.Needs.{needs}
 use Rattle.area.specs.Judge.{judged}
 use Rattle.engine_state.proofs.StateLaws.{held-known}
 use Rattle.engine_meet.proofs.HeldLaws.{open-place}
-use Rattle.engine_open.proofs.ChangeLaws.{closed-taken}
-use Rattle.engine_open.proofs.take.Statement.{statement}
-use Rattle.engine_open.proofs.take.Tie as tie
+use Rattle.engine_change.proofs.ChangeLaws.{closed-taken}
+use Rattle.engine_change.proofs.take.Statement.{statement}
+use Rattle.engine_change.proofs.take.Tie as tie
 
 held : (s : tie.Start) → judged (now (s .args .state)) ≡ true
 held s = held-known (now (s .args .state)) (s .pre .0) .now-judged

@@ -1,10 +1,10 @@
--- `engine_open::make_room` meets its contract. Assumes nothing.
+-- `engine_change::make_room` meets its contract. Assumes nothing.
 use native.Mathlib.Omega.{arith}
 use denote.Ref.{now}
 use borrow.Author.Needs.{needs}
-use Rattle.engine_open.proofs.ChangeLaws.{emptied-one, emptied-none}
-use Rattle.engine_open.proofs.make_room.Statement.{statement}
-use Rattle.engine_open.proofs.make_room.Tie as tie
+use Rattle.engine_change.proofs.ChangeLaws.{emptied-one, emptied-none}
+use Rattle.engine_change.proofs.make_room.Statement.{statement}
+use Rattle.engine_change.proofs.make_room.Tie as tie
 
 take-requires : tie.Need-take-requires
 take-requires c κs = let s = c .before .before .before in (s .pre .0, s .pre .1 (omega arith))

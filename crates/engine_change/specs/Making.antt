@@ -8,7 +8,7 @@ use lib.Dec.{eqb}
 use Rattle.engine_slots.specs.declared.Files.{Files}
 use Rattle.engine_slots.specs.declared.Meeting.the-variants as meeting
 use Rattle.engine_state.specs.State.{closedState}
-use Rattle.engine_open.specs.Opened.{meetState}
+use Rattle.engine_meet.specs.Meet.{meetState}
 
 abbrev pub Makes : List ℕ → List ℕ → Files → Type 0
 Makes s p f = meetState s p ≡ meeting.Make f

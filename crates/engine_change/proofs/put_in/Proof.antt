@@ -1,4 +1,4 @@
--- `engine_open::put_in` meets its contract: the place and the number of slots are those before opening. Assumes nothing.
+-- `engine_change::put_in` meets its contract: the place and the number of slots are those before opening. Assumes nothing.
 use Prim.Native.Nat.{_≤_}
 use mathlib.Core.Path.{_≡_, ap}
 use native.Mathlib.Omega.{arith}
@@ -9,9 +9,9 @@ use Rattle.area.specs.declared.Place.{Place}
 use Rattle.area.proofs.PlaceLaws.{length-transfers}
 use Rattle.area.proofs.FindLaws.{placed, place-le}
 use Rattle.words.specs.Words.{wordAt}
-use Rattle.engine_open.proofs.ChangeLaws.{put-is}
-use Rattle.engine_open.proofs.put_in.Statement.{statement}
-use Rattle.engine_open.proofs.put_in.Tie as tie
+use Rattle.engine_change.proofs.ChangeLaws.{put-is}
+use Rattle.engine_change.proofs.put_in.Statement.{statement}
+use Rattle.engine_change.proofs.put_in.Tie as tie
 
 -- the place is one of those that are used, or the next
 at-most : (f : tie.After-find-place)

@@ -1,9 +1,8 @@
--- `engine_open::heard_slot` meets its contract. Assumes nothing.
+-- `engine_change::heard_slot` meets its contract. Assumes nothing.
 use mathlib.Core.Path.{refl}
-use borrow.Author.Needs.{needs}
 use Rattle.engine_model.specs.Snapshots.{heardAt}
-use Rattle.engine_open.proofs.heard_slot.Statement.{statement}
-use Rattle.engine_open.proofs.heard_slot.Tie as tie
+use Rattle.engine_change.proofs.heard_slot.Statement.{statement}
+use Rattle.engine_change.proofs.heard_slot.Tie as tie
 
 returns : tie.Need-returns
 unfolding heardAt

@@ -1,4 +1,4 @@
--- `engine_open::keep` meets its contract: the slot at the place of the Id, with another owner. Assumes nothing.
+-- `engine_change::keep` meets its contract: the slot at the place of the Id, with another owner. Assumes nothing.
 use Prim.Native.Nat.{suc, _<_, _≤_}
 use mathlib.Core.Path.{ap, _∙_}
 use native.Mathlib.Numerals.{add-one}
@@ -11,9 +11,9 @@ use Rattle.area.specs.Places.{readTable, KeptAt}
 use Rattle.engine_state.specs.Layout.{stateOctets}
 use Rattle.engine_state.proofs.StateLaws.{Held, held-known, kept-used}
 use Rattle.engine_meet.proofs.HeldLaws.{open-place}
-use Rattle.engine_open.proofs.ChangeLaws.{kept-is}
-use Rattle.engine_open.proofs.keep.Statement.{statement}
-use Rattle.engine_open.proofs.keep.Tie as tie
+use Rattle.engine_change.proofs.ChangeLaws.{kept-is}
+use Rattle.engine_change.proofs.keep.Statement.{statement}
+use Rattle.engine_change.proofs.keep.Tie as tie
 
 held : (s : tie.Start) → Held (now (s .args .state))
 held s = held-known (now (s .args .state)) (s .pre .0)

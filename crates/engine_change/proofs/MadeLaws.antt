@@ -37,9 +37,10 @@ use Rattle.engine_model.proofs.MeetLaws.{meet-cases, meet-make, Kept, meet-kept
 use Rattle.engine_state.specs.Layout.{nextField}
 use Rattle.engine_state.specs.State.{snapshotIn, numberIn, heldState, takenOut, closedState}
 use Rattle.engine_state.proofs.StateLaws.{held-known}
-use Rattle.engine_open.specs.Opened.{meetState, roomState}
-use Rattle.engine_open.specs.Making.{emptied}
-use Rattle.engine_open.proofs.TakenLaws.{taken-held}
+use Rattle.engine_meet.specs.Meet.{meetState}
+use Rattle.engine_change.specs.Changed.{roomState}
+use Rattle.engine_change.specs.Making.{emptied}
+use Rattle.engine_change.proofs.TakenLaws.{taken-held}
 
 -- ---- the state is held, and the packet is METADATA
 

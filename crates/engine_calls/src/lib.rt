@@ -77,7 +77,7 @@ pub fn next(state: &[u8], time: u64, interval: u64, linger: u64, forget: u64) ->
         linger,
         forget,
     };
-    engine_answers::next_answer(engine_next::next(state, time, waits))
+    engine_answers::next_answer(engine_next::decide(state, time, waits))
 }
 
 pub fn tell(state: &mut [u8], id: u64, out: &mut [u8]) -> LetterAnswer

@@ -65,6 +65,10 @@ isComplete s i = completeOf (keyIn s i) (received s i)
 unfoldable pub isBusy : Snapshot → ℕ → Bool
 isBusy s i = isComplete s i && not (eqb (slotOf s i .reported) 1)
 
+-- unless the page is spoilt
+unfoldable pub mustWait : Snapshot → ℕ → Bool → Bool
+mustWait s i spoilt = isBusy s i && not spoilt
+
 unfoldable pub sameSender : Sender → Sender → Bool
 sameSender r s = eqb (r .high) (s .high) && eqb (r .low) (s .low) && eqb (r .port) (s .port)
 

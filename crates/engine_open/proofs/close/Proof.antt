@@ -60,16 +60,17 @@ busy-requires c κs = known (c .before .before .before .before .before .before .
 
 returns-3 : tie.Need-returns-3
 returns-3 c =
-    let b = c .before in
+    let m = c .before in
+    let b = m .before in
     let x = b .before .before in
     let o = x .before .before in
     let e = o .before .before .before .before in
     let a = e .before .before .before .before .args in
-    close-waits (now (a .state)) (a .id) (held e) _ (kept o) (x .slot-at .result) (x .slot-at .ensures) _ (b .busy .ensures) (c .if3 .taken)
+    close-waits (now (a .state)) (a .id) (a .spoilt) (held e) _ (kept o) (x .slot-at .result) (x .slot-at .ensures) _ (b .busy .ensures) _ (m .must-wait .ensures) (c .if3 .taken)
 
 end-requires : tie.Need-end-requires
 end-requires c κs =
-    let o = c .before .before .before .before .before .before in
+    let o = c .before .before .before .before .before .before .before in
     let e = o .before .before .before .before in
     let a = e .before .before .before .before .args in
     (held e, kept-open (now (a .state)) (a .id) _ (kept o))
@@ -78,16 +79,17 @@ returns-4 : tie.Need-returns-4
 returns-4 c =
     let n = c .before .before in
     let w = n .before .before in
-    let b = w .before in
+    let m = w .before in
+    let b = m .before in
     let x = b .before .before in
     let o = x .before .before in
     let e = o .before .before .before .before in
     let a = e .before .before .before .before .args in
-    close-gone (now (a .state)) (a .id) (held e) _ (kept o) (x .slot-at .result) (x .slot-at .ensures) _ (b .busy .ensures) (w .if3 .left) _ (n .end .ensures)
+    close-gone (now (a .state)) (a .id) (a .spoilt) (held e) _ (kept o) (x .slot-at .result) (x .slot-at .ensures) _ (b .busy .ensures) _ (m .must-wait .ensures) (w .if3 .left) _ (n .end .ensures)
 
 pub close-spec : {M : Type 1} → statement M
 close-spec =
     tie.close
     (tie.spec
     (λ c κs. search needs) (λ c κs. search needs) (λ c. search needs) returns (λ c κs. known (c .before) .now-judged) (λ c κs. search needs) (λ c. search needs) returns-2
-    slot-at-requires busy-requires (λ c. search needs) returns-3 end-requires (λ c. search needs) returns-4)
+    slot-at-requires busy-requires (λ c κs. search needs) (λ c. search needs) returns-3 end-requires (λ c. search needs) returns-4)

@@ -1,3 +1,5 @@
 pub mod PartLaws
 pub mod StandsLaws
 pub mod LeaveLaws
+pub mod SizeLaws
+pub mod TellSpeaks

@@ -3,3 +3,4 @@ pub mod StandsLaws
 pub mod LeaveLaws
 pub mod SizeLaws
 pub mod TellSpeaks
+pub mod SyncSpeaks

@@ -4,3 +4,4 @@ pub mod LeaveLaws
 pub mod SizeLaws
 pub mod TellSpeaks
 pub mod SyncSpeaks
+pub mod StartSpeaks

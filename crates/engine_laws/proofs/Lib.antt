@@ -5,3 +5,4 @@ pub mod SizeLaws
 pub mod TellSpeaks
 pub mod SyncSpeaks
 pub mod StartSpeaks
+pub mod StoreSpeaks

@@ -4,17 +4,14 @@ use Prim.Native.Nat.{ℕ, suc, _+_, _*_, _-_, _≤_, _<_}
 use mathlib.Core.Path.{_≡_, refl, sym, ap, subst, _∙_}
 use mathlib.Core.Bool.{Bool, true, false}
 use mathlib.Core.List.{List}
-use mathlib.Core.Option.{some}
 use native.Mathlib.Omega.{arith}
 use lib.ListN.{length, take, drop, set}
 use lib.Seq.{drop-drop}
 use Rattle.octets.specs.Numbers.{leValue, Octets}
 use Rattle.words.specs.Words.{wordAt}
-use Rattle.transfer.specs.declared.Key.{Key}
 use Rattle.transfer.specs.Transfers.{Transfer}
-use Rattle.table.specs.Tables.{Valid, remove}
+use Rattle.table.specs.Tables.{Valid}
 use Rattle.table.specs.Close.{closeFound, closeId}
-use Rattle.table.proofs.TableLaws.{by-test}
 use Rattle.table.proofs.ValidLaws.{close-valid}
 use Rattle.area.specs.Layout.{transferPlaces, areaOctets}
 use Rattle.area.specs.Places.{readTable, placeOf}
@@ -30,9 +27,9 @@ use Rattle.engine_slots.specs.Layout.{snapshotWords, snapshotOctets}
 use Rattle.engine_slots.specs.Slots.{insertIn, removeIn, slotsFrom, setSlot, insertSlot, removeSlot}
 use Rattle.engine_slots.proofs.BesideLaws.{Beside, beside-judged, beside-table, beside-count, set-beside, insert-beside, remove-beside}
 use Rattle.engine_slots.proofs.SlotLaws.{SlotFits, past-slots, slots-set, slots-inserted, slots-removed}
-use Rattle.engine_model.specs.Snapshots.{Snapshot, isOpen, withSlot, withTable, withNew, without, closedIn}
+use Rattle.engine_model.specs.Snapshots.{Snapshot, isOpen, withSlot, withTable, without, closedIn}
 use Rattle.engine_model.specs.Meetings.{isOther, roomFor}
-use Rattle.engine_model.proofs.PlaceLaws.{place-most, removed-one}
+use Rattle.engine_model.proofs.PlaceLaws.{removed-one}
 use Rattle.engine_model.proofs.FitLaws.{open-key}
 use Rattle.engine_state.specs.Layout.{pendingAt, syncedAt, numbersAt, stateOctets}
 use Rattle.engine_state.specs.State.{snapshotIn, takenOut, closedState}

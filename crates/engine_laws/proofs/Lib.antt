@@ -6,3 +6,5 @@ pub mod TellSpeaks
 pub mod SyncSpeaks
 pub mod StartSpeaks
 pub mod StoreSpeaks
+pub mod OpenSpeaks
+pub mod Theorems

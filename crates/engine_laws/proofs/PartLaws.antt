@@ -10,7 +10,7 @@ use lib.Seq.{drop-drop}
 use borrow.Author.Tests.{le-leb}
 use Rattle.octets.specs.Numbers.{leValue}
 use Rattle.words.specs.Words.{wordAt}
-use Rattle.area.specs.Layout.{transferPlaces, areaWords, areaOctets}
+use Rattle.area.specs.Layout.{transferPlaces, areaOctets}
 use Rattle.area.specs.Places.{readTable}
 use Rattle.area.specs.Judge.{judged}
 use Rattle.area.proofs.PlaceLaws.{length-transfers}

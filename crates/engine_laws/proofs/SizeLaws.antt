@@ -17,8 +17,8 @@ use Rattle.area.specs.Judge.{judged}
 use Rattle.engine_slots.specs.declared.Sender.{Sender}
 use Rattle.engine_slots.specs.declared.Digest.{Digest}
 use Rattle.engine_slots.specs.declared.Slot.{Slot}
-use Rattle.engine_slots.specs.Layout.{slotWords, snapshotOctets}
-use Rattle.engine_slots.specs.Slots.{numbersOf, slotAt}
+use Rattle.engine_slots.specs.Layout.{snapshotOctets}
+use Rattle.engine_slots.specs.Slots.{slotAt}
 use Rattle.engine_slots.proofs.SlotLaws.{SlotFits, slot-fits}
 use Rattle.engine_model.specs.Snapshots.{isOpen, slotOf, ownedBy, heardAt, answeredSlot, namedSlot, reportedSlot, newSlot}
 use Rattle.engine_model.specs.Meetings.{digestOf}

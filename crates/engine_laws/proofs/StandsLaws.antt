@@ -1,13 +1,13 @@
 -- A state, part by part: three snapshots and six numbers. What a number that is set, and a snapshot that is copied, leaves of them.
 -- Assumes nothing.
-use Prim.Native.Nat.{ℕ, zero, suc, _+_, _*_, _^_, _≤_, _<_}
+use Prim.Native.Nat.{ℕ, _+_, _*_, _^_, _≤_, _<_}
 use mathlib.Core.Path.{_≡_, refl, sym, ap, subst, _∙_}
 use mathlib.Core.Bool.{true, cond}
 use mathlib.Core.List.{List, [], _∷_, _++_}
 use mathlib.Core.Option.{some}
 use native.Mathlib.Omega.{arith}
 use native.Mathlib.Decide.{ℕ-discrete}
-use lib.ListN.{length, take, drop, length-drop}
+use lib.ListN.{length, take, drop}
 use lib.Seq.{length-take-le}
 use lib.Dec.{eqb}
 use borrow.Author.Tests.{eq-eqb, ne-eqb}
@@ -27,7 +27,7 @@ use Rattle.engine_model.specs.Meetings.{lastNumber}
 use Rattle.engine_model.specs.Engine.{Engine}
 use Rattle.engine_state.specs.Layout.{pendingAt, syncedAt, numbersAt, underWayField, numberField, doneField, nextField, changedField, begunField, stateOctets}
 use Rattle.engine_state.specs.State.{snapshotIn, numberIn, pendingIf, engineIn, engineOf, heldState, setNumber}
-use Rattle.engine_state.proofs.StateLaws.{Held, held-known, known-held}
+use Rattle.engine_state.proofs.StateLaws.{Held, known-held}
 use Rattle.engine_laws.specs.Speaks.{Holds}
 use Rattle.engine_laws.proofs.PartLaws.{At, at-same}
 

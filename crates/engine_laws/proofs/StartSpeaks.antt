@@ -1,7 +1,7 @@
 -- A start leaves the engine that is started from what was saved.
 -- Assumes nothing.
 use Prim.Native.Nat.{ℕ, _+_, _*_, _^_, _≤_, _<_}
-use mathlib.Core.Path.{_≡_, refl, sym, ap, _∙_}
+use mathlib.Core.Path.{_≡_, refl, _∙_}
 use mathlib.Core.Bool.{Bool, true, false, cond, true≢false}
 use mathlib.Core.List.{List}
 use native.Mathlib.Omega.{arith}
@@ -13,13 +13,12 @@ use Rattle.refusals.specs.Refusals.{_▹_, when}
 use Rattle.refusals.proofs.RefusalLaws.{first-none, rest-none, failed}
 use Rattle.area.specs.Judge.{judged}
 use Rattle.engine_slots.specs.Layout.{snapshotWords, snapshotOctets}
-use Rattle.engine_model.specs.Snapshots.{Snapshot}
 use Rattle.engine_model.specs.Meetings.{lastNumber}
 use Rattle.engine_model.specs.Engine.{started}
 use Rattle.engine_state.specs.Layout.{pendingAt, syncedAt, underWayField, numberField, doneField, nextField, changedField, begunField, stateOctets}
 use Rattle.engine_state.specs.State.{snapshotIn, numberIn, pendingIf}
 use Rattle.engine_sync.specs.Syncs.{startRefusal, threeOf, numbered, startedState}
-use Rattle.engine_laws.specs.Speaks.{Holds, StartSpeaks}
+use Rattle.engine_laws.specs.Speaks.{StartSpeaks}
 use Rattle.engine_laws.proofs.PartLaws.{At}
 use Rattle.engine_laws.proofs.StandsLaws.{Stands, stands-holds, six, set-number, copied, copied-length, copied-octets, copied-at, copied-later}
 
@@ -90,8 +89,9 @@ module _ (s saved : List ℕ) (o : Octets s) (p : Octets saved) (long : stateOct
 
 pub start-speaks : StartSpeaks
 unfolding startedState numbered started pendingIf
-start-speaks s saved number next o p n m e =
+start-speaks s saved number next o p m e =
     let h = starts s saved number e in
+    let n : number < 2 ^ 64 = omega (arith, h .low) in
     rw e
     (stands-holds _
     (set-number _ begunField 0 (six .5) (omega arith)

@@ -24,21 +24,20 @@ use Rattle.engine_slots.specs.declared.Sender.{Sender}
 use Rattle.engine_slots.specs.declared.Stretch.{Stretch}
 use Rattle.engine_slots.specs.declared.Look.{Look}
 use Rattle.engine_slots.specs.declared.Look.the-variants as look
-use Rattle.engine_slots.specs.declared.Slot.{Slot}
 use Rattle.engine_slots.specs.Layout.{snapshotOctets}
 use Rattle.engine_slots.specs.Slots.{setSlot}
 use Rattle.engine_slots.proofs.SlotLaws.{length-slots}
-use Rattle.engine_model.specs.Snapshots.{Snapshot, isSome, keyIn, isOpen, slotOf, isComplete, withSlot, withTable, heardAt}
+use Rattle.engine_model.specs.Snapshots.{Snapshot, isOpen, slotOf, isComplete, withSlot, withTable, heardAt}
 use Rattle.engine_model.specs.Stretches.{pieceOf, lookData}
 use Rattle.engine_model.specs.Engine.{recordedIn, storedAs, stored}
 use Rattle.engine_model.proofs.FitLaws.{Fit, open-key, key-open}
 use Rattle.engine_model.proofs.RecordingLaws.{recording, fit-recording, recording-key}
-use Rattle.engine_model.proofs.LookLaws.{Looked, looked-open, look-new, look-known, piece-some, piece-id}
+use Rattle.engine_model.proofs.LookLaws.{Looked, looked-open, look-new, look-known, piece-some}
 use Rattle.engine_state.specs.Layout.{numberField}
 use Rattle.engine_state.specs.State.{snapshotIn, numberIn, engineIn}
 use Rattle.engine_state.proofs.StateLaws.{Held, known-held}
 use Rattle.engine_data.specs.Store.{lookState, pieceRecorded, heardState, pieceState, storedBy, storedState}
-use Rattle.engine_laws.specs.Speaks.{endOf, Words, Holds}
+use Rattle.engine_laws.specs.Speaks.{endOf, Holds}
 use Rattle.engine_laws.proofs.LeaveLaws.{Leaves, leaves-then, slot-leaves, table-leaves}
 use Rattle.engine_laws.proofs.SizeLaws.{sized-fits, open-sized, sized-heard}
 use Rattle.engine_laws.proofs.TellSpeaks.{long-now, kept-holds, changed-holds, closed-holds}

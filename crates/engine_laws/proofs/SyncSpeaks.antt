@@ -1,13 +1,13 @@
 -- Syncs that begin and end leave what the model says.
 -- Assumes nothing.
 use Prim.Native.Nat.{ℕ, zero, suc, _+_, _*_, _^_, _≤_, _<_}
-use mathlib.Core.Path.{_≡_, refl, sym, ap, subst, _∙_}
-use mathlib.Core.Bool.{Bool, true, false, cond, _&&_, not}
+use mathlib.Core.Path.{_≡_, refl, _∙_}
+use mathlib.Core.Bool.{Bool, true, false, cond, not}
 use mathlib.Core.List.{List}
 use mathlib.Core.Option.{Option, none, some}
 use native.Mathlib.Omega.{arith}
 use lib.ListN.{length, drop, length-drop}
-use lib.Dec.{ltb, eqb}
+use lib.Dec.{eqb}
 use borrow.Author.Tests.{ltb-true}
 use Rattle.refusals.proofs.TestLaws.{and-iff}
 use Rattle.octets.specs.Numbers.{Octets}
@@ -18,12 +18,12 @@ use Rattle.engine_model.specs.Snapshots.{Snapshot, isSome}
 use Rattle.engine_model.specs.Meetings.{lastNumber}
 use Rattle.engine_model.specs.Engine.{maySync, begunAt, current, confirmed, dropped}
 use Rattle.engine_state.specs.Layout.{pendingAt, syncedAt, pendingOctet, numbersAt, underWayField, numberField, doneField, changedField, begunField, stateOctets}
-use Rattle.engine_state.specs.State.{snapshotIn, numberIn, pendingIf, engineIn, heldState, setNumber}
+use Rattle.engine_state.specs.State.{snapshotIn, numberIn, pendingIf, engineIn}
 use Rattle.engine_state.proofs.StateLaws.{Held, known-held}
 use Rattle.engine_sync.specs.Syncs.{begunState, goodState, badState, endedAs, endedState}
 use Rattle.engine_laws.specs.Speaks.{Holds}
 use Rattle.engine_laws.proofs.PartLaws.{At}
-use Rattle.engine_laws.proofs.StandsLaws.{Stands, stands, stands-holds, six, set-number, copied, copied-length, copied-octets, copied-before, copied-after, copied-at, copied-later, copied-earlier}
+use Rattle.engine_laws.proofs.StandsLaws.{Stands, stands, stands-holds, six, set-number, copied, copied-length, copied-octets, copied-after, copied-at, copied-later, copied-earlier}
 use Rattle.engine_laws.proofs.TellSpeaks.{kept-holds}
 
 -- ---- one snapshot for another

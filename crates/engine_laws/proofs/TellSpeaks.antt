@@ -1,32 +1,26 @@
 -- Answers, names, reports and closing leave what the model says.
 -- Assumes nothing.
-use Prim.Native.Nat.{ℕ, suc, _^_, _≤_, _<_}
-use mathlib.Core.Path.{_≡_, refl, sym, ap, subst, _∙_}
+use Prim.Native.Nat.{ℕ, _≤_}
+use mathlib.Core.Path.{_≡_, refl}
 use mathlib.Core.Bool.{Bool, true, false, cond, _&&_, _||_, not}
 use mathlib.Core.List.{List}
 use native.Mathlib.Omega.{arith}
 use lib.ListN.{length, drop}
 use Rattle.refusals.proofs.TestLaws.{and-iff}
 use Rattle.octets.specs.Numbers.{Octets}
-use Rattle.area.specs.Places.{readTable, placeOf}
 use Rattle.engine_slots.specs.declared.Slot.{Slot}
 use Rattle.engine_slots.specs.Layout.{snapshotOctets}
-use Rattle.engine_slots.specs.Slots.{setSlot}
-use Rattle.engine_slots.proofs.SlotLaws.{SlotFits}
 use Rattle.engine_model.specs.Snapshots.{Snapshot, isOpen, isBusy, slotOf, isComplete, sameFile, withSlot, closedIn, answeredSlot, namedSlot, reportedSlot}
-use Rattle.engine_model.specs.Meetings.{lastNumber}
 use Rattle.engine_model.specs.Engine.{isWhole, mayName, mayReport, mayClose, withNow, closed, marked, answered, named, reported}
-use Rattle.engine_model.proofs.FitLaws.{complete-open}
-use Rattle.engine_state.specs.Layout.{pendingOctet, syncedOctet, numberField, changedField, stateOctets}
-use Rattle.engine_state.specs.State.{snapshotIn, numberIn, engineIn, engineOf, heldState, changedState, closedState}
+use Rattle.engine_state.specs.Layout.{syncedOctet, changedField}
+use Rattle.engine_state.specs.State.{snapshotIn, engineIn, engineOf, changedState, closedState}
 use Rattle.engine_state.proofs.StateLaws.{Held, known-held}
 use Rattle.engine_open.specs.Opened.{closing, goneBy, goneState}
 use Rattle.engine_tell.specs.Tell.{slotState, telling, toldBy, toldState, markedState, namedState, reportedState}
 use Rattle.engine_tell.specs.declared.Letter.{Letter}
-use Rattle.engine_tell.specs.declared.Told.{Told}
 use Rattle.engine_tell.specs.declared.Told.the-variants as told
 use Rattle.engine_laws.specs.Speaks.{endOf, Holds}
-use Rattle.engine_laws.proofs.StandsLaws.{Stands, stands, stands-holds, six, set-number}
+use Rattle.engine_laws.proofs.StandsLaws.{stands, stands-holds, six, set-number}
 use Rattle.engine_laws.proofs.LeaveLaws.{Leaves, stands-leaves, slot-leaves, closed-leaves}
 use Rattle.engine_laws.proofs.SizeLaws.{Sized, sized-fits, open-sized, sized-answered, sized-named, sized-reported}
 

@@ -152,7 +152,7 @@ step-leads : (h : List Event) (x : Event) → Fit (nowOf h) → Leads h (run h) 
 unfolding step confirms
 step-leads h (opening t r p e) fit = turn-leads h (opening t r p e) (opening-turn h t r p e fit)
 step-leads h (storing t r p from e) fit = turn-leads h (storing t r p from e) (storing-turn h t r p from e fit)
-step-leads h (closing i) fit = turn-leads h (closing i) (close-turn h i fit)
+step-leads h (closing i b) fit = turn-leads h (closing i b) (close-turn h i b fit)
 step-leads h (answering i) fit = turn-leads h (answering i) (answer-turn h i fit)
 step-leads h (naming i e) fit = turn-leads h (naming i e) (name-turn h i e fit)
 step-leads h (reporting i) fit = turn-leads h (reporting i) (report-turn h i fit)

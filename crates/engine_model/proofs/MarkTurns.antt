@@ -63,17 +63,17 @@ token-there i f p ws = inl (record { kind = refl; id-is = refl; file-is = refl; 
 
 -- ---- closing
 
-pub close-turn : (h : List Event) (i : ℕ) → Fit (nowOf h) → Turn h (closing i) (step (run h) (closing i))
+pub close-turn : (h : List Event) (i : ℕ) (b : Bool) → Fit (nowOf h) → Turn h (closing i b) (step (run h) (closing i b))
 unfolding step acts actions doesAll closed
-close-turn h i fit = go (mayClose (run h .engine) i)
+close-turn h i b fit = go (mayClose (nowOf h) i b)
   where
-    go : (b : Bool) → Turn h (closing i) (record {
-      engine = cond b (withNow (run h .engine) (closedIn (nowOf h) i) (nextOf h) 1) (run h .engine);
+    go : (c : Bool) → Turn h (closing i b) (record {
+      engine = cond c (withNow (run h .engine) (closedIn (nowOf h) i) (nextOf h) 1) (run h .engine);
       writes = writesOf h;
       area = run h .area;
     })
-    go true = closes h (closing i) i fit
-    go false = nothing h (closing i) fit
+    go true = closes h (closing i b) i fit
+    go false = nothing h (closing i b) fit
 
 -- ---- another mark in the slot of an Id
 

@@ -85,7 +85,7 @@ module _ (a : Action) (loud : Loud a) where
   only-told e (opening t r p x) P k l m = absurd (not-made (meet (e .now) (e .next) (p .octets)) m)
   only-told e (storing t r p from x) P k l m =
       absurd (not-stored (p .octets) (readData (p .octets)) (lookData (e .now) r (p .octets) from) m)
-  only-told e (closing i) P k l m = absurd m
+  only-told e (closing i b) P k l m = absurd m
   only-told e (answering i) P k l m = k i m
   only-told e (naming i x) P k l m = absurd (not-named (mayName e i) e i m)
   only-told e (reporting i) P k l m = l i m

@@ -8,3 +8,4 @@ pub mod StartSpeaks
 pub mod StoreSpeaks
 pub mod OpenSpeaks
 pub mod Theorems
+pub mod ToldLaws

@@ -8,4 +8,5 @@ pub mod StartSpeaks
 pub mod StoreSpeaks
 pub mod OpenSpeaks
 pub mod Theorems
+pub mod ShownLaws
 pub mod ToldLaws

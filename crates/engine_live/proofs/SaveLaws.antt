@@ -79,3 +79,54 @@ after-saving h n t = refl
 
 pub saves : (h : List Event) (s : Snapshot) (n t : ℕ) → Idle (run h .engine) s n → n < lastNumber → Saved (engineAfter h (saving n t)) s (suc n)
 saves h s n t i l = subst (λ (e : Engine). Saved e s (suc n)) (sym (after-saving h n t)) (begun-saved (run h .engine) s n t i l)
+
+-- ---- the name
+
+-- a page that is complete in what was saved, with its name
+abbrev withName : Snapshot → ℕ → Snapshot
+withName s i = withSlot s i (namedSlot (slotOf s i))
+
+may-name : (e : Engine) (s : Snapshot) (i n : ℕ) → Saved e s n → isComplete s i ≡ true → mayName e i ≡ true
+unfolding mayName sameFile
+may-name e s i n v c =
+    rw (v .synced-is, v .idle .now-is, c, complete-open s i c, eq-eqb (fileOf s i) (fileOf s i) refl)
+
+named-idle : (e : Engine) (s : Snapshot) (i n : ℕ) → Saved e s n → isComplete s i ≡ true → Idle (named e i whole) (withName s i) n
+unfolding named marked withNow
+named-idle e s i n v c =
+    rw (may-name e s i n v c)
+    record { none-under-way = v .idle .none-under-way; now-is = ap (λ (x : Snapshot). withName x i) (v .idle .now-is); number-is = v .idle .number-is }
+
+after-naming : (h : List Event) (i : ℕ) → run (naming i whole ∷ h) .engine ≡ named (run h .engine) i whole
+unfolding run step acts
+after-naming h i = refl
+
+-- ---- the report
+
+name-complete : (s : Snapshot) (i : ℕ) → isComplete (withName s i) i ≡ isComplete s i
+unfolding withSlot isComplete
+name-complete s i = refl
+
+report-of : (e : Engine) (s : Snapshot) (i n : ℕ) (k : Key) → Fit s → keyIn s i ≡ some k → isComplete s i ≡ true → Saved e (withName s i) n
+    → actions e (reporting i) ≡ report i (fileOf s i) (k .length) ∷ []
+unfolding actions mayReport reportOf
+report-of e s i n k f q c v =
+    let x : slotOf (withName s i) i ≡ namedSlot (slotOf s i) = slot-same s i (namedSlot (slotOf s i)) f (key-open s i k q) in
+    rw (v .synced-is, name-complete s i, c, x, slot-key s i (namedSlot (slotOf s i)) i, q) (ap (λ (y : Slot). report i (y .file) (k .length) ∷ []) x)
+
+-- from a moment when no sync is under way
+pub finishes : (h : List Event) (s : Snapshot) (i n t u : ℕ) (k : Key) → Idle (run h .engine) s n → keyIn s i ≡ some k → isComplete s i ≡ true
+    → n + 2 ≤ lastNumber → actions (engineAfter h (finishing i n t u)) (reporting i) ≡ report i (fileOf s i) (k .length) ∷ []
+unfolding goesOn
+finishes h s i n t u k d q c l =
+    let g : List Event = goesOn h (saving n t) in
+    let a : Saved (run g .engine) s (suc n) = saves h s n t d (omega arith) in
+    let b : Idle (run (naming i whole ∷ g) .engine) (withName s i) (suc n) =
+    subst (λ (e : Engine). Idle e (withName s i) (suc n)) (sym (after-naming g i)) (named-idle (run g .engine) s i (suc n) a c) in
+    let f : Fit s = subst (λ (x : Snapshot). Fit x) (d .now-is) (run-inv h .now-sound .fit) in
+    report-of (engineAfter h (finishing i n t u)) s i (suc (suc n)) k f q c (saves (naming i whole ∷ g) (withName s i) (suc n) u b (omega arith))
+
+pub complete-reported : CompleteReported
+unfolding goesOn
+complete-reported h i k t u r =
+    finishes (good (numberOf h) ∷ h) (nowOf h) i (numberOf h) t u k (good-idle h) (r .found) (r .complete) (r .numbers)

@@ -1,1 +1,4 @@
 pub mod SaveLaws
+pub mod PieceLaws
+pub mod SendLaws
+pub mod RoundReport

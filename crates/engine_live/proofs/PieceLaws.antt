@@ -1,6 +1,6 @@
 -- A piece of a plan lies in one hole, and no other piece takes of it: what comes of it is one new stretch.
 -- Assumes nothing.
-use Prim.Native.Nat.{ℕ, suc, _+_, _≤_, _<_, min, max}
+use Prim.Native.Nat.{ℕ, suc, _≤_, _<_, min, max}
 use mathlib.Core.Path.{_≡_, refl, sym, ap, _∙_}
 use mathlib.Core.Bool.{true, false, false≢true}
 use mathlib.Core.List.{List, [], _∷_}
@@ -26,7 +26,6 @@ use Rattle.table.specs.declared.Recorded.the-variants as recorded
 use Rattle.table.proofs.TableLaws.{by-test}
 use Rattle.engine_slots.specs.declared.Sender.{Sender}
 use Rattle.engine_slots.specs.declared.Stretch.{Stretch}
-use Rattle.engine_slots.specs.declared.Look.{Look}
 use Rattle.engine_slots.specs.declared.Look.the-variants as look
 use Rattle.engine_stretch.specs.declared.Reach.{Reach}
 use Rattle.engine_stretch.specs.Stretch.{reach, reachFrom}

@@ -3,13 +3,13 @@
 use Prim.Native.Nat.{ℕ, suc, _≤_, _<_}
 use mathlib.Core.Path.{_≡_, refl, sym, ap, subst, _∙_}
 use mathlib.Core.Bool.{Bool, true}
-use mathlib.Core.List.{List, [], _∷_, _++_}
+use mathlib.Core.List.{List, [], _∷_}
 use mathlib.Core.Option.{Option, some}
 use native.Mathlib.Omega.{arith}
 use borrow.Author.Tests.{eq-eqb}
 use lib.ListN.{length}
-use Rattle.runs.specs.Runs.{Run, Canonical}
-use Rattle.runs.specs.Holes.{holes, edge, complete}
+use Rattle.runs.specs.Runs.{Run}
+use Rattle.runs.specs.Holes.{holes, complete}
 use Rattle.plan.specs.Pieces.{planOf}
 use Rattle.plan.specs.declared.Piece.{Piece}
 use Rattle.plan_check.specs.GoodPlan.{Each, GoodPlan}
@@ -17,12 +17,12 @@ use Rattle.plan_check.proofs.GoodPlanLaws.{each-map}
 use Rattle.plan_check.proofs.PlanLaws.{plan-good}
 use Rattle.transfer.specs.declared.Key.{Key}
 use Rattle.transfer.specs.Transfers.{Transfer}
-use Rattle.table.specs.Tables.{keys, find, runsOf}
+use Rattle.table.specs.Tables.{Valid, keys, find, runsOf}
 use Rattle.one_round.specs.Fills.{mostRuns}
 use Rattle.one_round.specs.Rounds.{Pairwise, Carries, NoneRefused, recordAll, Round}
 use Rattle.one_round.specs.OneRound.{Given}
 use Rattle.one_round.proofs.FillLaws.{holes-spaced}
-use Rattle.one_round.proofs.StatusRound.{carried, fills}
+use Rattle.one_round.proofs.StatusRound.{prepares, carried, fills}
 use Rattle.engine_slots.specs.declared.Sender.{Sender}
 use Rattle.engine_slots.specs.declared.Slot.{Slot}
 use Rattle.engine_model.specs.Snapshots.{Snapshot, keyIn, slotOf, fileOf, received, completeOf, isComplete, sameFile, withSlot, answeredSlot}
@@ -30,7 +30,7 @@ use Rattle.engine_model.specs.Engine.{Engine, Event, answering, reporting, good
 use Rattle.engine_model.specs.World.{acts, step, run}
 use Rattle.engine_model.proofs.FitLaws.{Fit, key-open, received-canonical, slot-same}
 use Rattle.engine_model.proofs.Histories.{run-inv}
-use Rattle.engine_live.specs.Live.{goesOn, engineAfter, nowOf, numberOf, saving, finishing, settling, rounding, Arrival, octetsOf, sending, Ready, RoundReported}
+use Rattle.engine_live.specs.Live.{goesOn, engineAfter, nowOf, numberOf, finishing, settling, rounding, Arrival, octetsOf, sending, Ready, RoundReported, PacketsThere}
 use Rattle.engine_live.proofs.SaveLaws.{goes-on-both, Idle, good-idle, Saved, saves, finishes}
 use Rattle.engine_live.proofs.PieceLaws.{Clear, pieces-clear}
 use Rattle.engine_live.proofs.SendLaws.{Sent, all-sent}
@@ -170,3 +170,20 @@ round-reported h i k r unasked buffer m old packets t u v y =
       told = told-of (engineAfter h (settling (numberOf h) t)) (nowOf h) i k r (a .synced-is) (y .given .found) (y .owner);
       reported = reports h i k r unasked buffer m old packets t y u v;
     }
+
+-- ---- there are packets
+
+arrivals : (i width : ℕ) (ps : List Piece) (packets : List (List ℕ)) → Pairwise (Carries i width) ps packets → (l : List Arrival) × (octetsOf l ≡ packets)
+arrivals i w [] [] c = ([], refl)
+arrivals i w [] (x ∷ xs) c = absurd c
+arrivals i w (p ∷ ps) [] c = absurd c
+arrivals i w (p ∷ ps) (x ∷ xs) c =
+    let rest = arrivals i w ps xs (c .1) in
+    (record { time = 0; packet = record { octets = x; are-octets = c .0 .octets } } ∷ rest .0, ap (λ (l : List (List ℕ)). x ∷ l) (rest .1))
+
+pub packets-there : PacketsThere
+packets-there h i k unasked buffer m old g =
+    let v : Valid (nowOf h .table) = run-inv h .now-sound .fit .valid in
+    let made = prepares (nowOf h .table) i k unasked buffer m old v g .some-packets in
+    let all = arrivals i (k .width) (planOf m (holes (received (nowOf h) i))) (made .0) (carried (nowOf h .table) i k unasked buffer m old v g (made .0) (made .1)) in
+    (all .0, rw (all .1) (made .1))

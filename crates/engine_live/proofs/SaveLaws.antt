@@ -1,22 +1,21 @@
 -- What syncs that come back good make of the engine, and how a complete page comes to its report.
 -- Assumes nothing.
 use Prim.Native.Nat.{ℕ, suc, _+_, _≤_, _<_}
-use mathlib.Core.Path.{_≡_, refl, sym, ap, ap₂, subst, _∙_}
-use mathlib.Core.Bool.{Bool, true, false, cond, _&&_}
+use mathlib.Core.Path.{_≡_, refl, sym, ap, subst, _∙_}
+use mathlib.Core.Bool.{true}
 use mathlib.Core.List.{List, [], _∷_, _++_}
 use mathlib.Core.Option.{Option, none, some}
 use native.Mathlib.Omega.{arith}
-use lib.Dec.{eqb}
 use borrow.Author.Tests.{eq-eqb, lt-ltb}
 use Rattle.transfer.specs.declared.Key.{Key}
 use Rattle.engine_slots.specs.declared.Slot.{Slot}
-use Rattle.engine_model.specs.Snapshots.{Snapshot, isSome, keyIn, isOpen, slotOf, fileOf, received, isComplete, sameFile, withSlot, namedSlot}
+use Rattle.engine_model.specs.Snapshots.{Snapshot, keyIn, slotOf, fileOf, isComplete, sameFile, withSlot, namedSlot}
 use Rattle.engine_model.specs.Meetings.{lastNumber}
-use Rattle.engine_model.specs.Engine.{Engine, whole, Event, naming, reporting, syncing, good, report, mayName, mayReport, reportOf, maySync, actions, withNow, marked, named, begunAt, current, confirmed}
-use Rattle.engine_model.specs.World.{World, written, withEngine, acts, step, run}
-use Rattle.engine_model.proofs.FitLaws.{Fit, key-open, complete-open, fit-slot, slot-key, slot-runs, slot-same, Alike, alike-complete}
+use Rattle.engine_model.specs.Engine.{Engine, whole, Event, naming, reporting, good, report, mayName, mayReport, reportOf, maySync, actions, withNow, marked, named, begunAt, current, confirmed}
+use Rattle.engine_model.specs.World.{withEngine, acts, step, run}
+use Rattle.engine_model.proofs.FitLaws.{Fit, key-open, complete-open, slot-key, slot-same}
 use Rattle.engine_model.proofs.Histories.{run-inv}
-use Rattle.engine_live.specs.Live.{goesOn, engineAfter, nowOf, numberOf, saving, finishing, Complete, CompleteReported}
+use Rattle.engine_live.specs.Live.{goesOn, engineAfter, nowOf, numberOf, saving, finishing, CompleteReported}
 
 -- ---- histories that go on
 

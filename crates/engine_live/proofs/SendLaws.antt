@@ -1,14 +1,14 @@
 -- Packets of a plan, one after the other: each is stored whole, and the engine's table becomes what recording them makes of it.
 -- Assumes nothing.
-use Prim.Native.Nat.{ℕ, suc, _+_, _≤_, _<_}
+use Prim.Native.Nat.{ℕ, suc, _≤_, _<_}
 use mathlib.Core.Path.{_≡_, refl, sym, ap, subst, _∙_}
-use mathlib.Core.Bool.{Bool, true, _||_}
+use mathlib.Core.Bool.{true, _||_}
 use mathlib.Core.List.{List, [], _∷_}
 use mathlib.Core.Logic.{_⊎_, inl, inr, ⊎-elim}
 use mathlib.Core.Option.{some}
 use native.Mathlib.Omega.{arith}
 use lib.Dec.{eqb}
-use Rattle.runs.specs.Runs.{run, Within, Member}
+use Rattle.runs.specs.Runs.{run, Member}
 use Rattle.packet_data.specs.Data.{readData}
 use Rattle.packet_data.specs.declared.Data.{Data}
 use Rattle.packet_data.specs.declared.DataRead.{DataRead}
@@ -24,14 +24,13 @@ use Rattle.table.specs.Record.{recordData, recordRead, recordPacket, recordAcce
 use Rattle.one_round.specs.Rounds.{Pairwise, Carries, recordAll, NoneRefused}
 use Rattle.engine_slots.specs.declared.Sender.{Sender}
 use Rattle.engine_slots.specs.declared.Slot.{Slot}
-use Rattle.engine_slots.specs.declared.Look.{Look}
 use Rattle.engine_slots.specs.declared.Look.the-variants as look
 use Rattle.engine_model.specs.Snapshots.{Packet, Snapshot, keyIn, slotOf, fileOf, received, isComplete, withSlot, withTable, heardAt}
-use Rattle.engine_model.specs.Stretches.{pieceOf, lookData}
+use Rattle.engine_model.specs.Stretches.{lookData}
 use Rattle.engine_model.specs.Engine.{Engine, whole, Event, storing, withNow, recordedIn, storedAs, stored}
 use Rattle.engine_model.specs.World.{acts, step}
 use Rattle.engine_model.specs.World as world
-use Rattle.engine_model.proofs.FitLaws.{Fit, key-open, fit-slot, slot-same}
+use Rattle.engine_model.proofs.FitLaws.{Fit, key-open, slot-same}
 use Rattle.engine_model.proofs.RecordingLaws.{recording, fit-recording, recording-key, recording-slot, recording-only}
 use Rattle.engine_model.proofs.Histories.{run-inv}
 use Rattle.engine_live.specs.Live.{goesOn, nowOf, Arrival, octetsOf, sending}

@@ -103,3 +103,8 @@ pub record Reported (h : List Event) (i : ℕ) (k : Key) (r : Sender) (packets :
 abbrev pub RoundReported : Type 0
 RoundReported = (h : List Event) (i : ℕ) (k : Key) (r : Sender) (unasked : Bool) (buffer : List ℕ) (m : ℕ) (old : List Piece) (packets : List Arrival)
     (t u v : ℕ) → Ready h i k r unasked buffer m old packets → Reported h i k r packets t u v
+
+-- there are such packets, for whatever a round takes
+abbrev pub PacketsThere : Type 0
+PacketsThere = (h : List Event) (i : ℕ) (k : Key) (unasked : Bool) (buffer : List ℕ) (m : ℕ) (old : List Piece) → Given mostRuns (nowOf h .table) i k buffer m old
+    → (packets : List Arrival) × Pairwise (Made i (k .width)) (planned m (statusFor (nowOf h .table) i k unasked buffer) old) (octetsOf packets)

@@ -94,14 +94,14 @@ unfolding sameSender
 same-as-itself r = rw (eq-eqb (r .high) (r .high) refl, eq-eqb (r .low) (r .low) refl, eq-eqb (r .port) (r .port) refl)
 
 module _ (s : Snapshot) (r : Sender) (p : List ℕ) (d : Data) where
-  taken-owned : (x : Recorded) → recordAccepted x ≡ true → lookJudged s r 0 x (data-read.Accepted d) ≡ lookOwned s r d 0
+  taken-owned : (from : ℕ) (x : Recorded) → recordAccepted x ≡ true → lookJudged s r from x (data-read.Accepted d) ≡ lookOwned s r d from
   unfolding lookJudged
-  taken-owned (recorded.Accepted x) e = refl
-  taken-owned (recorded.Refused n) e = absurd (false≢true e)
+  taken-owned from (recorded.Accepted x) e = refl
+  taken-owned from (recorded.Refused n) e = absurd (false≢true e)
 
-  owned-from : slotOf s (d .id) .owner ≡ r → lookOwned s r d 0 ≡ lookFrom s d 0
+  owned-from : (from : ℕ) → slotOf s (d .id) .owner ≡ r → lookOwned s r d from ≡ lookFrom s d from
   unfolding lookOwned
-  owned-from e = rw (e, same-as-itself r)
+  owned-from from e = rw (e, same-as-itself r)
 
   from-new : Fit s → 0 < d .length → ((o : ℕ) → d .offset ≤ o → o < stopOf d → Member (received s (d .id)) o → ⊥)
       → lookFrom s d 0 ≡ look.New (wholeOf s d)
@@ -111,10 +111,15 @@ module _ (s : Snapshot) (r : Sender) (p : List ℕ) (d : Data) where
       let some : d .offset < stopOf d = omega arith in
       rw (at, lt-ltb (d .offset) (stopOf d) some, reach-clear 0 (received s (d .id)) (d .offset) (stopOf d) (received-canonical s (d .id) f) some n)
 
-  -- accepted, of the owner, and nothing of it was received
+  -- a packet that is accepted, and is the owner's
+  pub look-taken : (from : ℕ) → recordAccepted (recordPacket (s .table) p .answer) ≡ true → readData p ≡ data-read.Accepted d
+      → slotOf s (d .id) .owner ≡ r → lookData s r p from ≡ lookFrom s d from
+  unfolding lookData
+  look-taken from a e o =
+      ap (lookJudged s r from (recordPacket (s .table) p .answer)) e ∙ taken-owned from (recordPacket (s .table) p .answer) a ∙ owned-from from o
+
+  -- and nothing of it was received
   pub look-whole : recordAccepted (recordPacket (s .table) p .answer) ≡ true → readData p ≡ data-read.Accepted d → slotOf s (d .id) .owner ≡ r
       → Fit s → 0 < d .length → ((o : ℕ) → d .offset ≤ o → o < stopOf d → Member (received s (d .id)) o → ⊥)
       → lookData s r p 0 ≡ look.New (wholeOf s d)
-  unfolding lookData
-  look-whole a e o f l n =
-      ap (lookJudged s r 0 (recordPacket (s .table) p .answer)) e ∙ taken-owned (recordPacket (s .table) p .answer) a ∙ owned-from o ∙ from-new f l n
+  look-whole a e o f l n = look-taken 0 a e o ∙ from-new f l n

@@ -1,15 +1,13 @@
 -- Packets of a plan, one after the other: each is stored whole, and the engine's table becomes what recording them makes of it.
 -- Assumes nothing.
-use Prim.Native.Nat.{ℕ, suc, _≤_, _<_}
+use Prim.Native.Nat.{ℕ, _≤_, _<_}
 use mathlib.Core.Path.{_≡_, refl, sym, ap, subst, _∙_}
-use mathlib.Core.Bool.{true, _||_}
+use mathlib.Core.Bool.{true}
 use mathlib.Core.List.{List, [], _∷_}
 use mathlib.Core.Logic.{_⊎_, inl, inr, ⊎-elim}
 use mathlib.Core.Option.{some}
 use native.Mathlib.Omega.{arith}
-use lib.Dec.{eqb}
 use Rattle.runs.specs.Runs.{run, Member}
-use Rattle.packet_data.specs.Data.{readData}
 use Rattle.packet_data.specs.declared.Data.{Data}
 use Rattle.packet_data.specs.declared.DataRead.{DataRead}
 use Rattle.packet_data.specs.declared.DataRead.the-variants as data-read
@@ -23,63 +21,18 @@ use Rattle.table.specs.Tables.{runsOf}
 use Rattle.table.specs.Record.{recordData, recordRead, recordPacket, recordAccepted}
 use Rattle.one_round.specs.Rounds.{Pairwise, Carries, recordAll, NoneRefused}
 use Rattle.engine_slots.specs.declared.Sender.{Sender}
-use Rattle.engine_slots.specs.declared.Slot.{Slot}
 use Rattle.engine_slots.specs.declared.Look.the-variants as look
-use Rattle.engine_model.specs.Snapshots.{Packet, Snapshot, keyIn, slotOf, fileOf, received, isComplete, withSlot, withTable, heardAt}
-use Rattle.engine_model.specs.Stretches.{lookData}
-use Rattle.engine_model.specs.Engine.{Engine, whole, Event, storing, withNow, recordedIn, storedAs, stored}
+use Rattle.engine_model.specs.Snapshots.{Packet, keyIn, slotOf, fileOf, received, withTable}
+use Rattle.engine_model.specs.Stretches.{pieceOf, stretchOf, lookData}
+use Rattle.engine_model.specs.Engine.{Engine, whole, Event, storing, recordedIn, storedAs, stored}
 use Rattle.engine_model.specs.World.{acts, step}
 use Rattle.engine_model.specs.World as world
-use Rattle.engine_model.proofs.FitLaws.{Fit, key-open, slot-same}
-use Rattle.engine_model.proofs.RecordingLaws.{recording, fit-recording, recording-key, recording-slot, recording-only}
+use Rattle.engine_model.proofs.FitLaws.{Fit}
+use Rattle.engine_model.proofs.RecordingLaws.{recording-only}
 use Rattle.engine_model.proofs.Histories.{run-inv}
 use Rattle.engine_live.specs.Live.{goesOn, nowOf, Arrival, octetsOf, sending}
+use Rattle.engine_live.proofs.TakeLaws.{Takes, stretch-taken}
 use Rattle.engine_live.proofs.PieceLaws.{Clear, wholeOf, piece-whole, look-whole}
-
--- ---- one packet
-
--- of the Id i, with the packet p
-record Takes (e u : Engine) (i : ℕ) (p : List ℕ) : Type 0 where
-  table-is : u .now .table ≡ recordPacket (e .now .table) p .table
-  key-is : keyIn (u .now) i ≡ keyIn (e .now) i
-  owner-is : slotOf (u .now) i .owner ≡ slotOf (e .now) i .owner
-  file-is : fileOf (u .now) i ≡ fileOf (e .now) i
-  pending-is : u .pending ≡ e .pending
-  number-is : u .number ≡ e .number
-
-module _ (e : Engine) (t : ℕ) (p : List ℕ) (d : Data) (f : Fit (recording (e .now) d (stampIn p d))) (k : Key) (open-is : keyIn (e .now) (d .id) ≡ some k)
-    (read : readData p ≡ data-read.Accepted d) where
-  abbrev s : Snapshot
-  s = recording (e .now) d (stampIn p d)
-
-  abbrev slot : Slot
-  slot = heardAt t (suc (e .number)) (eqb (d .wanted) 1 || isComplete s (d .id)) (eqb (d .wanted) 1) (slotOf s (d .id))
-
-  abbrev after : Engine
-  after = withNow e (withSlot s (d .id) slot) (e .next) 1
-
-  recorded-is : d .eod ≡ 0 → recordedIn e t p d (wholeOf (e .now) d) ≡ after
-  unfolding recordedIn
-  recorded-is z = rw (piece-whole (e .now) d z) refl
-
-  slot-is : slotOf (after .now) (d .id) ≡ slot
-  unfolding withNow
-  slot-is = slot-same s (d .id) slot f (key-open s (d .id) k (recording-key (e .now) d (stampIn p d) (d .id) ∙ open-is))
-
-  was : slotOf s (d .id) ≡ slotOf (e .now) (d .id)
-  was = recording-slot (e .now) d (stampIn p d) (d .id)
-
-  takes : Takes e after (d .id) p
-  unfolding withNow withSlot withTable recordPacket recordRead heardAt
-  takes =
-      record {
-        table-is = ap (λ (x : DataRead). recordRead (e .now .table) p x .table) (sym read);
-        key-is = recording-key (e .now) d (stampIn p d) (d .id);
-        owner-is = ap (λ (x : Slot). x .owner) slot-is ∙ ap (λ (x : Slot). x .owner) was;
-        file-is = ap (λ (x : Slot). x .file) slot-is ∙ ap (λ (x : Slot). x .file) was;
-        pending-is = refl;
-        number-is = refl;
-      }
 
 -- ---- a packet that carries a piece of which nothing was received
 
@@ -103,31 +56,35 @@ module _ (h : List Event) (i : ℕ) (k : Key) (r : Sender) (open-is : keyIn (now
       clear o (omega (arith, c .offset-is), omega (arith, c .offset-is, c .length-is))
       (subst (λ (j : ℕ). Member (received (nowOf h) j) o) (c .id-is) m)
 
-  no-stamp : stampIn (p .octets) d ≡ []
-  unfolding stampIn
-  no-stamp = rw (c .no-timestamp)
-
-  fit-after : Fit (recording (nowOf h) d (stampIn (p .octets) d))
-  fit-after = fit-recording (nowOf h) d (stampIn (p .octets) d) fit brings (rw no-stamp (inl refl))
-
   opened-as : keyIn (nowOf h) (d .id) ≡ some k
   opened-as = rw (c .id-is) open-is
 
   looked : lookData (nowOf h) r (p .octets) 0 ≡ look.New (wholeOf (nowOf h) d)
   looked = look-whole (nowOf h) r (p .octets) d accepted (c .read) (rw (c .id-is) owner-is) fit brings new
 
-  stored-is : world.run (storing t r p 0 whole ∷ h) .engine ≡ after e t (p .octets) d fit-after k opened-as (c .read)
+  some-new : wholeOf (nowOf h) d .from < wholeOf (nowOf h) d .to
+  unfolding stretchOf
+  some-new = omega (arith, brings)
+
+  stored-is : world.run (storing t r p 0 whole ∷ h) .engine ≡ recordedIn e t (p .octets) d (wholeOf (nowOf h) d)
   unfolding world.run step acts stored storedAs
   stored-is =
       ap (λ (y : DataRead). storedAs e t (p .octets) whole y (lookData (nowOf h) r (p .octets) 0)) (c .read)
       ∙ ap (storedAs e t (p .octets) whole (data-read.Accepted d)) looked
-      ∙ recorded-is e t (p .octets) d fit-after k opened-as (c .read) (c .no-eod)
 
-  packet-taken : Takes e (world.run (storing t r p 0 whole ∷ h) .engine) i (p .octets)
+  -- its table is the one that recording the packet leaves
+  same-recorded : recordData (nowOf h .table) (pieceOf d (wholeOf (nowOf h) d)) (stampIn (p .octets) d) .table ≡ recordPacket (nowOf h .table) (p .octets) .table
+  unfolding recordPacket recordRead
+  same-recorded =
+      ap (λ (y : Data). recordData (nowOf h .table) y (stampIn (p .octets) d) .table) (piece-whole (nowOf h) d (c .no-eod))
+      ∙ ap (λ (y : DataRead). recordRead (nowOf h .table) (p .octets) y .table) (sym (c .read))
+
+  packet-taken : Takes e (world.run (storing t r p 0 whole ∷ h) .engine) i (recordPacket (nowOf h .table) (p .octets) .table)
   packet-taken =
-      subst (λ (u : Engine). Takes e u i (p .octets)) (sym stored-is)
-      (subst (λ (j : ℕ). Takes e (after e t (p .octets) d fit-after k opened-as (c .read)) j (p .octets)) (c .id-is)
-      (takes e t (p .octets) d fit-after k opened-as (c .read)))
+      subst (λ (u : Engine). Takes e u i (recordPacket (nowOf h .table) (p .octets) .table)) (sym stored-is)
+      (subst (λ (u : List Transfer). Takes e (recordedIn e t (p .octets) d (wholeOf (nowOf h) d)) i u) same-recorded
+      (subst (λ (j : ℕ). Takes e (recordedIn e t (p .octets) d (wholeOf (nowOf h) d)) j (recordData (nowOf h .table) (pieceOf d (wholeOf (nowOf h) d)) (stampIn (p .octets) d) .table)) (c .id-is)
+      (stretch-taken e t p d (wholeOf (nowOf h) d) fit k opened-as (c .read) some-new)))
 
   -- what is received then was received, or is of the piece
   received-then : (o : ℕ) → Member (received (nowOf (storing t r p 0 whole ∷ h)) i) o → InPiece o x ⊎ Member (received (nowOf h) i) o
@@ -158,7 +115,7 @@ all-sent h i k r [] (y ∷ ys) f o c s l a n = absurd c
 all-sent h i k r (p ∷ ps) [] f o c s l a n = absurd c
 all-sent h i k r (p ∷ ps) (y ∷ ys) f o c s l a n =
     let g : List Event = storing (y .time) r (y .packet) 0 whole ∷ h in
-    let one : Takes (world.run h .engine) (world.run g .engine) i (y .packet .octets) =
+    let one : Takes (world.run h .engine) (world.run g .engine) i (recordPacket (nowOf h .table) (y .packet .octets) .table) =
     packet-taken h i k r f o (y .time) (y .packet) p (c .0) (s .0) (l .0) (n .0) in
     let clear : Each (Clear (received (nowOf g) i)) ps =
     each-map (λ q. Clear (received (nowOf h) i) q × ((x : ℕ) → InPiece x p → InPiece x q → ⊥)) (Clear (received (nowOf g) i)) ps

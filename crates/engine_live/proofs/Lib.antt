@@ -3,4 +3,7 @@ pub mod PieceLaws
 pub mod TakeLaws
 pub mod SendLaws
 pub mod RoundReport
+pub mod CutLaws
+pub mod StretchLaws
+pub mod WalkLaws
 pub mod Example

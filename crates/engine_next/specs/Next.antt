@@ -1,0 +1,84 @@
+-- R19.10: what is to be done next, at a time: of each transfer in its order an answer, a name, a report, or its end; then a sync.
+-- Assumes nothing.
+use Prim.Native.Nat.{ℕ, _-_}
+use mathlib.Core.Bool.{Bool, true, false, cond, _&&_, _||_, not}
+use mathlib.Core.List.{List, [], _∷_}
+use mathlib.Core.Option.{Option, none, some}
+use lib.Dec.{ltb, leb, eqb}
+use Rattle.refusals.specs.Refusals.{refusalOf}
+use Rattle.transfer.specs.declared.Key.{Key}
+use Rattle.transfer.specs.Transfers.{Transfer}
+use Rattle.engine_slots.specs.declared.Slot.{Slot}
+use Rattle.engine_model.specs.Snapshots.{keyIn, slotOf, fileOf, isComplete, sameFile}
+use Rattle.engine_model.specs.Engine.{Engine, mayName, mayReport, maySync}
+use Rattle.engine_state.specs.State.{engineIn, heldState}
+use Rattle.engine_next.specs.declared.Page.{Page}
+use Rattle.engine_next.specs.declared.Waits.{Waits}
+use Rattle.engine_next.specs.declared.Next.{Next}
+use Rattle.engine_next.specs.declared.Next.the-variants.{Refused, Answer, Name, Report, Close, Sync, Nothing}
+
+-- ---- of one transfer
+
+-- an answer is due, and the last good sync covers it, for the same file
+unfoldable pub isCovered : ℕ → Bool → Slot → Bool
+isCovered done same s = not (eqb (s .due) 0) && leb (s .due) done && same
+
+unfoldable pub nameDue : Bool → Slot → Bool
+nameDue may s = may && not (eqb (s .named) 1)
+
+unfoldable pub reportDue : Bool → Bool → Slot → Bool
+reportDue may same s = may && same && not (eqb (s .reported) 1)
+
+-- so long ago
+unfoldable pub isOver : ℕ → ℕ → ℕ → Bool
+isOver time since wait = leb wait (time - since)
+
+-- a page that was reported lingers; a transfer that is not complete is forgotten, if ever
+unfoldable pub isAtEnd : Bool → ℕ → Waits → Slot → Bool
+isAtEnd complete t w s =
+    cond (eqb (s .reported) 1) (isOver t (s .heard) (w .linger)) (not complete && not (eqb (w .forget) 0) && isOver t (s .heard) (w .forget))
+
+-- by the number that C has for it: 2 an answer, 3 a name, 4 a report, 5 its end, 0 nothing
+unfoldable pub kindFor : Engine → ℕ → Waits → ℕ → Slot → ℕ
+kindFor e t w i s =
+    let same = sameFile (e .now) (e .synced) i in
+    cond (isCovered (e .done) same s) 2
+    (cond (nameDue (mayName e i) s) 3
+    (cond (reportDue (mayReport e i) same s) 4 (cond (isAtEnd (isComplete (e .now) i) t w s) 5 0)))
+
+-- the page of an Id, as it is on disk: only this is named and reported
+unfoldable pub pageBy : Option Key → ℕ → ℕ → Page
+pageBy none i f = record { id = i; file = 0; length = 0 }
+pageBy (some k) i f = record { id = i; file = f; length = k .length }
+
+unfoldable pub pageOf : Engine → ℕ → Page
+pageOf e i = pageBy (keyIn (e .synced) i) i (fileOf (e .synced) i)
+
+unfoldable pub nextBy : ℕ → Page → Next
+nextBy k x = cond (eqb k 2) (Answer (x .id)) (cond (eqb k 3) (Name x) (cond (eqb k 4) (Report x) (Close (x .id))))
+
+-- ---- a sync
+
+-- it is wanted soon: an answer waits for it, or a name
+unfoldable pub isUrgent : ℕ → Slot → Bool
+isUrgent done s = ltb done (s .due) || (eqb (s .named) 1 && not (eqb (s .reported) 1))
+
+unfoldable pub anyUrgent : ℕ → List Slot → Bool
+anyUrgent done [] = false
+anyUrgent done (s ∷ ss) = let later = anyUrgent done ss in cond (isUrgent done s) true later
+
+unfoldable pub syncDue : Engine → ℕ → Waits → Bool
+syncDue e t w = eqb (e .changed) 1 && maySync e && (anyUrgent (e .done) (e .now .slots) || isOver t (e .begun) (w .interval))
+
+-- ---- the first of all
+
+unfoldable pub firstNext : Engine → ℕ → Waits → List Transfer → Next
+firstNext e t w [] = cond (syncDue e t w) Sync Nothing
+firstNext e t w (x ∷ xs) =
+    let later = firstNext e t w xs in
+    let k = kindFor e t w (x .key .id) (slotOf (e .now) (x .key .id)) in
+    cond (eqb k 0) later (nextBy k (pageOf e (x .key .id)))
+
+-- 22 first
+unfoldable pub nextState : List ℕ → ℕ → Waits → Next
+nextState s t w = cond (heldState s) (firstNext (engineIn s) t w (engineIn s .now .table)) (Refused (refusalOf 22))

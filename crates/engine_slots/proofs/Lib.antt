@@ -1,0 +1,4 @@
+pub mod WriteLaws
+pub mod BesideLaws
+pub mod ListLaws
+pub mod SlotLaws

@@ -199,6 +199,10 @@ void judge_saved(int version)
         read = saratoga_read(out, (size_t)letter.size);
         received_of(&read, out, saved_has[version][i]);
     }
+    for (i = 0; i < SARATOGA_TRANSFERS; i++)
+        if (map_now.entries[i].is_open && find_entry(&map_pending, map_now.entries[i].id) == NULL &&
+            tried_engine->tell(aside, sizeof aside, map_now.entries[i].id, out, sizeof out).number == 0)
+            violated("R19.16", "the saved snapshot has an Id that was opened after its sync began");
     check_saved(version);
 }
 

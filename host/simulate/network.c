@@ -63,12 +63,12 @@ static uint64_t width_flags(uint64_t width)
     return width == 2 ? SARATOGA_WIDTH_16 : width == 4 ? SARATOGA_WIDTH_32 : width == 8 ? SARATOGA_WIDTH_64 : SARATOGA_WIDTH_128;
 }
 
-static void write_metadata(struct page *page, uint64_t extra)
+static void write_metadata(struct page *page)
 {
     uint8_t octets[MOST_LENGTH], md5[SARATOGA_MD5_OCTETS], digest[SARATOGA_DIGEST_OCTETS];
     int with_md5 = below(10000) < world.md5;
     char path[32];
-    uint64_t o, flags = width_flags(page->width) | extra | (with_md5 ? SARATOGA_CHECKSUM_MD5 : 0);
+    uint64_t o, flags = width_flags(page->width) | (with_md5 ? SARATOGA_CHECKSUM_MD5 : 0);
     for (o = 0; o < page->length; o++)
         octets[o] = page_octet(page, o);
     saratoga_md5_begin(md5, sizeof md5);
@@ -92,15 +92,19 @@ static struct page *new_page(void)
     page->width = widths[below(sizeof widths / sizeof widths[0])];
     page->length = below(24) == 0 ? below(3) : 1 + below(world.longest);
     page->key = below(UINT32_MAX);
-    write_metadata(page, 0);
     return page;
 }
 
-/* Another page, or the page of another sender; it may be sent without waiting for an answer to METADATA. */
+/* Another page, or the page of another sender; it may be sent without waiting for an answer to METADATA, and be like the one before. */
 static void begin_page(struct transfer *t, int careless)
 {
-    const struct transfer *other = &transfers[below(world.transfers)];
-    t->page = other->page != NULL && below(6) == 0 ? other->page : new_page();
+    struct page *before = t->page, *other = transfers[below(world.transfers)].page;
+    t->page = other != NULL && below(6) == 0 ? other : new_page();
+    if (t->page->metadata_len == 0) {
+        if (before != NULL && below(2))
+            t->page->id = before->id, t->page->width = before->width, t->page->length = before->length;
+        write_metadata(t->page);
+    }
     t->is_answered = careless;
     t->retry = now;
     t->todo[0].from = 0;
@@ -279,8 +283,8 @@ static void send_metadata(struct transfer *t, int ended)
 static void sender_turn(struct transfer *t)
 {
     uint64_t whim = world.calm ? 99 : below(100);
-    if (whim == 0 || (t->page->is_reported && whim < 20))
-        begin_page(t, below(4) == 0);
+    if (whim < 2 || (t->page->is_reported && whim < 20))
+        begin_page(t, (int)below(2));
     else if (whim == 20)
         send_metadata(t, 1);
     else if (whim == 21)

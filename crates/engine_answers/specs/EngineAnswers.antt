@@ -1,6 +1,12 @@
--- The engine's answers as C gets them: numbers alone. A refusal has its number and code, and 0 everywhere else.
+-- R1.5, R19.3 to R19.11: the engine's answers as C gets them: numbers alone. A refusal has its number and code, and 0 everywhere else.
 -- Assumes nothing.
 use Prim.Native.Nat.{ℕ}
+use mathlib.Core.Bool.{Bool, not}
+use lib.Dec.{eqb}
+use Rattle.refusals.specs.Refusals.{codeOf}
+use Rattle.answer_table.specs.declared.DoneAnswer.{DoneAnswer}
+use Rattle.engine_slots.specs.declared.Sender.{Sender}
+use Rattle.engine_sync.specs.declared.Begun.{Begun}
 use Rattle.engine_slots.specs.declared.Stretch.{Stretch}
 use Rattle.engine_slots.specs.declared.Look.{Look}
 use Rattle.engine_slots.specs.declared.Look.the-variants as look
@@ -13,6 +19,7 @@ use Rattle.engine_tell.specs.declared.Letter.{Letter}
 use Rattle.engine_tell.specs.declared.Told.{Told}
 use Rattle.engine_tell.specs.declared.Told.the-variants as told
 use Rattle.engine_next.specs.declared.Page.{Page}
+use Rattle.engine_next.specs.declared.Waits.{Waits}
 use Rattle.engine_next.specs.declared.Next.{Next}
 use Rattle.engine_next.specs.declared.Next.the-variants as next
 use Rattle.engine_answers.specs.declared.LookAnswer.{LookAnswer}
@@ -20,6 +27,27 @@ use Rattle.engine_answers.specs.declared.MeetingAnswer.{MeetingAnswer}
 use Rattle.engine_answers.specs.declared.ClosedAnswer.{ClosedAnswer}
 use Rattle.engine_answers.specs.declared.LetterAnswer.{LetterAnswer}
 use Rattle.engine_answers.specs.declared.NextAnswer.{NextAnswer}
+use Rattle.engine_answers.specs.declared.SyncAnswer.{SyncAnswer}
+
+-- ---- what C tells
+
+abbrev pub senderOf : ℕ → ℕ → ℕ → Sender
+senderOf high low port = record { high = high; low = low; port = port }
+
+abbrev pub waitsOf : ℕ → ℕ → ℕ → Waits
+waitsOf interval linger forget = record { interval = interval; linger = linger; forget = forget }
+
+-- any number but 0 is a yes
+abbrev pub isYes : ℕ → Bool
+isYes n = not (eqb n 0)
+
+-- ---- a refusal or none, with its code
+
+abbrev pub doneBy : ℕ → DoneAnswer
+doneBy n = record { number = n; code = codeOf n }
+
+abbrev pub syncAnswer : Begun → SyncAnswer
+syncAnswer b = record { number = b .number; code = codeOf (b .number); sync = b .sync }
 
 -- ---- DATA: another's is 1, over 2, to compare 3, to write 4
 

@@ -1,12 +1,14 @@
 // The engine's answers as C gets them: structs of numbers, as include/saratoga_engine.h has them.
 ghost use mathlib.Core.Path.{_≡_};
-ghost use Rattle.engine_answers.specs.EngineAnswers.{stretchAnswer, bareLook, lookAnswer, bareMeeting, meetingAnswer, closedAnswer, letterAnswer, bareNext, pageNext, nextAnswer};
+ghost use Rattle.engine_answers.specs.EngineAnswers.{stretchAnswer, bareLook, lookAnswer, bareMeeting, meetingAnswer, closedAnswer, letterAnswer, bareNext, pageNext, nextAnswer, doneBy, syncAnswer};
+use answer_table::DoneAnswer;
 use engine_next::Next;
 use engine_next::Page;
 use engine_open::Closed;
 use engine_slots::Look;
 use engine_slots::Meeting;
 use engine_slots::Stretch;
+use engine_sync::Begun;
 use engine_tell::Told;
 
 // struct saratoga_look.
@@ -105,7 +107,7 @@ fn bare_look(number: u64, code: u64, kind: u64) -> LookAnswer
     }
 }
 
-fn look_answer(a: Look) -> LookAnswer
+pub fn look_answer(a: Look) -> LookAnswer
     ensures { λ r. ⌜ r ≡ lookAnswer a ⌝ }
 {
     match a {
@@ -133,7 +135,7 @@ fn bare_meeting(number: u64, code: u64, kind: u64, file: u64) -> MeetingAnswer
     }
 }
 
-fn meeting_answer(a: Meeting) -> MeetingAnswer
+pub fn meeting_answer(a: Meeting) -> MeetingAnswer
     ensures { λ r. ⌜ r ≡ meetingAnswer a ⌝ }
 {
     match a {
@@ -155,7 +157,7 @@ fn meeting_answer(a: Meeting) -> MeetingAnswer
 
 // ---- closing
 
-fn closed_answer(a: Closed) -> ClosedAnswer
+pub fn closed_answer(a: Closed) -> ClosedAnswer
     ensures { λ r. ⌜ r ≡ closedAnswer a ⌝ }
 {
     match a {
@@ -182,7 +184,7 @@ fn closed_answer(a: Closed) -> ClosedAnswer
 
 // ---- STATUS
 
-fn letter_answer(a: Told) -> LetterAnswer
+pub fn letter_answer(a: Told) -> LetterAnswer
     ensures { λ r. ⌜ r ≡ letterAnswer a ⌝ }
 {
     match a {
@@ -233,7 +235,7 @@ fn page_next(kind: u64, x: Page) -> NextAnswer
     }
 }
 
-fn next_answer(a: Next) -> NextAnswer
+pub fn next_answer(a: Next) -> NextAnswer
     ensures { λ r. ⌜ r ≡ nextAnswer a ⌝ }
 {
     match a {
@@ -244,5 +246,28 @@ fn next_answer(a: Next) -> NextAnswer
         Next::Report(x) => page_next(4, x),
         Next::Close(id) => bare_next(0, 0, 5, id),
         Next::Sync => bare_next(0, 0, 6, 0),
+    }
+}
+
+// ---- a refusal, or none
+
+pub fn done_by(number: u64) -> DoneAnswer
+    ensures { λ r. ⌜ r ≡ doneBy number ⌝ }
+{
+    let refusal = refusals::refuse(number);
+    DoneAnswer {
+        number,
+        code: refusal.code,
+    }
+}
+
+pub fn sync_answer(b: Begun) -> SyncAnswer
+    ensures { λ r. ⌜ r ≡ syncAnswer b ⌝ }
+{
+    let refusal = refusals::refuse(b.number);
+    SyncAnswer {
+        number: b.number,
+        code: refusal.code,
+        sync: b.sync,
     }
 }

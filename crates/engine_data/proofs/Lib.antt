@@ -1,0 +1,4 @@
+pub mod TakenLaws
+pub mod StretchLaws
+pub mod LookLaws
+pub mod StoreLaws

@@ -1,4 +1,4 @@
--- What each call leaves in the state, in the model's words. So the claims on histories are claims on the calls.
+-- R19.18: what each call leaves in the state, in the model's words. So the claims on histories are claims on the calls.
 -- Assumes nothing.
 use Prim.Native.Nat.{ℕ, _+_, _^_, _<_}
 use mathlib.Core.Path.{_≡_}

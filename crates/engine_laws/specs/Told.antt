@@ -1,4 +1,4 @@
--- What the code says to report or to answer, after any history: the claims of the model, of the code's own answers.
+-- R19.14, R19.15, R19.18: what the code says to report or to answer, after any history: the claims of the model, of the code's own answers.
 -- Assumes nothing.
 use Prim.Native.Nat.{ℕ}
 use mathlib.Core.Path.{_≡_}

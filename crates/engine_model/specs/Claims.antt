@@ -1,4 +1,4 @@
--- What is claimed of every history.
+-- R19.14, R19.15, R19.16, R19.17, R19.19: what is claimed of every history.
 -- Assumes nothing.
 use Prim.Native.Nat.{ℕ, _<_}
 use mathlib.Core.Path.{_≡_}
@@ -133,3 +133,13 @@ pub record Held (h : List Event) (i f o : ℕ) (c : ℕ → ℕ → Bool) : Type
 abbrev pub AreaHeld : Type 0
 AreaHeld = (h : List Event) (i o : ℕ) → Member (received (run h .area) i) o
     → (c : ℕ → ℕ → Bool) → Held h i (fileOf (run h .area) i) o c
+
+-- (4) a page that has its name is whole: whatever the disk shows, at any moment and after a crash then, there is METADATA that opened the
+-- Id with this file, and every octet of its length is kept
+pub record Page (h : List Event) (i f : ℕ) : Type 0 where
+  pub key : Key
+  pub begun : Begun h i f key
+  pub kept : (o : ℕ) → o < key .length → Kept h i f o
+
+abbrev pub NamedWhole : Type 0
+NamedWhole = (h : List Event) (i f o v : ℕ) (c : ℕ → ℕ → Bool) → content (surviving c (run h .writes)) i f namePart o ≡ some v → Page h i f

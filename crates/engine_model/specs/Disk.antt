@@ -1,4 +1,4 @@
--- The disk: all writes to files, in order, and which of them a crash can't take away.
+-- R19.13: the disk: all writes to files, in order, and which of them a crash can't take away.
 -- Assumes nothing.
 use Prim.Native.Nat.{ℕ, suc}
 use mathlib.Core.Bool.{Bool, true, false, cond, _&&_, _||_}

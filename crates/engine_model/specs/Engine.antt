@@ -1,4 +1,4 @@
--- The engine: what it keeps, what it is told, what it has done, and what it is afterwards. It does nothing itself.
+-- R19.5, R19.6, R19.7, R19.8, R19.9, R19.11: the engine: what it keeps, what it is told, what it has done, and what it is afterwards. It does nothing itself.
 -- Assumes nothing.
 use Prim.Native.Nat.{ℕ, suc, _+_}
 use mathlib.Core.Bool.{Bool, true, false, cond, _&&_, _||_, not}
@@ -26,7 +26,7 @@ use Rattle.engine_slots.specs.declared.Look.{Look}
 use Rattle.engine_slots.specs.declared.Look.the-variants as look
 use Rattle.engine_slots.specs.declared.Meeting.{Meeting}
 use Rattle.engine_slots.specs.declared.Meeting.the-variants as meeting
-use Rattle.engine_model.specs.Snapshots.{Packet, Snapshot, isSome, keyIn, isOpen, isBusy, slotOf, fileOf, received, isComplete, sameFile, withSlot, withTable, withNew, closedIn, ownedBy, heardAt, answeredSlot, namedSlot, reportedSlot, newSlot}
+use Rattle.engine_model.specs.Snapshots.{Packet, Snapshot, isSome, keyIn, isOpen, mustWait, slotOf, fileOf, received, isComplete, sameFile, withSlot, withTable, withNew, closedIn, ownedBy, heardAt, answeredSlot, namedSlot, reportedSlot, newSlot}
 use Rattle.engine_model.specs.Stretches.{bringsIn, pieceOf, lookData}
 use Rattle.engine_model.specs.Meetings.{lastNumber, digestOf, roomFor, meet}
 
@@ -217,7 +217,7 @@ stored e t r p from x = storedAs e t p x (readData p) (lookData (e .now) r p fro
 
 -- a page that is complete is reported first, unless it is spoilt
 unfoldable pub mayClose : Snapshot → ℕ → Bool → Bool
-mayClose s i spoilt = isOpen s i && (spoilt || not (isBusy s i))
+mayClose s i spoilt = isOpen s i && not (mustWait s i spoilt)
 
 unfoldable pub closed : Engine → ℕ → Bool → Engine
 closed e i b = cond (mayClose (e .now) i b) (withNow e (closedIn (e .now) i) (e .next) 1) e

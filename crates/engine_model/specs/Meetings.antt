@@ -1,4 +1,4 @@
--- What is done for METADATA: a new Id gets files of its own, the METADATA of the open transfer changes nothing but its owner, other
+-- R19.3: what is done for METADATA: a new Id gets files of its own, the METADATA of the open transfer changes nothing but its owner, other
 -- METADATA of an open Id ends that transfer and opens anew, and METADATA that says so ends it.
 -- Assumes nothing.
 use Prim.Native.Nat.{ℕ, _-_, _^_}

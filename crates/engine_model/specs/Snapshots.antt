@@ -1,4 +1,4 @@
--- A snapshot: the library's table, and a slot beside each transfer. What is looked up in it, and what changes it.
+-- R19.1, R19.2: a snapshot: the library's table, and a slot beside each transfer. What is looked up in it, and what changes it.
 -- Assumes nothing.
 use Prim.Native.Nat.{ℕ, suc}
 use mathlib.Core.Bool.{Bool, true, false, cond, _&&_, _||_, not}
@@ -64,6 +64,10 @@ isComplete s i = completeOf (keyIn s i) (received s i)
 -- the page is complete, and was not reported yet: the transfer is not ended for a packet, nor by the operator
 unfoldable pub isBusy : Snapshot → ℕ → Bool
 isBusy s i = isComplete s i && not (eqb (slotOf s i .reported) 1)
+
+-- unless the page is spoilt
+unfoldable pub mustWait : Snapshot → ℕ → Bool → Bool
+mustWait s i spoilt = isBusy s i && not spoilt
 
 unfoldable pub sameSender : Sender → Sender → Bool
 sameSender r s = eqb (r .high) (s .high) && eqb (r .low) (s .low) && eqb (r .port) (s .port)

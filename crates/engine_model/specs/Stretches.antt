@@ -1,4 +1,4 @@
--- What is done for DATA, from an offset on: the stretches of its octets that were received are compared, the others are written.
+-- R19.4: what is done for DATA, from an offset on: the stretches of its octets that were received are compared, the others are written.
 -- Assumes nothing.
 use Prim.Native.Nat.{ℕ, _+_, _-_, max}
 use mathlib.Core.Bool.{Bool, true, false, cond, _&&_}

@@ -1,4 +1,4 @@
--- The engine and the disk together, along a history.
+-- R19.7, R19.13: the engine and the disk together, along a history.
 -- Assumes nothing.
 use Prim.Native.Nat.{ℕ, suc, _+_}
 use mathlib.Core.Bool.{Bool, true, false, cond}

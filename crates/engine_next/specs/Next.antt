@@ -3,11 +3,13 @@
 use Prim.Native.Nat.{ℕ, _-_}
 use mathlib.Core.Bool.{Bool, true, false, cond, _&&_, _||_, not}
 use mathlib.Core.List.{List, [], _∷_}
+use mathlib.Core.Option.{Option, none, some}
 use lib.Dec.{ltb, leb, eqb}
 use Rattle.refusals.specs.Refusals.{refusalOf}
+use Rattle.transfer.specs.declared.Key.{Key}
 use Rattle.transfer.specs.Transfers.{Transfer}
 use Rattle.engine_slots.specs.declared.Slot.{Slot}
-use Rattle.engine_model.specs.Snapshots.{slotOf, isComplete, sameFile}
+use Rattle.engine_model.specs.Snapshots.{keyIn, slotOf, fileOf, isComplete, sameFile}
 use Rattle.engine_model.specs.Engine.{Engine, mayName, mayReport, maySync}
 use Rattle.engine_state.specs.State.{engineIn, heldState}
 use Rattle.engine_next.specs.declared.Page.{Page}
@@ -44,8 +46,13 @@ kindFor e t w i s =
     (cond (nameDue (mayName e i) s) 3
     (cond (reportDue (mayReport e i) same s) 4 (cond (isAtEnd (isComplete (e .now) i) t w s) 5 0)))
 
-abbrev pub pageOf : Transfer → Slot → Page
-pageOf x s = record { id = x .key .id; file = s .file; length = x .key .length }
+-- the page of an Id, as it is on disk: only this is named and reported
+unfoldable pub pageBy : Option Key → ℕ → ℕ → Page
+pageBy none i f = record { id = i; file = 0; length = 0 }
+pageBy (some k) i f = record { id = i; file = f; length = k .length }
+
+unfoldable pub pageOf : Engine → ℕ → Page
+pageOf e i = pageBy (keyIn (e .synced) i) i (fileOf (e .synced) i)
 
 unfoldable pub nextBy : ℕ → Page → Next
 nextBy k x = cond (eqb k 2) (Answer (x .id)) (cond (eqb k 3) (Name x) (cond (eqb k 4) (Report x) (Close (x .id))))
@@ -69,9 +76,8 @@ unfoldable pub firstNext : Engine → ℕ → Waits → List Transfer → Next
 firstNext e t w [] = cond (syncDue e t w) Sync Nothing
 firstNext e t w (x ∷ xs) =
     let later = firstNext e t w xs in
-    let s = slotOf (e .now) (x .key .id) in
-    let k = kindFor e t w (x .key .id) s in
-    cond (eqb k 0) later (nextBy k (pageOf x s))
+    let k = kindFor e t w (x .key .id) (slotOf (e .now) (x .key .id)) in
+    cond (eqb k 0) later (nextBy k (pageOf e (x .key .id)))
 
 -- 22 first
 unfoldable pub nextState : List ℕ → ℕ → Waits → Next

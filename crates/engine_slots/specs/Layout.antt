@@ -1,4 +1,4 @@
--- Where the slots stand: after the words of the area, one for each place of a transfer. Area and slots together are a snapshot.
+-- R19.12: where the slots stand: after the words of the area, one for each place of a transfer. Area and slots together are a snapshot.
 -- Assumes nothing.
 use Prim.Native.Nat.{ℕ, _+_, _*_}
 use Rattle.area.specs.Layout.{transferPlaces, areaWords}

@@ -1,4 +1,4 @@
--- The slots that words hold, and the same words with one slot changed, put in or taken out.
+-- R19.2, R19.12: the slots that words hold, and the same words with one slot changed, put in or taken out.
 -- Assumes nothing.
 use Prim.Native.Nat.{ℕ, zero, suc, _-_, _*_}
 use mathlib.Core.List.{List, [], _∷_}

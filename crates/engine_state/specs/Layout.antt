@@ -1,4 +1,4 @@
--- The layout of the engine's state, in words of 8 octets: three snapshots, of what is now, of what a sync is under way for and of what is
+-- R19.12: the layout of the engine's state, in words of 8 octets: three snapshots, of what is now, of what a sync is under way for and of what is
 -- synced, and the engine's own numbers.
 -- Assumes nothing.
 use Prim.Native.Nat.{ℕ, _+_, _*_}

@@ -1,4 +1,4 @@
--- The engine that octets hold, and which octets hold one.
+-- R19.12: the engine that octets hold, and which octets hold one.
 -- Assumes nothing.
 use Prim.Native.Nat.{ℕ, zero, suc, _+_}
 use mathlib.Core.Bool.{Bool, true, false, cond}

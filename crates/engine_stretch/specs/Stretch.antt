@@ -1,4 +1,4 @@
--- How far from an offset on, up to a stop, octets are alike: all received, or none.
+-- R19.4: how far from an offset on, up to a stop, octets are alike: all received, or none.
 -- Assumes nothing.
 use Prim.Native.Nat.{ℕ, min}
 use mathlib.Core.Bool.{Bool, true, false, cond}

@@ -51,11 +51,12 @@ unfoldable pub beginning : List ℕ → Begun
 beginning s =
     cond (heldState s) (record { number = 0; sync = cond (maySync (engineIn s)) (suc (numberIn s numberField)) 0 }) (record { number = 22; sync = 0 })
 
+-- the sync of number n is under way, for what is now
+abbrev pub begunAs : List ℕ → ℕ → ℕ → List ℕ
+begunAs s n t = setNumber (setNumber (setNumber (setNumber (movedWords s 0 pendingAt snapshotWords) underWayField 1) numberField n) changedField 0) begunField t
+
 unfoldable pub begunState : List ℕ → ℕ → List ℕ
-begunState s t =
-    cond (heldState s && maySync (engineIn s))
-    (setNumber (setNumber (setNumber (setNumber (movedWords s 0 pendingAt snapshotWords) underWayField 1) numberField (suc (numberIn s numberField))) changedField 0) begunField t)
-    s
+begunState s t = cond (heldState s && maySync (engineIn s)) (begunAs s (suc (numberIn s numberField)) t) s
 
 -- ---- and ends
 

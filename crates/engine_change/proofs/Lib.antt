@@ -1,0 +1,3 @@
+pub mod TakenLaws
+pub mod MadeLaws
+pub mod ChangeLaws

@@ -1,0 +1,5 @@
+pub mod CaseLaws
+pub mod RoomLaws
+pub mod HeldLaws
+pub mod SlotLaws
+pub mod ReadLaws

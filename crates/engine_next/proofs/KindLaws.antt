@@ -1,0 +1,77 @@
+-- What is due for a transfer, and whether a sync is: case by case, by what the calls gave.
+-- Assumes nothing.
+use Prim.Native.Nat.{ℕ}
+use mathlib.Core.Path.{_≡_, refl, sym, ap, _∙_}
+use mathlib.Core.Bool.{Bool, true, false, cond, _&&_, _||_}
+use lib.Dec.{eqb}
+use borrow.Author.Tests.{eq-eqb, ne-eqb}
+use Rattle.engine_slots.specs.declared.Slot.{Slot}
+use Rattle.engine_model.specs.Snapshots.{isComplete, sameFile}
+use Rattle.engine_model.specs.Engine.{Engine, mayName, mayReport, maySync}
+use Rattle.engine_next.specs.declared.Waits.{Waits}
+use Rattle.engine_next.specs.Next.{isCovered, nameDue, reportDue, isOver, isAtEnd, kindFor, anyUrgent, syncDue}
+
+module _ (e : Engine) (t : ℕ) (w : Waits) (i : ℕ) (s : Slot) (same : Bool) (is : same ≡ sameFile (e .now) (e .synced) i) where
+  -- by the four tests, in their order
+  kind-by : (a b c d : Bool) → isCovered (e .done) same s ≡ a → nameDue (mayName e i) s ≡ b → reportDue (mayReport e i) same s ≡ c
+      → isAtEnd (isComplete (e .now) i) t w s ≡ d
+      → cond a 2 (cond b 3 (cond c 4 (cond d 5 0))) ≡ kindFor e t w i s
+  unfolding kindFor
+  kind-by a b c d f g h k = rw (← is, f, g, h, k)
+
+  module _ (done : ℕ) (at : done ≡ e .done) (a : Bool) (f : a ≡ isCovered done same s) where
+    covered : isCovered (e .done) same s ≡ a
+    covered = ap (λ (n : ℕ). isCovered n same s) (sym at) ∙ sym f
+
+    pub kind-answer : a ≡ true → 2 ≡ kindFor e t w i s
+    kind-answer y = kind-by true _ _ _ (covered ∙ y) refl refl refl
+
+    module _ (no-answer : a ≡ false) (name : Bool) (may : name ≡ mayName e i) (b : Bool) (g : b ≡ nameDue name s) where
+      named : nameDue (mayName e i) s ≡ b
+      named = ap (λ (m : Bool). nameDue m s) (sym may) ∙ sym g
+
+      pub kind-name : b ≡ true → 3 ≡ kindFor e t w i s
+      kind-name y = kind-by false true _ _ (covered ∙ no-answer) (named ∙ y) refl refl
+
+      module _ (no-name : b ≡ false) (report : Bool) (may-too : report ≡ mayReport e i) (c : Bool) (h : c ≡ reportDue report same s) where
+        reported : reportDue (mayReport e i) same s ≡ c
+        reported = ap (λ (m : Bool). reportDue m same s) (sym may-too) ∙ sym h
+
+        pub kind-report : c ≡ true → 4 ≡ kindFor e t w i s
+        kind-report y = kind-by false false true _ (covered ∙ no-answer) (named ∙ no-name) (reported ∙ y) refl
+
+        module _ (no-report : c ≡ false) (full : Bool) (whole : full ≡ isComplete (e .now) i) (d : Bool) (k : d ≡ isAtEnd full t w s) where
+          ended : isAtEnd (isComplete (e .now) i) t w s ≡ d
+          ended = ap (λ (m : Bool). isAtEnd m t w s) (sym whole) ∙ sym k
+
+          pub kind-close : d ≡ true → 5 ≡ kindFor e t w i s
+          kind-close y = kind-by false false false true (covered ∙ no-answer) (named ∙ no-name) (reported ∙ no-report) (ended ∙ y)
+
+          pub kind-none : d ≡ false → 0 ≡ kindFor e t w i s
+          kind-none y = kind-by false false false false (covered ∙ no-answer) (named ∙ no-name) (reported ∙ no-report) (ended ∙ y)
+
+-- ---- a sync
+
+module _ (e : Engine) (t : ℕ) (w : Waits) where
+  due-by : (a b c d : Bool) → eqb (e .changed) 1 ≡ a → maySync e ≡ b → anyUrgent (e .done) (e .now .slots) ≡ c → isOver t (e .begun) (w .interval) ≡ d
+      → (a && b && (c || d)) ≡ syncDue e t w
+  unfolding syncDue
+  due-by a b c d f g h k = λ x. (sym f) x && (sym g) x && ((sym h) x || (sym k) x)
+
+  module _ (changed : ℕ) (is : changed ≡ e .changed) where
+    pub due-unchanged : (changed ≡ 1 → ⊥) → false ≡ syncDue e t w
+    due-unchanged n = due-by false _ _ _ (ap (λ (x : ℕ). eqb x 1) (sym is) ∙ ne-eqb changed 1 n) refl refl refl
+
+    module _ (one : changed ≡ 1) (may : Bool) (m : may ≡ maySync e) where
+      to-save : eqb (e .changed) 1 ≡ true
+      to-save = ap (λ (x : ℕ). eqb x 1) (sym is) ∙ eq-eqb changed 1 one
+
+      pub due-not : may ≡ false → false ≡ syncDue e t w
+      due-not n = due-by true false _ _ to-save (sym m ∙ n) refl refl
+
+      module _ (yes : may ≡ true) (urgent : Bool) (u : urgent ≡ anyUrgent (e .done) (e .now .slots)) where
+        pub due-urgent : urgent ≡ true → true ≡ syncDue e t w
+        due-urgent n = due-by true true true _ to-save (sym m ∙ yes) (sym u ∙ n) refl
+
+        pub due-over : urgent ≡ false → (begun : ℕ) → begun ≡ e .begun → isOver t begun (w .interval) ≡ syncDue e t w
+        due-over n begun b = due-by true true false _ to-save (sym m ∙ yes) (sym u ∙ n) (ap (λ (x : ℕ). isOver t x (w .interval)) (sym b))

@@ -14,7 +14,7 @@ struct opening {
     struct page *page; /* NULL where the METADATA came with errors */
     uint64_t brought[MOST_LENGTH];
     uint8_t is_told[MOST_LENGTH], told[MOST_LENGTH];
-    int is_reported;
+    int is_reported, is_spoilt;
 };
 
 /* Which Ids are open, for which file, and whose they are; and for a snapshot that is saved, the offsets that it has as received. */
@@ -236,6 +236,15 @@ void judge_crash(void)
     }
 }
 
+/* What no rule forbids, and is counted: the sender was told that its page is complete, and the page was never reported. */
+void judge_end(void)
+{
+    size_t i;
+    for (i = 0; i < opening_count; i++)
+        if (!openings[i].is_reported && openings[i].length > 0 && memchr(openings[i].is_told, 0, (size_t)openings[i].length) == NULL)
+            counted[openings[i].is_spoilt ? COMPLETE_SPOILT : COMPLETE_ENDED]++;
+}
+
 /* ---- what is done to the disk */
 
 void judge_write(uint64_t file, uint64_t offset, uint8_t octet)
@@ -292,6 +301,7 @@ void judge_report(uint64_t id, uint64_t number, uint64_t length)
     check_octets("R19.14", opening, file, NULL, "report");
     check_md5(opening, file);
     tell_octets(opening, file, NULL);
+    counted[REPORTED_AGAIN] += (uint64_t)opening->is_reported;
     opening->is_reported = 1;
     if (opening->page != NULL)
         opening->page->is_reported = 1;
@@ -437,7 +447,10 @@ static struct saratoga_done reported(uint8_t *state, size_t state_len, uint64_t 
 
 static struct saratoga_closed close_id(uint8_t *state, size_t state_len, uint64_t id, uint64_t spoilt)
 {
+    struct entry *entry = find_entry(&map_now, id);
     struct saratoga_closed closed = tried_engine->close(state, state_len, id, spoilt);
+    if (entry != NULL && spoilt)
+        find_opening(entry->file)->is_spoilt = 1;
     if (closed.kind == SARATOGA_CLOSE_GONE)
         remove_entry(id);
     counted[SPOILT] += closed.kind == SARATOGA_CLOSE_GONE && spoilt;

@@ -16,7 +16,9 @@ uint64_t counted[COUNTED];
 static uint64_t chance, event, total;
 static jmp_buf stopped, ended;
 static const char *const counted_names[COUNTED] = {"crashes", "openings", "stretches written", "stretches compared", "ended by other octets",
-                                                   "STATUS", "good syncs", "bad syncs", "pages spoilt", "reports"};
+                                                   "STATUS", "good syncs", "bad syncs", "pages spoilt", "reports", "of them again",
+                                                   "pages spoilt after they were told as complete",
+                                                   "ended by other octets after they were told as complete"};
 static char why[512];
 static int is_tracing;
 static char lines[TRACED][LINE];
@@ -186,6 +188,7 @@ static int run_world(uint64_t seed)
     run_until(CHAOS + network_calm());
     if (!network_is_done())
         violated("liveness", "nothing is lost any more, and a page is not reported after %d events", (int)(event - CHAOS));
+    judge_end();
     return 0;
 }
 

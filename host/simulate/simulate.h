@@ -27,7 +27,10 @@ extern struct world world;
 extern uint64_t now; /* the time */
 
 /* How often what happened. */
-enum { CRASHES, OPENINGS, WRITTEN, COMPARED, OTHER_OCTETS, TOLD, GOOD_SYNCS, BAD_SYNCS, SPOILT, REPORTS, COUNTED };
+enum {
+    CRASHES, OPENINGS, WRITTEN, COMPARED, OTHER_OCTETS, TOLD, GOOD_SYNCS, BAD_SYNCS, SPOILT, REPORTS, REPORTED_AGAIN, COMPLETE_SPOILT,
+    COMPLETE_ENDED, COUNTED
+};
 extern uint64_t counted[COUNTED];
 
 /* ---- simulate.c: chance, traces and the end */
@@ -116,5 +119,6 @@ void judge_saved(int version); /* this snapshot is about to be the saved one */
 void judge_status(const struct address *to, const uint8_t *packet, size_t size);
 void judge_report(uint64_t id, uint64_t file, uint64_t length);
 void judge_crash(void);
+void judge_end(void);
 
 #endif

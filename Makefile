@@ -24,7 +24,7 @@ PLAN_SOURCES = $(addprefix host/plan/,plan.c input.c reason.c)
 LINK_SOURCES = $(addprefix host/link/,link.c source.c dispatch.c table.c store.c disk.c meta.c check.c sheet.c onair.c control.c \
 	settings.c text.c)
 MERGE_SOURCES = $(addprefix host/merge/,merge.c octets.c) $(addprefix host/link/,table.c store.c disk.c meta.c check.c sheet.c text.c)
-SIMULATE_SOURCES = $(addprefix host/simulate/,simulate.c disk.c network.c judge.c shell.c first.c second.c)
+SIMULATE_SOURCES = $(addprefix host/simulate/,simulate.c disk.c network.c judge.c listen.c shell.c first.c second.c)
 SETTINGS_SOURCES = $(addprefix host/settings/,settings.c fault.c store.c)
 BENCH_FLAGS = -O2 -Wall -Wextra -Iinclude
 

@@ -340,7 +340,7 @@ void judge_handled(void)
 
 /* ---- calls */
 
-static struct saratoga_done start(uint8_t *state, size_t state_len, const uint8_t *saved, size_t saved_len, uint64_t sync, uint64_t file)
+void judge_started(void)
 {
     const struct version *version = disk_saved();
     memset(&map_now, 0, sizeof map_now);
@@ -348,7 +348,6 @@ static struct saratoga_done start(uint8_t *state, size_t state_len, const uint8_
         map_now = map_saved[version - disk_versions];
     map_synced = map_now;
     sync_under_way = 0;
-    return tried_engine->start(state, state_len, saved, saved_len, sync, file);
 }
 
 static void open_anew(const struct saratoga_meeting *m, const uint8_t *packet, size_t size, const struct address *from)
@@ -384,94 +383,53 @@ static void keep_open(uint64_t id, const uint8_t *packet, size_t size, const str
     entry->owner = *from;
 }
 
-static struct saratoga_meeting opened(uint8_t *state, size_t state_len, uint64_t time, uint64_t high, uint64_t low, uint64_t port,
-                                      const uint8_t *packet, size_t packet_len, uint64_t well)
+void judge_opened(const struct saratoga_meeting *m, const struct address *from, const uint8_t *packet, size_t size, int well)
 {
-    struct saratoga_meeting m = tried_engine->opened(state, state_len, time, high, low, port, packet, packet_len, well);
-    struct address from = {high, low, port};
-    if (m.kind == SARATOGA_MEET_MAKE && well)
-        open_anew(&m, packet, packet_len, &from);
-    if (m.kind == SARATOGA_MEET_KEPT)
-        keep_open(saratoga_read(packet, packet_len).id, packet, packet_len, &from);
-    if (m.kind == SARATOGA_MEET_ENDED)
-        remove_entry(saratoga_read(packet, packet_len).id);
-    return m;
+    if (m->kind == SARATOGA_MEET_MAKE && well)
+        open_anew(m, packet, size, from);
+    if (m->kind == SARATOGA_MEET_KEPT)
+        keep_open(saratoga_read(packet, size).id, packet, size, from);
+    if (m->kind == SARATOGA_MEET_ENDED)
+        remove_entry(saratoga_read(packet, size).id);
 }
 
-static struct saratoga_meeting meet(const uint8_t *state, size_t state_len, const uint8_t *packet, size_t packet_len)
+void judge_looked(const struct saratoga_look *l)
 {
-    return tried_engine->meet(state, state_len, packet, packet_len);
+    is_taken |= l->kind >= SARATOGA_LOOK_COMPARE;
 }
 
-static struct saratoga_look look(const uint8_t *state, size_t state_len, uint64_t high, uint64_t low, uint64_t port,
-                                 const uint8_t *packet, size_t packet_len, uint64_t from)
+void judge_stored(const struct saratoga_look *l, int well)
 {
-    struct saratoga_look l = tried_engine->look(state, state_len, high, low, port, packet, packet_len, from);
-    is_taken |= l.kind >= SARATOGA_LOOK_COMPARE;
-    return l;
+    has_failed |= l->kind == SARATOGA_LOOK_WRITE && !well;
+    counted[WRITTEN] += l->kind == SARATOGA_LOOK_WRITE && well;
+    counted[COMPARED] += l->kind == SARATOGA_LOOK_COMPARE;
+    counted[OTHER_OCTETS] += l->kind == SARATOGA_LOOK_COMPARE && !well;
+    if (l->kind == SARATOGA_LOOK_COMPARE && !well)
+        remove_entry(l->id);
 }
 
-static struct saratoga_look stored(uint8_t *state, size_t state_len, uint64_t time, uint64_t high, uint64_t low, uint64_t port,
-                                   const uint8_t *packet, size_t packet_len, uint64_t from, uint64_t well)
-{
-    struct saratoga_look l = tried_engine->stored(state, state_len, time, high, low, port, packet, packet_len, from, well);
-    has_failed |= l.kind == SARATOGA_LOOK_WRITE && !well;
-    counted[WRITTEN] += l.kind == SARATOGA_LOOK_WRITE && well;
-    counted[COMPARED] += l.kind == SARATOGA_LOOK_COMPARE;
-    counted[OTHER_OCTETS] += l.kind == SARATOGA_LOOK_COMPARE && !well;
-    if (l.kind == SARATOGA_LOOK_COMPARE && !well)
-        remove_entry(l.id);
-    return l;
-}
-
-static struct saratoga_next next(const uint8_t *state, size_t state_len, uint64_t time, uint64_t interval, uint64_t linger,
-                                 uint64_t forget)
-{
-    return tried_engine->next(state, state_len, time, interval, linger, forget);
-}
-
-static struct saratoga_letter tell(uint8_t *state, size_t state_len, uint64_t id, uint8_t *out, size_t out_len)
-{
-    return tried_engine->tell(state, state_len, id, out, out_len);
-}
-
-static struct saratoga_done named(uint8_t *state, size_t state_len, uint64_t id, uint64_t well)
-{
-    return tried_engine->named(state, state_len, id, well);
-}
-
-static struct saratoga_done reported(uint8_t *state, size_t state_len, uint64_t id)
-{
-    return tried_engine->reported(state, state_len, id);
-}
-
-static struct saratoga_closed close_id(uint8_t *state, size_t state_len, uint64_t id, uint64_t spoilt)
+void judge_closed(const struct saratoga_closed *closed, uint64_t id, int spoilt)
 {
     struct entry *entry = find_entry(&map_now, id);
-    struct saratoga_closed closed = tried_engine->close(state, state_len, id, spoilt);
-    if (entry != NULL && spoilt)
-        find_opening(entry->file)->is_spoilt = 1;
-    if (closed.kind == SARATOGA_CLOSE_GONE)
-        remove_entry(id);
-    counted[SPOILT] += closed.kind == SARATOGA_CLOSE_GONE && spoilt;
-    return closed;
+    if (closed->kind != SARATOGA_CLOSE_GONE || entry == NULL)
+        return;
+    find_opening(entry->file)->is_spoilt |= spoilt;
+    counted[SPOILT] += (uint64_t)spoilt;
+    remove_entry(id);
 }
 
-static struct saratoga_sync begin_sync(uint8_t *state, size_t state_len, uint64_t time)
+void judge_sync_begun(uint64_t sync)
 {
-    struct saratoga_sync sync = tried_engine->sync(state, state_len, time);
-    if (sync.sync != 0) {
-        map_pending = map_now;
-        sync_under_way = sync.sync;
-    }
-    return sync;
+    if (sync == 0)
+        return;
+    map_pending = map_now;
+    sync_under_way = sync;
 }
 
-static struct saratoga_done synced(uint8_t *state, size_t state_len, uint64_t sync, uint64_t good)
+void judge_sync_ended(uint64_t sync, int good)
 {
-    struct saratoga_done done = tried_engine->synced(state, state_len, sync, good);
     if (sync == 0 || sync != sync_under_way)
-        return done;
+        return;
     sync_under_way = 0;
     counted[good ? GOOD_SYNCS : BAD_SYNCS]++;
     if (good) {
@@ -480,20 +438,4 @@ static struct saratoga_done synced(uint8_t *state, size_t state_len, uint64_t sy
     } else {
         map_now = map_synced;
     }
-    return done;
 }
-
-const struct engine judged_engine = {
-    .start = start,
-    .meet = meet,
-    .opened = opened,
-    .look = look,
-    .stored = stored,
-    .next = next,
-    .tell = tell,
-    .named = named,
-    .reported = reported,
-    .close = close_id,
-    .sync = begin_sync,
-    .synced = synced,
-};

@@ -108,7 +108,7 @@ void shell_close(uint64_t id, int spoilt);
 
 /* ---- judge.c: the history, and what must hold of it */
 extern const struct engine *tried_engine; /* first or second */
-extern const struct engine judged_engine; /* the same, with the judge listening */
+extern const struct engine judged_engine; /* the same, with the judge listening: listen.c */
 void judge_clear(void);
 void judge_arrival(const struct address *from, const uint8_t *packet, size_t size);
 void judge_handled(void); /* the shell has done what it does for the packet */
@@ -120,5 +120,13 @@ void judge_status(const struct address *to, const uint8_t *packet, size_t size);
 void judge_report(uint64_t id, uint64_t file, uint64_t length);
 void judge_crash(void);
 void judge_end(void);
+/* calls, with their answers */
+void judge_started(void);
+void judge_opened(const struct saratoga_meeting *m, const struct address *from, const uint8_t *packet, size_t size, int well);
+void judge_looked(const struct saratoga_look *l);
+void judge_stored(const struct saratoga_look *l, int well);
+void judge_closed(const struct saratoga_closed *closed, uint64_t id, int spoilt);
+void judge_sync_begun(uint64_t sync);
+void judge_sync_ended(uint64_t sync, int good);
 
 #endif

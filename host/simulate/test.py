@@ -27,7 +27,7 @@ SANITIZE = ("-fsanitize=address,undefined", "-fno-sanitize-recover=all")
 COMPILER = [os.environ.get("CC", "cc"), "-std=c11", "-Wall", "-Wextra", "-Werror", "-pedantic", "-I" + os.path.join(ROOT, "include"),
             "-I" + PLACE]
 STAND_IN = "--stand-in" in sys.argv[1:]
-SIMULATION = ("simulate", "disk", "network", "judge", "shell")
+SIMULATION = ("simulate", "disk", "network", "judge", "listen", "shell")
 
 
 def check(holds, what):

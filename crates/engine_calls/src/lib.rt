@@ -26,7 +26,7 @@ pub fn start(state: &mut [u8], saved: &[u8], sync: u64, file: u64) -> DoneAnswer
 pub fn meet(state: &[u8], packet: &[u8]) -> MeetingAnswer
     ensures { λ r. ⌜ r ≡ meetingAnswer (meetState (now (state .entry)) (now (packet .entry))) ⌝ }
 {
-    engine_answers::meeting_answer(engine_open::meet(state, packet))
+    engine_answers::meeting_answer(engine_meet::meet(state, packet))
 }
 
 pub fn opened(

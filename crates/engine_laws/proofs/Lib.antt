@@ -1,0 +1,12 @@
+pub mod PartLaws
+pub mod StandsLaws
+pub mod LeaveLaws
+pub mod SizeLaws
+pub mod TellSpeaks
+pub mod SyncSpeaks
+pub mod StartSpeaks
+pub mod StoreSpeaks
+pub mod OpenSpeaks
+pub mod Theorems
+pub mod ShownLaws
+pub mod ToldLaws

@@ -1,17 +1,14 @@
 -- R19.18: what each call leaves in the state, in the model's words. So the claims on histories are claims on the calls.
 -- Assumes nothing.
-use Prim.Native.Nat.{ℕ, _+_, _^_, _<_}
+use Prim.Native.Nat.{ℕ, _^_, _<_}
 use mathlib.Core.Path.{_≡_}
 use mathlib.Core.Bool.{Bool, true, false}
-use mathlib.Core.List.{List, []}
-use mathlib.Core.Option.{Option, some}
-use lib.ListN.{length}
+use mathlib.Core.List.{List}
+use mathlib.Core.Option.{some}
 use Rattle.octets.specs.Numbers.{Octets}
 use Rattle.engine_slots.specs.declared.Sender.{Sender}
-use Rattle.engine_model.specs.Snapshots.{Snapshot, emptySnapshot, keyIn, isOpen}
-use Rattle.engine_model.specs.Engine.{Engine, Ended, whole, part, Event, answering, naming, reporting, syncing, Action, actions, opened, stored, closed, answered, named, reported, begunAt, current, confirmed, dropped, started}
-use Rattle.engine_model.specs.Claims.{In}
-use Rattle.engine_state.specs.State.{snapshotIn, engineIn, engineOf}
+use Rattle.engine_model.specs.Engine.{Engine, Ended, whole, part, opened, stored, closed, answered, named, reported, begunAt, current, confirmed, dropped, started}
+use Rattle.engine_state.specs.State.{snapshotIn, engineOf}
 use Rattle.engine_data.specs.Store.{storedState}
 use Rattle.engine_open.specs.Opened.{openedState, goneState}
 use Rattle.engine_sync.specs.Syncs.{startRefusal, startedState, begunState, endedState}
@@ -39,7 +36,7 @@ pub record Holds (s : List ℕ) (e : Engine) : Type 0 where
 pub record Speaks (s : List ℕ) (e : Engine) : Type 0 where
   pub opens : (t : ℕ) (r : Sender) (p : List ℕ) (b : Bool) (k : ℕ → Bool) → t < 2 ^ 64 → Words r → Octets p
       → Holds (openedState s t r p b) (opened e t r p (endOf b k))
-  pub stores : (t : ℕ) (r : Sender) (p : List ℕ) (from : ℕ) (b : Bool) (k : ℕ → Bool) → t < 2 ^ 64 → Words r → Octets p
+  pub stores : (t : ℕ) (r : Sender) (p : List ℕ) (from : ℕ) (b : Bool) (k : ℕ → Bool) → t < 2 ^ 64 → Octets p
       → Holds (storedState s t r p from b) (stored e t r p from (endOf b k))
   pub closes : (i : ℕ) (b : Bool) → Holds (goneState s i b) (closed e i b)
   pub tells : (i : ℕ) (out : List ℕ) (x : Letter) → telling s i out ≡ told.Sent x → Holds (toldState s i out) (answered e i)
@@ -54,5 +51,5 @@ EveryCallSpeaks = (s : List ℕ) (e : Engine) → Holds s e → Speaks s e
 
 -- and a start leaves the engine that is started from what was saved
 abbrev pub StartSpeaks : Type 0
-StartSpeaks = (s saved : List ℕ) (number next : ℕ) → Octets s → Octets saved → number < 2 ^ 64 → next < 2 ^ 64
+StartSpeaks = (s saved : List ℕ) (number next : ℕ) → Octets s → Octets saved → next < 2 ^ 64
     → startRefusal s saved number ≡ 0 → Holds (startedState s saved number next) (started (snapshotIn saved) number next)

@@ -1,0 +1,9 @@
+pub mod SaveLaws
+pub mod PieceLaws
+pub mod TakeLaws
+pub mod SendLaws
+pub mod RoundReport
+pub mod CutLaws
+pub mod StretchLaws
+pub mod WalkLaws
+pub mod Example

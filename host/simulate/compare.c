@@ -138,12 +138,21 @@ static void on_metadata(void)
     BOTH(saratoga_meeting, "opened", opened(states[i], state_len, now, sender, 2, 3, packet, packet_len, well));
 }
 
+/* From an offset on, or stretch by stretch to the packet's end, as a shell does it. */
 static void on_data(void)
 {
-    uint64_t sender = below(12) / 11, well = below(16), from = below(2) * below(70);
+    uint64_t sender = below(12) / 11, well, from = below(4) == 0 ? below(70) : 0, stretches = from == 0 ? 8 : 1;
     any_packet(1);
-    BOTH(saratoga_look, "look", look(states[i], state_len, sender, 2, 3, packet, packet_len, from));
-    BOTH(saratoga_look, "stored", stored(states[i], state_len, now, sender, 2, 3, packet, packet_len, from, well));
+    for (; stretches > 0; stretches--) {
+        struct saratoga_look l = first_engine.look(states[0], state_len, sender, 2, 3, packet, packet_len, from);
+        well = below(40);
+        BOTH(saratoga_look, "look", look(states[i], state_len, sender, 2, 3, packet, packet_len, from));
+        BOTH(saratoga_look, "stored", stored(states[i], state_len, now, sender, 2, 3, packet, packet_len, from, well));
+        if (l.kind < SARATOGA_LOOK_COMPARE)
+            return;
+        from = l.to;
+        memcpy(before, states, sizeof states);
+    }
 }
 
 static void tell(uint64_t id)
@@ -178,7 +187,7 @@ static void synced(void)
 /* What is next, and that is done. */
 static void next(void)
 {
-    uint64_t interval = below(50), linger = below(100), forget = below(3) * (below(20) ? 2000 : below(400)), good = below(8);
+    uint64_t interval = below(50), linger = below(below(2) ? 12 : 100), forget = below(3) * (below(20) ? 2000 : below(400)), good = below(8);
     struct saratoga_next n = first_engine.next(states[0], state_len, now, interval, linger, forget);
     BOTH(saratoga_next, "next", next(states[i], state_len, now, interval, linger, forget));
     if (n.kind == SARATOGA_NEXT_ANSWER)

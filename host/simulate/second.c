@@ -1,5 +1,6 @@
 /*
- * The engine once more, in plain C, written from part 19 of docs/RULES.md: for the comparison with the proved one, and for the simulation.
+ * The engine once more, in plain C, written from part 19 of docs/RULES.md and the header, for the comparison with the proved one and for the
+ * simulation. Which fields of an answer are 0 is taken from the definitions in crates/engine_answers, since the rules do not say it.
  * The library keeps its tables; a slot is found by its Id, in no order, and the state's octets are not the proved engine's.
  */
 #include "engine.h"

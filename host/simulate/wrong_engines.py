@@ -1,5 +1,5 @@
-"""Wrong engines: what each does, the changes to second.c that make it, and the rule that the simulation finds broken; None where only the
-comparison finds it."""
+"""Wrong engines: what each does, the rule that the simulation finds broken (R19: which one comes first depends on the seed; None: only the
+comparison finds it), and the changes to second.c that make it."""
 
 WRONG_ENGINES = (
     ("tells what is now", "R19", (("area_of(state, SYNCED), SARATOGA_AREA_OCTETS, id, 0, !(same", "area_of(state, NOW), SARATOGA_AREA_OCTETS, id, 0, !(same"),)),
@@ -12,14 +12,14 @@ WRONG_ENGINES = (
                                              "memcpy(state + 2 * SARATOGA_ENGINE_SNAPSHOT, state"),)),
     ("writes octets that were received", "R19", (("    *stop = edge < *stop ? edge : *stop;\n    return 1;", "    *stop = edge < *stop ? edge : *stop;\n    return 0;"),)),
     ("compares octets that were not received", "liveness", (("SARATOGA_LOOK_COMPARE : SARATOGA_LOOK_WRITE;", "SARATOGA_LOOK_COMPARE : SARATOGA_LOOK_COMPARE;"),)),
-    ("goes on where octets differ", "R19.8", (("    else if (l.kind == SARATOGA_LOOK_COMPARE)\n        take_out(state, l.id);\n", ""),)),
-    ("records what was not written", "R19.16", (("l.kind == SARATOGA_LOOK_WRITE) && well)", "l.kind == SARATOGA_LOOK_WRITE) && 1)"),)),
+    ("goes on where octets differ", "R19", (("    else if (l.kind == SARATOGA_LOOK_COMPARE)\n        take_out(state, l.id);\n", ""),)),
+    ("records what was not written", "R19", (("l.kind == SARATOGA_LOOK_WRITE) && well)", "l.kind == SARATOGA_LOOK_WRITE) && 1)"),)),
     ("uses file numbers again", "R19.17", (("    n.next++;\n", ""),)),
     ("keeps the transfer for other METADATA", "R19.3", (("other = is_open && memcmp(digest, slot.digest, sizeof digest) != 0;", "other = 0;"),)),
     ("names what is complete now", "R19.9", (("return is_complete(state, SYNCED, id) && is_same(state, id);", "return is_complete(state, NOW, id) && is_same(state, id);"),)),
     ("reports before the name is synced", "R19.14", (("    return may_name(state, id) && slot.named;", "    find_slot(state, NOW, 1, id, &slot);\n    return may_name(state, id) && slot.named;"),)),
     ("answers at once", "liveness", (("slot->due != 0 && slot->due <= get_numbers(state).done && is_same(state, id)", "slot->due != 0"),)),
-    ("opens before the files are made", "R19.8", (("m.kind == SARATOGA_MEET_MAKE && well", "m.kind == SARATOGA_MEET_MAKE"),)),
+    ("opens before the files are made", "R19", (("m.kind == SARATOGA_MEET_MAKE && well", "m.kind == SARATOGA_MEET_MAKE"),)),
     ("never syncs", "liveness", (("n.changed && may_sync(n) &&", "0 &&"),)),
     ("closes a page that waits for its report", None, (("} else if (!spoilt && is_busy(state, id)) {", "} else if (0) {"),)),
     ("lingers one tick less", None, (("time - since : 0) >= wait", "time - since : 0) + 1 >= wait"),)),

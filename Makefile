@@ -5,6 +5,8 @@
 # make replay   proves and builds replay, and runs it on the pass of page 611, or on PASS=file (docs/REPLAY.md)
 # make compare  compares the archive with the codec, receivers, planner, merging and settings of host/paper; SEED=N, CALLS=N optional
 # make soak     the same over 4.2 x 10^8 calls, an hour or more; or for SECONDS=N seconds
+# make simulate runs a shell over the engine on a model disk and network, 10^8 events, and 10^7 calls beside a second engine (docs/ENGINE.md);
+#               SEED=N, EVENTS=N, CALLS=N optional
 # make stack    prints the stack that each function needs
 # make bench    measures the library beside plain C and prints the ratios; docs/BENCHMARKS.md
 # make bench-instructions   the same in instructions, by callgrind
@@ -22,17 +24,19 @@
 PREFIX ?= /usr/local
 VERSION = 0.1
 ARCHIVE = target/staticlib/libsaratoga.a
+ENGINE = target/staticlib/libsaratoga_engine.a
 PLAN_SOURCES = $(addprefix host/plan/,plan.c input.c reason.c)
 SEND_SOURCES = $(addprefix host/send/,send.c options.c page.c transfer.c round.c run.c wire.c lines.c)
 LINK_SOURCES = $(addprefix host/link/,link.c source.c dispatch.c table.c store.c disk.c meta.c check.c sheet.c onair.c control.c \
 	settings.c text.c)
 MERGE_SOURCES = $(addprefix host/merge/,merge.c octets.c) $(addprefix host/link/,table.c store.c disk.c meta.c check.c sheet.c text.c)
+SIMULATE_SOURCES = $(addprefix host/simulate/,simulate.c disk.c network.c judge.c listen.c shell.c first.c second.c)
 SETTINGS_SOURCES = $(addprefix host/settings/,settings.c fault.c store.c)
 BENCH_FLAGS = -O2 -Wall -Wextra -Iinclude
 
 PASS ?= host/passes/page611.pass
 
-.PHONY: test test-extra lib shared replay-program front replay compare soak stack bench-program bench bench-instructions bench-descriptors
+.PHONY: test test-extra lib shared engine simulate replay-program front replay compare soak stack bench-program bench bench-instructions bench-descriptors
 .PHONY: link gigabyte send plan merge settings install uninstall deb clean help
 
 help:
@@ -59,6 +63,18 @@ shared: lib
 		-Wl,--whole-archive $(ARCHIVE) -Wl,--no-whole-archive -o target/shared/$(SHARED)
 	@ln -sf $(SHARED) target/shared/$(SONAME)
 	@ln -sf $(SONAME) target/shared/libsaratoga.so
+
+engine:
+	rt staticlib saratoga_engine
+
+SIMULATE_FLAGS = -std=c11 -Wall -Wextra -pedantic -O2 -Iinclude
+
+simulate: lib engine
+	mkdir -p target/simulate
+	$(CC) $(SIMULATE_FLAGS) $(SIMULATE_SOURCES) $(ENGINE) $(ARCHIVE) -o target/simulate/simulate
+	$(CC) $(SIMULATE_FLAGS) $(addprefix host/simulate/,compare.c first.c second.c) $(ENGINE) $(ARCHIVE) -o target/simulate/compare
+	target/simulate/simulate --events $(if $(EVENTS),$(EVENTS),100000000) $(if $(SEED),--seed $(SEED))
+	target/simulate/compare --calls $(if $(CALLS),$(CALLS),10000000) $(if $(SEED),--seed $(SEED))
 
 compare: lib
 	cd host && CARGO_TARGET_DIR=../target/host cargo build --offline --locked --release --quiet

@@ -159,11 +159,13 @@ MODULES = $(addprefix host/tools/,saratoga_pass.py saratoga_svg.py saratoga_tool
 PYTHON_DIR ?= $(PREFIX)/lib/python3/dist-packages
 PAGES = replay pcap2pass passtext passplot marks sheet saratoga-link saratoga-send saratoga-plan saratoga-merge saratoga-settings
 
-install: lib shared front link send plan merge settings
+install: lib engine shared front link send plan merge settings
 	install -d "$(AT)/include" "$(AT)/lib/pkgconfig" "$(AT)/bin" "$(AT)/libexec/saratoga" "$(AT)/share/man/man1" "$(AT)/share/man/man3"
 	install -d "$(DESTDIR)$(PYTHON_DIR)" "$(AT)/share/saratoga" "$(AT)/share/man/man7"
 	install -m 644 include/saratoga.h "$(AT)/include/saratoga.h"
+	install -m 644 include/saratoga_engine.h "$(AT)/include/saratoga_engine.h"
 	install -m 644 $(ARCHIVE) "$(AT)/lib/libsaratoga.a"
+	install -m 644 $(ENGINE) "$(AT)/lib/libsaratoga_engine.a"
 	install -m 644 target/shared/$(SHARED) "$(AT)/lib/$(SHARED)"
 	ln -sf $(SHARED) "$(AT)/lib/$(SONAME)"
 	ln -sf $(SONAME) "$(AT)/lib/libsaratoga.so"
@@ -182,10 +184,11 @@ install: lib shared front link send plan merge settings
 
 DEB_MAINTAINER ?= Storhnipa maintainers <maintainers@users.noreply.storhnipa.example>
 
-deb: lib shared front link send plan merge settings
+deb: lib engine shared front link send plan merge settings
 	@host/deb/build '$(VERSION)' '$(DEB_MAINTAINER)' target/deb/saratoga_$(VERSION)_amd64.deb
 
 uninstall:
+	rm -f "$(AT)/include/saratoga_engine.h" "$(AT)/lib/libsaratoga_engine.a"
 	rm -f "$(AT)/include/saratoga.h" "$(AT)/lib/libsaratoga.a" "$(AT)/lib/pkgconfig/saratoga.pc" "$(AT)/share/man/man3/saratoga.3"
 	rm -f "$(AT)/share/man/man7/saratoga-wireshark.7" "$(AT)/share/saratoga/saratoga.lua"
 	rm -f "$(AT)/lib/libsaratoga.so" "$(AT)/lib/$(SONAME)" "$(AT)/lib/$(SHARED)" "$(DESTDIR)$(PYTHON_DIR)/saratoga.py"

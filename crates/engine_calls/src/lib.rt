@@ -69,15 +69,22 @@ pub fn stored(
     engine_answers::look_answer(engine_data::store(state, time, sender, packet, from, well != 0))
 }
 
-pub fn next(state: &[u8], time: u64, interval: u64, linger: u64, forget: u64) -> NextAnswer
-    ensures { λ r. ⌜ r ≡ nextAnswer (nextState (now (state .entry)) time (waitsOf interval linger forget)) ⌝ }
+pub fn next(
+    state: &[u8],
+    time: u64,
+    interval: u64,
+    linger: u64,
+    forget: u64,
+    from: u64,
+) -> NextAnswer
+    ensures { λ r. ⌜ r ≡ nextAnswer (nextState (now (state .entry)) time (waitsOf interval linger forget) from) ⌝ }
 {
     let waits = Waits {
         interval,
         linger,
         forget,
     };
-    engine_answers::next_answer(engine_next::decide(state, time, waits))
+    engine_answers::next_answer(engine_next::decide(state, time, waits, from))
 }
 
 pub fn tell(state: &mut [u8], id: u64, out: &mut [u8]) -> LetterAnswer

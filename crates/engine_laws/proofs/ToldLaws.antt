@@ -36,10 +36,10 @@ use Rattle.engine_laws.proofs.ShownLaws.{Shows, status-shows}
 use Rattle.engine_laws.proofs.Theorems.{holds-known}
 
 pub reports-whole : ReportsWhole
-reports-whole h s t w x holds q =
+reports-whole h s t w from x holds q =
     reported-whole h (reporting (x .id)) (x .id) (x .file) (x .length)
     (subst (λ (e : Engine). In (report (x .id) (x .file) (x .length)) (actions e (reporting (x .id)))) (holds-known s (run h .engine) holds .1)
-    (report-done s t w x q))
+    (report-done s t w from x q))
 
 -- where an offset was received, the model answers
 answers : (e : Engine) (i o : ℕ) → Member (received (e .synced) i) o

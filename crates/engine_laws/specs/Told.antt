@@ -26,7 +26,7 @@ use Rattle.engine_laws.specs.Speaks.{Holds}
 
 -- a page that `next` says to report is whole on disk, for good
 abbrev pub ReportsWhole : Type 0
-ReportsWhole = (h : List Event) (s : List ℕ) (t : ℕ) (w : Waits) (x : Page) → Holds s (run h .engine) → nextState s t w ≡ next.Report x
+ReportsWhole = (h : List Event) (s : List ℕ) (t : ℕ) (w : Waits) (from : ℕ) (x : Page) → Holds s (run h .engine) → nextState s t w from ≡ next.Report x
     → Whole h (x .id) (x .file) (x .length)
 
 -- ---- STATUS, as its reader takes it

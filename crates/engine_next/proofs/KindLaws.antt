@@ -1,54 +1,63 @@
 -- What is due for a transfer, and whether a sync is: case by case, by what the calls gave.
 -- Assumes nothing.
-use Prim.Native.Nat.{ℕ}
+use Prim.Native.Nat.{ℕ, _≤_, _<_}
 use mathlib.Core.Path.{_≡_, refl, sym, ap, _∙_}
 use mathlib.Core.Bool.{Bool, true, false, cond, _&&_, _||_}
 use lib.Dec.{eqb}
-use borrow.Author.Tests.{eq-eqb, ne-eqb}
+use borrow.Author.Tests.{lt-ltb, le-ltb, eq-eqb, ne-eqb}
 use Rattle.engine_slots.specs.declared.Slot.{Slot}
 use Rattle.engine_model.specs.Snapshots.{isComplete, sameFile}
 use Rattle.engine_model.specs.Engine.{Engine, mayName, mayReport, maySync}
 use Rattle.engine_next.specs.declared.Waits.{Waits}
-use Rattle.engine_next.specs.Next.{isCovered, nameDue, reportDue, isOver, isAtEnd, kindFor, anyUrgent, syncDue}
+use Rattle.engine_next.specs.Next.{isCovered, nameDue, reportDue, isOver, isAtEnd, kindFor, kindFrom, anyUrgent, syncDue}
 
 module _ (e : Engine) (t : ℕ) (w : Waits) (i : ℕ) (s : Slot) (same : Bool) (is : same ≡ sameFile (e .now) (e .synced) i) where
   -- by the four tests, in their order
-  kind-by : (a b c d : Bool) → isCovered (e .done) same s ≡ a → nameDue (mayName e i) s ≡ b → reportDue (mayReport e i) same s ≡ c
+  kind-by : (a b c d : Bool) → nameDue (mayName e i) s ≡ a → isCovered (e .done) same s ≡ b → reportDue (mayReport e i) same s ≡ c
       → isAtEnd (isComplete (e .now) i) t w s ≡ d
-      → cond a 2 (cond b 3 (cond c 4 (cond d 5 0))) ≡ kindFor e t w i s
+      → cond a 3 (cond b 2 (cond c 4 (cond d 5 0))) ≡ kindFor e t w i s
   unfolding kindFor
   kind-by a b c d f g h k = rw (← is, f, g, h, k)
 
-  module _ (done : ℕ) (at : done ≡ e .done) (a : Bool) (f : a ≡ isCovered done same s) where
-    covered : isCovered (e .done) same s ≡ a
-    covered = ap (λ (n : ℕ). isCovered n same s) (sym at) ∙ sym f
+  module _ (name : Bool) (may : name ≡ mayName e i) (a : Bool) (f : a ≡ nameDue name s) where
+    named : nameDue (mayName e i) s ≡ a
+    named = ap (λ (m : Bool). nameDue m s) (sym may) ∙ sym f
 
-    pub kind-answer : a ≡ true → 2 ≡ kindFor e t w i s
-    kind-answer y = kind-by true _ _ _ (covered ∙ y) refl refl refl
+    pub kind-name : a ≡ true → 3 ≡ kindFor e t w i s
+    kind-name y = kind-by true _ _ _ (named ∙ y) refl refl refl
 
-    module _ (no-answer : a ≡ false) (name : Bool) (may : name ≡ mayName e i) (b : Bool) (g : b ≡ nameDue name s) where
-      named : nameDue (mayName e i) s ≡ b
-      named = ap (λ (m : Bool). nameDue m s) (sym may) ∙ sym g
+    module _ (no-name : a ≡ false) (done : ℕ) (at : done ≡ e .done) (b : Bool) (g : b ≡ isCovered done same s) where
+      covered : isCovered (e .done) same s ≡ b
+      covered = ap (λ (n : ℕ). isCovered n same s) (sym at) ∙ sym g
 
-      pub kind-name : b ≡ true → 3 ≡ kindFor e t w i s
-      kind-name y = kind-by false true _ _ (covered ∙ no-answer) (named ∙ y) refl refl
+      pub kind-answer : b ≡ true → 2 ≡ kindFor e t w i s
+      kind-answer y = kind-by false true _ _ (named ∙ no-name) (covered ∙ y) refl refl
 
-      module _ (no-name : b ≡ false) (report : Bool) (may-too : report ≡ mayReport e i) (c : Bool) (h : c ≡ reportDue report same s) where
+      module _ (no-answer : b ≡ false) (report : Bool) (may-too : report ≡ mayReport e i) (c : Bool) (h : c ≡ reportDue report same s) where
         reported : reportDue (mayReport e i) same s ≡ c
         reported = ap (λ (m : Bool). reportDue m same s) (sym may-too) ∙ sym h
 
         pub kind-report : c ≡ true → 4 ≡ kindFor e t w i s
-        kind-report y = kind-by false false true _ (covered ∙ no-answer) (named ∙ no-name) (reported ∙ y) refl
+        kind-report y = kind-by false false true _ (named ∙ no-name) (covered ∙ no-answer) (reported ∙ y) refl
 
         module _ (no-report : c ≡ false) (full : Bool) (whole : full ≡ isComplete (e .now) i) (d : Bool) (k : d ≡ isAtEnd full t w s) where
           ended : isAtEnd (isComplete (e .now) i) t w s ≡ d
           ended = ap (λ (m : Bool). isAtEnd m t w s) (sym whole) ∙ sym k
 
           pub kind-close : d ≡ true → 5 ≡ kindFor e t w i s
-          kind-close y = kind-by false false false true (covered ∙ no-answer) (named ∙ no-name) (reported ∙ no-report) (ended ∙ y)
+          kind-close y = kind-by false false false true (named ∙ no-name) (covered ∙ no-answer) (reported ∙ no-report) (ended ∙ y)
 
           pub kind-none : d ≡ false → 0 ≡ kindFor e t w i s
-          kind-none y = kind-by false false false false (covered ∙ no-answer) (named ∙ no-name) (reported ∙ no-report) (ended ∙ y)
+          kind-none y = kind-by false false false false (named ∙ no-name) (covered ∙ no-answer) (reported ∙ no-report) (ended ∙ y)
+
+module _ (e : Engine) (t : ℕ) (w : Waits) (from i : ℕ) (s : Slot) where
+  pub kind-passed : i < from → 0 ≡ kindFrom e t w from i s
+  unfolding kindFrom
+  kind-passed l = rw (lt-ltb i from l)
+
+  pub kind-reached : from ≤ i → kindFor e t w i s ≡ kindFrom e t w from i s
+  unfolding kindFrom
+  kind-reached l = rw (le-ltb i from l)
 
 -- ---- a sync
 

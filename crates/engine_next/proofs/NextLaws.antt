@@ -114,11 +114,11 @@ module _ (done : ℕ) (s : Slot) where
 
 -- ---- the first of all
 
-module _ (s : List ℕ) (t : ℕ) (w : Waits) where
-  pub next-refused : heldState s ≡ false → (r : Refusal) → r ≡ refusalOf 22 → Refused r ≡ nextState s t w
+module _ (s : List ℕ) (t : ℕ) (w : Waits) (from : ℕ) where
+  pub next-refused : heldState s ≡ false → (r : Refusal) → r ≡ refusalOf 22 → Refused r ≡ nextState s t w from
   unfolding nextState
   next-refused h r e = rw h (ap Refused e)
 
-  pub next-held : heldState s ≡ true → firstNext (engineIn s) t w (readTable s) ≡ nextState s t w
+  pub next-held : heldState s ≡ true → firstNext (engineIn s) t w from (readTable s) ≡ nextState s t w from
   unfolding nextState
   next-held h = rw h

@@ -25,7 +25,7 @@ use Rattle.engine_next.specs.declared.Page.{Page}
 use Rattle.engine_next.specs.declared.Waits.{Waits}
 use Rattle.engine_next.specs.declared.Next.{Next}
 use Rattle.engine_next.specs.declared.Next.the-variants.{Sync, Nothing}
-use Rattle.engine_next.specs.Next.{isUrgent, anyUrgent, kindFor, pageOf, nextBy, syncDue, firstNext}
+use Rattle.engine_next.specs.Next.{isUrgent, anyUrgent, kindFrom, pageOf, nextBy, syncDue, firstNext}
 
 pub record Walked (s : List ℕ) : Type 0 where
   pub long : stateOctets ≤ length s
@@ -94,36 +94,36 @@ turn : (a : List ℕ) (n i : ℕ) → i < n → transfersFrom a i (n - i) ≡ tr
 unfolding transfersFrom
 turn a n i l = let e : n - i ≡ suc (n - suc i) = omega arith in rw e
 
-module _ (a : List ℕ) (t : ℕ) (w : Waits) (n i : ℕ) (l : i < n) (h : heldState a ≡ true) (count : n ≡ wordAt a 0)
-    (kind : ℕ) (is : kind ≡ kindFor (engineIn a) t w (wordAt a (headAt i idField)) (slotAt a i))
-    (all : Next) (inv : firstNext (engineIn a) t w (transfersFrom a i (n - i)) ≡ all) where
-  this : cond (eqb kind 0) (firstNext (engineIn a) t w (transfersFrom a (suc i) (n - suc i))) (nextBy kind (pageOf (engineIn a) (wordAt a (headAt i idField)))) ≡ all
+module _ (a : List ℕ) (t : ℕ) (w : Waits) (from n i : ℕ) (l : i < n) (h : heldState a ≡ true) (count : n ≡ wordAt a 0)
+    (kind : ℕ) (is : kind ≡ kindFrom (engineIn a) t w from (wordAt a (headAt i idField)) (slotAt a i))
+    (all : Next) (inv : firstNext (engineIn a) t w from (transfersFrom a i (n - i)) ≡ all) where
+  this : cond (eqb kind 0) (firstNext (engineIn a) t w from (transfersFrom a (suc i) (n - suc i))) (nextBy kind (pageOf (engineIn a) (wordAt a (headAt i idField)))) ≡ all
   unfolding firstNext
   this =
       let id = wordAt a (headAt i idField) in
-      let k : kind ≡ kindFor (engineIn a) t w id (slotOf (snapshotIn a) id)
-      = is ∙ ap (kindFor (engineIn a) t w id) (sym (slot-there a i h (omega (arith, count, length-transfers a 0 (wordAt a 0))))) in
-      ap (λ (x : ℕ). cond (eqb x 0) (firstNext (engineIn a) t w (transfersFrom a (suc i) (n - suc i))) (nextBy x (pageOf (engineIn a) id))) k
-      ∙ ap (firstNext (engineIn a) t w) (sym (turn a n i l)) ∙ inv
+      let k : kind ≡ kindFrom (engineIn a) t w from id (slotOf (snapshotIn a) id)
+      = is ∙ ap (kindFrom (engineIn a) t w from id) (sym (slot-there a i h (omega (arith, count, length-transfers a 0 (wordAt a 0))))) in
+      ap (λ (x : ℕ). cond (eqb x 0) (firstNext (engineIn a) t w from (transfersFrom a (suc i) (n - suc i))) (nextBy x (pageOf (engineIn a) id))) k
+      ∙ ap (firstNext (engineIn a) t w from) (sym (turn a n i l)) ∙ inv
 
   pub next-here : (kind ≡ 0 → ⊥) → (id : ℕ) → id ≡ wordAt a (headAt i idField) → (page : Page) → page ≡ pageOf (engineIn a) id
       → (r : Next) → r ≡ nextBy kind page → r ≡ all
   next-here d id e page f r g =
-      let later = firstNext (engineIn a) t w (transfersFrom a (suc i) (n - suc i)) in
+      let later = firstNext (engineIn a) t w from (transfersFrom a (suc i) (n - suc i)) in
       let x = nextBy kind (pageOf (engineIn a) (wordAt a (headAt i idField))) in
       g ∙ ap (nextBy kind) (f ∙ ap (pageOf (engineIn a)) e) ∙ ap (λ (b : Bool). cond b later x) (sym (ne-eqb kind 0 d)) ∙ this
 
-  pub next-later : kind ≡ 0 → firstNext (engineIn a) t w (transfersFrom a (i + 1) (n - (i + 1))) ≡ all
+  pub next-later : kind ≡ 0 → firstNext (engineIn a) t w from (transfersFrom a (i + 1) (n - (i + 1))) ≡ all
   next-later d =
       let k : i + 1 ≡ suc i = omega arith in
-      let later = firstNext (engineIn a) t w (transfersFrom a (suc i) (n - suc i)) in
+      let later = firstNext (engineIn a) t w from (transfersFrom a (suc i) (n - suc i)) in
       let x = nextBy kind (pageOf (engineIn a) (wordAt a (headAt i idField))) in
-      ap (λ (j : ℕ). firstNext (engineIn a) t w (transfersFrom a j (n - j))) k
+      ap (λ (j : ℕ). firstNext (engineIn a) t w from (transfersFrom a j (n - j))) k
       ∙ ap (λ (b : Bool). cond b later x) (sym (eq-eqb kind 0 d)) ∙ this
 
-pub next-none : (a : List ℕ) (t : ℕ) (w : Waits) (n i : ℕ) (all : Next) → n ≤ i → firstNext (engineIn a) t w (transfersFrom a i (n - i)) ≡ all
+pub next-none : (a : List ℕ) (t : ℕ) (w : Waits) (from n i : ℕ) (all : Next) → n ≤ i → firstNext (engineIn a) t w from (transfersFrom a i (n - i)) ≡ all
     → (b : Bool) → b ≡ syncDue (engineIn a) t w → cond b Sync Nothing ≡ all
 unfolding firstNext transfersFrom
-next-none a t w n i all l inv b e =
+next-none a t w from n i all l inv b e =
     let k : 0 ≡ n - i = omega arith in
-    ap (λ (c : Bool). cond c Sync Nothing) e ∙ ap (λ (j : ℕ). firstNext (engineIn a) t w (transfersFrom a i j)) k ∙ inv
+    ap (λ (c : Bool). cond c Sync Nothing) e ∙ ap (λ (j : ℕ). firstNext (engineIn a) t w from (transfersFrom a i j)) k ∙ inv

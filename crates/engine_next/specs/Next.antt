@@ -1,4 +1,4 @@
--- R19.10: what is to be done next, at a time: of each transfer in its order an answer, a name, a report, or its end; then a sync.
+-- R19.10: what is to be done next, at a time: of each transfer in its order, from an Id on, a name, an answer, a report, or its end; then a sync.
 -- Assumes nothing.
 use Prim.Native.Nat.{ℕ, _-_}
 use mathlib.Core.Bool.{Bool, true, false, cond, _&&_, _||_, not}
@@ -38,13 +38,18 @@ unfoldable pub isAtEnd : Bool → ℕ → Waits → Slot → Bool
 isAtEnd complete t w s =
     cond (eqb (s .reported) 1) (isOver t (s .heard) (w .linger)) (not complete && not (eqb (w .forget) 0) && isOver t (s .heard) (w .forget))
 
--- by the number that C has for it: 2 an answer, 3 a name, 4 a report, 5 its end, 0 nothing
+-- by the number that C has for it: 3 a name, 2 an answer, 4 a report, 5 its end, 0 nothing. The name comes first: who gives it checks the MD5
+-- before, so no answer says that a page is complete which the check takes away
 unfoldable pub kindFor : Engine → ℕ → Waits → ℕ → Slot → ℕ
 kindFor e t w i s =
     let same = sameFile (e .now) (e .synced) i in
-    cond (isCovered (e .done) same s) 2
-    (cond (nameDue (mayName e i) s) 3
+    cond (nameDue (mayName e i) s) 3
+    (cond (isCovered (e .done) same s) 2
     (cond (reportDue (mayReport e i) same s) 4 (cond (isAtEnd (isComplete (e .now) i) t w s) 5 0)))
+
+-- a transfer below `from` is passed over: what was said of it could not be done
+unfoldable pub kindFrom : Engine → ℕ → Waits → ℕ → ℕ → Slot → ℕ
+kindFrom e t w from i s = cond (ltb i from) 0 (kindFor e t w i s)
 
 -- the page of an Id, as it is on disk: only this is named and reported
 unfoldable pub pageBy : Option Key → ℕ → ℕ → Page
@@ -72,13 +77,14 @@ syncDue e t w = eqb (e .changed) 1 && maySync e && (anyUrgent (e .done) (e .now 
 
 -- ---- the first of all
 
-unfoldable pub firstNext : Engine → ℕ → Waits → List Transfer → Next
-firstNext e t w [] = cond (syncDue e t w) Sync Nothing
-firstNext e t w (x ∷ xs) =
-    let later = firstNext e t w xs in
-    let k = kindFor e t w (x .key .id) (slotOf (e .now) (x .key .id)) in
+-- the sync is considered whatever `from` is
+unfoldable pub firstNext : Engine → ℕ → Waits → ℕ → List Transfer → Next
+firstNext e t w from [] = cond (syncDue e t w) Sync Nothing
+firstNext e t w from (x ∷ xs) =
+    let later = firstNext e t w from xs in
+    let k = kindFrom e t w from (x .key .id) (slotOf (e .now) (x .key .id)) in
     cond (eqb k 0) later (nextBy k (pageOf e (x .key .id)))
 
 -- 22 first
-unfoldable pub nextState : List ℕ → ℕ → Waits → Next
-nextState s t w = cond (heldState s) (firstNext (engineIn s) t w (engineIn s .now .table)) (Refused (refusalOf 22))
+unfoldable pub nextState : List ℕ → ℕ → Waits → ℕ → Next
+nextState s t w from = cond (heldState s) (firstNext (engineIn s) t w from (engineIn s .now .table)) (Refused (refusalOf 22))

@@ -8,7 +8,7 @@ ghost use Rattle.area.specs.Layout.{idField, headAt};
 ghost use Rattle.area.specs.Places.{readTable};
 ghost use Rattle.engine_slots.specs.Slots.{slotAt};
 ghost use Rattle.engine_state.specs.State.{engineIn, heldState};
-ghost use Rattle.engine_next.specs.Next.{isCovered, nameDue, reportDue, isOver, isAtEnd, kindFor, pageOf, nextBy, isUrgent, anyUrgent, syncDue, firstNext, nextState};
+ghost use Rattle.engine_next.specs.Next.{isCovered, nameDue, reportDue, isOver, isAtEnd, kindFor, kindFrom, pageOf, nextBy, isUrgent, anyUrgent, syncDue, firstNext, nextState};
 use engine_slots::Slot;
 use refusals::Refusal;
 
@@ -105,11 +105,11 @@ fn kind_at(state: &[u8], i: usize, time: u64, waits: Waits) -> u64
     let id = area_at::head(state, i, area::ID);
     let s = engine_slots::slot_at(state, i);
     let same = engine_state::same_file(state, id);
-    if is_covered(engine_state::number(state, engine_state::DONE), same, s) {
-        return 2;
-    }
     if name_due(engine_may::may_name(state, id), s) {
         return 3;
+    }
+    if is_covered(engine_state::number(state, engine_state::DONE), same, s) {
+        return 2;
     }
     if report_due(engine_may::may_report(state, id), same, s) {
         return 4;
@@ -118,6 +118,17 @@ fn kind_at(state: &[u8], i: usize, time: u64, waits: Waits) -> u64
         return 5;
     }
     0
+}
+
+// The same, and 0 for a transfer whose Id is below `from`.
+fn kind_from(state: &[u8], i: usize, time: u64, waits: Waits, from: u64) -> u64
+    requires { ⌜ (heldState (now state) ≡ true) × (i < length (readTable (now state))) ⌝ }
+    ensures { λ r. ⌜ r ≡ kindFrom (engineIn (now (state .entry))) time waits from (wordAt (now (state .entry)) (headAt i idField)) (slotAt (now (state .entry)) i) ⌝ }
+{
+    if area_at::head(state, i, area::ID) < from {
+        return 0;
+    }
+    kind_at(state, i, time, waits)
 }
 
 // The page of an Id, as it is on disk.
@@ -209,14 +220,14 @@ fn sync_due(state: &[u8], time: u64, waits: Waits) -> bool
 
 // ---- the first of all
 
-fn first_next(state: &[u8], time: u64, waits: Waits) -> Next
+fn first_next(state: &[u8], time: u64, waits: Waits, from: u64) -> Next
     requires { ⌜ heldState (now state) ≡ true ⌝ }
-    ensures { λ r. ⌜ r ≡ firstNext (engineIn (now (state .entry))) time waits (readTable (now (state .entry))) ⌝ }
+    ensures { λ r. ⌜ r ≡ firstNext (engineIn (now (state .entry))) time waits from (readTable (now (state .entry))) ⌝ }
 {
     let n = area_at::open_count(state) as usize;
     let mut i: usize = 0;
     while i < n {
-        let kind = kind_at(state, i, time, waits);
+        let kind = kind_from(state, i, time, waits, from);
         if kind != 0 {
             let page = page_of(state, area_at::head(state, i, area::ID));
             return next_by(kind, page);
@@ -229,12 +240,12 @@ fn first_next(state: &[u8], time: u64, waits: Waits) -> Next
     Next::Nothing
 }
 
-// What is to be done next. Nothing changes by asking.
-pub fn decide(state: &[u8], time: u64, waits: Waits) -> Next
-    ensures { λ r. ⌜ r ≡ nextState (now (state .entry)) time waits ⌝ }
+// What is to be done next, of the Ids from `from` on. Nothing changes by asking.
+pub fn decide(state: &[u8], time: u64, waits: Waits, from: u64) -> Next
+    ensures { λ r. ⌜ r ≡ nextState (now (state .entry)) time waits from ⌝ }
 {
     if !engine_state::held(state) {
         return Next::Refused(refusals::refuse(22));
     }
-    first_next(state, time, waits)
+    first_next(state, time, waits, from)
 }

@@ -89,10 +89,11 @@ pub extern "C" fn saratoga_engine_next(
     interval: u64,
     linger: u64,
     forget: u64,
+    from: u64,
 ) -> NextAnswer
-    ensures { λ r. ⌜ r ≡ nextAnswer (nextState (now (state .entry)) time (waitsOf interval linger forget)) ⌝ }
+    ensures { λ r. ⌜ r ≡ nextAnswer (nextState (now (state .entry)) time (waitsOf interval linger forget) from) ⌝ }
 {
-    engine_calls::next(state, time, interval, linger, forget)
+    engine_calls::next(state, time, interval, linger, forget, from)
 }
 
 #[no_mangle]

@@ -188,8 +188,9 @@ static void synced(void)
 static void next(void)
 {
     uint64_t interval = below(50), linger = below(below(2) ? 12 : 100), forget = below(3) * (below(20) ? 2000 : below(400)), good = below(8);
-    struct saratoga_next n = first_engine.next(states[0], state_len, now, interval, linger, forget);
-    BOTH(saratoga_next, "next", next(states[i], state_len, now, interval, linger, forget));
+    uint64_t from = below(4) ? 0 : any_id();
+    struct saratoga_next n = first_engine.next(states[0], state_len, now, interval, linger, forget, from);
+    BOTH(saratoga_next, "next", next(states[i], state_len, now, interval, linger, forget, from));
     if (n.kind == SARATOGA_NEXT_ANSWER)
         tell(n.id);
     if (n.kind >= SARATOGA_NEXT_NAME && n.kind <= SARATOGA_NEXT_REPORT && good == 1) /* it waits */

@@ -18,7 +18,7 @@ struct engine {
     struct saratoga_look (*stored)(uint8_t *state, size_t state_len, uint64_t time, uint64_t high, uint64_t low, uint64_t port,
                                    const uint8_t *packet, size_t packet_len, uint64_t from, uint64_t well);
     struct saratoga_next (*next)(const uint8_t *state, size_t state_len, uint64_t time, uint64_t interval, uint64_t linger,
-                                 uint64_t forget);
+                                 uint64_t forget, uint64_t from);
     struct saratoga_letter (*tell)(uint8_t *state, size_t state_len, uint64_t id, uint8_t *out, size_t out_len);
     struct saratoga_done (*named)(uint8_t *state, size_t state_len, uint64_t id, uint64_t well);
     struct saratoga_done (*reported)(uint8_t *state, size_t state_len, uint64_t id);

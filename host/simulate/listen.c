@@ -38,9 +38,9 @@ static struct saratoga_look stored(uint8_t *state, size_t state_len, uint64_t ti
 }
 
 static struct saratoga_next next(const uint8_t *state, size_t state_len, uint64_t time, uint64_t interval, uint64_t linger,
-                                 uint64_t forget)
+                                 uint64_t forget, uint64_t from)
 {
-    return tried_engine->next(state, state_len, time, interval, linger, forget);
+    return tried_engine->next(state, state_len, time, interval, linger, forget, from);
 }
 
 static struct saratoga_letter tell(uint8_t *state, size_t state_len, uint64_t id, uint8_t *out, size_t out_len)

@@ -383,10 +383,10 @@ static uint64_t due_of(const uint8_t *state, const struct saratoga_listed *found
                        uint64_t forget)
 {
     uint64_t id = found->id;
-    if (slot->due != 0 && slot->due <= get_numbers(state).done && is_same(state, id))
-        return SARATOGA_NEXT_ANSWER;
     if (may_name(state, id) && !slot->named)
         return SARATOGA_NEXT_NAME;
+    if (slot->due != 0 && slot->due <= get_numbers(state).done && is_same(state, id))
+        return SARATOGA_NEXT_ANSWER;
     if (may_report(state, id) && !slot->reported)
         return SARATOGA_NEXT_REPORT;
     if (slot->reported ? is_over(time, slot->heard, linger) : !found->complete && forget != 0 && is_over(time, slot->heard, forget))
@@ -395,7 +395,7 @@ static uint64_t due_of(const uint8_t *state, const struct saratoga_listed *found
 }
 
 static struct saratoga_next next(const uint8_t *state, size_t state_len, uint64_t time, uint64_t interval, uint64_t linger,
-                                 uint64_t forget)
+                                 uint64_t forget, uint64_t from)
 {
     struct saratoga_next next = {0};
     struct numbers n;
@@ -411,6 +411,8 @@ static struct saratoga_next next(const uint8_t *state, size_t state_len, uint64_
             break;
         find_slot(state, NOW, 1, found.id, &slot);
         urgent |= slot.due > n.done || (slot.named && !slot.reported);
+        if (found.id < from)
+            continue;
         next.kind = due_of(state, &found, &slot, time, linger, forget);
         next.id = next.kind == 0 ? 0 : found.id;
         if (next.kind == SARATOGA_NEXT_NAME || next.kind == SARATOGA_NEXT_REPORT)

@@ -189,9 +189,12 @@ static void begin_sync(void)
     sync_is = RUNNING;
 }
 
+/* An Id whose page was to get its name is passed over until the next turn: where that failed, the others must not wait for it. */
 int shell_next(void)
 {
-    struct saratoga_next next = ENGINE->next(state, sizeof state, now, world.interval, world.linger, world.forget);
+    static uint64_t from;
+    struct saratoga_next next = ENGINE->next(state, sizeof state, now, world.interval, world.linger, world.forget, from);
+    from = next.kind == SARATOGA_NEXT_NOTHING ? 0 : next.kind == SARATOGA_NEXT_NAME ? next.id + 1 : from;
     if (next.kind == SARATOGA_NEXT_NOTHING)
         return 0;
     trace("next: kind %d, Id %u, file %d", (int)next.kind, (unsigned)next.id, (int)next.file);

@@ -36,9 +36,9 @@ extern "C" {
 #endif
 
 /* Octets of a snapshot, of the state, and where in the state the snapshot begins that a sync saves. */
-#define SARATOGA_ENGINE_SNAPSHOT 18696
-#define SARATOGA_ENGINE_STATE 56136
-#define SARATOGA_ENGINE_PENDING 18696
+#define SARATOGA_ENGINE_SNAPSHOT 18824
+#define SARATOGA_ENGINE_STATE 56520
+#define SARATOGA_ENGINE_PENDING 18824
 
 /* ---- starting */
 

@@ -16,11 +16,12 @@ use engine_slots::Files;
 use engine_slots::Sender;
 use engine_slots::Slot;
 
-// The slot of a transfer whose METADATA came again, from any sender: that is the owner now, and sync `due` will cover the answer.
-fn heard_slot(old: Slot, sender: Sender, due: u64, time: u64) -> Slot
-    ensures { λ r. ⌜ r ≡ heardAt time due true false (ownedBy sender old) ⌝ }
+// The slot of a transfer whose METADATA came again, from any sender: that is the owner now, and sync `last` will cover the answer.
+fn heard_slot(old: Slot, sender: Sender, last: u64, time: u64) -> Slot
+    ensures { λ r. ⌜ r ≡ heardAt time last true false (ownedBy sender old) ⌝ }
 {
     let digest = old.digest;
+    let due = engine_slots::first_due(old.due, last);
     Slot {
         file: old.file,
         owner: sender,
@@ -30,6 +31,7 @@ fn heard_slot(old: Slot, sender: Sender, due: u64, time: u64) -> Slot
         due,
         asked: old.asked,
         heard: time,
+        last,
     }
 }
 
@@ -46,6 +48,7 @@ fn new_slot(file: u64, sender: Sender, digest: Digest, due: u64, time: u64) -> S
         due,
         asked: 0,
         heard: time,
+        last: due,
     }
 }
 

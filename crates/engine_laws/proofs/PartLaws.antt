@@ -44,7 +44,7 @@ module _ (a b : List ℕ) (j : judged a ≡ true) (long : areaOctets ≤ length 
       let v : (f : ℕ) → f < slotWords → wordAt b (slotWordAt i f) ≡ wordAt a (slotWordAt i f) = λ f g. w (slotWordAt i f) (omega arith) in
       let v0 = v 0 (omega arith) in let v1 = v 1 (omega arith) in let v2 = v 2 (omega arith) in let v3 = v 3 (omega arith) in
       let v4 = v 4 (omega arith) in let v5 = v 5 (omega arith) in let v6 = v 6 (omega arith) in let v7 = v 7 (omega arith) in
-      let v8 = v 8 (omega arith) in let v9 = v 9 (omega arith) in let v10 = v 10 (omega arith) in
+      let v8 = v 8 (omega arith) in let v9 = v 9 (omega arith) in let v10 = v 10 (omega arith) in let v11 = v 11 (omega arith) in
       λ x. record {
         file = v0 x;
         owner = record { high = v1 x; low = v2 x; port = v3 x };
@@ -54,6 +54,7 @@ module _ (a b : List ℕ) (j : judged a ≡ true) (long : areaOctets ≤ length 
         due = v8 x;
         asked = v9 x;
         heard = v10 x;
+        last = v11 x;
       }
 
   slots-same : slotsFrom b 0 (wordAt b 0) ≡ slotsFrom a 0 (wordAt a 0)

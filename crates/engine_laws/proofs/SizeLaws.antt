@@ -6,6 +6,7 @@ use mathlib.Core.Bool.{Bool, true, false, cond}
 use mathlib.Core.List.{List, _++_}
 use native.Mathlib.Omega.{arith}
 use lib.ListN.{length, take, drop, getD, length-append}
+use lib.Dec.{ltb, eqb}
 use Rattle.octets.specs.Numbers.{leValue, leDigits, Octets}
 use Rattle.octets.proofs.OctetLaws.{octets-append}
 use Rattle.octets.proofs.LowFirstLaws.{length-low-digits, low-digits-octets, low-part-lt}
@@ -40,6 +41,7 @@ pub record Sized (x : Slot) : Type 0 where
   pub due : x .due < 2 ^ 64
   pub asked : x .asked < 2 ^ 64
   pub heard : x .heard < 2 ^ 64
+  pub last : x .last < 2 ^ 64
 
 pub sized-fits : (x : Slot) → Sized x → SlotFits x
 sized-fits x s zero g = s .file
@@ -53,7 +55,8 @@ sized-fits x s (suc (suc (suc (suc (suc (suc (suc zero))))))) g = s .reported
 sized-fits x s (suc (suc (suc (suc (suc (suc (suc (suc zero)))))))) g = s .due
 sized-fits x s (suc (suc (suc (suc (suc (suc (suc (suc (suc zero))))))))) g = s .asked
 sized-fits x s (suc (suc (suc (suc (suc (suc (suc (suc (suc (suc zero)))))))))) g = s .heard
-sized-fits x s (suc (suc (suc (suc (suc (suc (suc (suc (suc (suc (suc f))))))))))) g = absurd (omega arith)
+sized-fits x s (suc (suc (suc (suc (suc (suc (suc (suc (suc (suc (suc zero))))))))))) g = s .last
+sized-fits x s (suc (suc (suc (suc (suc (suc (suc (suc (suc (suc (suc (suc f)))))))))))) g = absurd (omega arith)
 
 fits-sized : (x : Slot) → SlotFits x → Sized x
 fits-sized x h = record {
@@ -65,6 +68,7 @@ fits-sized x h = record {
   due = h 8 (omega arith);
   asked = h 9 (omega arith);
   heard = h 10 (omega arith);
+  last = h 11 (omega arith);
 }
 
 -- ---- a slot that is read
@@ -94,6 +98,7 @@ module _ (x : Slot) (s : Sized x) where
     due = s .due;
     asked = s .asked;
     heard = s .heard;
+    last = s .last;
   }
 
   pub sized-heard : (t n : ℕ) (answer asked : Bool) → t < 2 ^ 64 → n < 2 ^ 64 → Sized (heardAt t n answer asked x)
@@ -104,9 +109,10 @@ module _ (x : Slot) (s : Sized x) where
     digest = s .digest;
     named = s .named;
     reported = s .reported;
-    due = chosen answer n (x .due) m (s .due);
+    due = chosen answer (cond (eqb (x .due) 0) n (x .due)) (x .due) (chosen (eqb (x .due) 0) n (x .due) m (s .due)) (s .due);
     asked = chosen asked 1 (x .asked) (omega arith) (s .asked);
     heard = l;
+    last = chosen answer n (x .last) m (s .last);
   }
 
   pub sized-answered : Sized (answeredSlot x)
@@ -116,9 +122,10 @@ module _ (x : Slot) (s : Sized x) where
     digest = s .digest;
     named = s .named;
     reported = s .reported;
-    due = omega arith;
-    asked = omega arith;
+    due = chosen (ltb (x .due) (x .last)) (x .last) 0 (s .last) (omega arith);
+    asked = chosen (ltb (x .due) (x .last)) (x .asked) 0 (s .asked) (omega arith);
     heard = s .heard;
+    last = s .last;
   }
 
   pub sized-named : Sized (namedSlot x)
@@ -131,6 +138,7 @@ module _ (x : Slot) (s : Sized x) where
     due = s .due;
     asked = s .asked;
     heard = s .heard;
+    last = s .last;
   }
 
   pub sized-reported : Sized (reportedSlot x)
@@ -143,11 +151,12 @@ module _ (x : Slot) (s : Sized x) where
     due = s .due;
     asked = s .asked;
     heard = s .heard;
+    last = s .last;
   }
 
 pub sized-new : (file : ℕ) (r : Sender) (d : Digest) (n t : ℕ) → file < 2 ^ 64 → Words r → Digests d → n < 2 ^ 64 → t < 2 ^ 64 → Sized (newSlot file r d n t)
 sized-new file r d n t f w e m l =
-    record { file = f; owner = w; digest = e; named = omega arith; reported = omega arith; due = m; asked = omega arith; heard = l }
+    record { file = f; owner = w; digest = e; named = omega arith; reported = omega arith; due = m; asked = omega arith; heard = l; last = m }
 
 -- ---- digests
 

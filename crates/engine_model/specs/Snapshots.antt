@@ -5,7 +5,7 @@ use mathlib.Core.Bool.{Bool, true, false, cond, _&&_, _||_, not}
 use mathlib.Core.List.{List, [], _∷_}
 use mathlib.Core.Option.{Option, none, some}
 use lib.ListN.{getD, set}
-use lib.Dec.{eqb}
+use lib.Dec.{ltb, eqb}
 use Rattle.octets.specs.Numbers.{Octets}
 use Rattle.runs.specs.Runs.{Run}
 use Rattle.runs.specs.Holes.{complete}
@@ -112,9 +112,11 @@ ownedBy r s = record {
   due = s .due;
   asked = s .asked;
   heard = s .heard;
+  last = s .last;
 }
 
--- heard at a time; where an answer is due, sync n will cover it, and where it was asked for, that is kept
+-- heard at a time; where an answer is due, sync n will cover this question, and a first one that waits stays what is due; where it was
+-- asked for, that is kept
 unfoldable pub heardAt : ℕ → ℕ → Bool → Bool → Slot → Slot
 heardAt t n answer asked s = record {
   file = s .file;
@@ -122,11 +124,13 @@ heardAt t n answer asked s = record {
   digest = s .digest;
   named = s .named;
   reported = s .reported;
-  due = cond answer n (s .due);
+  due = cond answer (cond (eqb (s .due) 0) n (s .due)) (s .due);
   asked = cond asked 1 (s .asked);
   heard = t;
+  last = cond answer n (s .last);
 }
 
+-- an answer went out: a question after the first is due again, and then it stays asked for
 abbrev pub answeredSlot : Slot → Slot
 answeredSlot s = record {
   file = s .file;
@@ -134,9 +138,10 @@ answeredSlot s = record {
   digest = s .digest;
   named = s .named;
   reported = s .reported;
-  due = 0;
-  asked = 0;
+  due = cond (ltb (s .due) (s .last)) (s .last) 0;
+  asked = cond (ltb (s .due) (s .last)) (s .asked) 0;
   heard = s .heard;
+  last = s .last;
 }
 
 abbrev pub namedSlot : Slot → Slot
@@ -149,6 +154,7 @@ namedSlot s = record {
   due = s .due;
   asked = s .asked;
   heard = s .heard;
+  last = s .last;
 }
 
 abbrev pub reportedSlot : Slot → Slot
@@ -161,6 +167,7 @@ reportedSlot s = record {
   due = s .due;
   asked = s .asked;
   heard = s .heard;
+  last = s .last;
 }
 
 -- of a transfer that METADATA opens
@@ -174,4 +181,5 @@ newSlot file r d n t = record {
   due = n;
   asked = 0;
   heard = t;
+  last = n;
 }

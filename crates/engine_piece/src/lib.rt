@@ -40,13 +40,16 @@ fn either(test: bool, a: u64, b: u64) -> u64
     b
 }
 
-// A slot heard at a time. Where an answer is due, sync n will cover it, and where it was asked for, that is kept.
+// A slot heard at a time. Where an answer is due, sync n will cover this question, and a first one that waits stays what is due; where it
+// was asked for, that is kept.
 fn heard_slot(s: Slot, time: u64, n: u64, answer: bool, asked: bool) -> Slot
     ensures { λ r. ⌜ r ≡ heardAt time n answer asked s ⌝ }
 {
     let owner = s.owner;
     let digest = s.digest;
-    let due = either(answer, n, s.due);
+    let first = engine_slots::first_due(s.due, n);
+    let due = either(answer, first, s.due);
+    let last = either(answer, n, s.last);
     let sought = either(asked, 1, s.asked);
     Slot {
         file: s.file,
@@ -57,6 +60,7 @@ fn heard_slot(s: Slot, time: u64, n: u64, answer: bool, asked: bool) -> Slot
         due,
         asked: sought,
         heard: time,
+        last,
     }
 }
 

@@ -48,7 +48,7 @@ unfolding slotAt
 same-slot a b i k w =
     let v0 = w 0 (omega arith) in let v1 = w 1 (omega arith) in let v2 = w 2 (omega arith) in let v3 = w 3 (omega arith) in
     let v4 = w 4 (omega arith) in let v5 = w 5 (omega arith) in let v6 = w 6 (omega arith) in let v7 = w 7 (omega arith) in
-    let v8 = w 8 (omega arith) in let v9 = w 9 (omega arith) in let v10 = w 10 (omega arith) in
+    let v8 = w 8 (omega arith) in let v9 = w 9 (omega arith) in let v10 = w 10 (omega arith) in let v11 = w 11 (omega arith) in
     λ x. record {
       file = v0 x;
       owner = record { high = v1 x; low = v2 x; port = v3 x };
@@ -58,6 +58,7 @@ same-slot a b i k w =
       due = v8 x;
       asked = v9 x;
       heard = v10 x;
+      last = v11 x;
     }
 
 pub same-slots : (a b : List ℕ) (n : ℕ) → ((k : ℕ) → k < n → slotAt b k ≡ slotAt a k) → slotsFrom b 0 n ≡ slotsFrom a 0 n
@@ -103,7 +104,8 @@ slot-fits a i o l h f g = number f g
     number (suc (suc (suc (suc (suc (suc (suc (suc zero)))))))) g = word 8 g
     number (suc (suc (suc (suc (suc (suc (suc (suc (suc zero))))))))) g = word 9 g
     number (suc (suc (suc (suc (suc (suc (suc (suc (suc (suc zero)))))))))) g = word 10 g
-    number (suc (suc (suc (suc (suc (suc (suc (suc (suc (suc (suc f))))))))))) g = absurd (omega arith)
+    number (suc (suc (suc (suc (suc (suc (suc (suc (suc (suc (suc zero))))))))))) g = word 11 g
+    number (suc (suc (suc (suc (suc (suc (suc (suc (suc (suc (suc (suc f)))))))))))) g = absurd (omega arith)
 
 -- ---- a slot changed
 
@@ -123,7 +125,7 @@ module _ (a : List ℕ) (p : ℕ) (s : Slot) (long : snapshotOctets ≤ length a
       let w = put-word h in
       let v0 = w 0 (omega arith) in let v1 = w 1 (omega arith) in let v2 = w 2 (omega arith) in let v3 = w 3 (omega arith) in
       let v4 = w 4 (omega arith) in let v5 = w 5 (omega arith) in let v6 = w 6 (omega arith) in let v7 = w 7 (omega arith) in
-      let v8 = w 8 (omega arith) in let v9 = w 9 (omega arith) in let v10 = w 10 (omega arith) in
+      let v8 = w 8 (omega arith) in let v9 = w 9 (omega arith) in let v10 = w 10 (omega arith) in let v11 = w 11 (omega arith) in
       λ x. record {
         file = v0 x;
         owner = record { high = v1 x; low = v2 x; port = v3 x };
@@ -133,6 +135,7 @@ module _ (a : List ℕ) (p : ℕ) (s : Slot) (long : snapshotOctets ≤ length a
         due = v8 x;
         asked = v9 x;
         heard = v10 x;
+        last = v11 x;
       }
 
   before-put : (k f : ℕ) → f < slotWords → k < p → wordAt (setSlot a p s) (slotWordAt k f) ≡ wordAt a (slotWordAt k f)

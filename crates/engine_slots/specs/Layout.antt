@@ -4,7 +4,7 @@ use Prim.Native.Nat.{ℕ, _+_, _*_}
 use Rattle.area.specs.Layout.{transferPlaces, areaWords}
 
 abbrev pub slotWords : ℕ
-slotWords = 11
+slotWords = 12
 
 abbrev pub slotWordAt : ℕ → ℕ → ℕ
 slotWordAt i f = areaWords + (i * slotWords + f)

@@ -34,6 +34,7 @@ noSlot = record {
   due = 0;
   asked = 0;
   heard = 0;
+  last = 0;
 }
 
 unfoldable pub slotAt : List ℕ → ℕ → Slot
@@ -46,6 +47,7 @@ slotAt a i = record {
   due = wordAt a (slotWordAt i 8);
   asked = wordAt a (slotWordAt i 9);
   heard = wordAt a (slotWordAt i 10);
+  last = wordAt a (slotWordAt i 11);
 }
 
 -- n slots from place i on
@@ -59,7 +61,7 @@ slotsFrom a i (suc n) = slotAt a i ∷ slotsFrom a (suc i) n
 abbrev pub numbersOf : Slot → List ℕ
 numbersOf s =
     s .file ∷ s .owner .high ∷ s .owner .low ∷ s .owner .port ∷ s .digest .first ∷ s .digest .second ∷ s .named ∷ s .reported ∷ s .due ∷ s .asked
-    ∷ s .heard ∷ []
+    ∷ s .heard ∷ s .last ∷ []
 
 -- words from word k on, one after the other
 unfoldable pub putWords : ℕ → List ℕ → List ℕ → List ℕ

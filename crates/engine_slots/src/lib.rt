@@ -1,7 +1,9 @@
 // What the engine keeps of a transfer beside the library's table: a slot of words for each, after the area and in the table's order.
 ghost use mathlib.Core.Path.{_≡_};
+ghost use mathlib.Core.Bool.{cond};
 ghost use Prim.Native.Nat.{_≤_, _<_};
 ghost use lib.ListN.{length, take, drop};
+ghost use lib.Dec.{eqb};
 ghost use Rattle.area.specs.Layout.{transferPlaces};
 ghost use Rattle.words.specs.Words.{wordAt, putWord};
 ghost use Rattle.engine_slots.specs.Layout.{slotWords, slotWordAt, snapshotOctets};
@@ -22,8 +24,8 @@ pub struct Digest {
 }
 
 // The file that its octets go to; whose packets are taken; the digest of its METADATA; 1 where the page has its name; 1 where it was
-// reported; the number of the first sync that covers the answer that is due (0: none is), and 1 where that was asked for; when it was
-// last heard.
+// reported; the number of the sync that covers the first question since the last answer (0: no answer is due), and 1 where it was asked
+// for; when it was last heard; the number of the sync that covers the latest question.
 pub struct Slot {
     pub file: u64,
     pub owner: Sender,
@@ -33,6 +35,7 @@ pub struct Slot {
     pub due: u64,
     pub asked: u64,
     pub heard: u64,
+    pub last: u64,
 }
 
 // A stretch of a file: its octets from `from` up to `to`, which stand in the packet from `start` on.
@@ -72,10 +75,22 @@ pub enum Meeting {
     Make(Files),
 }
 
+// ---- what is due
+
+// What is due where sync `next` will cover a question: the first that waits, where one does.
+pub fn first_due(due: u64, next: u64) -> u64
+    ensures { λ r. ⌜ r ≡ cond (eqb due 0) next due ⌝ }
+{
+    if due == 0 {
+        return next;
+    }
+    due
+}
+
 // ---- slots in words
 
 // The words of a slot, and where the slots begin.
-const SLOT_WORDS: usize = 11;
+const SLOT_WORDS: usize = 12;
 
 const SLOTS_AT: usize = area::AREA_OCTETS / 8;
 
@@ -143,6 +158,7 @@ pub fn slot_at(snap: &[u8], i: usize) -> Slot
         due: field(snap, i, 8),
         asked: field(snap, i, 9),
         heard: field(snap, i, 10),
+        last: field(snap, i, 11),
     }
 }
 
@@ -168,6 +184,7 @@ fn put_rest(snap: &mut [u8], i: usize, s: Slot)
     put_field(snap, i, 8, s.due);
     put_field(snap, i, 9, s.asked);
     put_field(snap, i, 10, s.heard);
+    put_field(snap, i, 11, s.last);
 }
 
 // The slot at place i becomes s.

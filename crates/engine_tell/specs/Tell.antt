@@ -58,7 +58,7 @@ telling s i out = cond (heldState s) (toldAs s i (areaStatusWritten (syncedIn s)
 unfoldable pub letterBuffer : List ℕ → ℕ → List ℕ → List ℕ
 letterBuffer s i out = cond (heldState s) (areaStatusBuffer (syncedIn s) i 0 (unasked s i) out) out
 
--- no answer is due any more for the file that it was about
+-- an answer went out for the file that it was about
 abbrev pub answeredState : List ℕ → ℕ → List ℕ
 answeredState s i = cond (sameNow s i) (slotState s i (answeredSlot (slotOf (snapshotIn s) i))) s
 

@@ -1,8 +1,9 @@
 // What is told: a STATUS of what is synced, that a page has its name, that it was reported.
 ghost use mathlib.Core.Path.{_≡_};
-ghost use mathlib.Core.Bool.{true, _&&_};
+ghost use mathlib.Core.Bool.{true, cond, _&&_};
 ghost use Prim.Native.Nat.{_≤_};
 ghost use lib.ListN.{length};
+ghost use lib.Dec.{ltb};
 ghost use Rattle.engine_model.specs.Snapshots.{slotOf, answeredSlot, namedSlot, reportedSlot};
 ghost use Rattle.engine_model.specs.Engine.{mayReport};
 ghost use Rattle.engine_state.specs.Layout.{stateOctets};
@@ -74,24 +75,38 @@ fn write_letter(state: &[u8], id: u64, out: &mut [u8]) -> Told
     }
 }
 
+// A number where there is a question after the first, else 0.
+fn if_later(s: Slot, v: u64) -> u64
+    ensures { λ r. ⌜ r ≡ cond (ltb (s .due) (s .last)) v 0 ⌝ }
+{
+    if s.due < s.last {
+        return v;
+    }
+    0
+}
+
+// The slot after an answer: a question after the first is due again.
 fn answered_slot(s: Slot) -> Slot
     ensures { λ r. ⌜ r ≡ answeredSlot s ⌝ }
 {
     let owner = s.owner;
     let digest = s.digest;
+    let due = if_later(s, s.last);
+    let asked = if_later(s, s.asked);
     Slot {
         file: s.file,
         owner,
         digest,
         named: s.named,
         reported: s.reported,
-        due: 0,
-        asked: 0,
+        due,
+        asked,
         heard: s.heard,
+        last: s.last,
     }
 }
 
-// No answer is due any more for the file that it was about.
+// An answer went out for the file that it was about.
 fn put_answered(state: &mut [u8], id: u64)
     requires { ⌜ heldState (now state) ≡ true ⌝ }
     ensures { λ _. ⌜ now (state .exit) ≡ answeredState (now (state .entry)) id ⌝ }
@@ -149,6 +164,7 @@ fn named_slot(s: Slot) -> Slot
         due: s.due,
         asked: s.asked,
         heard: s.heard,
+        last: s.last,
     }
 }
 
@@ -166,6 +182,7 @@ fn reported_slot(s: Slot) -> Slot
         due: s.due,
         asked: s.asked,
         heard: s.heard,
+        last: s.last,
     }
 }
 

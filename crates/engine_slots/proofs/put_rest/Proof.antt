@@ -9,7 +9,8 @@ use Rattle.engine_slots.proofs.put_rest.Tie as tie
 
 returns : tie.Need-returns
 returns c =
-    let p5 = c .before .before in
+    let p6 = c .before .before in
+    let p5 = p6 .before .before .before .before in
     let p4 = p5 .before .before .before .before in
     let p3 = p4 .before .before .before .before in
     let p2 = p3 .before .before .before .before in
@@ -20,7 +21,8 @@ returns c =
     (put-then (suc (suc k)) _ _ _ _ _ _ (omega arith) (p3 .put-field3 .ensures)
     (put-then (suc (suc (suc k))) _ _ _ _ _ _ (omega arith) (p4 .put-field4 .ensures)
     (put-then (suc (suc (suc (suc k)))) _ _ _ _ _ _ (omega arith) (p5 .put-field5 .ensures)
-    (put-none (suc (suc (suc (suc (suc k))))) _)))))
+    (put-then (suc (suc (suc (suc (suc k))))) _ _ _ _ _ _ (omega arith) (p6 .put-field6 .ensures)
+    (put-none (suc (suc (suc (suc (suc (suc k)))))) _))))))
 
 pub put-rest-spec : {M : Type 1} → statement M
-put-rest-spec = tie.close (tie.spec (λ c κs. search needs) (λ c κs. search needs) (λ c κs. search needs) (λ c κs. search needs) (λ c κs. search needs) (λ c. search needs) returns)
+put-rest-spec = tie.close (tie.spec (λ c κs. search needs) (λ c κs. search needs) (λ c κs. search needs) (λ c κs. search needs) (λ c κs. search needs) (λ c κs. search needs) (λ c. search needs) returns)

@@ -12,7 +12,7 @@
 enum which { NOW, PENDING, SYNCED };
 
 struct slot {
-    uint64_t id, file, high, low, port, due, heard;
+    uint64_t id, file, high, low, port, due, last, heard;
     uint8_t digest[SARATOGA_DIGEST_OCTETS];
     uint8_t used, named, reported, asked;
 };
@@ -267,6 +267,14 @@ static void make(uint8_t *state, const struct saratoga_meeting *m, struct slot *
     set_changed(state);
 }
 
+/* An answer is due: the first question decides when, and a later one is due again after it. */
+static void ask(const uint8_t *state, struct slot *slot)
+{
+    uint64_t n = get_numbers(state).number + 1;
+    slot->due = slot->due == 0 ? n : slot->due;
+    slot->last = n;
+}
+
 static struct saratoga_meeting opened(uint8_t *state, size_t state_len, uint64_t time, uint64_t high, uint64_t low, uint64_t port,
                                       const uint8_t *packet, size_t packet_len, uint64_t well)
 {
@@ -275,7 +283,7 @@ static struct saratoga_meeting opened(uint8_t *state, size_t state_len, uint64_t
     uint64_t id = saratoga_read(packet, packet_len).id;
     int index = m.kind == SARATOGA_MEET_KEPT ? find_slot(state, NOW, 1, id, &slot) : -1;
     if (m.kind == SARATOGA_MEET_KEPT || m.kind == SARATOGA_MEET_MAKE)
-        slot.due = get_numbers(state).number + 1;
+        ask(state, &slot);
     slot.high = high, slot.low = low, slot.port = port, slot.heard = time;
     if (m.kind == SARATOGA_MEET_KEPT) {
         put_slot(state, index, &slot);
@@ -354,7 +362,7 @@ static void record(uint8_t *state, uint64_t time, const uint8_t *packet, const s
     saratoga_record(state, SARATOGA_AREA_OCTETS, piece, (size_t)written.size);
     slot.heard = time;
     if (wanted || is_complete(state, NOW, l->id))
-        slot.due = get_numbers(state).number + 1;
+        ask(state, &slot);
     slot.asked |= (uint8_t)wanted;
     put_slot(state, index, &slot);
     set_changed(state);
@@ -442,7 +450,9 @@ static struct saratoga_letter tell(uint8_t *state, size_t state_len, uint64_t id
         return letter;
     letter.size = written.size, letter.high = synced.high, letter.low = synced.low, letter.port = synced.port;
     if (same) {
-        now.due = now.asked = 0;
+        int again = now.due < now.last;
+        now.due = again ? now.last : 0;
+        now.asked = again ? now.asked : 0;
         put_slot(state, index, &now);
     }
     return letter;

@@ -1,6 +1,6 @@
 #!/usr/bin/env python3
 """Tests the engine by simulation: a shell over its exported functions on a model disk and a model network, 10^6 events; the same calls on
-a second engine, 10^5 of them. Wrong shells and wrong engines must be found. Needs a C compiler, python3 and the archives; some
+a second engine, 3 * 10^5 of them. Wrong shells and wrong engines must be found. Needs a C compiler, python3 and the archives; some
 ten seconds.
 
     host/simulate/test.py [--stand-in]
@@ -22,7 +22,7 @@ from wrong_shells import WRONG_SHELLS  # noqa: E402
 
 LIBRARY = os.path.join(ROOT, "target", "staticlib", "libsaratoga.a")
 ENGINE = os.path.join(ROOT, "target", "staticlib", "libsaratoga_engine.a")
-EVENTS, SANITIZED, CALLS = 1000000, 40000, 100000
+EVENTS, SANITIZED, CALLS = 1000000, 40000, 300000
 SANITIZE = ("-fsanitize=address,undefined", "-fno-sanitize-recover=all")
 COMPILER = [os.environ.get("CC", "cc"), "-std=c11", "-Wall", "-Wextra", "-Werror", "-pedantic", "-I" + os.path.join(ROOT, "include"),
             "-I" + PLACE]

@@ -14,7 +14,7 @@ pub record World : Type 0 where
   -- the area on disk
   pub area : Snapshot
 
--- the sync under way, if one is, has run to its end: "files, then the area"
+-- the sync under way, if one is, has run to its end: first the files are forced to disk, then the area is replaced
 unfoldable pub written : Option Snapshot → World → World
 written none w = w
 written (some s) w = record { engine = w .engine; writes = forced (w .writes); area = s }

@@ -25,6 +25,9 @@ int __real_openat(int directory, const char *name, int flags, ...);
 ssize_t __real_pwrite(int fd, const void *octets, size_t count, off_t offset);
 int __real_renameat(int directory, const char *name, int other, const char *new_name);
 
+/* Writes the lines that the program keeps: output.c. */
+void flush_output(void);
+
 static long calls;
 
 /* Counts a call, and ends the program at the one named. */
@@ -32,7 +35,7 @@ static void call(void)
 {
     const char *last = getenv("POWERCUT");
     if (last != NULL && ++calls == atol(last)) {
-        fflush(stdout); /* what was said was said */
+        flush_output(); /* what was said was said */
         _exit(98);
     }
 }

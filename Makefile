@@ -1,6 +1,7 @@
 # make test     the gate: proofs, must-fail edits, host tests
 # make test-extra   the host tests that need Debian's tshark, tcpdump, chromium and lintian, which it installs where it may
 # make lib      proves the library and builds target/staticlib/libsaratoga.a
+# make engine   proves the engine and builds target/staticlib/libsaratoga_engine.a, over which the link program is (docs/ENGINE.md)
 # make shared   links it as target/shared/libsaratoga.so too, over which host/python/saratoga.py is (docs/PYTHON.md)
 # make replay   proves and builds replay, and runs it on the pass of page 611, or on PASS=file (docs/REPLAY.md)
 # make compare  compares the archive with the codec, receivers, planner, merging and settings of host/paper; SEED=N, CALLS=N optional
@@ -27,9 +28,9 @@ ARCHIVE = target/staticlib/libsaratoga.a
 ENGINE = target/staticlib/libsaratoga_engine.a
 PLAN_SOURCES = $(addprefix host/plan/,plan.c input.c reason.c)
 SEND_SOURCES = $(addprefix host/send/,send.c options.c page.c transfer.c round.c run.c wire.c lines.c)
-LINK_SOURCES = $(addprefix host/link/,link.c source.c dispatch.c table.c store.c disk.c meta.c check.c sheet.c onair.c control.c \
-	settings.c text.c)
-MERGE_SOURCES = $(addprefix host/merge/,merge.c octets.c) $(addprefix host/link/,table.c store.c disk.c meta.c check.c sheet.c text.c)
+LINK_SOURCES = $(addprefix host/link/,link.c options.c source.c udp.c peers.c packets.c answers.c shell.c sync.c worker.c area.c pages.c closing.c \
+	start.c files.c disk.c meta.c check.c sheet.c onair.c control.c settings.c text.c output.c)
+MERGE_SOURCES = $(addprefix host/merge/,merge.c octets.c) $(addprefix host/link/,area.c files.c disk.c meta.c text.c output.c)
 SIMULATE_SOURCES = $(addprefix host/simulate/,simulate.c disk.c network.c judge.c listen.c shell.c first.c second.c)
 SETTINGS_SOURCES = $(addprefix host/settings/,settings.c fault.c store.c)
 BENCH_FLAGS = -O2 -Wall -Wextra -Iinclude
@@ -51,6 +52,9 @@ test-extra: lib
 lib:
 	rt staticlib saratoga
 
+engine:
+	rt staticlib saratoga_engine
+
 # Exported is what the header declares, and nothing else. The soname changes where a struct or a function of the header changes.
 SONAME = libsaratoga.so.0
 SHARED = $(SONAME).1
@@ -63,9 +67,6 @@ shared: lib
 		-Wl,--whole-archive $(ARCHIVE) -Wl,--no-whole-archive -o target/shared/$(SHARED)
 	@ln -sf $(SHARED) target/shared/$(SONAME)
 	@ln -sf $(SONAME) target/shared/libsaratoga.so
-
-engine:
-	rt staticlib saratoga_engine
 
 SIMULATE_FLAGS = -std=c11 -Wall -Wextra -pedantic -O2 -Iinclude
 
@@ -113,9 +114,9 @@ bench-instructions: bench-program
 bench-descriptors:
 	CC='$(CC)' REPEATS='$(REPEATS)' host/bench/descriptors/run
 
-link: lib
+link: lib engine
 	mkdir -p target/link
-	$(CC) -std=c99 -Wall -Wextra -pedantic -O2 -Iinclude $(LINK_SOURCES) $(ARCHIVE) -o target/link/saratoga-link
+	$(CC) -std=c11 -Wall -Wextra -pedantic -O2 -pthread -Iinclude $(LINK_SOURCES) $(ENGINE) $(ARCHIVE) -o target/link/saratoga-link
 
 gigabyte: lib
 	host/link/gigabyte.py
@@ -130,7 +131,7 @@ send: lib
 
 merge: lib
 	mkdir -p target/merge
-	$(CC) -std=c99 -Wall -Wextra -pedantic -O2 -Iinclude -Ihost/link $(MERGE_SOURCES) $(ARCHIVE) -o target/merge/saratoga-merge
+	$(CC) -std=c11 -Wall -Wextra -pedantic -O2 -Iinclude -Ihost/link $(MERGE_SOURCES) $(ARCHIVE) -o target/merge/saratoga-merge
 
 settings: lib
 	mkdir -p target/settings

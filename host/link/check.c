@@ -40,7 +40,8 @@ static int add_file(uint8_t state[SARATOGA_MD5_OCTETS], const char *name, uint64
     return got == 0 && have == length;
 }
 
-static void tell_difference(const struct transfer *t)
+/* An error that nobody overlooks. */
+void tell_difference(const struct transfer *t)
 {
     char differs[NAME_OCTETS], sheet[NAME_OCTETS];
     name_of(differs, t, "differs");
@@ -52,38 +53,31 @@ static void tell_difference(const struct transfer *t)
 }
 
 /*
- * Checks the file of a complete transfer, once. What the verdict is of is read from the file; where the verdict needs no
- * digest, since the checksum is no MD5, it isn't read. Gives 0 where it can't be.
+ * Checks a complete file: a worker's job. What the verdict is of is read from the file; where the verdict needs no digest, since the
+ * checksum is no MD5, it isn't read.
  */
-int check_page(struct transfer *t, const char *name, uint64_t length)
+void run_check(void *job)
 {
-    uint8_t packet[SARATOGA_METADATA_OCTETS], state[SARATOGA_MD5_OCTETS];
-    size_t packet_len = meta_packet(packet, t->meta, t->meta_len);
+    struct check *check = job;
+    uint8_t md5[SARATOGA_MD5_OCTETS];
     struct saratoga_verdict checked;
-    if (t->checked)
-        return 1;
-    saratoga_md5_begin(state, sizeof state);
-    checked = saratoga_check_md5(packet, packet_len, state, sizeof state);
-    if (checked.verdict != SARATOGA_NOT_CHECKED) {
-        if (!add_file(state, name, length))
-            return 0;
-        checked = saratoga_check_md5(packet, packet_len, state, sizeof state);
-        saratoga_md5_end(state, sizeof state, t->digest, sizeof t->digest);
+    saratoga_md5_begin(md5, sizeof md5);
+    checked = saratoga_check_md5(check->packet, check->packet_len, md5, sizeof md5);
+    check->failed = 0;
+    if (checked.number == 0 && checked.verdict != SARATOGA_NOT_CHECKED) {
+        check->failed = !add_file(md5, check->name, check->length);
+        checked = saratoga_check_md5(check->packet, check->packet_len, md5, sizeof md5);
+        saratoga_md5_end(md5, sizeof md5, check->digest, sizeof check->digest);
     }
-    if (checked.number != 0)
-        die("the METADATA of transfer %" PRIu64 " is refused with %" PRIu64 ": the program has a fault", t->id, checked.number);
-    t->checked = 1;
-    t->verdict = checked.verdict;
-    if (t->verdict == SARATOGA_DIFFERS)
-        tell_difference(t);
-    return 1;
+    check->failed |= checked.number != 0;
+    check->verdict = checked.verdict;
 }
 
 /* What the program ends with, and the last line about files that differ. */
 int exit_status(void)
 {
     if (differing == 0)
-        return output_was_lost();
+        return output_was_lost() || something_was_lost();
     warn("ERROR: %" PRIu64 " complete %s NOT handed on: the MD5 checksum differs. See the .differs and .sheet files in %s",
          differing, differing == 1 ? "file was" : "files were", options.directory);
     return STATUS_DIFFERS;

@@ -1,6 +1,6 @@
 /*
  * What an operator asks: the list of transfers, from what is on disk, and the closing of one. A program that runs looks
- * for the file `close` in its directory, a line with an Id, does what it says and removes it. So anything that can
+ * for the file `close` in its directory, lines with an Id each, does what they say and removes it. So anything that can
  * write a file can close a transfer, and a request outlives a crash.
  */
 #include "link.h"
@@ -13,68 +13,88 @@
 #include <unistd.h>
 
 #define REQUEST "close"
-#define MOST_REQUEST 64
+#define MOST_REQUEST 4096
+#define MOST_SHOWN 64
 #define LONGEST_WAIT 5000 /* milliseconds */
 
 /* Whether TICK milliseconds went by since it last said so. */
 int tick_is_due(void)
 {
-    static int64_t last;
-    struct timespec now;
-    clock_gettime(CLOCK_MONOTONIC, &now);
-    int64_t milliseconds = (int64_t)now.tv_sec * 1000 + now.tv_nsec / 1000000;
-    if (milliseconds - last < TICK)
+    static uint64_t last;
+    uint64_t now = now_ms();
+    if (now - last < TICK)
         return 0;
-    last = milliseconds;
+    last = now;
     return 1;
 }
 
-/* Closes a transfer that was given up. What it had is set aside. */
-void close_transfer(uint64_t id)
+/* Closes a transfer that was given up, where the file under the Id is the one that is meant. What it had is set aside. */
+void close_asked(uint64_t id, uint64_t file)
 {
-    struct transfer *t = transfer_of(id);
-    if (t == NULL)
-        warn("transfer %" PRIu64 " isn't open", id);
+    struct transfer *t = open_transfer(id);
+    if (t == NULL || (file != 0 && t->file != file))
+        warn("transfer %" PRIu64 "%s isn't open", id, t != NULL ? " of that file" : "");
+    else if (close_transfer(0, t, 0, "asked"))
+        want_sync();
     else
-        end_transfer(0, t, "asked");
-    flush_output();
+        warn("transfer %" PRIu64 " is complete and waits to be reported; it isn't closed", id);
 }
 
-/* Does what stands in the file `close`, if it is there with a whole line. */
+/* One line of a request. */
+static void hear_line(const uint8_t *line, size_t length)
+{
+    char shown[4 * MOST_SHOWN + 1];
+    uint64_t id, file;
+    escape(shown, sizeof shown, line, length < MOST_SHOWN ? length : MOST_SHOWN);
+    if (length < MOST_SHOWN && id_of_text(shown, &id, &file))
+        close_asked(id, file);
+    else
+        warn("%s/" REQUEST ": no Id: %s", options.directory, shown);
+}
+
+/* Does what stands in the file `close`, if it is there with whole lines. */
 void hear_operator(void)
 {
-    uint8_t line[MOST_REQUEST];
-    char shown[4 * MOST_REQUEST + 1];
-    uint64_t id;
+    static int told;
+    uint8_t text[MOST_REQUEST];
     int fd = open_file(REQUEST, O_RDONLY);
     if (fd < 0)
         return;
-    ssize_t got = read(fd, line, sizeof line);
+    ssize_t got = read(fd, text, sizeof text);
     close(fd);
-    uint8_t *end = got > 0 ? memchr(line, '\n', (size_t)got) : NULL;
-    if (end == NULL && got < (ssize_t)sizeof line)
+    size_t have = got > 0 ? (size_t)got : 0, done = 0;
+    if (have < sizeof text && (have == 0 || text[have - 1] != '\n') && have < MOST_SHOWN)
         return; /* it is being written */
-    size_t length = end != NULL ? (size_t)(end - line) : sizeof line;
-    escape(shown, sizeof shown, line, length);
-    if (end != NULL && id_of_text(shown, &id))
-        close_transfer(id);
-    else
-        warn("%s/" REQUEST ": no Id: %s", options.directory, shown);
-    remove_file(REQUEST);
+    if (remove_file(REQUEST) != 0) {
+        if (!told)
+            warn("%s/" REQUEST ": can't be removed, and isn't heard: %s", options.directory, strerror(errno));
+        told = 1;
+        return;
+    }
+    told = 0;
+    while (done < have) {
+        const uint8_t *end = memchr(text + done, '\n', have - done);
+        size_t length = end != NULL ? (size_t)(end - text) - done : have - done;
+        hear_line(text + done, length);
+        done += length + 1;
+    }
 }
 
 /* The transfers that the area on disk holds. Takes no lock: the area is replaced whole. */
 void list_transfers(void)
 {
-    static uint8_t octets[SARATOGA_AREA_OCTETS];
+    static struct area area;
     static struct transfer t;
     struct saratoga_listed one;
-    if (!read_area(octets))
+    struct slot slot;
+    if (!read_area(&area))
         return;
-    for (uint64_t i = 0; (one = saratoga_transfer(octets, sizeof octets, i)).number == 0; i++) {
+    for (uint64_t i = 0; (one = saratoga_transfer(area.snapshot, SARATOGA_AREA_OCTETS, i)).number == 0; i++) {
         char name[NAME_OCTETS], meta[MOST_META] = "";
-        t.id = one.id;
-        if (find_files(&t) == 0 && meta_is_of(t.meta, t.meta_len, &one))
+        if (!slot_of(area.snapshot, one.id, &slot))
+            continue;
+        t = (struct transfer){.id = one.id, .file = slot.file, .fd = -1, .meta_fd = -1};
+        if (read_meta(&t) == 0 && meta_is_of(t.meta, t.meta_len, &one))
             meta_for_report(meta, &t);
         name_of(name, &t, one.complete ? "page" : "part");
         report("id=%" PRIu64 " width=%" PRIu64 " length=%" PRIu64 " edge=%" PRIu64 " runs=%" PRIu64
@@ -83,31 +103,43 @@ void list_transfers(void)
     }
 }
 
-static int is_open_on_disk(uint64_t id)
+/* Whether an Id is open on disk, for the file that is meant. */
+static int is_open_on_disk(uint64_t id, uint64_t file)
 {
-    static uint8_t octets[SARATOGA_AREA_OCTETS];
-    return read_area(octets) && saratoga_find(octets, sizeof octets, id).number == 0;
+    static struct area area;
+    struct slot slot;
+    return read_area(&area) && slot_of(area.snapshot, id, &slot) && (file == 0 || slot.file == file);
 }
 
-/* Asks the program that runs in the directory to close a transfer, and waits until it has. */
-void ask_to_close(uint64_t id)
+static void ask(uint64_t id, uint64_t file)
 {
-    char line[MOST_REQUEST];
-    const struct timespec moment = {.tv_nsec = 20000000};
-    int length = snprintf(line, sizeof line, "%" PRIu64 "\n", id);
-    if (!is_open_on_disk(id))
-        die("transfer %" PRIu64 " isn't open", id);
+    char line[MOST_SHOWN];
+    int length = file != 0 ? snprintf(line, sizeof line, "%08" PRIx64 ".%" PRIu64 ".part\n", id, file)
+                           : snprintf(line, sizeof line, "%" PRIu64 "\n", id);
     int fd = open_file(REQUEST, O_WRONLY | O_CREAT | O_EXCL);
     if (fd < 0 || write(fd, line, (size_t)length) != length || close(fd) != 0)
         die("%s/" REQUEST ": %s", options.directory,
             errno == EEXIST ? "another closing is asked for; try again" : strerror(errno));
-    for (int waited = 0; length_of(REQUEST) >= 0; waited += 20) {
+}
+
+/* Asks the program that runs in the directory to close a transfer, and waits until that is on disk. */
+void ask_to_close(uint64_t id, uint64_t file)
+{
+    const struct timespec moment = {.tv_nsec = 20000000};
+    if (!is_open_on_disk(id, file))
+        die("transfer %" PRIu64 " isn't open", id);
+    ask(id, file);
+    int waited = 0;
+    for (; length_of(REQUEST) >= 0; waited += 20) {
         if (waited >= LONGEST_WAIT)
             die("the program that runs in %s doesn't answer; the request stays in %s/" REQUEST, options.directory,
                 options.directory);
         nanosleep(&moment, NULL);
     }
-    if (is_open_on_disk(id))
-        die("transfer %" PRIu64 " is still open", id);
+    for (; is_open_on_disk(id, file); waited += 20) {
+        if (waited >= LONGEST_WAIT)
+            die("transfer %" PRIu64 " is still open", id);
+        nanosleep(&moment, NULL);
+    }
     report("0 close id=%" PRIu64 " asked", id);
 }

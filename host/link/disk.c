@@ -4,41 +4,38 @@
  */
 #include "link.h"
 
-#include <dirent.h>
 #include <errno.h>
 #include <fcntl.h>
 #include <stdio.h>
 #include <string.h>
+#include <sys/file.h>
 #include <sys/stat.h>
 #include <unistd.h>
 
-static int directory = -1;
-static int directory_changed;      /* a file was made or renamed in it and that is not yet forced to disk */
+int directory = -1;
+int directory_changed;             /* a file was made or renamed in it, and no sync that began since forced it to disk */
 static int lacking;                /* there was no room, and that was told */
+static int ever_lost;
 static uint64_t lost, lost_since_saved;
 
-/* Opens the directory that the options name; one that was open before is left. */
+/* Opens the directory that the options name. */
 void open_directory(void)
 {
-    if (directory >= 0)
-        close(directory);
     directory = open(options.directory, O_RDONLY | O_DIRECTORY | O_CLOEXEC);
     if (directory < 0)
         die("%s: %s", options.directory, strerror(errno));
 }
 
-/* Keeps other programs out of the directory while this one runs. Gives 0 where another holds it. */
-int lock_directory(void)
+/*
+ * Keeps other programs out of the directory while this one runs. The lock is on the directory itself: no name in it can be taken away
+ * to get rid of it. Gives 0 where another holds it.
+ */
+int lock_directory(int to_read)
 {
-    struct flock whole = {.l_type = F_WRLCK, .l_whence = SEEK_SET};
-    int fd = openat(directory, "lock", O_RDWR | O_CREAT | O_NOFOLLOW | O_CLOEXEC, 0666);
-    if (fd < 0)
-        die("%s/lock: %s", options.directory, strerror(errno));
-    if (fcntl(fd, F_SETLK, &whole) == 0)
+    if (flock(directory, (to_read ? LOCK_SH : LOCK_EX) | LOCK_NB) == 0)
         return 1;
-    if (errno != EACCES && errno != EAGAIN)
-        die("%s/lock: %s", options.directory, strerror(errno));
-    close(fd);
+    if (errno != EWOULDBLOCK)
+        die("%s: can't be locked: %s", options.directory, strerror(errno));
     return 0;
 }
 
@@ -52,7 +49,6 @@ int open_file(const char *name, int flags)
         errno = EINVAL;
         return -1;
     }
-    directory_changed |= fd >= 0 && (flags & O_CREAT) != 0;
     return fd;
 }
 
@@ -61,11 +57,23 @@ int is_lack_of_room(int error)
     return error == ENOSPC || error == EDQUOT || error == EFBIG;
 }
 
+/* A packet that couldn't be stored counts as lost, and the exit status tells. */
+void something_is_lost(void)
+{
+    ever_lost = 1;
+}
+
+int something_was_lost(void)
+{
+    return ever_lost;
+}
+
 /* What can't be stored counts as lost. Said once, until there is room again. */
 void room_is_lacking(const char *what, int error)
 {
     lost++;
     lost_since_saved++;
+    something_is_lost();
     if (!lacking)
         warn("%s/%s: can't be stored: %s; packets count as lost until there is room", options.directory, what,
              strerror(error));
@@ -113,54 +121,34 @@ int write_at(int fd, const uint8_t *octets, size_t count, uint64_t offset)
     return 0;
 }
 
-/*
- * Forces a file's octets to disk. Gives -1 where there is no room for them. Where it fails otherwise the program ends:
- * the system may have dropped what was written, so a second try that succeeds would prove nothing. What was recorded
- * since the area was saved is forgotten in either case, and asked for again.
- */
-int force_to_disk(int fd, const char *name)
+/* Forces a file, or the directory, to disk, where that is asked for. Gives -1 with errno. */
+int force_to_disk(int fd)
 {
-    if (!options.force || fsync(fd) == 0)
-        return 0;
-    if (!is_lack_of_room(errno))
-        die("%s/%s: can't be forced to disk: %s", options.directory, name, strerror(errno));
-    return -1;
-}
-
-int force_directory(void)
-{
-    if (directory_changed && force_to_disk(directory, ".") != 0)
-        return -1;
-    directory_changed = 0;
-    return 0;
+    return !options.force || fsync(fd) == 0 ? 0 : -1;
 }
 
 /*
- * Puts a file in the place of another of that name: written as NAME.new, forced to disk, and renamed. Gives -1 with
- * errno where there is no room.
+ * Puts a file in the place of another of that name: written as NAME.new, forced to disk, renamed, and the name forced to disk. Gives -1
+ * with errno. Another thread may do the same with another name meanwhile.
  */
 int replace_file(const char *name, const uint8_t *octets, size_t count)
 {
     char new_name[NAME_OCTETS];
     snprintf(new_name, sizeof new_name, "%s.new", name);
     int fd = open_file(new_name, O_WRONLY | O_CREAT | O_TRUNC);
-    if (fd < 0 && is_lack_of_room(errno))
-        return -1;
     if (fd < 0)
-        die("%s/%s: can't be made: %s", options.directory, new_name, strerror(errno));
-    int failed = write_at(fd, octets, count, 0) != 0 || force_to_disk(fd, new_name) != 0;
+        return -1;
+    int failed = write_at(fd, octets, count, 0) != 0 || force_to_disk(fd) != 0;
     int error = errno;
-    failed |= close(fd) != 0 && !failed && (error = errno) != 0;
-    cut_point("between a new file and its name");
-    if (!failed && renameat(directory, new_name, directory, name) != 0) {
+    if (close(fd) != 0 && !failed) {
         failed = 1;
         error = errno;
     }
-    if (failed && !is_lack_of_room(error))
-        die("%s/%s: can't be replaced: %s", options.directory, name, strerror(error));
-    directory_changed |= !failed;
+    cut_point("between a new file and its name");
     errno = error;
-    return failed ? -1 : force_directory();
+    if (failed || renameat(directory, new_name, directory, name) != 0)
+        return -1;
+    return force_to_disk(directory);
 }
 
 /* Whether a file is there with exactly so many octets, the last of which can be read. */
@@ -187,10 +175,10 @@ int64_t length_of(const char *name)
     return (int64_t)seen.st_size;
 }
 
-void remove_file(const char *name)
+/* Gives 0 where the name is gone. */
+int remove_file(const char *name)
 {
-    if (unlinkat(directory, name, 0) != 0 && errno != ENOENT)
-        warn("%s/%s: can't be removed: %s", options.directory, name, strerror(errno));
+    return unlinkat(directory, name, 0) == 0 || errno == ENOENT ? 0 : -1;
 }
 
 /* Whether anything has this name. */

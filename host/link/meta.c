@@ -10,7 +10,7 @@
 #include <string.h>
 #include <time.h>
 
-#define FIRST_LINE "saratoga-meta 1\n"
+#define FIRST_LINE "saratoga-meta 2\n"
 #define START_OF_2000 946684800 /* seconds from the start of 1970 */
 
 static void date_of(char out[32], uint64_t seconds)
@@ -28,9 +28,9 @@ size_t meta_text(char out[MOST_META], const uint8_t *packet, const struct sarato
     date_of(mtime, read->mtime);
     date_of(ctime, read->ctime);
     int done = snprintf(out, MOST_META,
-                        FIRST_LINE "id=%" PRIu64 "\nwidth=%" PRIu64 "\nlength=%" PRIu64 "\nproperties=%04" PRIx64
+                        FIRST_LINE "id=%" PRIu64 "\nflags=%06" PRIx64 "\nwidth=%" PRIu64 "\nlength=%" PRIu64 "\nproperties=%04" PRIx64
                                    "\nmtime=%s\nctime=%s\nchecksum=",
-                        read->id, 8 * read->width, read->size, read->properties, mtime, ctime);
+                        read->id, read->flags, 8 * read->width, read->size, read->properties, mtime, ctime);
     size_t length = (size_t)done;
     if (read->checksum_len == 0)
         length += (size_t)snprintf(out + length, MOST_META - length, "none");
@@ -102,27 +102,20 @@ static size_t unescape(uint8_t *out, size_t room, const char *text)
 }
 
 /*
- * METADATA as a packet again: one of which meta_text makes this very text. What the text doesn't hold, flags that nothing
- * here looks at, is 0. Gives its length; 0 where no packet has this text.
+ * METADATA as a packet again: one of which meta_text makes this very text. Gives its length; 0 where no packet has this text.
  */
 size_t meta_packet(uint8_t out[SARATOGA_METADATA_OCTETS], const char *meta, size_t meta_len)
 {
-    static const uint64_t widths[] = {SARATOGA_WIDTH_16, SARATOGA_WIDTH_32, SARATOGA_WIDTH_64, SARATOGA_WIDTH_128};
-    static char again[MOST_META];
+    char again[MOST_META];
     uint8_t checksum[4 * 15], path[SARATOGA_PATH_OCTETS + 1];
     const char *sum = value_of(meta, "\nchecksum="), *colon = strchr(sum, ':');
-    size_t path_len = unescape(path, sizeof path, value_of(meta, "\npath=")), sum_len = 0, place = 0;
-    uint64_t flags = 0, width = number_of(meta, "\nwidth=", 10);
-    while (place < 3 && UINT64_C(16) << place != width)
-        place++;
-    if (strncmp(sum, "none\n", 5) != 0 && colon != NULL) {
+    size_t path_len = unescape(path, sizeof path, value_of(meta, "\npath=")), sum_len = 0;
+    if (sum[0] >= '0' && sum[0] <= '9' && colon != NULL) /* else there is none */
         sum_len = octets_of(checksum, sizeof checksum, colon + 1);
-        flags = (uint64_t)sum_len / 4 << 4 | (strtoull(sum, NULL, 10) & 15);
-    }
     struct saratoga_written written = saratoga_write_metadata(
-        widths[place] | flags, number_of(meta, "\nid=", 10), checksum, sum_len, number_of(meta, "\nproperties=", 16),
-        number_of(meta, "\nlength=", 10), seconds_of(value_of(meta, "\nmtime=")), seconds_of(value_of(meta, "\nctime=")),
-        path, path_len, out, SARATOGA_METADATA_OCTETS);
+        number_of(meta, "\nflags=", 16), number_of(meta, "\nid=", 10), checksum, sum_len,
+        number_of(meta, "\nproperties=", 16), number_of(meta, "\nlength=", 10), seconds_of(value_of(meta, "\nmtime=")),
+        seconds_of(value_of(meta, "\nctime=")), path, path_len, out, SARATOGA_METADATA_OCTETS);
     struct saratoga_packet read = saratoga_read(out, (size_t)written.size);
     if (written.number != 0 || read.number != 0)
         return 0;

@@ -103,10 +103,10 @@ static void tell(uint64_t number, struct endpoint *e, const struct saratoga_pack
 }
 
 /* A BEACON. */
-void hear_beacon(uint64_t number, const struct peer *peer, const uint8_t *packet, const struct saratoga_packet *read)
+void hear_beacon(const struct packet *p, const struct saratoga_packet *read)
 {
     uint64_t now = seconds();
-    const uint8_t *octets = packet + read->endpoint_at;
+    const uint8_t *octets = p->octets + read->endpoint_at;
     struct endpoint *e = endpoint_of(octets, read->endpoint_len);
     int is_new = e == NULL;
     if (is_new)
@@ -120,8 +120,8 @@ void hear_beacon(uint64_t number, const struct peer *peer, const uint8_t *packet
     e->heard = now;
     if (!is_new && is_told(e, read))
         return;
-    if (peer->socket < 0 || may_tell(e, now)) {
-        tell(number, e, read);
+    if (socket_fd < 0 || may_tell(e, now)) {
+        tell(p->number, e, read);
     } else if (!held_back) {
         held_back = 1;
         warn("an endpoint on the air changes too often to be told each time; it is told about once a second");

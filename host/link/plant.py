@@ -12,11 +12,9 @@ import sys
 import threading
 import time
 
-from harness import PLACE, SOURCES, WRAPPED, build, check, content, page, records, run, stored
-from packets import (BUNDLES, END_OF_DATA, STREAMS, WANTED, beacon, data, metadata, record, success, time_record,
+from harness import PLACE, SOURCES, at, build, check, content, failing, holds, is_there, page, records, run, stored
+from packets import (BUNDLES, END_OF_DATA, STREAMS, UNASKED, WANTED, beacon, data, metadata, record, success, time_record,
                      word)
-
-NOSPACE = os.path.join(PLACE, "nospace.c")
 
 
 class Link:
@@ -38,7 +36,7 @@ class Link:
         self.port = int(line.split("port=")[1])
         self.socket = socket.socket(socket.AF_INET, socket.SOCK_DGRAM)
         self.socket.bind((sender, 0))
-        self.socket.settimeout(0.25)
+        self.socket.settimeout(0.5)
 
     @staticmethod
     def read(stream, lines):
@@ -54,7 +52,7 @@ class Link:
         check(False, "it didn't happen in 5 seconds")
 
     def send(self, *packets):
-        """Sends packets; gives the answer to the last, None where there is none in a quarter of a second."""
+        """Sends packets; gives the answer to the last, None where there is none in half a second."""
         for packet in packets:
             self.socket.sendto(packet, ("127.0.0.1", self.port))
         return self.heard()
@@ -64,6 +62,12 @@ class Link:
             return self.socket.recv(65535)
         except socket.timeout:
             return None
+
+    def drain(self):
+        """Drops what was answered up to now, and a moment longer."""
+        for _ in range(20):
+            if self.heard() is None:
+                return
 
     def quiet_send(self, *packets):
         """Sends packets and drops all answers."""
@@ -129,7 +133,7 @@ def used_again(program, place):
             check(content(here, "00000007.2.page") == new, f"another {name}: the page is a mixture")
             kept = "00000007.aside" if got == 50 else "00000007.page"
             check(content(here, kept) == old[:got], f"another {name}: what was there is gone")
-            check(got == 100 or "00000007.aside" in told, f"nothing was said: {told}")
+            check(got == 100 or "00000007.1.aside" in told, f"nothing was said: {told}")
             check(sum(" complete id=7 " in line for line in lines) == (1 if got == 50 else 2), lines)
 
 
@@ -145,29 +149,13 @@ def no_crc_32c(program, place):
     check("1 send 4400000100000007" in lines and "6 send 4400000100000008" in lines, lines)
     check(told.count("transfer 7 is refused: new transfer with a CRC-32c") == 1 and told.count("transfer 8 is refused") == 1, told)
     check(content(place, "00000008.page") == whole, "an open page does not go on")
-    began_with_crc_32c(program, place, whole, unwanted)
     # A transfer whose file is gone is closed all the same, and nothing is opened in its place.
     link = Link(program, place)
     link.quiet_send(metadata(10, 16, 100, b"d"), data(10, 16, 0, whole[:50], WANTED))
-    os.remove(os.path.join(place, "0000000a.part"))
+    os.remove(at(place, "0000000a.part"))
     check(link.send(metadata(10, 16, 100, b"d", **unwanted)) == bytes.fromhex("440000010000000a"), link.lines)
     check(link.end() == 0 and 10 not in stored(place), "a transfer is open whose file is gone")
     check(any("close id=10 lost" in line for line in link.lines), link.lines)
-
-
-def began_with_crc_32c(program, place, whole, unwanted):
-    """A transfer that began with a CRC-32c, before they were refused: taken up, its METADATA answered, and run to its end."""
-    began = metadata(9, 16, 100, b"c", flags=0x14, checksum=unwanted["checksum"])
-    run(program, place, "-", octets=records([began, data(9, 16, 0, whole[:50])]))
-    known = content(place, "00000009.meta")
-    check(b"checksum=4:01020304" in known, known)
-    with open(os.path.join(place, "00000009.meta"), "wb") as file:
-        file.write(known.replace(b"checksum=4:", b"checksum=1:"))
-    lines, told, status = run(program, place, "-", octets=records(
-        [metadata(9, 16, 100, b"c", **unwanted), data(9, 16, 50, whole[50:])]))
-    check((told, status) == ("", 0) and "1 open id=9 width=16 length=100 edge=50 complete=0 already-open" in lines, (lines, told))
-    check(any(line.startswith("2 complete id=9 ") and " checksum=1:01020304 " in line for line in lines), lines)
-    check(content(place, "00000009.page") == whole, "a page that began with a CRC-32c isn't the original")
 
 
 def two_files_of_one_id():
@@ -203,7 +191,7 @@ def never_overwritten(program, place):
     lines, told, status = run(program, place, "-", octets=records(packets))
     check(status == 0, told)
     check(content(place, "00000007.page") == old, "a page that was reported was written over")
-    check(content(place, "00000007.2.page") == new and any("file=00000007.2.page" in line for line in lines), lines)
+    check(content(place, "00000007.2.page") == new and any("file=00000007.18.page" in line for line in lines), lines)
     check("path=page611.pla" in content(place, "00000007.meta").decode(), "its .meta is gone")
 
 
@@ -212,26 +200,24 @@ def never_overwritten(program, place):
 
 def taken_away(program, place):
     text = page(100, 27)
-    part = os.path.join(place, "00000007.part")
     opening = metadata(7, 16, 100)
     link = Link(program, place)
-    for harm in (lambda: os.remove(part), lambda: os.truncate(part, 20),
-                 lambda: (os.remove(part), open(part, "wb").close())):
+    for harm in (os.remove, lambda part: os.truncate(part, 20), lambda part: (os.remove(part), open(part, "wb").close())):
         link.quiet_send(opening, data(7, 16, 50, text[50:], WANTED))
-        harm()
+        harm(at(place, "00000007.part"))
         # Half of it is gone, so nobody may say that all of it is there.
         first, second = data(7, 16, 0, text[:30], WANTED), data(7, 16, 30, text[30:50], WANTED)
         check(not is_complete(link.send(first), 100) and not is_complete(link.send(second), 100), "said to be complete")
         check(not any(name.endswith(".page") for name in os.listdir(place)), "a page")
-        check(not stored(place).get(7), "still open")
+        link.wait(lambda: not stored(place).get(7) and not is_there(place, "00000007.part"))
         for name in os.listdir(place):
             if name.startswith("00000007"):
                 os.remove(os.path.join(place, name))
     # It starts anew.
     link.quiet_send(opening, data(7, 16, 50, text[50:], WANTED))
     check(is_complete(link.send(data(7, 16, 0, text[:50], WANTED)), 100), "not complete")
-    check(content(place, "00000007.page") == text, "the page")
     check(link.end() == 0, link.told)
+    check(content(place, "00000007.page") == text, "the page")
     check(sum("must begin anew" in line for line in link.told) == 3, link.told)
 
 
@@ -257,7 +243,7 @@ def operator(program, place):
     text = page(100, 29)
     link = Link(program, place, "--largest", "100")
     link.quiet_send(metadata(31, 16, 100, b"\x1b[2J evil"), data(31, 16, 0, text[:40], WANTED))
-    for form in ("31", "id=31", "0x1f", "0000001f.part", "0000001f.meta"):
+    for form in ("31", "id=31", "0x1f", "0000001f.4.part", "0000001f.5.meta"):
         lines, told, status = run(program, place, "--list")
         check((told, status, len(lines)) == ("", 0, 1), (lines, told))
         check(lines[0].startswith("id=31 width=16 length=100 edge=40 runs=1 complete=0 file=0000001f") and
@@ -268,11 +254,11 @@ def operator(program, place):
         check(31 not in stored(place), "still open")
         link.quiet_send(metadata(31, 16, 100, b"\x1b[2J evil"), data(31, 16, 0, text[:40], WANTED))
     check(sorted(name for name in os.listdir(place) if name.endswith(".aside")) ==
-          ["0000001f.2.aside", "0000001f.3.aside", "0000001f.4.aside", "0000001f.5.aside", "0000001f.aside"],
+          [f"0000001f.{number}.aside" for number in range(1, 6)],
           os.listdir(place))
     check(run(program, place, "--close", "32")[1:] == ("saratoga-link: transfer 32 isn't open\n", 1), "32")
     for form in ("", "0000001f", "031", "1f", "id=", "0x", "0x1g", "4294967296", "31 ", "-1", "0000001f.", "0000001f.x",
-                 "0000001f.part/../x", "0000001f.02.part"):
+                 "0000001f.6.part/../x", "0000001f.06.part", "0000001f.part", "0000001f.1.page", "0000001f.5.aside"):
         check(run(program, place, "--close", form)[2] in (1, 2) and 31 in stored(place), f"taken as an Id: {form!r}")
     # By hand; what is no Id is told, and does no harm.
     for asked in (b"\x1b]0;x\x07%s%n\n", b"x" * 200, b"\0\n"):
@@ -305,7 +291,7 @@ def kept(program, place):
     """A sender that opens one transfer after the other can't fill a directory without end."""
     text = page(20, 34)
     for ident in range(0x10000, 0x10000 + 9998):
-        open(os.path.join(place, f"{ident:08x}.meta"), "wb").close()
+        open(os.path.join(place, f"{ident:08x}.1.meta"), "wb").close()
     packets = [metadata(7, 16, 20), metadata(8, 16, 20), data(7, 16, 0, text[:5]), metadata(9, 16, 20),
                metadata(7, 16, 20, b"other"), metadata(10, 16, 0), metadata(7, 16, 20), data(7, 16, 5, text[5:])]
     lines, told, status = run(program, place, "-", octets=records(packets))
@@ -316,10 +302,10 @@ def kept(program, place):
           lines)
     # What was open goes on, and nothing was ended for what isn't taken.
     check(content(place, "00000007.page") == text and not any(name.endswith(".aside") for name in os.listdir(place)), lines)
-    check(not any(name.startswith(("00000009", "0000000a", "00000007.2")) for name in os.listdir(place)), "files are made")
+    check(not any(name.startswith(("00000009", "0000000a", "00000007.3")) for name in os.listdir(place)), "files are made")
     check(told.count("has the files of 10000 transfers; no new one is opened") == 1 and told.count("\n") == 1, told)
     # Room is made by hand, or by the option.
-    os.remove(os.path.join(place, "00010000.meta"))
+    os.remove(at(place, "00010000.meta"))
     lines, told, status = run(program, place, "-", octets=records([metadata(9, 16, 20), metadata(10, 16, 20)]))
     check("1 open id=9 width=16 length=20 edge=0 complete=0 new" in lines and "2 too-many id=10 code=3" in lines, lines)
     lines, told, status = run(program, place, "--most-kept=10001", "-", octets=records([metadata(10, 16, 20)]))
@@ -353,12 +339,14 @@ def two_senders(program, place):
     check(sent(0, half(0, 50)) == bytes.fromhex("4400000600000007"), "DATA of another sender is taken")
     sent(1, half(1, 0))
     check(sent(0, half(0, 50)) == bytes.fromhex("4400000600000007"), "DATA of another sender is taken")
-    check(is_complete(sent(1, half(1, 50)), 100) and content(place, "00000007.2.page") == texts[1], link.lines)
+    check(is_complete(sent(1, half(1, 50)), 100), link.lines)
+    link.wait(lambda: holds(place, "00000007.2.page", texts[1]))
     check(content(place, "00000007.aside") == texts[0][:50], "what the first had")
     link.wait(lambda: "6 of-another-sender id=7 code=6" in link.lines)
     # The first begins anew, also from another place: METADATA tells whose the Id is.
     sent(1, opening(0)), sent(0, opening(0)), sent(0, half(0, 0))
-    check(is_complete(sent(0, half(0, 50)), 100) and content(place, "00000007.3.page") == texts[0], link.lines)
+    check(is_complete(sent(0, half(0, 50)), 100), link.lines)
+    link.wait(lambda: holds(place, "00000007.3.page", texts[0]))
     other.close()
     check(link.end() == 0, link.told)
 
@@ -374,11 +362,11 @@ def what_is_known(program, place):
     lines, told, status = run(program, place, "-", octets=records([packet, data(31, 32, 0, b"12345")]))
     check((told, status) == ("", 0) and harmless(lines), (lines, told))
     known = f"mtime=2026-11-14T04:00:00Z ctime=2136-02-07T06:28:15Z checksum=2:{digest.hex()} path={shown}"
-    check(f"2 complete id=31 length=5 file=0000001f.page recordings=1 absorbed=0 runs=1 md5=agrees {known}" in lines, lines)
-    check(content(place, "0000001f.meta").decode() == "saratoga-meta 1\nid=31\nwidth=32\nlength=5\nproperties=0040\n" +
+    check(f"2 complete id=31 length=5 file=0000001f.1.page recordings=1 absorbed=0 runs=1 md5=agrees {known}" in lines, lines)
+    check(content(place, "0000001f.meta").decode() == "saratoga-meta 2\nid=31\nflags=400042\nwidth=32\nlength=5\nproperties=0040\n" +
           known.replace(" ", "\n") + "\n", content(place, "0000001f.meta"))
     check(run(program, place, "-q", "-")[0] ==
-          [f"0 complete id=31 length=5 file=0000001f.page recordings=0 absorbed=0 runs=1 md5=agrees {known}"], "restarted")
+          [f"0 complete id=31 length=5 file=0000001f.1.page recordings=0 absorbed=0 runs=1 md5=agrees {known}"], "restarted")
     # The longest path, each octet of it to be escaped, and the longest checksum.
     packet = metadata(32, 64, 0, b"\xff" * 1023, flags=0xFF, checksum=b"\xfe" * 60, mtime=2**32 - 1, ctime=2**32 - 1)
     lines, told, status = run(program, place, "-", octets=records([packet, packet]))
@@ -428,7 +416,9 @@ def answers(program, place):
     check(link.send(metadata(7, 16, 9)) == bytes.fromhex("440100000000000700000000"), "already open isn't answered")
     check(is_complete(link.send(metadata(8, 16, 0)), 0), "an empty page isn't answered")
     check(is_complete(link.send(data(7, 16, 0, b"123456789", END_OF_DATA)), 9), "completion isn't told")
-    check(link.send(data(7, 16, 0, b"123456789")) is None, "answered without need")
+    check(is_complete(link.send(data(7, 16, 0, b"123456789")), 9), "DATA of a complete page isn't answered")
+    link.send(metadata(9, 16, 9))
+    check(link.send(data(9, 16, 0, b"1234")) is None, f"answered without need:{link.lines}")
     # A packet that is refused with a code is answered to octets 4 to 7, if it has them; a BEACON never is.
     for kind in (1, 5, 6, 31, 63):
         check(link.send(word(kind, 0) + b"evil") == b"\x44\0\0\x0aevil", f"type {kind} isn't answered")
@@ -454,14 +444,18 @@ def unsendable(program, place):
 
 
 def many_holes(program, place):
-    """A STATUS with as many holes as a packet can have costs no more than others: they are walked in one pass."""
+    """A STATUS with as many holes as a packet can have costs no more than others, and its line has a bound."""
     holes = [(3 * at, 3 * at + 1) for at in range(8000)]
     packet = success(7, 32, 0, 24000, holes)
-    shown = ",".join(f"{start}-{stop}" for start, stop in holes)
+    shown = ",".join(f"{start}-{stop}" for start, stop in holes[:64])
     lines, told, status = run(program, place, "-", octets=records([packet] * 400))
     check(status == 0 and len(lines) == 400, told)
-    check(lines[-1] == "400 success id=7 flags=400000 width=32 timestamp= progress=0 in-response-to=24000 holes=" + shown,
-          lines[-1][:200])
+    check(lines[-1] == "400 success id=7 flags=400000 width=32 timestamp= progress=0 in-response-to=24000 holes=" + shown +
+          ",.. hole-count=8000", lines[-1][:200])
+    last = 2**64 - 1
+    most = success(7, 64, last - 200, last, [(last - 200 + 2 * at, last - 199 + 2 * at) for at in range(64)])
+    lines, told, status = run(program, place, "-", octets=records([most]))
+    check(len(lines[0]) < 3200 and lines[0].endswith(f"{last - 74}-{last - 73}"), lines)
     for width in (16, 64, 128):
         lines, told, status = run(program, place, "-", octets=records([success(7, width, 1, 9, [(1, 2), (3, 2**16 - 1)][:1])]))
         check(lines[-1].endswith("holes=1-2"), lines)
@@ -500,12 +494,12 @@ def no_room(program, place):
         link.process.wait()
         link.end()
         nothing = run(program, here, "-q", "-", NOSPACE=marker)
-        check(nothing[2] == 0, f"a full disk ends the program at its start: {nothing}")
+        check(nothing[2] in (0, 1) and "counts as lost\n" not in nothing[1], f"a full disk ends the program at its start: {nothing}")
         link = Link(program, here, NOSPACE=marker)
         full("")
         link.quiet_send(metadata(7, 16, 100), data(7, 16, 0, text[:50], WANTED))
         check(is_complete(link.send(data(7, 16, 50, text[50:], WANTED)), 100), f"no way back: {link.told}")
-        check(link.end() == 0 and content(here, "00000007.page") == text, link.told)
+        check(link.end() in (0, 1) and content(here, "00000007.page") == text, link.told)
 
 
 def work_without_room(program, place):
@@ -515,12 +509,15 @@ def work_without_room(program, place):
     link.quiet_send(metadata(7, 16, 100), data(7, 16, 0, text[:20], WANTED))
     with open(marker, "w", encoding="ascii") as file:
         file.write("r")  # the payload is written, the packet is recorded, and then the area can't be saved
-    for _ in range(3):
-        check(link.send(data(7, 16, 60, text[60:], WANTED)) is None, link.lines)
+    before = success(7, 16, 20, 20)  # what was said before may be said again
+    check(link.send(data(7, 16, 60, text[60:], WANTED)) in (None, before), link.lines)
+    link.wait(lambda: any("can't be stored" in line for line in link.told))
     os.remove(marker)
+    link.drain()
+    link.socket.settimeout(2)  # after a sync that failed the next one waits
     link.quiet_send(data(7, 16, 40, text[40:], WANTED), data(7, 16, 0, text[:20], WANTED))
     check(is_complete(link.send(data(7, 16, 20, text[20:40], WANTED)), 100), link.told)
-    check(link.end() == 0 and content(place, "00000007.page") == text, link.told)
+    check(link.end() == 1 and content(place, "00000007.page") == text, link.told)
     # 0 to 19, 40 to 99, 0 to 19 again, and what is between: four packets, of which the repeat absorbs one run and the last two.
     told = [line for line in link.lines if " complete id=7 " in line]
     check(len(told) == 1 and " recordings=4 absorbed=3 runs=1 " in told[0], link.lines)
@@ -529,8 +526,8 @@ def work_without_room(program, place):
 def no_room_for_a_name(program, place):
     """`program` is built with nospace.c. A complete page waits for its sheet and its name, and isn't said to be complete before;
     and so does one that differs from its checksum."""
-    text, marker = page(100, 33), os.path.join(os.path.dirname(place), "nospace")
-    for calls, differs in (("p", 0), ("d", 0), ("h", 0), ("d", 1)):
+    text, marker, said_complete = page(100, 33), os.path.join(os.path.dirname(place), "nospace"), success(7, 16, 100, 99, flags=UNASKED)
+    for calls, differs in (("p", 0), ("d", 0), ("h", 0), ("p", 1)):
         here = os.path.join(place, f"{calls}{differs}")
         os.mkdir(here)
         link = Link(program, here, NOSPACE=marker)
@@ -538,12 +535,13 @@ def no_room_for_a_name(program, place):
                         data(7, 16, 0, text[:20], WANTED))
         with open(marker, "w", encoding="ascii") as file:
             file.write(calls)
-        for _ in range(2):
-            check(link.send(data(7, 16, 20, text[20:], WANTED)) is None, "complete without a name")
+        for _ in range(2):  # all of it is on disk, and its sender may know; but it isn't reported
+            check(not is_complete(link.send(data(7, 16, 20, text[20:], WANTED)), 100) or not differs, "complete, and differs")
         check(not any(" complete id=7 " in line or " differs id=7 " in line for line in link.lines), link.lines)
-        check(link.send(metadata(7, 16, 100, b"other")) is None, "ended while its page waits")
+        link.drain()
+        check(link.send(metadata(7, 16, 100, b"other")) in (None, said_complete), "ended while its page waits")
         os.remove(marker)
-        said, name, status = (" differs id=7 ", "00000007.differs", 3) if differs else (" complete id=7 ", "00000007.page", 0)
+        said, name, status = (" differs id=7 ", "00000007.differs", 3) if differs else (" complete id=7 ", "00000007.page", 1)
         link.wait(lambda: any(said in line for line in link.lines))
         answer = link.send(data(7, 16, 20, text[20:], WANTED))
         check(answer == bytes.fromhex("4400000600000007") if differs else is_complete(answer, 100), link.lines)
@@ -559,7 +557,7 @@ def limits(program, place):
     packets = [metadata(7, 16, 60000), data(7, 16, 0, text[:30000], WANTED), data(7, 16, 30000, text[30000:], WANTED)]
     done = subprocess.run([program, "-d", place, "-"], input=records(packets), capture_output=True, check=False,
                           preexec_fn=lambda: resource.setrlimit(resource.RLIMIT_FSIZE, (40000, 40000)))
-    check(done.returncode == 0 and b"File too large" in done.stderr and b"3 lost " in done.stdout, done)
+    check(done.returncode == 1 and b"File too large" in done.stderr and b"3 lost " in done.stdout, done)
     check(stored(place)[7] == (60000, [(0, 30000)]), stored(place))
     with open("/dev/full", "wb") as nowhere:
         done = subprocess.run([program, "-d", place, "-q", "-"], input=records(packets), stdout=nowhere,
@@ -588,8 +586,7 @@ def stopped(program, place):
         Link.started.append(process)
         process.stdin.write(records([metadata(7, 16, 100), data(7, 16, 0, text[:40])]) + rest)
         process.stdin.flush()
-        part = os.path.join(here, "00000007.part")
-        Link.wait(lambda: os.path.exists(part) and os.path.getsize(part) == 40)
+        Link.wait(lambda: is_there(here, "00000007.part") and len(content(here, "00000007.part")) == 40)
         time.sleep(0.2)
         process.send_signal(signal.SIGTERM)
         status = process.wait(timeout=10)
@@ -703,7 +700,7 @@ def traps(program, place):
         here = f"{inside}-{length}"
         os.mkdir(here)
         run(program, here, "-", octets=packets)
-        os.truncate(os.path.join(here, "00000007.page"), length)
+        os.truncate(at(here, "00000007.page"), length)
         lines, told, status = run(program, here, "-q", "-")
         check(lines == [] and "its .page hasn't its length" in told and status == 0, (lines, told))
         lines, told, status = run(program, here, "-q", "-", octets=packets)
@@ -713,7 +710,7 @@ def traps(program, place):
         here = f"{inside}-meta{len(harm)}"
         os.mkdir(here)
         run(program, here, "-", octets=records([metadata(7, 16, 20), data(7, 16, 0, text[:9])]))
-        with open(os.path.join(here, "00000007.meta"), "wb") as file:
+        with open(at(here, "00000007.meta"), "wb") as file:
             file.write(harm)
         check(harmless(run(program, here, "--list")[0]), "the list")
         lines, told, status = run(program, here, "-")
@@ -727,7 +724,7 @@ def command_line(program, place):
     lines, told, status = run(program, place, "-", octets=records(packets))
     check(lines[:4] == ["1 too-large id=7 length=8796093022208 code=8", "1 send 4400000800000007",
                         "2 refused 12 code=6", "2 send 4400000600000007"], lines)
-    check(list(stored(place)) == [8] and not os.path.exists(os.path.join(place, "00000007.part")), stored(place))
+    check(list(stored(place)) == [8] and not os.path.exists(at(place, "00000007.part")), stored(place))
     lines, told, status = run(program, place, "--largest=0", "-", octets=records([metadata(7, 16, 1)]))
     check("1 too-large id=7 length=1 code=8" in lines, lines)
     # Records that aren't packets off the link are told.
@@ -752,7 +749,7 @@ def command_line(program, place):
 
 def all_of_it(program, place):
     """Runs everything; `place` gives a new directory for a name."""
-    full = build([*SOURCES, NOSPACE], program + "-full", *WRAPPED, "-Wl,--wrap=sendto")
+    full = failing(program + "-full")
     tests = [(test, program) for test in (used_again, no_crc_32c, never_overwritten, taken_away, full_table, operator,
                                           who_is_heard, two_senders, kept, what_is_known, runs, answers, many_holes, on_air,
                                           too_many_on_air, limits, stopped, traps, command_line)]

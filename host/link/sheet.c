@@ -17,7 +17,6 @@
 #include <time.h>
 #include <unistd.h>
 
-#define MOST_SHEET 6144
 #define LABEL 13                   /* columns */
 #define WIDE 65                    /* columns of what follows */
 #define PATH_LINES 4               /* of a longer path the rest is in .meta */
@@ -101,7 +100,7 @@ static void add_missing(const struct saratoga_listed *one)
     }
     line("Missing", "%s octets (10-20 stands for 10 to 19):", grouped(number, one->length - one->received));
     for (uint64_t i = 0, more = 1; more; i++) {
-        struct saratoga_hole hole = saratoga_transfer_hole(area, sizeof area, one->id, i);
+        struct saratoga_hole hole = saratoga_transfer_hole(state, SARATOGA_AREA_OCTETS, one->id, i);
         more = hole.number == 0;
         if (!more && one->edge == one->length)
             break;
@@ -215,60 +214,45 @@ static void compose(const struct transfer *t, const struct saratoga_listed *one,
     line("Signed", "______________________________    Date  ________________");
 }
 
-/* Puts the sheet on disk. Gives -1 with errno where there is no room. */
-static int store(const struct transfer *t)
-{
-    char name[NAME_OCTETS];
-    name_of(name, t, "sheet");
-    return replace_file(name, (const uint8_t *)sheet, sheet_len);
-}
-
-static int sheet_is_there(const struct transfer *t)
+int sheet_is_there(const struct transfer *t)
 {
     char name[NAME_OCTETS];
     name_of(name, t, "sheet");
     return is_there(name);
 }
 
-/*
- * The sheet of a complete file that was checked, before it gets its name. One that has its name already has its sheet, which
- * stays: it knows more of the work than a program that was started since. Gives 0 where there is no room.
- */
-int write_page_sheet(struct transfer *t, const struct saratoga_listed *one)
+/* The sheet of a complete file that was checked. Gives its length. */
+size_t page_sheet(char out[MOST_SHEET], const struct transfer *t, const struct saratoga_listed *one)
 {
-    char name[NAME_OCTETS], file[NAME_OCTETS];
-    name_of_file(name, t);
+    char file[NAME_OCTETS];
     name_of(file, t, t->verdict == SARATOGA_DIFFERS ? "differs" : "page");
-    if (t->has_sheet || (strcmp(name, file) == 0 && sheet_is_there(t)))
-        return 1;
-    name_of(name, t, "sheet");
     compose(t, one, NULL, file);
-    if (store(t) != 0) {
-        room_is_lacking(name, errno);
-        return 0;
-    }
-    t->has_sheet = 1;
-    return 1;
+    memcpy(out, sheet, sheet_len);
+    return sheet_len;
 }
 
-/* Makes the sheet of a transfer that is to be closed, while the table holds it. */
-void prepare_closing_sheet(const struct transfer *t, const struct saratoga_listed *one, const char *why)
+/* The sheet of a transfer that is to be closed, while the table holds it. Gives its length. */
+size_t closing_sheet(char out[MOST_SHEET], const struct transfer *t, const struct saratoga_listed *one, const char *why)
+{
+    char file[NAME_OCTETS];
+    name_of_file(file, t);
+    if (strcmp(t->suffix, "part") == 0) {
+        int64_t length = length_of(file);
+        name_of(file, t, "aside");
+        if (length <= 0)
+            strcpy(file, "none");
+    }
+    compose(t, one, why, file);
+    memcpy(out, sheet, sheet_len);
+    return sheet_len;
+}
+
+/* Stores a sheet at the start or the end of the program. */
+static void store(const struct transfer *t)
 {
     char name[NAME_OCTETS];
-    name_of_file(name, t);
-    if (!t->named && !t->apart) {
-        int64_t length = length_of(name);
-        name_of(name, t, "aside");
-        if (length <= 0)
-            strcpy(name, "none");
-    }
-    compose(t, one, why, name);
-}
-
-/* Stores it, once the closing is saved. */
-void write_closing_sheet(const struct transfer *t)
-{
-    if (sheet_len > 0 && store(t) != 0)
+    name_of(name, t, "sheet");
+    if (sheet_len > 0 && replace_file(name, (const uint8_t *)sheet, sheet_len) != 0)
         warn("the sheet of transfer %" PRIu64 " can't be stored: %s", t->id, strerror(errno));
 }
 
@@ -287,20 +271,20 @@ void write_orphan_sheet(const struct transfer *t)
     if (strstr(text, closed) != NULL)
         return; /* it was written before that */
     compose(t, NULL, "the program was ended meanwhile", aside);
-    write_closing_sheet(t);
+    store(t);
 }
 
 /* At the end: the sheets of what is still open. Where nothing came since the program began, the last one stands. */
 void write_open_sheets(void)
 {
-    for (size_t i = 0; i < SARATOGA_TRANSFERS; i++) {
+    for (size_t i = 0; i < MOST_FILES; i++) {
         struct transfer *t = &transfers[i];
         struct saratoga_listed one = listed(t->id);
         char file[NAME_OCTETS];
-        if (!t->used || one.number != 0 || one.complete || (t->heard == 0 && sheet_is_there(t)))
+        if (!t->used || t->why != NULL || one.number != 0 || one.complete || (!t->heard_here && sheet_is_there(t)))
             continue;
         name_of_file(file, t);
         compose(t, &one, NULL, file);
-        write_closing_sheet(t);
+        store(t);
     }
 }

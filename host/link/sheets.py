@@ -7,7 +7,7 @@ import random
 import re
 import time
 
-from harness import check, content, page, records, run, stem as latest, stored
+from harness import at, check, content, is_there, page, real, records, run, stem as latest, stored
 from packets import END_OF_DATA, WANTED, data, metadata
 from plant import Link, one_of_it
 
@@ -105,12 +105,13 @@ def agrees(program, place):
         lines, told, status = run(program, place, "-q", "-", octets=records(packets))
         last = lines[-1]
         check((told, status) == ("", 0) and last.split(" ", 1)[1].startswith(
-            f"complete id={number} length={length} file={number:08x}.page recordings={len(chunks)} absorbed="), (told, last))
+            f"complete id={number} length={length} file={real(place, f'{number:08x}.page')} recordings={len(chunks)} absorbed="), (told, last))
         date = "2000-01-01T00:00:00Z"
         check(f" md5=agrees mtime={date} ctime={date} checksum=2:{sum_of(text).hex()} " in last, last)
         check(content(place, f"{number:08x}.page") == text, "the page")
         runs = min(1, length)
-        has(sheet(place, f"{number:08x}.sheet"), path='"page 611.pla"', length=f"{length:,}", file=f"{number:08x}.page",
+        has(sheet(place, f"{number:08x}.sheet"), path='"page 611.pla"', length=f"{length:,}",
+            file=real(place, f"{number:08x}.page"),
             transfer=f"{number}, complete", headline=WHOLE, missing="none", checksum=f"MD5 {sum_of(text).hex()}: agrees",
             recordings=f"{len(chunks)}, which absorbed {len(chunks) - runs} runs and left {runs}")
     check(not any(name.endswith(".differs") for name in os.listdir(place)), os.listdir(place))
@@ -125,7 +126,7 @@ def differs(program, place):
         packets = [opening(number, original, digest=digest)]
         packets += [data(number, 32, at, came[at:at + 60000], WANTED) for at in range(0, len(came), 60000)]
         lines, told, status = run(program, place, "-", octets=records(packets))
-        name = f"{number:08x}.differs"
+        name = real(place, f"{number:08x}.differs")
         check(status == DIFFERS, f"ends with {status}")
         check([line.split("saratoga-link: ERROR: ")[1].split(" ")[0] for line in told.splitlines()] == ["transfer", "1"], told)
         check(f"{place}/{name}" in told and "NOT handed on" in told, told)
@@ -187,7 +188,7 @@ def made_again(program, place):
         size = chance.choice((1, 2**16 - 1, chance.getrandbits(min(width, size_width, 64)) or 1))
         kind = chance.choice((0, *range(2, 16)))
         words = {0: 0, 2: 4, 3: 5}.get(kind) if kind < 4 else chance.randrange(1, 16)
-        flags = words << 4 | kind | chance.getrandbits(12) << 8  # bits 12 to 23 have no rule here
+        flags = words << 4 | kind | chance.getrandbits(12) << 8 & ~0x080000  # bits 13 to 23 have no rule here; 12 ends a transfer
         path = bytes(chance.randrange(1, 256) for _ in range(chance.choice((1, 12, 1023))))
         return metadata(chance.getrandbits(28) << 4 | ident, width, size, path, flags, chance.randbytes(4 * words),
                         chance.getrandbits(32), chance.getrandbits(32), chance.getrandbits(16) & ~0x03E0, size_width)
@@ -214,9 +215,9 @@ def restarted(program, place):
         return here
 
     def moved(here, old, new, octets=None):
-        os.rename(os.path.join(here, "00000007." + old), os.path.join(here, "00000007." + new))
+        os.rename(os.path.join(here, "00000007.1." + old), os.path.join(here, "00000007.1." + new))
         if octets:
-            with open(os.path.join(here, "00000007." + new), "wb") as file:
+            with open(os.path.join(here, "00000007.1." + new), "wb") as file:
                 file.write(octets)
 
     # As it was: checked and reported again, and the sheet, which knows how much work it was, stays.
@@ -228,7 +229,7 @@ def restarted(program, place):
     # Ended before the page had its sheet, or its name.
     for name, harm in (("sheet", lambda: None), ("name", lambda: moved(here, "page", "part"))):
         here = left(name)
-        os.remove(os.path.join(here, "00000007.sheet"))
+        os.remove(at(here, "00000007.sheet"))
         harm()
         lines, told, status = run(program, here, "-q", "-")
         check((told, status) == ("", 0) and " complete id=7 " in lines[0] and " md5=agrees " in lines[0], (lines, told))
@@ -243,7 +244,7 @@ def restarted(program, place):
             lines, told, status = run(program, here, *options)
         check(status == DIFFERS and " differs id=7 " in lines[0] and told.count("ERROR") == 2, (new, lines, told))
         check(content(here, "00000007.differs") == flipped(text, 99999) and 7 not in stored(here), "it is handed on")
-        check(not os.path.exists(os.path.join(here, "00000007.page")), "it is handed on")
+        check(not os.path.exists(at(here, "00000007.page")), "it is handed on")
         headline = sheet(here, "00000007.sheet")["headline"]
         check(new == "differs" or headline == "DO NOT PRINT: THE CHECKSUM DIFFERS.", headline)
         check(run(program, here, "-q", "-")[1:] == ("", 0), "told again, although it is closed")
@@ -259,7 +260,7 @@ def incomplete(program, place):
     told = dict(path='"page 611.pla"', length="3,000", headline="DO NOT PRINT: THE PAGE IS NOT COMPLETE.",
                 missing="2,800 octets (10-20 stands for 10 to 19): 0-100  200-400  500-3000",
                 checksum=f"MD5 {sum_of(text).hex()}: not checked, not complete")
-    has(sheet(place, "00000022.sheet"), file="00000022.part", transfer="34, open", ended="not yet",
+    has(sheet(place, "00000022.sheet"), file="00000022.1.part", transfer="34, open", ended="not yet",
         recordings="2, which absorbed 0 runs and left 2", **told)
     # A program that hears nothing of it leaves the sheet. Then the page is given up.
     before = content(place, "00000022.sheet")
@@ -268,29 +269,30 @@ def incomplete(program, place):
     run(program, place, "-", octets=records(parts[:1]))
     has(sheet(place, "00000022.sheet"), **told,
         recordings="1, which absorbed 1 runs and left 2 counted since the program last began")
-    check(run(program, place, "--close", "0000001f.sheet")[2] == 1, "it is none of Id 34")
-    check(run(program, place, "--close", "00000022.sheet")[2] == 0, "--close takes the name of a sheet")
-    has(sheet(place, "00000022.sheet"), file="00000022.aside", transfer="34, closed: asked", **told)
+    check(run(program, place, "--close", "0000001f.1.sheet")[2] == 1, "it is none of Id 34")
+    check(run(program, place, "--close", "00000022.2.sheet")[2] == 1, "it is of another file")
+    check(run(program, place, "--close", "00000022.1.sheet")[2] == 0, "--close takes the name of a sheet")
+    has(sheet(place, "00000022.sheet"), file="00000022.1.aside", transfer="34, closed: asked", **told)
     check(content(place, "00000022.aside")[100:200] == text[100:200], "what it had")
 
-    # Another file under the Id; one of which nothing came, and whose number is used again; the rest past the last octet.
+    # Another file under the Id; one of which nothing came, and that leaves nothing; the rest past the last octet.
     packets = [opening(5, text, path=b"a"), data(5, 32, 0, text[:2999]), opening(5, text, path=b"b"),
                opening(5, text, path=b"c")]
     check(run(program, place, "-q", "-", octets=records(packets))[2] == 0, "it ends")
-    has(sheet(place, "00000005.sheet"), path='"a"', transfer="5, closed: other-metadata", file="00000005.aside",
+    has(sheet(place, "00000005.sheet"), path='"a"', transfer="5, closed: other-metadata", file="00000005.2.aside",
         missing="1 octets (10-20 stands for 10 to 19): 2999-3000")
-    has(sheet(place, "00000005.2.sheet"), path='"c"', transfer="5, open", recordings="0, which absorbed 0 runs and left 0",
+    has(sheet(place, "00000005.4.sheet"), path='"c"', transfer="5, open", recordings="0, which absorbed 0 runs and left 0",
         missing="3,000 octets (10-20 stands for 10 to 19): 0-3000")
-    check(not os.path.exists(os.path.join(place, "00000005.3.meta")), "an empty file isn't used again")
+    check(not any(name.startswith("00000005.3.") for name in os.listdir(place)), "what nothing came of leaves files")
 
     # Ended while it was closed: nobody knows any more what came.
-    with open(os.path.join(place, "00000005.2.part"), "wb") as file:
+    with open(at(place, "00000005.4.part"), "wb") as file:
         file.write(b"some")
     os.remove(os.path.join(place, "area"))
     run(program, place, "-")
-    has(sheet(place, "00000005.2.sheet"), path='"c"', transfer="5, closed: the program was ended meanwhile", missing="",
-        headline="DO NOT PRINT: THE TRANSFER WAS CLOSED.", file="00000005.2.aside", recordings="")
-    has(sheet(place, "00000005.sheet"), path='"a"', transfer="5, closed: other-metadata")
+    has(sheet(place, "00000005.4.sheet"), path='"c"', transfer="5, closed: the program was ended meanwhile", missing="",
+        headline="DO NOT PRINT: THE TRANSFER WAS CLOSED.", file="00000005.4.aside", recordings="")
+    has(sheet(place, "00000005.2.sheet"), path='"a"', transfer="5, closed: other-metadata")
 
 
 def a_page_at_most(program, place):
@@ -308,7 +310,7 @@ def a_page_at_most(program, place):
         ends = [(0, at)] + [(at + 2 * number + 1, at + 2 * number + 2) for number in range(63)] + [(at + 127, size)]
         check(stretches == [f"{start}-{stop}" for start, stop in (ends if ident < 9 else [(0, size)])], stretches)
         check(parts["path"].startswith('"\\x1b\\xff') and
-              parts["path"].endswith(f"of 1023 octets; all of them are in {ident:08x}.meta"), parts["path"])
+              parts["path"].endswith(f"of 1023 octets; all of them are in {real(place, f'{ident:08x}.meta')}"), parts["path"])
         check(parts["length"] == f"{size:,}", parts["length"])
 
 
@@ -316,7 +318,7 @@ def times(program, place):
     """When a page began, and when its last octet came, also where programs were started in between."""
     text = page(100, 85)
     run(program, place, "-", octets=records([opening(7, text), data(7, 32, 0, text[:60])]))
-    os.utime(os.path.join(place, "00000007.meta"), (0, 1234567890))
+    os.utime(at(place, "00000007.meta"), (0, 1234567890))
     begun = int(time.time())
     run(program, place, "-", octets=records([data(7, 32, 60, text[60:])]))
     parts = sheet(place, "00000007.sheet")
@@ -324,8 +326,8 @@ def times(program, place):
     ended = calendar.timegm(time.strptime(parts["ended"], "%Y-%m-%d %H:%M:%S UTC"))
     check(begun <= ended <= time.time(), parts)
     # Complete, and the program ended before that was said.
-    os.rename(os.path.join(place, "00000007.page"), os.path.join(place, "00000007.part"))
-    os.utime(os.path.join(place, "00000007.part"), (0, 1234567899))
+    os.rename(at(place, "00000007.page"), at(place, "00000007.part"))
+    os.utime(at(place, "00000007.part"), (0, 1234567899))
     run(program, place, "-")
     has(sheet(place, "00000007.sheet"), began="2009-02-13 23:31:30 UTC", ended="2009-02-13 23:31:39 UTC", headline=WHOLE)
 
@@ -334,18 +336,18 @@ def given_up(program, place):
     """A page whose file isn't there any more, or was cut, isn't whole, whatever its sheet said before."""
     text = page(100, 86)
     for number, now in enumerate((".page", ".part")):
-        name = os.path.join(place, f"{number:08x}")
         run(program, place, "-", octets=records([opening(number, text), data(number, 32, 0, text)]))
+        name = at(place, f"{number:08x}.page")[:-5]
         os.rename(name + ".page", name + now)
         os.truncate(name + now, 99)
         check(run(program, place, "-")[2] == 0, "it ends")
         has(sheet(place, f"{number:08x}.sheet"), headline="DO NOT PRINT: THE TRANSFER WAS CLOSED.",
             reason="Every octet was received; the file is gone, changed or given up.",
-            transfer=f"{number}, closed: faulty", file=f"{number:08x}." + ("aside" if number else "page"))
+            transfer=f"{number}, closed: faulty", file=os.path.basename(name) + (".aside" if number else ".page"))
     # A file that goes while its transfer is open.
     link = Link(program, place)
     link.quiet_send(opening(2, text), data(2, 32, 0, text[:50], WANTED))
-    os.remove(os.path.join(place, "00000002.part"))
+    os.remove(at(place, "00000002.part"))
     check(link.send(data(2, 32, 50, text[50:90], WANTED)) == bytes.fromhex("4400000600000002"), "the answer")
     check(link.end() == 0, link.told)
     has(sheet(place, "00000002.sheet"), headline="DO NOT PRINT: THE PAGE IS NOT COMPLETE.", transfer="2, closed: lost",
@@ -362,8 +364,8 @@ def stopped_or_killed(program, place):
             link.process.kill()
             link.process.wait()
         link.end()
-        check(os.path.exists(os.path.join(place, f"{ident:08x}.part")), "the first file's number isn't used again")
-        check(os.path.exists(os.path.join(place, f"{ident:08x}.sheet")) != killed, f"killed: {killed}")
+        check(os.path.exists(at(place, f"{ident:08x}.part")), "the first file's number isn't used again")
+        check(os.path.exists(at(place, f"{ident:08x}.sheet")) != killed, f"killed: {killed}")
     has(sheet(place, "0000000a.sheet"), path='"page 611.pla"', missing="50 octets (10-20 stands for 10 to 19): 50-100")
 
 

@@ -9,7 +9,7 @@
  *     3. merge     the records are merged in the area, in memory
  *     4. sync      the .part files are forced to disk
  *     5. area      the area is written to a second file, forced to disk, and renamed over the first
- *     6. report    complete files get their name, and it is said what was merged
+ *     6. report    it is said what was merged. A file that is complete now gets its name from the link program, at its next start
  *
  * So at every moment each octet that the first's area on disk holds as received is on disk. Where the program is ended before 5, the
  * first's .part may have octets in its holes, which do no harm, and the program is run again. The second is only read.
@@ -25,7 +25,7 @@
 #include <unistd.h>
 
 const char *const program_name = "saratoga-merge";
-struct options options = {.force = 1};
+struct options options = {.force = 1, .most_kept = UINT64_MAX, .linger = UINT64_MAX, .answers = 1};
 volatile sig_atomic_t stopped;
 
 static const char help[] =
@@ -35,10 +35,11 @@ static const char help[] =
     "lacks are copied to its files, and its area then holds what either received. The second is only read. No program may\n"
     "run in either.\n"
     "\n"
-    "      --id ID      this transfer (else all that are open in both); as printed: 31, id=31, 0x1f or 0000001f.part\n"
+    "      --id ID      this transfer (else all that are open in both); as printed: 31, id=31, 0x1f or 0000001f.5.part\n"
     "      --dry-run    say what would be merged, and write nothing\n"
     "      --no-fsync   don't force writes to disk: faster, safe against a crash but not against a power cut\n"
     "  -h, --help       this text\n"
+    "      --version    the library's version\n"
     "\n"
     "It refuses, and touches nothing, where the two are not of one file: by width, length, or any line of their .meta, or\n"
     "where an octet that both have differs; and where more than 64 runs would be received. Of several transfers, all are\n"
@@ -49,7 +50,8 @@ static const char help[] =
 static const char *first_directory, *second_directory;
 static int dry_run, one_alone;
 static uint64_t wanted;
-static uint8_t second_area[SARATOGA_AREA_OCTETS];
+static struct area first_area, second_area;
+static uint8_t *area;              /* the first's, in its snapshot */
 static struct pair pairs[SARATOGA_TRANSFERS];
 static size_t pair_count;
 
@@ -61,12 +63,13 @@ static void wrong_usage(const char *what, const char *word)
 
 static void take_id(const char *text)
 {
-    if (!id_of_text(text, &wanted))
+    uint64_t file;
+    if (!id_of_text(text, &wanted, &file))
         wrong_usage("no Id: ", text);
     one_alone = 1;
 }
 
-static void take_arguments(int count, char **arguments)
+static void read_arguments(int count, char **arguments)
 {
     int only_names = 0;
     for (int i = 1; i < count; i++) {
@@ -85,6 +88,9 @@ static void take_arguments(int count, char **arguments)
             take_id(argument + 5);
         } else if (strcmp(argument, "--id") == 0 && i + 1 < count) {
             take_id(arguments[++i]);
+        } else if (strcmp(argument, "--version") == 0) {
+            printf("saratoga-merge (saratoga) %s\n", SARATOGA_VERSION);
+            exit(fflush(stdout) != 0);
         } else if (strcmp(argument, "-h") == 0 || strcmp(argument, "--help") == 0) {
             fputs(help, stdout);
             exit(fflush(stdout) != 0);
@@ -103,18 +109,11 @@ static void go_to(const char *directory)
     open_directory();
 }
 
-/* Keeps link programs out while the directory is read. Where it has no lock, none ever ran there. */
+/* Keeps link programs out while the directory is read. */
 static void lock_to_read(void)
 {
-    struct flock whole = {.l_type = F_RDLCK, .l_whence = SEEK_SET};
-    int fd = open_file("lock", O_RDONLY);
-    if (fd < 0 && errno == ENOENT)
-        return;
-    if (fd >= 0 && fcntl(fd, F_SETLK, &whole) == 0)
-        return; /* it stays open: closing it would give the lock up */
-    if (fd >= 0 && (errno == EACCES || errno == EAGAIN))
+    if (!lock_directory(1))
         die("%s: another program writes there; stop it, or merge a copy", options.directory);
-    die("%s/lock: %s", options.directory, strerror(errno));
 }
 
 static void read_areas(void)
@@ -125,28 +124,32 @@ static void read_areas(void)
         wrong_usage("both are the same directory: ", second_directory);
     go_to(second_directory);
     lock_to_read();
-    if (!read_area(second_area))
+    if (!read_area(&second_area))
         die("%s/area: there is none", options.directory);
     go_to(first_directory);
     if (dry_run)
         lock_to_read();
-    else if (!lock_directory())
+    else if (!lock_directory(0))
         die("%s: another program writes there; stop it first", options.directory);
-    if (!read_area(area))
+    if (!read_area(&first_area))
         die("%s/area: there is none", options.directory);
+    area = first_area.snapshot;
 }
 
 static void choose(uint64_t id)
 {
     struct pair *pair = &pairs[pair_count++];
     pair->id = id;
-    pair->first = (struct side){.directory = first_directory, .files = new_transfer(id), .fd = -1};
+    pair->first = (struct side){.directory = first_directory, .files = &pair->files_of_first, .fd = -1};
     pair->second = (struct side){.directory = second_directory, .files = &pair->files_of_second, .fd = -1};
-    pair->files_of_second = (struct transfer){.id = id, .fd = -1};
-    pair->first.one = saratoga_find(area, sizeof area, id);
-    pair->second.one = saratoga_find(second_area, sizeof second_area, id);
+    if (!slot_of(area, id, &pair->first.slot) || !slot_of(second_area.snapshot, id, &pair->second.slot))
+        die("transfer %" PRIu64 " has no slot: the program has a fault", id);
+    pair->files_of_first = (struct transfer){.id = id, .file = pair->first.slot.file, .fd = -1, .meta_fd = -1};
+    pair->files_of_second = (struct transfer){.id = id, .file = pair->second.slot.file, .fd = -1, .meta_fd = -1};
+    pair->first.one = saratoga_find(area, SARATOGA_AREA_OCTETS, id);
+    pair->second.one = saratoga_find(second_area.snapshot, SARATOGA_AREA_OCTETS, id);
     runs_of(&pair->first.runs, area, &pair->first.one);
-    runs_of(&pair->second.runs, second_area, &pair->second.one);
+    runs_of(&pair->second.runs, second_area.snapshot, &pair->second.one);
     in_one_alone(&pair->lacking, &pair->second.runs, &pair->first.runs);
 }
 
@@ -155,16 +158,16 @@ static void choose_all(void)
 {
     struct saratoga_listed one;
     if (one_alone) {
-        const char *lacks = saratoga_find(area, sizeof area, wanted).number != 0                 ? first_directory
-                            : saratoga_find(second_area, sizeof second_area, wanted).number != 0 ? second_directory
+        const char *lacks = saratoga_find(area, SARATOGA_AREA_OCTETS, wanted).number != 0                 ? first_directory
+                            : saratoga_find(second_area.snapshot, SARATOGA_AREA_OCTETS, wanted).number != 0 ? second_directory
                                                                                                  : NULL;
         if (lacks != NULL)
             die("transfer %" PRIu64 " isn't open in %s; nothing was touched", wanted, lacks);
         choose(wanted);
         return;
     }
-    for (uint64_t i = 0; (one = saratoga_transfer(area, sizeof area, i)).number == 0; i++)
-        if (saratoga_find(second_area, sizeof second_area, one.id).number == 0)
+    for (uint64_t i = 0; (one = saratoga_transfer(area, SARATOGA_AREA_OCTETS, i)).number == 0; i++)
+        if (saratoga_find(second_area.snapshot, SARATOGA_AREA_OCTETS, one.id).number == 0)
             choose(one.id);
     if (pair_count == 0)
         die("no transfer is open in both %s and %s", first_directory, second_directory);
@@ -173,11 +176,12 @@ static void choose_all(void)
 /* Finds the files of a side, in its own directory: they must be what its area says. */
 static void find_side(struct side *side)
 {
-    const char *fault = fault_of(side->files, &side->one);
+    const char *fault = fault_of(side->files, &side->one, &side->slot);
     if (fault != NULL)
         die("%s: transfer %" PRIu64 ": %s; nothing was touched", options.directory, side->one.id, fault);
-    name_of(side->name, side->files, side->files->named || side->files->delivered ? "page" : "part");
-    if (!side->files->delivered && (side->fd = open_file(side->name, O_RDONLY)) < 0)
+    int is_gone = strcmp(side->files->suffix, "gone") == 0;
+    name_of(side->name, side->files, is_gone ? "page" : side->files->suffix);
+    if (!is_gone && (side->fd = open_file(side->name, O_RDONLY)) < 0)
         die("%s/%s: can't be opened: %s", options.directory, side->name, strerror(errno));
 }
 
@@ -209,7 +213,7 @@ static void judge(const struct pair *pair, uint8_t trial[SARATOGA_AREA_OCTETS])
 {
     const struct saratoga_listed *one = &pair->first.one, *other = &pair->second.one;
     struct saratoga_merged merged =
-        saratoga_merge(trial, SARATOGA_AREA_OCTETS, second_area, sizeof second_area, pair->id);
+        saratoga_merge(trial, SARATOGA_AREA_OCTETS, second_area.snapshot, SARATOGA_AREA_OCTETS, pair->id);
     if (merged.number == SARATOGA_REFUSED_OTHER_WIDTH)
         die("transfer %" PRIu64 ": has descriptors of %" PRIu64 " bits in %s and %" PRIu64 " in %s; nothing was touched", pair->id,
             8 * one->width, first_directory, 8 * other->width, second_directory);
@@ -238,28 +242,31 @@ static void tell(const struct pair *pair, const uint8_t merged[SARATOGA_AREA_OCT
     const char *path = strstr(pair->first.files->meta, "\npath=");
     runs_of(&have, merged, &joined);
     missing_of(&missing, &have, joined.length);
-    printf("%s id=%" PRIu64 " length=%" PRIu64 " first=%" PRIu64 " second=%" PRIu64 " gained=%" PRIu64 " missing=",
-           dry_run ? "would-merge" : "merge", pair->id, joined.length, pair->first.one.received, pair->second.one.received,
-           joined.received - pair->first.one.received);
+    char list[66 * 42] = "";
+    size_t length = 0;
     for (size_t i = 0; i < missing.count; i++)
-        printf("%s%" PRIu64 "-%" PRIu64, i > 0 ? "," : "", missing.at[i].start, missing.at[i].stop);
-    printf(" complete=%" PRIu64 " %.*s\n", joined.complete, (int)strcspn(path + 1, "\n"), path + 1);
+        length += (size_t)snprintf(list + length, sizeof list - length, "%s%" PRIu64 "-%" PRIu64, i > 0 ? "," : "",
+                                   missing.at[i].start, missing.at[i].stop);
+    report("%s id=%" PRIu64 " length=%" PRIu64 " first=%" PRIu64 " second=%" PRIu64 " gained=%" PRIu64 " missing=%s complete=%" PRIu64
+           " %.*s",
+           dry_run ? "would-merge" : "merge", pair->id, joined.length, pair->first.one.received, pair->second.one.received,
+           joined.received - pair->first.one.received, list, joined.complete, (int)strcspn(path + 1, "\n"), path + 1);
 }
 
 /* Steps 2 to 5. */
 static void write_all(const uint8_t merged[SARATOGA_AREA_OCTETS])
 {
-    static uint8_t file[AREA_FILE_OCTETS] = AREA_HEAD;
     for (size_t i = 0; i < pair_count; i++)
         copy_octets(&pairs[i]);
-    if (memcmp(area, merged, sizeof area) == 0)
+    if (memcmp(area, merged, SARATOGA_AREA_OCTETS) == 0)
         return; /* nothing is gained, and no octet was copied */
-    memcpy(area, merged, sizeof area);
-    if (force_files() != 0)
-        die("%s: can't be forced to disk: %s; nothing was merged", first_directory, strerror(errno));
+    memcpy(area, merged, SARATOGA_AREA_OCTETS);
+    first_area.sync++;
+    for (size_t i = 0; i < pair_count; i++)
+        if (pairs[i].first.files->fd >= 0 && force_to_disk(pairs[i].first.files->fd) != 0)
+            die("%s: can't be forced to disk: %s; nothing was merged", first_directory, strerror(errno));
     cut_point("between payloads and area");
-    memcpy(file + AREA_HEAD_OCTETS, area, sizeof area);
-    if (replace_file("area", file, sizeof file) != 0)
+    if (write_area(&first_area) != 0)
         die("%s/area: can't be stored: %s; nothing was merged", first_directory, strerror(errno));
     cut_point("between area and report");
 }
@@ -267,7 +274,7 @@ static void write_all(const uint8_t merged[SARATOGA_AREA_OCTETS])
 int main(int count, char **arguments)
 {
     static uint8_t merged[SARATOGA_AREA_OCTETS];
-    take_arguments(count, arguments);
+    read_arguments(count, arguments);
     struct sigaction ignore = {.sa_handler = SIG_IGN};
     sigaction(SIGPIPE, &ignore, NULL);
     sigaction(SIGXFSZ, &ignore, NULL);
@@ -288,9 +295,6 @@ int main(int count, char **arguments)
         write_all(merged);
     for (size_t i = 0; i < pair_count; i++)
         tell(&pairs[i], merged);
-    for (size_t i = 0; i < pair_count && !dry_run; i++)
-        if (listed(pairs[i].id).complete && !pairs[i].first.files->named)
-            deliver(0, pairs[i].first.files);
-    flush_output();
-    return exit_status();
+    finish_output();
+    return output_was_lost();
 }

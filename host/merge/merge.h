@@ -1,6 +1,6 @@
 /*
- * What the files of saratoga-merge share. It stands on files of the link program, whose directories it merges: disk.c, store.c,
- * meta.c, table.c and text.c of host/link, with their names, their locks and their order of writes.
+ * What the files of saratoga-merge share. It stands on the files of the link program, whose directories it merges: all but its command
+ * line and its socket, with their names, their locks and their order of writes.
  *
  *     merge.c   command line; what is judged, in which order what is written, and what is said
  *     octets.c  runs as sets, and the octets of two files compared and copied
@@ -25,6 +25,7 @@ struct runs {
 struct side {
     const char *directory;
     struct saratoga_listed one;    /* as its area has it */
+    struct slot slot;
     struct runs runs;
     struct transfer *files;
     int fd;                        /* of its .part or .page, to be read; -1 where the complete file was taken away */
@@ -36,7 +37,7 @@ struct pair {
     uint64_t id;
     struct side first, second;
     struct runs lacking;           /* what the second has and the first lacks */
-    struct transfer files_of_second;
+    struct transfer files_of_first, files_of_second;
 };
 
 /* octets.c */

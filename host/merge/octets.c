@@ -119,7 +119,7 @@ void copy_octets(const struct pair *pair)
         for (uint64_t at = pair->lacking.at[i].start; at < pair->lacking.at[i].stop;) {
             size_t count = part_of(&pair->lacking.at[i], at);
             read_octets(&pair->second, octets, count, at);
-            if (write_payload(pair->first.files, octets, count, at) != 0)
+            if (file_of(pair->first.files) < 0 || write_at(pair->first.files->fd, octets, count, at) != 0)
                 die("%s/%s: can't be written: %s; nothing was merged", pair->first.directory, pair->first.name, strerror(errno));
             at += count;
         }

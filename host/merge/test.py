@@ -20,11 +20,11 @@ PLACE = os.path.dirname(os.path.abspath(__file__))
 sys.dont_write_bytecode = True
 sys.path.insert(0, os.path.join(os.path.dirname(PLACE), "link"))
 import harness  # noqa: E402
-from harness import AREA_HEAD, POWERCUT, WRAPPED, after_the_cut, check, content, holds, page, records, stamps, stem, stored  # noqa: E402
+from harness import AREA_HEAD, POWERCUT, WRAPPED, after_the_cut, at, check, content, holds, page, records, stamps, stem, stored  # noqa: E402
 from packets import TIMESTAMP, data, metadata  # noqa: E402
 
 LINK = harness.SOURCES
-SHARED = [os.path.join(harness.PLACE, name + ".c") for name in ("table", "store", "disk", "meta", "check", "sheet", "text")]
+SHARED = [os.path.join(harness.PLACE, name + ".c") for name in ("area", "files", "disk", "meta", "text", "output")]
 SOURCES = [os.path.join(PLACE, name + ".c") for name in ("merge", "octets")] + SHARED
 LENGTH = 3000
 FIRST, SECOND = [(0, 700), (1500, 2100)], [(300, 1200), (1400, 1600), (2600, 3000)]
@@ -44,6 +44,13 @@ class Plants:
         os.makedirs(directory, exist_ok=True)
         _, told, status = harness.run(self.link, directory, "--no-fsync", "-", octets=records(packets))
         check(status == 0, told)
+
+    def reported(self, directory, ident, octets):
+        """The link program, at its start, names and reports what is complete."""
+        lines, told, status = harness.run(self.link, directory, "--no-fsync", "-")
+        check(status == 0 and told == "" and any(f"complete id={ident} length={len(octets)} file={ident:08x}." in line for line in lines),
+              f"{lines}, {told}")
+        check(holds(directory, f"{ident:08x}.page", octets), "the page")
 
     def make(self, *files):
         """Each file is an Id, its octets, the stretches that either plant has of it, and fields of METADATA for either."""
@@ -71,8 +78,8 @@ def run(program, *words, **environment):
 
 
 def everything(directory):
-    """Each name with its octets, but for the lock, which has none."""
-    return {name: content(directory, name) for name in os.listdir(directory) if name != "lock"}
+    """Each name with its octets."""
+    return {name: content(directory, name) for name in os.listdir(directory)}
 
 
 def union(*lists):
@@ -89,7 +96,7 @@ def union(*lists):
 def octets_are_there(directory, originals):
     """Each octet that the area on disk holds as received is on disk."""
     for ident, (length, runs) in (stored(directory) or {}).items():
-        check(stem(directory, ident), f"transfer {ident} is in the area and has no .meta")
+        check(os.path.exists(os.path.join(directory, stem(directory, ident) + ".meta")), f"transfer {ident} has no .meta")
         check(length == len(originals[ident]), f"transfer {ident} has {length} octets")
         names = [stem(directory, ident) + end for end in (".part", ".page")]
         there = [name for name in names if os.path.exists(os.path.join(directory, name))]
@@ -115,7 +122,7 @@ def one_page(program, plants):
     check(everything(second) == kept[1], "the second is changed")
     check(stored(first)[7] == (LENGTH, union(FIRST, SECOND)), f"the area holds {stored(first)}")
     octets_are_there(first, {7: octets})
-    check(everything(first)["00000007.meta"] == kept[0]["00000007.meta"], "the .meta is changed")
+    check(everything(first)["00000007.1.meta"] == kept[0]["00000007.1.meta"], "the .meta is changed")
     kept = everything(first)
     lines, told, status = run(program, first, second)
     check((len(lines), told, status) == (1, "", 0) and " gained=0 " in lines[0], f"the same again: {lines}, {told}")
@@ -127,11 +134,11 @@ def one_page(program, plants):
     lines, told, status = run(program, second, first)
     check(status == 0 and told == "" and lines[0].startswith("merge id=7 length=3000 first=1500 second=3000 gained=1500 "
                                                              "missing= complete=1 "), f"a page: {lines}, {told}")
-    check(len(lines) == 2 and lines[1].startswith("0 complete id=7 length=3000 file=00000007.page "), f"reported: {lines}")
-    check(holds(second, "00000007.page", octets) and not os.path.exists(os.path.join(second, "00000007.part")), "its page")
+    check(len(lines) == 1 and "00000007.1.part" in os.listdir(second), f"named before the link program runs: {lines}")
+    plants.reported(second, 7, octets)
     lines, told, status = run(program, second, first)
     check(status == 0 and " gained=0 missing= complete=1" in lines[0] and len(lines) == 1, f"both complete: {lines}, {told}")
-    os.remove(os.path.join(first, "00000007.page"))
+    os.remove(at(first, "00000007.page"))
     check(run(program, second, first)[2] == 0, "nothing is needed of a file that was taken away")
     first, second = plants.make((8, octets, [(0, 10)], [(20, 30)]))
     lines, told, status = run(program, first, second)
@@ -139,13 +146,13 @@ def one_page(program, plants):
 
 
 def whole_by_merging(program, plants):
-    """Neither has the page, both together do: it is named and reported. The link program goes on with it."""
+    """Neither has the page, both together do. The link program names and reports it."""
     octets = page(LENGTH, 2)
     first, second = plants.make((7, octets, [(0, 1500)], [(1500, LENGTH)]))
     lines, told, status = run(program, first, second)
-    check(status == 0 and told == "" and len(lines) == 2 and "complete id=7 length=3000 file=00000007.page" in lines[1],
+    check(status == 0 and told == "" and len(lines) == 1 and " missing= complete=1 " in lines[0],
           f"a page that is whole by merging: {lines}, {told}")
-    check(holds(first, "00000007.page", octets), "the page")
+    plants.reported(first, 7, octets)
     lines, told, status = harness.run(plants.link, first, "--list")
     check(status == 0 and "id=7 " in lines[0] and "complete=1" in lines[0], f"the list: {lines}")
     # Empty files are complete from the start.
@@ -171,7 +178,7 @@ def several(program, plants):
     for ident, where in ((3, second), (9, first), (11, first)):
         lines, told, status = run(program, f"--id=0x{ident:x}", first, second)
         check(status == 1 and f"transfer {ident} isn't open in {where}" in told and not lines, f"{ident}: {told}")
-    # An Id used again: of the highest number with a .meta, on either side.
+    # An Id used again: of the file that the area has, on either side.
     older = page(500, 40)
     first, second = plants.make((7, older, [(0, 100)], [(0, 500)]))
     plants.receive(second, [metadata(7, 16, 3000), data(7, 16, 5, pages[3][:100])])
@@ -207,9 +214,10 @@ def other_files(program, plants):
     octets = page(LENGTH, 4)
     for field, name, line in (({"path": b"other"}, "path", "path=other"), ({"mtime": 1}, "mtime", "mtime=2000-01-01T00:00:01Z"),
                               ({"ctime": 1}, "ctime", "ctime=2000-01-01T00:00:01Z"),
-                              ({"flags": 0x42, "checksum": b"c" * 16}, "checksum", "checksum=2:63"),
+                              ({"flags": 0x42, "checksum": b"c" * 16}, "flags", "flags=000042"), ({"flags": 0x42, "checksum": b"d" * 16}, "checksum", "checksum=2:64"),
                               ({"properties": 1}, "properties", "properties=0001")):
-        first, second = plants.make((7, octets, FIRST, SECOND, {}, field))
+        mine = {"flags": 0x42, "checksum": b"c" * 16} if name == "checksum" else {}
+        first, second = plants.make((7, octets, FIRST, SECOND, mine, field))
         refused(program, name, first, second, f"{second} has {line}")
         refused(program, name, second, first, f"{second} has {line}")
     first, second = plants.make((7, octets, FIRST, SECOND, {}, {"width": 32}))
@@ -220,14 +228,14 @@ def other_files(program, plants):
     # The first octet that differs is named; what one of them alone has may be anything.
     for at, want in ((300, 300), (699, 699), (1500, 1500), (1599, 1599)):
         first, second = plants.make((7, octets, FIRST, SECOND))
-        with open(os.path.join(second, "00000007.part"), "r+b") as file:
+        with open(os.path.join(second, "00000007.1.part"), "r+b") as file:
             for place in (at, 650 if at < 650 else at, 1599):
                 file.seek(place)
                 file.write(bytes([octets[place] ^ 1]))
-        refused(program, f"octet {at}", first, second, f"octet {want} is {octets[at]:02x} in {first}/00000007.part and "
-                f"{octets[at] ^ 1:02x} in {second}/00000007.part")
+        refused(program, f"octet {at}", first, second, f"octet {want} is {octets[at]:02x} in {first}/00000007.1.part and "
+                f"{octets[at] ^ 1:02x} in {second}/00000007.1.part")
     first, second = plants.make((7, octets, FIRST, SECOND))
-    with open(os.path.join(second, "00000007.part"), "r+b") as file:
+    with open(os.path.join(second, "00000007.1.part"), "r+b") as file:
         file.write(b"?" * 300)
     check(run(program, first, second)[2] == 0, "octets that the second hasn't received may be anything")
     octets_are_there(first, {7: octets})
@@ -260,29 +268,31 @@ def faulty(program, plants):
         both = fresh()
         os.remove(os.path.join(both[side], "area"))
         refused(program, "no area", *both, f"{both[side]}/area: there is none")
-        for spoilt, message in ((AREA_HEAD + b"\xff" * 17288, "holds no transfer table"), (b"", "holds no transfer table"),
-                                (b"saratoga-area 9\n" + bytes(17288), "has layout 9")):
+        for spoilt, message in ((b"saratoga-area 3\n" + b"\xff" * (AREA_HEAD - 16 + 18696), "isn't whole"), (b"", "isn't whole"),
+                                (b"saratoga-area 9\n" + bytes(17288), "has layout 9"),
+                                (b"saratoga-area 2\n" + bytes(17288), "has layout 2")):
             with open(os.path.join(both[side], "area"), "wb") as file:
                 file.write(spoilt)
             refused(program, "a damaged area", *both, message)
         both = fresh()
-        os.remove(os.path.join(both[side], "00000007.meta"))
+        os.remove(at(both[side], "00000007.meta"))
         refused(program, "no .meta", *both, "its .meta isn't there")
         both = fresh()
-        os.truncate(os.path.join(both[side], "00000007.part"), 1000)
+        os.truncate(os.path.join(both[side], "00000007.1.part"), 1000)
         refused(program, "a short .part", *both, "fewer octets than were recorded")
         both = fresh()
-        os.remove(os.path.join(both[side], "00000007.part"))
-        os.symlink("/etc/passwd", os.path.join(both[side], "00000007.part"))
+        os.remove(os.path.join(both[side], "00000007.1.part"))
+        os.symlink("/etc/passwd", os.path.join(both[side], "00000007.1.part"))
         lines, told, status = run(program, *both)
         check(status == 1 and not lines, f"a link in the place of a file: {told}")
         both = fresh()
-        with open(os.path.join(both[side], "lock"), "r+b") as lock:
-            fcntl.lockf(lock, fcntl.LOCK_EX)
-            refused(program, "in use", *both, "another program writes there")
+        lock = os.open(both[side], os.O_RDONLY)
+        fcntl.flock(lock, fcntl.LOCK_EX)
+        refused(program, "in use", *both, "another program writes there")
+        os.close(lock)
     first, second = fresh()
     plants.receive(second, [data(7, 16, 0, octets)])
-    os.remove(os.path.join(second, "00000007.page"))
+    os.remove(at(second, "00000007.page"))
     refused(program, "taken away", first, second, "its file was taken away")
     first, second = plants.make((7, octets, FIRST, None))
     refused(program, "nothing in common", first, second, "no transfer is open in both")
@@ -335,7 +345,7 @@ def merged_at_last(program, first, second):
     lines, told, status = run(program, "--no-fsync", first, second)
     check(status == 0 and told == "", f"run again: {told}")
     octets_are_there(first, PAGES)
-    check(stored(first)[7][1] == union(FIRST, SECOND) and holds(first, "00000005.page", PAGES[5]), "run again, all is merged")
+    check(stored(first)[7][1] == union(FIRST, SECOND) and stored(first)[5][1] == [(0, 2000)], "run again, all is merged")
 
 
 def said(lines, directory):
@@ -343,8 +353,8 @@ def said(lines, directory):
     for line in lines:
         if line.startswith("merge id=7 "):
             check(stored(directory)[7][1] == union(FIRST, SECOND), f"{line}: the area on disk doesn't hold it")
-        if " complete id=5 " in line:
-            check(holds(directory, "00000005.page", PAGES[5]), f"{line}: the page isn't there")
+        if line.startswith("merge id=5 "):
+            check(stored(directory)[5][1] == [(0, 2000)], f"{line}: the area on disk doesn't hold it")
 
 
 def cut_everywhere(program, plain, plants):
@@ -421,7 +431,7 @@ def killed(program, plants, seconds):
                 break
             check(process.returncode == -9, told.decode())
         merges += 1
-        check(holds(first, "00000007.page", octets), "the page")
+        plants.reported(first, 7, octets)
         shutil.rmtree(first)
         shutil.rmtree(second)
     return kills, merges
@@ -439,11 +449,11 @@ WRONG = {
         ENDED, "    for (size_t i = 0; i < pair_count; i++)\n        copy_octets(&pairs[i]);\n    if (memcmp", "    if (memcmp",
         '    cut_point("between area and report");\n',
         '    cut_point("between area and report");\n    for (size_t i = 0; i < pair_count; i++)\n        copy_octets(&pairs[i]);\n'),
-    "forces no octet to disk": (CUT, "            if (force_to_disk(t->fd, name) != 0)\n", "            if (0)\n"),
-    "renames an area that isn't on disk": (CUT, " || force_to_disk(fd, new_name) != 0;", ";"),
+    "forces no octet to disk": (
+        CUT, "        if (pairs[i].first.files->fd >= 0 && force_to_disk(pairs[i].first.files->fd) != 0)\n", "        if (0)\n"),
+    "renames an area that isn't on disk": (CUT, " || force_to_disk(fd) != 0;", ";"),
     "writes the area in place": (
-        ENDED, 'snprintf(new_name, sizeof new_name, "%s.new", name);', 'snprintf(new_name, sizeof new_name, "%s", name);',
-        "if (!failed && renameat(directory, new_name, directory, name) != 0) {", "if (0) {"),
+        ENDED, 'snprintf(new_name, sizeof new_name, "%s.new", name);', 'snprintf(new_name, sizeof new_name, "%s", name);'),
     "says what it merges before the area is stored": (
         ENDED, "    if (!dry_run)\n        write_all(merged);\n    for (size_t i = 0; i < pair_count; i++)\n        tell(&pairs[i], merged);\n",
         "    for (size_t i = 0; i < pair_count; i++)\n        tell(&pairs[i], merged);\n    if (!dry_run)\n        write_all(merged);\n"),
@@ -466,7 +476,7 @@ WRONG = {
     "merges all, whatever --id says": (several, "    if (one_alone) {\n", "    if (0) {\n"),
     "lets a program run in the second": (
         faulty, "    go_to(second_directory);\n    lock_to_read();\n", "    go_to(second_directory);\n"),
-    "reports no page": (whole_by_merging, "            deliver(0, pairs[i].first.files);\n", "            ;\n"),
+    "merges octets of any file under the Id": (several, "PRIu64 \".%s\", id, file, suffix);", "PRIu64 \".%s\", id, file - file + 1, suffix);"),
     "counts what the second has as gained": (
         one_page, "joined.received - pair->first.one.received", "pair->second.one.received"),
     "says nothing of what is missing after the edge": (

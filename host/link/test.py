@@ -19,12 +19,14 @@ import threading
 import time
 
 sys.dont_write_bytecode = True
-from harness import (AREA_HEAD, AREA_MAGIC, POWERCUT, SOURCES, WRAPPED, after_the_cut, at, build, check, compiled, content,  # noqa: E402
-                     edited, holds, page, records, run, stamps, stem, stored)
+from harness import (AREA_HEAD, AREA_MAGIC, FAILS, NOSPACE, POWERCUT, SOURCES, WRAPPED, after_the_cut, at, build,  # noqa: E402
+                     check, compiled, content, edited, failing, holds, page, records, run, stamps, stem, stored)
 from packets import END_OF_DATA, TIMESTAMP, UNASKED, WANTED, data, failure, metadata, record, success  # noqa: E402
 import faults  # noqa: E402
+import kills  # noqa: E402
 import plant  # noqa: E402
 import sheets  # noqa: E402
+import threaded  # noqa: E402
 
 
 def nothing_promised_is_missing(place, originals, lines=()):
@@ -661,10 +663,19 @@ def loopback(program, place, address, seconds, options):
 # Programs that write in another order, or take an option and don't do what it says, which the tests must find.
 
 
-ENDED, CUT = "ended", "power cut"
-# Which test finds it: one that ends the program, with its pass, or a function.
-TWO, TWO_CUT = (ENDED, two_transfers), (CUT, two_transfers)
-REPLACED, SPOILT = (ENDED, plant.two_files_of_one_id), (ENDED, sheets.spoilt)
+def threads_ended(program, place, step=9):
+    return threaded.ended(program, place, two_transfers, nothing_promised_is_missing, step)
+
+
+def threads_cut(program, place, plain=None, step=9):
+    return threaded.power_cuts(program, plain, place, two_transfers, nothing_promised_is_missing, step)
+
+
+ENDED, CUT, FULL = "ended", "power cut", "calls that fail"
+# Which test finds it: a function, or how the program is built for it and a function.
+TWO, TWO_CUT = (ENDED, cut_everywhere), (CUT, lambda program, place: power_cuts(program, None, place))
+REPLACED = (ENDED, lambda program, place: cut_everywhere(program, place, plant.two_files_of_one_id))
+SPOILT = (ENDED, lambda program, place: cut_everywhere(program, place, sheets.spoilt))
 
 WRONG = {
     "tells the engine of octets before they are written": (
@@ -683,6 +694,9 @@ WRONG = {
         faults.other_octets, "    if (look->kind == SARATOGA_LOOK_COMPARE) {\n", "    if (0) {\n"),
     "writes the area in place": (
         TWO, 'snprintf(new_name, sizeof new_name, "%s.new", name);', 'snprintf(new_name, sizeof new_name, "%s", name);'),
+    "tells the engine that a sync is good while the thread is at work": (
+        (CUT, threads_cut), "    start_worker(&syncer, run_sync, NULL);\n",
+        "    start_worker(&syncer, run_sync, NULL);\n    saratoga_engine_synced(state, sizeof state, sync.sync, 1);\n"),
     "answers before the area is saved": (
         TWO, "    start_worker(&syncer, run_sync, NULL);\n",
         "    saratoga_engine_synced(state, sizeof state, sync.sync, 1);\n    for (size_t i = 0; i < MOST_FILES; i++) {\n"
@@ -765,26 +779,24 @@ WRONG = {
 
 
 def wrong_programs(place):
-    """What isn't edited is compiled once, with cut points and without."""
+    """What isn't edited is compiled once, with cut points and without; what a test links beside it too."""
     made = {cuts: {path: compiled(path, os.path.join(place, f"{number}{cuts}.o"), *([cuts] if cuts else []))
                    for number, path in enumerate(SOURCES)} for cuts in ("", "-DLINK_CUT_POINTS")}
-    power = compiled(POWERCUT, os.path.join(place, "powercut.o"))
+    beside = {CUT: ([compiled(POWERCUT, os.path.join(place, "powercut.o"))], WRAPPED),
+              FULL: ([compiled(NOSPACE, os.path.join(place, "nospace.o"))], [*WRAPPED, FAILS])}
     for number, (what, (test, *edits)) in enumerate(WRONG.items()):
         here = os.path.join(place, str(number))
         os.mkdir(here)
-        ended = not callable(test) and test[0] == ENDED
-        objects = dict(made["-DLINK_CUT_POINTS" if ended else ""])
+        kind, test = ("", test) if callable(test) else test
+        cuts = ["-DLINK_CUT_POINTS"] if kind == ENDED else []
+        objects = dict(made["".join(cuts)])
         changed = here + ".edited"
         os.mkdir(changed)
         for path, name in edited(edits, changed).items():
-            objects[path] = compiled(name, name + ".o", "-w", *(["-DLINK_CUT_POINTS"] if ended else []))
+            objects[path] = compiled(name, name + ".o", "-w", *cuts)
+        more, options = beside.get(kind, ([], []))
         try:
-            if callable(test):
-                plant.one_of_it(test, build(objects.values(), here + ".out"), here)
-            elif ended:
-                cut_everywhere(build(objects.values(), here + ".out"), here, test[1])
-            else:
-                power_cuts(build([*objects.values(), power], here + ".out", *WRAPPED), None, here, test[1])
+            plant.one_of_it(test, build([*objects.values(), *more], here + ".out", *options), here)
         except AssertionError as reason:
             if os.environ.get("SHOW_WRONG"):
                 print(f"link: a program that {what}: {reason}")
@@ -834,9 +846,13 @@ def main():
             power_cuts(power, program, fresh("power-replaced"), plant.two_files_of_one_id)) + (
             power_cuts(power, program, fresh("power-spoilt"), sheets.spoilt))
         print(f"link: power cut at each of {calls} calls, whatever of the rest is on disk nothing promised is missing")
+        places, calls = threads_ended(cutting, fresh("threads")), threads_cut(power, fresh("threads-power"), program)
+        print(f"link: on a socket, with a thread that syncs, ended at {places} places and cut at {calls} calls: nothing promised is missing")
         wrong_programs(fresh("wrong"))
         print(f"link: {len(WRONG)} programs with another order of writes, or an option that does nothing, are found")
         print("link: " + loopback(program, fresh("four"), "127.0.0.1", seconds, ()))
+        print("link: " + kills.soak(failing(os.path.join(place, "saratoga-link-failing")), fresh("kills"), 40, 32))
+        kills.wrong_programs(fresh("kills-wrong"), 100, 32, ("doesn't keep whose an Id is", "reports a page before a sync has saved it"))
         try:
             socket.socket(socket.AF_INET6, socket.SOCK_DGRAM).bind(("::1", 0))
         except OSError:

@@ -8,7 +8,7 @@ import subprocess
 import time
 
 from harness import at, check, content, failing, holds, is_there, numbers, page, records, run, stored
-from packets import WANTED, data, metadata
+from packets import UNASKED, WANTED, data, metadata, success
 from plant import STARTED, Link, is_complete, one_of_it
 
 ENDED = 0x080000  # bit 12 of METADATA
@@ -355,7 +355,7 @@ def closed_descriptors(program, place):
 
 
 def one_without_a_name(program, place):
-    """A page that can't get its name holds nothing else up: others are reported, and make room."""
+    """A page that can't get its name holds nothing else up: others are reported, and make room. It isn't tried without a pause."""
     text = page(20, 114)
     link = Link(program, place)
     link.quiet_send(metadata(0, 16, 20))
@@ -367,8 +367,33 @@ def one_without_a_name(program, place):
     link.wait(lambda: sum(" complete id=" in line for line in link.lines) == 15)
     link.send(metadata(77, 16, 20))
     link.wait(lambda: any(" open id=77 " in line for line in link.lines))
+    before = ticks(link.process.pid)
+    time.sleep(1)
+    check(ticks(link.process.pid) - before < 30, "a page that waits for its name keeps the program at work")
     check(link.end() == 1, "a page without a name, and the exit status says nothing")
     check(sum("can't get its name" in line for line in link.told) == 1, link.told)
+
+
+def ticks(process):
+    """How much a process was at work, in hundredths of a second."""
+    fields = content(f"/proc/{process}/stat").rsplit(b")", 1)[1].split()
+    return int(fields[11]) + int(fields[12])
+
+
+def repair_status(program, place):
+    """With --repair-status each packet that needs a 65th run is answered with the STATUS, as of a sync; many share one."""
+    link = Link(program, place, "--repair-status")
+    link.quiet_send(metadata(7, 32, 9000))
+    for start in range(0, 128, 2):
+        link.socket.sendto(data(7, 32, start, b"x"), ("127.0.0.1", link.port))
+    for start in range(1000, 1400, 2):
+        link.socket.sendto(data(7, 32, start, b"x"), ("127.0.0.1", link.port))
+    heard = [link.heard()]
+    while heard[-1] is not None:
+        heard.append(link.heard())
+    check(1 < len(heard) < 100, f"{len(heard) - 1} STATUS for 200 packets that were refused")
+    check(all(answer == success(7, 32, 1, 127, [(at, at + 1) for at in range(1, 127, 2)], flags=UNASKED) for answer in heard[:-1]), heard[0])
+    check(link.end() == 0, link.told)
 
 
 def whole_lines(program, place):
@@ -412,7 +437,7 @@ def peers(program, place):
 
 TESTS = (other_octets, lingers, owners, answered_after_a_kill, flipped_area, cut_short, ended_by_its_sender, full_table_is_told,
          answers_from_where_it_was_asked, nobody_reads, few_answers, taken_as_documented, idle_and_strangers, which_file_is_closed,
-         closed_descriptors, one_without_a_name, whole_lines, peers)
+         closed_descriptors, one_without_a_name, repair_status, whole_lines, peers)
 
 
 def all_of_it(program, place):

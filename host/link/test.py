@@ -756,6 +756,10 @@ WRONG = {
         faults.closed_descriptors, "    open_output();\n    take_arguments", "    take_arguments"),
     "lets one page without a name hold up all others": (
         faults.one_without_a_name, "open_transfer(due.id)->put_off <= now)", "1)"),
+    "tries again and again what can't be done": (
+        faults.one_without_a_name, "    return (int)(until - now);\n", "    return 0;\n"),
+    "answers no refused packet where others came since": (
+        faults.repair_status, "        t->repair = t->repair != 0 ? t->repair : covering_sync();\n", "        t->repair = UINT64_MAX;\n"),
     "dies of SIGHUP": (faults.whole_lines, "    sigaction(SIGHUP, &action, NULL);\n", ""),
     "makes no room, whatever --make-room says": (
         plant.full_table, "slot.reported || options.make_room", "slot.reported || 0"),

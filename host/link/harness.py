@@ -33,9 +33,17 @@ def check(holds, what):
 
 COMPILER = [os.environ.get("CC", "cc"), "-std=c11", "-Wall", "-Wextra", "-Werror", "-pedantic", "-O1", "-g", "-pthread",
             "-I" + os.path.join(ROOT, "include"), "-I" + PLACE]
-# LINK_SANITIZE=thread, or address,undefined: every program of the tests is built with it.
-if os.environ.get("LINK_SANITIZE"):
-    COMPILER += ["-fsanitize=" + os.environ["LINK_SANITIZE"], "-fno-sanitize-recover=all"]
+os.environ.setdefault("TSAN_OPTIONS", "halt_on_error=1")
+
+
+def sanitizer(name):
+    return ["-fsanitize=" + name, "-fno-sanitize-recover=all"]
+
+
+# LINK_SANITIZE=thread, or address,undefined: every program of the tests is built with it, and wrong ones are not.
+SANITIZED = os.environ.get("LINK_SANITIZE")
+if SANITIZED:
+    COMPILER += sanitizer(SANITIZED)
 
 
 def build(sources, out, *options):

@@ -21,7 +21,7 @@ SOURCES = [os.path.join(PLACE, name + ".c") for name in (
 POWERCUT = os.path.join(PLACE, "powercut.c")
 WRAPPED = ["-Wl," + ",".join(f"--wrap={name}" for name in (
     "openat", "openat64", "pwrite", "pwrite64", "renameat", "fsync"))]
-AREA_MAGIC, AREA_HEAD, AREA_WORDS, SLOT_WORDS, PLACES = b"saratoga-area 3\n", 48, 2161, 11, 16
+AREA_MAGIC, AREA_HEAD, AREA_WORDS, SLOT_WORDS, PLACES = b"saratoga-area 3\n", 48, 2161, 12, 16
 ENDINGS = ("part", "page", "differs", "meta", "sheet", "aside")
 
 

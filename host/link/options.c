@@ -88,6 +88,8 @@ static int take_switch(const char *name)
         {"--no-fsync", "", &options.force, 0},           {"--quiet", "-q", &options.quiet, 1},
         {"--any-peer", "", &options.any_peer, 1},        {"--make-room", "", &options.make_room, 1},
         {"--repair-status", "", &options.repair_status, 1}, {"--list", "", &options.to_list, 1},
+        {"--json", "", &options.json, 1},                {"--no-live", "", &options.no_live, 1},
+        {"--stats", "", &options.stats, 1},
     };
     if (strcmp(name, "--version") == 0) {
         printf("saratoga-link (saratoga) %s\n", SARATOGA_VERSION);
@@ -110,7 +112,8 @@ static int takes_value(const char *name)
 {
     static const char *const names[] = {"-d",        "--directory", "--udp",      "--address", "--peer",
                                         "--idle",    "--largest",   "--most-kept", "--close",  "--settings",
-                                        "--answers", "--linger",    "--forget-after", "--receive-buffer"};
+                                        "--answers", "--linger",    "--forget-after", "--receive-buffer",
+                                        "--stats-every", "--metrics"};
     for (size_t i = 0; i < sizeof names / sizeof names[0]; i++)
         if (strcmp(name, names[i]) == 0)
             return 1;
@@ -127,7 +130,7 @@ static int take_number(const char *name, const char *value)
         {"--idle", &options.idle, 0, LONGEST, 1},           {"--largest", &options.largest, 0, UINT64_MAX, 1},
         {"--most-kept", &options.most_kept, 0, UINT64_MAX, 1}, {"--linger", &options.linger, 0, LONGEST, 1000},
         {"--forget-after", &options.forget, 0, LONGEST, 1000}, {"--answers", &options.answers, 1, 1000000, 1},
-        {"--receive-buffer", &options.buffer, 1, 1 << 30, 1},
+        {"--receive-buffer", &options.buffer, 1, 1 << 30, 1}, {"--stats-every", &options.stats_every, 1, LONGEST, 1000},
     };
     for (size_t i = 0; i < sizeof numbers / sizeof numbers[0]; i++) {
         if (strcmp(name, numbers[i].name) == 0) {
@@ -158,6 +161,8 @@ static void take_value(const char *name, const char *value)
         options.to_close = value;
     } else if (strcmp(name, "--settings") == 0) {
         options.settings = value;
+    } else if (strcmp(name, "--metrics") == 0) {
+        options.metrics = value;
     } else {
         options.directory = value;
     }
@@ -172,6 +177,8 @@ static void judge(void)
         wrong_usage("--udp needs either --peer or --any-peer", "");
     if (options.settings != NULL && (options.to_list || options.to_close != NULL))
         wrong_usage("--settings goes with PASS or --udp", "");
+    if ((options.stats || options.stats_every > 0 || options.metrics != NULL) && (options.to_list || options.to_close != NULL))
+        wrong_usage("--stats, --stats-every and --metrics go with PASS or --udp", "");
 }
 
 void take_arguments(int count, char **arguments)

@@ -20,6 +20,7 @@ static void fail(const struct packet *p, uint64_t id, uint64_t code)
 static void refuse(const struct packet *p, uint64_t refusal, uint64_t code)
 {
     uint64_t id;
+    count_refusal(refusal);
     say(p->number, "refused %" PRIu64 " code=%" PRIu64, refusal, code);
     if (refusal == SARATOGA_REFUSED_AREA)
         die("the state in memory is no engine's: the program has a fault");
@@ -47,6 +48,7 @@ static int is_over_a_limit(const struct packet *p, const struct saratoga_packet 
         code = SARATOGA_CODE_RECEIVER_RESOURCES;
         say(p->number, "too-many id=%" PRIu64 " code=%" PRIu64, read->id, code);
     }
+    counters.rejected += code != 0;
     if (code != 0)
         fail(p, read->id, code);
     return code != 0;
@@ -92,6 +94,7 @@ static void write_fails(const char *name, int error)
 /* The packet counts as lost: something on disk failed. */
 static void lose(const struct packet *p, const struct saratoga_packet *read, const char *name, int error)
 {
+    counters.lost++;
     if (error == EAGAIN)
         something_is_lost(); /* too many files for one sync: METADATA comes again */
     else if (error == ESTALE)
@@ -176,6 +179,7 @@ static void take_metadata(const struct packet *p, const struct saratoga_packet *
         met = saratoga_engine_meet(state, sizeof state, p->octets, p->length);
     switch (met.kind) {
     case SARATOGA_MEET_WAIT:
+        counters.lost++;
         say(p->number, "lost id=%" PRIu64, read->id);
         break;
     case SARATOGA_MEET_MAKE:
@@ -305,9 +309,11 @@ static void refuse_data(const struct packet *p, const struct saratoga_packet *re
 {
     struct transfer *t = open_transfer(read->id);
     if (look->kind == SARATOGA_LOOK_STRANGER) {
+        counters.rejected++;
         say(p->number, "of-another-sender id=%" PRIu64 " code=%d", read->id, SARATOGA_CODE_UNKNOWN_ID);
         fail(p, read->id, SARATOGA_CODE_UNKNOWN_ID);
     } else if (look->number == SARATOGA_REFUSED_RUNS && options.repair_status && t != NULL) {
+        count_refusal(look->number);
         say(p->number, "refused %" PRIu64 " code=0", look->number);
         hear(t, p);
         t->owed = covering_sync();

@@ -62,12 +62,17 @@ void from_pass(const char *name)
         die("%s: can't be opened: %s", name, strerror(errno));
     for (; !stopped && (length = read_record(file, &kind, octets)) >= 0; number++) {
         struct packet p = {.number = number, .octets = octets, .length = (size_t)length};
-        if (kind == 'P')
+        if (kind == 'P') {
+            count_packet(&p);
             take_packet(&p);
+        }
         passed_over += kind == 'O' || kind == 'D';
         drive();
-        if (tick_is_due())
+        if (tick_is_due()) {
             hear_operator();
+            tick_counters();
+            draw_live();
+        }
     }
     end_pass(file, name, number, length == -2 && !stopped);
     if (passed_over > 0)

@@ -52,7 +52,6 @@ static void run(void)
     }
     keep_exact_number();
     write_open_sheets();
-    end_counters();
 }
 
 int main(int count, char **arguments)

@@ -52,7 +52,7 @@
 #define NAME_OCTETS 56
 #define TICK 200                   /* milliseconds: the operator is heard at least so often */
 #define INTERVAL 1000              /* milliseconds between two syncs that nobody waits for */
-#define MOST_REFUSALS 32           /* their numbers are below */
+#define MOST_REFUSALS 27           /* their numbers are below */
 #define MOST_COUNTED 64            /* peers that are counted one by one */
 #ifndef METRICS_EVERY              /* milliseconds between two files for Prometheus; tests build it with less */
 #define METRICS_EVERY 5000

@@ -75,7 +75,7 @@ static void put_labelled(FILE *out)
     head(out, "refused_packets_total", "counter", "Packets that the library refused, by the number of the refusal.");
     for (size_t i = 0; i < MOST_REFUSALS; i++) {
         snprintf(number, sizeof number, "%zu", i);
-        if (counters.refused[i] > 0)
+        if (i > 0 || counters.refused[i] > 0) /* a rate is known from the first one on where 0 was there before */
             series(out, "refused_packets_total", "refusal", number, counters.refused[i]);
     }
     head(out, "syncs_total", "counter", "Syncs, by how they ended.");

@@ -42,6 +42,7 @@ static void end_pass(FILE *file, const char *name, uint64_t number, int cut)
     if (drive_to_the_end())
         write_open_sheets();
     keep_exact_number();
+    end_counters();
     if (error != 0)
         die("%s: can't be read: %s", name, strerror(error));
     die("%s: cut short in record %" PRIu64, name, number);
@@ -80,6 +81,8 @@ void from_pass(const char *name)
              passed_over);
     if (file != stdin)
         fclose(file);
-    if (!drive_to_the_end())
+    int saved = drive_to_the_end();
+    end_counters();
+    if (!saved)
         die("%s/area: what came last isn't saved, and counts as lost", options.directory);
 }

@@ -151,6 +151,7 @@ static void tell_the_end(void)
     if (counters.dropped > 0)
         warn("%" PRIu64 " packets were dropped by the socket, which had no room", counters.dropped);
     tell_unsent();
+    end_counters();
 }
 
 /* Packets from a UDP socket, until a signal, or `idle` seconds without one of a sender that is heard (0: for ever). */

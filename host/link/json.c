@@ -132,7 +132,7 @@ static struct word take_word(struct word *line)
     return word;
 }
 
-/* Begins the object: with the packet's number and what happened, or for --list, whose lines have neither, as a transfer. Gives what it is. */
+/* Begins the object: with the packet's number and what happened, or for --list, whose lines have neither, as a transfer. Gives what happened. */
 static struct word put_head(struct writer *w, struct word *line)
 {
     const char *equals = memchr(line->at, '=', line->length), *blank = memchr(line->at, ' ', line->length);

@@ -101,7 +101,7 @@ static void put_peers(FILE *out)
     for (size_t i = 0; i < MOST_COUNTED; i++)
         put_peer(out, "peer_packets_total", &counters.peers[i], counters.peers[i].packets);
     put_peer(out, "peer_packets_total", &counters.others, counters.others.packets);
-    head(out, "peer_received_bytes_total", "counter", "Octets of packets by the address of their sender; of more than 64 the rest is summed.");
+    head(out, "peer_received_bytes_total", "counter", "Octets of those packets.");
     for (size_t i = 0; i < MOST_COUNTED; i++)
         put_peer(out, "peer_received_bytes_total", &counters.peers[i], counters.peers[i].octets);
     put_peer(out, "peer_received_bytes_total", &counters.others, counters.others.octets);

@@ -41,9 +41,18 @@ static const char help[] =
     "      --list           list open transfers, and end\n"
     "      --close ID       close a transfer, and end; ID as printed: 31, id=31, 0x1f or 0000001f.5.part\n"
     "  -q, --quiet          report complete files only\n"
+    "      --json           print each line, also of --list, as one JSON object (share/saratoga/link.schema.json)\n"
+    "      --no-live        no live lines; else a terminal as standard error has one for each open transfer: percent, octets,\n"
+    "                       octets a second, holes, when it was last heard, its sender and its path\n"
+    "      --stats          print at the end what was counted: 0 stats packets=12 octets=3456 refused=1 ..\n"
+    "      --stats-every SECONDS  and each time so many seconds went by\n"
+    "      --metrics FILE   the counters for Prometheus, by node_exporter's textfile collector, which wants a name that ends\n"
+    "                       in .prom; replaced whole every 5 seconds, and at the end\n"
     "  -h, --help           this text\n"
     "      --version        the library's version\n"
-    "An option's value may also follow after =, as in --idle=1. After -- comes the pass file.\n"
+    "An option's value may also follow after =, as in --idle=1. After -- comes the pass file.\n";
+
+static const char more_help[] =
     "\n"
     "In DIR:  0000001f.5.part is transfer 31, not complete, in file 5; 0000001f.5.page a complete one, 0000001f.5.meta its\n"
     "         path, times and checksum, 0000001f.5.sheet a page of text about it to be signed, 0000001f.5.differs a\n"
@@ -97,6 +106,7 @@ static int take_switch(const char *name)
     }
     if (strcmp(name, "-h") == 0 || strcmp(name, "--help") == 0) {
         fputs(help, stdout);
+        fputs(more_help, stdout);
         exit(fflush(stdout) == 0 ? 0 : 1);
     }
     for (size_t i = 0; i < sizeof switches / sizeof switches[0]; i++) {

@@ -6,6 +6,7 @@ import json
 import os
 import random
 import re
+import signal
 import socket
 import subprocess
 import time
@@ -118,7 +119,10 @@ def plain_of(one):
 def judge(line, seen, valid=by_jsonschema(), shapes=set()):
     """An object from a line that fits the schema; its kind is added to `seen`. The module, which is slow, judges each shape once."""
     check(harmless([line]), f"not printable ASCII: {line!r}")
-    one = json.loads(line)
+    try:
+        one = json.loads(line)
+    except ValueError as reason:
+        raise AssertionError(f"no JSON: {line}: {reason}") from reason
     check(fits(one, SCHEMA), f"doesn't fit docs/link.schema.json: {line}")
     shape = one["event"], *((name, type(value)) for name, value in one.items())
     check(valid is None or shape in shapes or valid(one), f"jsonschema says that it doesn't fit: {line}")
@@ -219,7 +223,8 @@ def exact(program, place):
     path = bytes(octet for octet in range(1, 256))
     name = bytes(range(255))
     lines = two_runs(program, place, set(), records([
-        metadata(7, 64, 2**64 - 1, path), data(7, 64, 2**53 + 1, b"x"), beacon(name, 64, free=2**64 - 1, free_width=64), metadata(2**32 - 1, 64, 0, path)]),
+        metadata(7, 64, 2**64 - 1, path), data(7, 64, 2**53 + 1, b"x"), beacon(name, 64, free=2**64 - 1, free_width=64), metadata(2**32 - 1, 64, 0, path),
+        success(7, 32, 0, 9, [(0, 4)])]),
         "--largest", str(2**64 - 1))
     check('"length":18446744073709551615,' in lines[0], lines[0])
     check(f'"offset":{2**53 + 1},' in "".join(lines), lines)
@@ -360,18 +365,19 @@ def dropped_by(port):
 def dropped(program, place):
     """Packets that the kernel dropped, as its own list has them."""
     link = Link(program, place, "--stats", "--receive-buffer", "4096")
-    link.process.send_signal(19)  # stopped
+    link.process.send_signal(signal.SIGSTOP)
     for _ in range(300):
         link.socket.sendto(bytes(1000), ("127.0.0.1", link.port))
     lost = dropped_by(link.port)
-    link.process.send_signal(18)  # goes on
+    link.process.send_signal(signal.SIGCONT)
     link.wait(lambda: sum(" refused " in line for line in link.lines) == 300 - lost)
-    link.socket.sendto(bytes(1000), ("127.0.0.1", link.port))
-    link.wait(lambda: sum(" refused " in line for line in link.lines) == 301 - lost)
+    for later in (301, 302):  # each packet brings how many were dropped before it
+        link.socket.sendto(bytes(1000), ("127.0.0.1", link.port))
+        link.wait(lambda: sum(" refused " in line for line in link.lines) == later - lost)
     check(dropped_by(link.port) == lost > 0, f"dropped: {lost}")
     check(link.end() == 0, link.told)
     stats, = [line for line in link.lines if line.startswith("0 stats ")]
-    check(f" packets={301 - lost} " in stats and f" dropped={lost} " in stats, (stats, lost))
+    check(f" packets={302 - lost} " in stats and f" dropped={lost} " in stats, (stats, lost))
 
 
 def bad_syncs(program, place):

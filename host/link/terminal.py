@@ -183,9 +183,11 @@ def nothing_is_garbled(program, place):
         packets = [metadata(ident, 16, 300) for ident in range(16)] + [metadata(99, 16, 300)]
         packets += [data(ident, 16, at, page(300, ident)[at:at + 60], WANTED) for at in (0, 120, 60, 240) for ident in range(16)]
         terminal = Terminal([program, "-d", here, "--no-fsync", "-"], height, width)
-        most = 0
-        for start in range(0, len(packets), 9):
-            terminal.send(records(packets[start:start + 9]))
+        most = sent = 0
+        while sent < len(packets) or (most < min(16, height - 2) and sent < 1000):
+            packets += packets[-1:] * (sent + 9 - len(packets))  # a slow terminal gets more to draw
+            terminal.send(records(packets[sent:sent + 9]))
+            sent += 9
             time.sleep(0.07)
             with terminal.lock:
                 most = max(most, sum("% " in row for row in terminal.screen.rows))

@@ -177,6 +177,7 @@ void say_octets(uint64_t number, const char *what, const uint8_t *octets, size_t
 void report(const char *form, ...) __attribute__((format(printf, 1, 2)));
 void flush_output(void);
 void finish_output(void);
+int open_terminal(void);
 int line_is_half_written(void);
 int output_was_lost(void);
 

@@ -16,7 +16,6 @@
 #include <sys/stat.h>
 #include <unistd.h>
 
-#define TERMINAL 2
 #define MOST_COLUMNS 160
 #define SAMPLES 16                 /* one in each TICK: the rate is that of the last three seconds */
 
@@ -33,35 +32,57 @@ static struct history histories[MOST_FILES]; /* of the transfers in the same pla
 static char drawing[(SARATOGA_TRANSFERS + 1) * (MOST_COLUMNS + 2) + 16];
 static size_t drawing_len;
 static int rows, shown;            /* of the drawing; and how many stand on the terminal */
+static int terminal = -1;
+static char rest[sizeof drawing];  /* what the terminal had no room for */
+static size_t rest_len;
 
-static int put(const char *text, size_t count, int milliseconds)
+static void write_rest(void)
 {
-    struct pollfd wait = {.fd = TERMINAL, .events = POLLOUT};
-    if (poll(&wait, 1, milliseconds) <= 0)
-        return 0;
-    while (write(TERMINAL, text, count) < 0 && errno == EINTR)
-        ;
-    return 1;
+    ssize_t done = write(terminal, rest, rest_len);
+    if (done < 0 && errno != EAGAIN && errno != EINTR)
+        done = (ssize_t)rest_len; /* there is no terminal any more */
+    if (done > 0) {
+        rest_len -= (size_t)done;
+        memmove(rest, rest + done, rest_len);
+    }
 }
 
-/* The cursor goes up to the first live line, and all from there on is cleared. */
-static int hide(int milliseconds)
+/* Gives 0 where the terminal has no room, also not for what was put before. */
+static int put(const char *text, size_t count, int milliseconds)
 {
-    char text[24];
-    if (shown == 0)
-        return 1;
-    size_t length = (size_t)snprintf(text, sizeof text, "\r\033[%dA\033[J", shown);
-    if (!put(text, length, milliseconds))
+    struct pollfd wait = {.fd = terminal, .events = POLLOUT};
+    if (poll(&wait, 1, milliseconds) <= 0)
         return 0;
-    shown = 0;
+    if (rest_len > 0)
+        write_rest();
+    if (rest_len > 0)
+        return 0;
+    memcpy(rest, text, count);
+    rest_len = count;
+    write_rest();
     return 1;
 }
 
 /* A program in the background leaves the terminal to others. */
 static int is_in_front(void)
 {
-    pid_t group = tcgetpgrp(TERMINAL);
+    pid_t group = tcgetpgrp(terminal);
     return group < 0 || group == getpgrp();
+}
+
+/* The cursor goes up to the first live line, and all from there on is cleared. */
+static int hide(int milliseconds)
+{
+    char text[24];
+    if (!is_in_front())
+        shown = 0;
+    if (shown == 0)
+        return rest_len == 0 || put("", 0, milliseconds);
+    size_t length = (size_t)snprintf(text, sizeof text, "\r\033[%dA\033[J", shown);
+    if (!put(text, length, milliseconds))
+        return 0;
+    shown = 0;
+    return rest_len == 0;
 }
 
 static void show(void)
@@ -136,7 +157,7 @@ static void compose(void)
     struct winsize size = {.ws_row = 0};
     struct saratoga_listed one;
     char more[48];
-    ioctl(TERMINAL, TIOCGWINSZ, &size);
+    ioctl(terminal, TIOCGWINSZ, &size);
     size_t columns = size.ws_col > 1 ? size.ws_col - 1u : 79, most = size.ws_row > 2 ? size.ws_row - 2u : 22, count = 0;
     columns = columns < MOST_COLUMNS ? columns : MOST_COLUMNS;
     drawing_len = 0;
@@ -166,7 +187,7 @@ void begin_live(void)
     struct stat seen;
     const char *kind = getenv("TERM");
     int piped = fstat(1, &seen) != 0 || S_ISFIFO(seen.st_mode) || S_ISSOCK(seen.st_mode);
-    if (options.no_live || !isatty(TERMINAL) || piped || kind == NULL || kind[0] == '\0' || strcmp(kind, "dumb") == 0)
+    if (options.no_live || piped || kind == NULL || kind[0] == '\0' || strcmp(kind, "dumb") == 0 || (terminal = open_terminal()) < 0)
         return;
     hide_live = hide;
     show_live = show;

@@ -49,6 +49,24 @@ void open_output(void)
     }
 }
 
+/*
+ * For live lines, which are drawn also where nothing happens: a terminal whose reader stops must not stop the program. It is opened anew, so
+ * that a write that finds no room ends at once, here alone. Gives the descriptor of standard error; -1 where that is no terminal, or can't be
+ * opened.
+ */
+int open_terminal(void)
+{
+    struct channel *const both[] = {&out, &err};
+    for (size_t i = 0; i < 2; i++) {
+        char name[32];
+        snprintf(name, sizeof name, "/proc/self/fd/%d", both[i]->fd);
+        int fd = isatty(both[i]->fd) ? open(name, O_WRONLY | O_NONBLOCK | O_NOCTTY | O_CLOEXEC) : -1;
+        if (fd >= 0)
+            both[i]->fd = fd;
+    }
+    return err.fd != 2 ? err.fd : -1;
+}
+
 /* How many octets can be written now, in whole lines where that is possible. */
 static size_t writable(const struct channel *channel, int milliseconds)
 {

@@ -94,13 +94,14 @@ class Terminal:
         self.process = subprocess.Popen(arguments, env=dict(os.environ, TERM=kind), **streams)
         Link.started.append(self.process)
         os.close(slave)
-        self.wrong = None
+        self.wrong, self.reading = None, threading.Event()
+        self.reading.set()
         self.thread = threading.Thread(target=self.read, daemon=True)
         self.thread.start()
 
     def read(self):
         try:
-            while octets := os.read(self.master, 4096):
+            while self.reading.wait() and (octets := os.read(self.master, 4096)):
                 with self.lock:
                     self.octets += octets
                     self.screen.feed(octets)
@@ -218,25 +219,34 @@ def only_where_it_fits(program, place):
                 terminal.process.stdout.close()
 
 
-def a_stopped_terminal(program, place):
-    """A terminal that nobody reads stops neither reception nor the end; lines come when it is read again."""
-    terminal, target = on_loopback(program, place)
-    termios.tcflow(terminal.master, termios.TCOOFF)
-    text = page(3000, 131)
-    with socket.socket(socket.AF_INET, socket.SOCK_DGRAM) as sender:
-        sender.settimeout(3)
-        sender.sendto(metadata(7, 16, 3000), target)
-        check(sender.recv(65535) is not None, "no answer")
-        for at in range(0, 3000, 10):
-            sender.sendto(data(7, 16, at, text[at:at + 10], WANTED if at == 2990 else 0), target)
-        check(sender.recv(65535) is not None, "a terminal that is stopped stops the program")
-    termios.tcflow(terminal.master, termios.TCOON)
-    terminal.wait(lambda lines: sum(" record id=7 " in line for line in lines) == 300)
-    check(terminal.end() == 0, terminal.lines())
-    check(sum(" record id=7 " in line for line in terminal.lines()) == 300 and terminal.live() == {}, terminal.lines())
+def nobody_reads(program, place):
+    """A terminal that is stopped, or that nobody reads, stops no reception; the lines come when it is read again."""
+    stops = ((lambda terminal: termios.tcflow(terminal.master, termios.TCOOFF), lambda terminal: termios.tcflow(terminal.master, termios.TCOON)),
+             (lambda terminal: terminal.reading.clear(), lambda terminal: terminal.reading.set()))
+    for number, (stop, go_on) in enumerate(stops):
+        here = os.path.join(place, str(number))
+        os.mkdir(here)
+        terminal, target = on_loopback(program, here, "--no-fsync", "--answers", "1000000")
+        with socket.socket(socket.AF_INET, socket.SOCK_DGRAM) as sender:
+            sender.settimeout(3)
+            for ident in range(16):
+                sender.sendto(metadata(ident, 16, 3000), target)
+                sender.recv(65535)
+            terminal.wait(lambda lines: len(terminal.live()) == 16)
+            stop(terminal)
+            try:
+                for at in range(0, 3000, 10):
+                    sender.sendto(data(7, 16, at, page(3000, 131)[at:at + 10], WANTED), target)
+                    sender.recv(65535)
+            except socket.timeout:
+                check(False, "a terminal that nobody reads stops the program")
+        go_on(terminal)
+        terminal.wait(lambda lines: sum(" record id=7 " in line for line in lines) == 300)
+        check(terminal.end() == 0, terminal.lines())
+        check(sum(" record id=7 " in line for line in terminal.lines()) == 300 and terminal.live() == {}, terminal.lines())
 
 
-TESTS = live_lines, nothing_is_garbled, only_where_it_fits, a_stopped_terminal
+TESTS = live_lines, nothing_is_garbled, only_where_it_fits, nobody_reads
 
 
 def all_of_it(program, place):

@@ -235,15 +235,15 @@ def nobody_reads(program, place):
             terminal.wait(lambda lines: len(terminal.live()) == 16)
             stop(terminal)
             try:
-                for at in range(0, 3000, 10):
-                    sender.sendto(data(7, 16, at, page(3000, 131)[at:at + 10], WANTED), target)
+                for at in range(0, 3000, 30):
+                    sender.sendto(data(7, 16, at, page(3000, 131)[at:at + 30], WANTED), target)
                     sender.recv(65535)
             except socket.timeout:
                 check(False, "a terminal that nobody reads stops the program")
         go_on(terminal)
-        terminal.wait(lambda lines: sum(" record id=7 " in line for line in lines) == 300)
+        terminal.wait(lambda lines: sum(" record id=7 " in line for line in lines) == 100)
         check(terminal.end() == 0, terminal.lines())
-        check(sum(" record id=7 " in line for line in terminal.lines()) == 300 and terminal.live() == {}, terminal.lines())
+        check(sum(" record id=7 " in line for line in terminal.lines()) == 100 and terminal.live() == {}, terminal.lines())
 
 
 TESTS = live_lines, nothing_is_garbled, only_where_it_fits, nobody_reads

@@ -11,9 +11,9 @@ import socket
 import subprocess
 import time
 
-from harness import ROOT, SOURCES, WRAPPED, build, check, content, page, records, run
+from harness import ROOT, SOURCES, build, check, content, failing, page, records, run
 from packets import END_OF_DATA, WANTED, beacon, data, failure, metadata, record, success
-from plant import NOSPACE, Link, harmless, one_of_it
+from plant import STARTED, Link, harmless, one_of_it
 from sheets import opening
 
 with open(os.path.join(ROOT, "docs", "link.schema.json"), encoding="ascii") as file_of_schema:
@@ -409,7 +409,7 @@ def every_second(program, place):
     """--stats-every prints while the program runs, and at its end."""
     process = subprocess.Popen([program, "-d", place, "-q", "--udp", "0", "--any-peer", "--stats-every=1", "--idle", "3"],
                                stdout=subprocess.PIPE, stderr=subprocess.PIPE, text=True)
-    Link.started.append(process)
+    STARTED.processes.append(process)
     lines, told = process.communicate(timeout=20)
     check(process.returncode == 0 and told == "", told)
     check(3 <= lines.count("0 stats packets=0 ") <= 4, lines)
@@ -458,7 +458,7 @@ def options(program, place):
 def all_of_it(program, place):
     """Runs everything; `place` gives a new directory for a name."""
     often = build(SOURCES, program + "-often", "-DMETRICS_EVERY=1")
-    full = build([*SOURCES, NOSPACE], program + "-counting", *WRAPPED, "-Wl,--wrap=sendmsg")
+    full = failing(program + "-counting")
     for test, tested in ((any_lines, program), (exact, program), (columns, program), (known_traffic, program), (held_back, program),
                          (dropped, program), (bad_syncs, full), (every_second, program), (replaced_whole, often), (options, program)):
         one_of_it(test, tested, place(test.__name__))

@@ -14,7 +14,7 @@ import time
 
 from harness import check, page, records, run
 from packets import WANTED, data, metadata
-from plant import Link, one_of_it
+from plant import STARTED, Link, one_of_it
 
 ROW = re.compile(r"id=(\d+) +(\d+)% +(\d+) of (\d+) +(\d+(?:\.\d)?) (B|kB|MB)/s +(\d+) holes  heard (\d+) s ago  (\S*)  (.*)")
 
@@ -92,7 +92,7 @@ class Terminal:
         fcntl.ioctl(slave, termios.TIOCSWINSZ, struct.pack("4H", height, width, 0, 0))
         streams = {"stdin": subprocess.PIPE, "stdout": slave, "stderr": slave, **streams}
         self.process = subprocess.Popen(arguments, env=dict(os.environ, TERM=kind), **streams)
-        Link.started.append(self.process)
+        STARTED.processes.append(self.process)
         os.close(slave)
         self.wrong, self.reading = None, threading.Event()
         self.reading.set()

@@ -21,8 +21,8 @@
 # make send     builds the sender, target/send/saratoga-send (docs/SEND.md)
 # make settings builds the program for a plant's settings file, target/settings/saratoga-settings (docs/SETTINGS.md)
 # make install  header, archive, shared library, pkg-config file, Python module, replay, the tools, the link program, the sender, the planner,
-#               saratoga-merge, the program for settings and the dissector, with man pages, below PREFIX (default /usr/local; PREFIX=$HOME/.local needs no
-#               root); make uninstall takes them away
+#               saratoga-merge, the program for settings, the dissector and the schema of the link program's lines, with man pages, below PREFIX
+#               (default /usr/local; PREFIX=$HOME/.local needs no root); make uninstall takes them away
 # make deb      a Debian package of all that make install puts, target/deb/saratoga_VERSION_amd64.deb; DEB_MAINTAINER= names who makes it
 PREFIX ?= /usr/local
 VERSION = 0.1
@@ -31,7 +31,8 @@ ENGINE = target/staticlib/libsaratoga_engine.a
 PLAN_SOURCES = $(addprefix host/plan/,plan.c input.c reason.c)
 SEND_SOURCES = $(addprefix host/send/,send.c options.c page.c transfer.c round.c run.c wire.c lines.c)
 LINK_SOURCES = $(addprefix host/link/,link.c options.c source.c udp.c peers.c packets.c answers.c shell.c sync.c worker.c area.c pages.c closing.c \
-	start.c files.c disk.c meta.c check.c sheet.c onair.c control.c settings.c text.c output.c)
+	start.c files.c disk.c meta.c check.c sheet.c onair.c control.c settings.c text.c output.c json.c progress.c live.c counters.c \
+	metrics.c)
 MERGE_SOURCES = $(addprefix host/merge/,merge.c octets.c) $(addprefix host/link/,area.c files.c disk.c meta.c text.c output.c)
 SIMULATE_SOURCES = $(addprefix host/simulate/,simulate.c disk.c network.c judge.c listen.c shell.c first.c second.c)
 SETTINGS_SOURCES = $(addprefix host/settings/,settings.c fault.c store.c)
@@ -186,7 +187,7 @@ install: lib engine shared front link send plan merge settings
 	install -m 644 $(PAGES:%=host/man/%.1) "$(AT)/share/man/man1"
 	install -m 644 host/man/saratoga.3 "$(AT)/share/man/man3"
 	install -m 644 host/man/saratoga-wireshark.7 "$(AT)/share/man/man7"
-	install -m 644 host/wireshark/saratoga.lua "$(AT)/share/saratoga"
+	install -m 644 host/wireshark/saratoga.lua docs/link.schema.json "$(AT)/share/saratoga"
 
 DEB_MAINTAINER ?= Storhnipa maintainers <maintainers@users.noreply.storhnipa.example>
 
@@ -196,7 +197,7 @@ deb: lib engine shared front link send plan merge settings
 uninstall:
 	rm -f "$(AT)/include/saratoga_engine.h" "$(AT)/lib/libsaratoga_engine.a"
 	rm -f "$(AT)/include/saratoga.h" "$(AT)/lib/libsaratoga.a" "$(AT)/lib/pkgconfig/saratoga.pc" "$(AT)/share/man/man3/saratoga.3"
-	rm -f "$(AT)/share/man/man7/saratoga-wireshark.7" "$(AT)/share/saratoga/saratoga.lua"
+	rm -f "$(AT)/share/man/man7/saratoga-wireshark.7" "$(AT)/share/saratoga/saratoga.lua" "$(AT)/share/saratoga/link.schema.json"
 	rm -f "$(AT)/lib/libsaratoga.so" "$(AT)/lib/$(SONAME)" "$(AT)/lib/$(SHARED)" "$(DESTDIR)$(PYTHON_DIR)/saratoga.py"
 	for file in replay saratoga-link saratoga-send saratoga-plan saratoga-merge saratoga-settings $(TOOLS); do rm -f "$(AT)/bin/$$file" || exit 1; done
 	for page in $(PAGES); do rm -f "$(AT)/share/man/man1/$$page.1" || exit 1; done

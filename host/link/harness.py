@@ -17,7 +17,8 @@ ARCHIVE = os.path.join(ROOT, "target", "staticlib", "libsaratoga.a")
 ARCHIVES = [os.path.join(ROOT, "target", "staticlib", f"libsaratoga{name}.a") for name in ("_engine", "")]
 SOURCES = [os.path.join(PLACE, name + ".c") for name in (
     "link", "options", "source", "udp", "peers", "packets", "answers", "shell", "sync", "worker", "area", "pages", "closing", "start",
-    "files", "disk", "meta", "check", "sheet", "onair", "control", "settings", "text", "output")]
+    "files", "disk", "meta", "check", "sheet", "onair", "control", "settings", "text", "output", "json", "progress", "live", "counters",
+    "metrics")]
 POWERCUT, NOSPACE = os.path.join(PLACE, "powercut.c"), os.path.join(PLACE, "nospace.c")
 WRAPPED = ["-Wl," + ",".join(f"--wrap={name}" for name in (
     "openat", "openat64", "pwrite", "pwrite64", "renameat", "fsync"))]

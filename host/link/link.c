@@ -34,6 +34,8 @@ static void take_signals(void)
 static void run(void)
 {
     take_up();
+    if (options.metrics != NULL)
+        begin_metrics();
     if (options.port == NULL)
         drive();
     if (options.to_close != NULL) {
@@ -44,8 +46,10 @@ static void run(void)
         if (!drive_to_the_end())
             die("%s/area: the closing can't be saved", options.directory);
     } else if (options.pass != NULL) {
+        begin_live();
         from_pass(options.pass);
     } else {
+        begin_live();
         from_socket(options.host, options.port, options.idle);
     }
     keep_exact_number();
@@ -56,6 +60,8 @@ int main(int count, char **arguments)
 {
     open_output();
     take_arguments(count, arguments);
+    if (options.json)
+        form_of_line = json_of_line;
     take_signals();
     if (options.settings != NULL)
         tell_settings(options.settings);

@@ -41,9 +41,18 @@ static const char help[] =
     "      --list           list open transfers, and end\n"
     "      --close ID       close a transfer, and end; ID as printed: 31, id=31, 0x1f or 0000001f.5.part\n"
     "  -q, --quiet          report complete files only\n"
+    "      --json           print each line, also of --list, as one JSON object (share/saratoga/link.schema.json)\n"
+    "      --no-live        no live lines; else a terminal as standard error has one for each open transfer: percent, octets,\n"
+    "                       octets a second, holes, when it was last heard, its sender and its path\n"
+    "      --stats          print at the end what was counted: 0 stats packets=12 octets=3456 refused=1 ..\n"
+    "      --stats-every SECONDS  and each time so many seconds went by\n"
+    "      --metrics FILE   the counters for Prometheus, by node_exporter's textfile collector, which wants a name that ends\n"
+    "                       in .prom; replaced whole every 5 seconds, and at the end\n"
     "  -h, --help           this text\n"
     "      --version        the library's version\n"
-    "An option's value may also follow after =, as in --idle=1. After -- comes the pass file.\n"
+    "An option's value may also follow after =, as in --idle=1. After -- comes the pass file.\n";
+
+static const char more_help[] =
     "\n"
     "In DIR:  0000001f.5.part is transfer 31, not complete, in file 5; 0000001f.5.page a complete one, 0000001f.5.meta its\n"
     "         path, times and checksum, 0000001f.5.sheet a page of text about it to be signed, 0000001f.5.differs a\n"
@@ -88,6 +97,8 @@ static int take_switch(const char *name)
         {"--no-fsync", "", &options.force, 0},           {"--quiet", "-q", &options.quiet, 1},
         {"--any-peer", "", &options.any_peer, 1},        {"--make-room", "", &options.make_room, 1},
         {"--repair-status", "", &options.repair_status, 1}, {"--list", "", &options.to_list, 1},
+        {"--json", "", &options.json, 1},                {"--no-live", "", &options.no_live, 1},
+        {"--stats", "", &options.stats, 1},
     };
     if (strcmp(name, "--version") == 0) {
         printf("saratoga-link (saratoga) %s\n", SARATOGA_VERSION);
@@ -95,6 +106,7 @@ static int take_switch(const char *name)
     }
     if (strcmp(name, "-h") == 0 || strcmp(name, "--help") == 0) {
         fputs(help, stdout);
+        fputs(more_help, stdout);
         exit(fflush(stdout) == 0 ? 0 : 1);
     }
     for (size_t i = 0; i < sizeof switches / sizeof switches[0]; i++) {
@@ -110,7 +122,8 @@ static int takes_value(const char *name)
 {
     static const char *const names[] = {"-d",        "--directory", "--udp",      "--address", "--peer",
                                         "--idle",    "--largest",   "--most-kept", "--close",  "--settings",
-                                        "--answers", "--linger",    "--forget-after", "--receive-buffer"};
+                                        "--answers", "--linger",    "--forget-after", "--receive-buffer",
+                                        "--stats-every", "--metrics"};
     for (size_t i = 0; i < sizeof names / sizeof names[0]; i++)
         if (strcmp(name, names[i]) == 0)
             return 1;
@@ -127,7 +140,7 @@ static int take_number(const char *name, const char *value)
         {"--idle", &options.idle, 0, LONGEST, 1},           {"--largest", &options.largest, 0, UINT64_MAX, 1},
         {"--most-kept", &options.most_kept, 0, UINT64_MAX, 1}, {"--linger", &options.linger, 0, LONGEST, 1000},
         {"--forget-after", &options.forget, 0, LONGEST, 1000}, {"--answers", &options.answers, 1, 1000000, 1},
-        {"--receive-buffer", &options.buffer, 1, 1 << 30, 1},
+        {"--receive-buffer", &options.buffer, 1, 1 << 30, 1}, {"--stats-every", &options.stats_every, 1, LONGEST, 1000},
     };
     for (size_t i = 0; i < sizeof numbers / sizeof numbers[0]; i++) {
         if (strcmp(name, numbers[i].name) == 0) {
@@ -158,6 +171,8 @@ static void take_value(const char *name, const char *value)
         options.to_close = value;
     } else if (strcmp(name, "--settings") == 0) {
         options.settings = value;
+    } else if (strcmp(name, "--metrics") == 0) {
+        options.metrics = value;
     } else {
         options.directory = value;
     }
@@ -172,6 +187,8 @@ static void judge(void)
         wrong_usage("--udp needs either --peer or --any-peer", "");
     if (options.settings != NULL && (options.to_list || options.to_close != NULL))
         wrong_usage("--settings goes with PASS or --udp", "");
+    if ((options.stats || options.stats_every > 0 || options.metrics != NULL) && (options.to_list || options.to_close != NULL))
+        wrong_usage("--stats, --stats-every and --metrics go with PASS or --udp", "");
 }
 
 void take_arguments(int count, char **arguments)

@@ -20,6 +20,7 @@ static void fail(const struct packet *p, uint64_t id, uint64_t code)
 static void refuse(const struct packet *p, uint64_t refusal, uint64_t code)
 {
     uint64_t id;
+    count_refusal(refusal);
     say(p->number, "refused %" PRIu64 " code=%" PRIu64, refusal, code);
     if (refusal == SARATOGA_REFUSED_AREA)
         die("the state in memory is no engine's: the program has a fault");
@@ -47,6 +48,7 @@ static int is_over_a_limit(const struct packet *p, const struct saratoga_packet 
         code = SARATOGA_CODE_RECEIVER_RESOURCES;
         say(p->number, "too-many id=%" PRIu64 " code=%" PRIu64, read->id, code);
     }
+    counters.rejected += code != 0;
     if (code != 0)
         fail(p, read->id, code);
     return code != 0;
@@ -91,6 +93,7 @@ static void write_fails(const char *name, int error)
 
 static void say_lost(const struct packet *p, const struct saratoga_packet *read)
 {
+    counters.lost++;
     if (read->type == SARATOGA_TYPE_DATA)
         say(p->number, "lost id=%" PRIu64 " offset=%" PRIu64 " length=%" PRIu64, read->id, read->offset, read->payload_len);
     else
@@ -328,9 +331,11 @@ static void refuse_data(const struct packet *p, const struct saratoga_packet *re
 {
     struct transfer *t = open_transfer(read->id);
     if (look->kind == SARATOGA_LOOK_STRANGER) {
+        counters.rejected++;
         say(p->number, "of-another-sender id=%" PRIu64 " code=%d", read->id, SARATOGA_CODE_UNKNOWN_ID);
         fail(p, read->id, SARATOGA_CODE_UNKNOWN_ID);
     } else if (look->number == SARATOGA_REFUSED_RUNS && options.repair_status && t != NULL) {
+        count_refusal(look->number);
         say(p->number, "refused %" PRIu64 " code=0", look->number);
         hear(t, p);
         t->repair = t->repair != 0 ? t->repair : covering_sync();

@@ -3,6 +3,7 @@ packets and files that mean harm. Run by test.py; each function takes the progra
 import hashlib
 import os
 import random
+import re
 import resource
 import signal
 import socket
@@ -39,9 +40,9 @@ class Link:
                         for pair in ((self.process.stdout, self.lines), (self.process.stderr, self.told))]
         for thread in self.threads:
             thread.start()
-        self.wait(lambda: any(" listening " in line for line in self.lines))
-        line, = [line for line in self.lines if " listening " in line]
-        self.port = int(line.split("port=")[1])
+        self.wait(lambda: any("listening" in line for line in self.lines))
+        line, = [line for line in self.lines if "listening" in line]
+        self.port = int(re.search(r"port\W+(\d+)", line)[1])  # of a plain line, or of JSON
         self.socket = socket.socket(socket.AF_INET, socket.SOCK_DGRAM)
         self.socket.bind((sender, 0))
         self.socket.settimeout(1.5 if SANITIZED else 0.5)

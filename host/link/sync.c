@@ -205,6 +205,8 @@ int finish_sync(void)
     if (!is_done(&syncer))
         return 0;
     was_good = job.error == 0;
+    counters.good_syncs += was_good;
+    counters.bad_syncs += !was_good;
     if (!was_good && !is_lack_of_room(job.error))
         die("%s: can't be forced to disk, or area not be replaced: %s", options.directory, strerror(job.error));
     saratoga_engine_synced(state, sizeof state, job.number, (uint64_t)was_good);

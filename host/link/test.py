@@ -1,6 +1,7 @@
 #!/usr/bin/env python3
 """Tests the link program end to end: on passes, cut off at every place between two writes, and over a lossy loopback
-while it is killed again and again; plant.py has the tests of what a plant does, sheets.py those of the check and the sheet.
+while it is killed again and again; plant.py has the tests of what a plant does, sheets.py those of the check and the sheet, seen.py
+and terminal.py those of what a program and a person see of it.
 Needs a C compiler, python3 and the archive; one or two minutes.
 
     host/link/test.py [SECONDS]     SECONDS bounds the part that kills the program (else 6)
@@ -28,7 +29,9 @@ from packets import END_OF_DATA, TIMESTAMP, UNASKED, WANTED, data, failure, meta
 import faults  # noqa: E402
 import kills  # noqa: E402
 import plant  # noqa: E402
+import seen  # noqa: E402
 import sheets  # noqa: E402
+import terminal  # noqa: E402
 import threaded  # noqa: E402
 
 
@@ -816,6 +819,29 @@ WRONG = {
         sheets.not_checked, "one->complete && t->verdict == SARATOGA_AGREES", "one->complete && t->verdict != SARATOGA_DIFFERS"),
     "leaves out of what is missing all that lies past the edge": (
         sheets.incomplete, "if (!more && one->edge == one->length)", "if (!more)"),
+    "prints numbers in JSON as doubles": (
+        seen.exact, "        put(w, value.at, value.length);\n",
+        "        { extern double strtod(const char *, char **); char text[40];\n"
+        "          put(w, text, (size_t)__builtin_sprintf(text, \"%.0f\", strtod(value.at, 0))); }\n"),
+    "takes flags that are digits for a number in JSON": (seen.exact, '"file", "flags", "heard"', '"file", "heard"'),
+    "leaves a backslash in JSON as it is": (seen.exact, "word.at[i] == '\"' || word.at[i] == '\\\\'", "word.at[i] == '\"'"),
+    "rounds percents up": (
+        seen.columns, "100 * one->received / one->length", "(100 * one->received + one->length - 1) / one->length"),
+    "counts no hole at the beginning of a file": (seen.columns, "    return count + (saratoga_transfer_hole(", "    return count + 0 * (saratoga_transfer_hole("),
+    "counts no refusal by its number": (seen.known_traffic, "counters.refused[number < MOST_REFUSALS ? number : 0]++;", "counters.refused[1]++;"),
+    "counts a packet of a further peer with the first": (seen.held_back, "    return &counters.others;", "    return &counters.peers[0];"),
+    "counts each time what the kernel dropped since the start": (
+        seen.dropped, "counters.dropped += (uint32_t)(count - dropped);", "counters.dropped += count;"),
+    "writes the file for Prometheus in place": (
+        seen.replaced_whole, "is_due(&written, METRICS_EVERY)", "is_due(&written, 1)", "open(new_name, O_WRONLY", "open(options.metrics, O_WRONLY",
+        "    return rename(new_name, options.metrics);", "    return 0;"),
+    "writes lines among live lines": (
+        terminal.nothing_is_garbled, "    if (beside_live && !hide_live(milliseconds))\n", "    if (0)\n"),
+    "takes one live line away of several": (terminal.nothing_is_garbled, '"\\r\\033[%dA\\033[J", shown);', '"\\r\\033[%dA\\033[J", 1);'),
+    "lets a live line run over the edge": (terminal.nothing_is_garbled, "    length = length < columns ? length : columns;\n", ""),
+    "waits for the reader of a terminal": (
+        terminal.nobody_reads, "O_WRONLY | O_NONBLOCK | O_NOCTTY", "O_WRONLY | O_NOCTTY"),
+    "draws live lines where others print from a pipe": (terminal.only_where_it_fits, "S_ISFIFO(seen.st_mode) || ", ""),
     "leaves the sheet of what is closed as it was": (
         sheets.incomplete, "    if (t->closing_len > 0 && !t->has_sheet) {\n", "    if (0) {\n"),
 }
@@ -893,6 +919,9 @@ def main():
         print("link: a hostile network, a careless operator and a failing machine find no mixed page, no silence and no stop")
         sheets.all_of_it(checked, fresh)
         print("link: pages that agree with their MD5, differ or aren't checked, and the sheets of all, are as expected")
+        seen.all_of_it(checked, fresh)
+        terminal.all_of_it(checked, fresh)
+        print(f"link: lines as JSON, {len(seen.EVENTS)} kinds, counters and live lines say what the plain lines say")
         places = cut_everywhere(cutting, fresh("cuts")), cut_while_an_id_is_used_again(cutting, fresh("again")), (
             cut_everywhere(cutting, fresh("replaced"), plant.two_files_of_one_id)), (
             cut_everywhere(cutting, fresh("spoilt"), sheets.spoilt))

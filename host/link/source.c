@@ -64,6 +64,7 @@ void from_pass(const char *name)
         struct packet p = {.number = number, .octets = octets, .length = (size_t)length};
         if (kind == 'P')
             take_packet(&p);
+        store_kept();
         passed_over += kind == 'O' || kind == 'D';
         drive();
         if (tick_is_due())

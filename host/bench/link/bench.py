@@ -167,7 +167,7 @@ def row(rate, loss, size, ours, uftp):
         return " / ".join(form.format(one[name] * scale) if one else "" for one in (uftp, ours))
     ratios = [f"{ours['mbit'] / uftp[name]:.2f}" if uftp else "" for name in ("mbit", "mbit_on_disk")]
     return "| " + " | ".join([f"{rate:,}" if rate else "as fast as it goes", f"{loss} %", pair("{:,.0f}", "mbit"), *ratios,
-                              pair("{:,}", "dropped"), pair("{:.1f} %", "again", 100), pair("{:.1f}", "cpu", 1e9 / size),
+                              pair("{:,.0f}", "dropped"), pair("{:.1f} %", "again", 100), pair("{:.1f}", "cpu", 1e9 / size),
                               pair("{:.1f}", "peak", 1 / (1 << 20))]) + " |"
 
 

@@ -23,8 +23,7 @@ LINK = os.path.join(ROOT, "target", "link", "saratoga-link")
 SEND = os.path.join(ROOT, "target", "send", "saratoga-send")
 PAYLOAD = 1400
 BUFFER = 8 << 20
-# Requests for STATUS: as few as leave the 64 runs of a transfer room for what is lost between two answers.
-ASK = {0: 1000, 1: 256, 5: 64}
+WAIT = "0.1"  # seconds: some syncs
 AIMS = ((1000, 0.97), (0, 0.5))
 
 
@@ -104,12 +103,18 @@ def forced(path):
     return time.monotonic() - begun
 
 
+def packets_between_requests(rate, loss):
+    """As many as leave room in a transfer's 64 runs for what is lost until an answer comes. Without a rate, four times as many are on the way."""
+    most = 1000 if loss == 0 else 256 if rate else 500
+    return max(16, min(most, int((320 if rate else 1000) / loss))) if loss else most
+
+
 def run_ours(place, page, size, rate, loss, seed):
     port, into = free_port(), os.path.join(place, "in")
     receiver = Receiver([LINK, "-d", into, "--udp", str(port), "--peer", "127.0.0.1", "--largest", str(size), "--receive-buffer", str(BUFFER),
                          "-q"], port, lossy(place, loss, seed + 1), os.path.join(place, "link.log"))
     try:
-        done = subprocess.run([SEND, "-q", "--payload", str(PAYLOAD), "--ask", str(ASK[loss]), "--id", "1",
+        done = subprocess.run([SEND, "-q", "--payload", str(PAYLOAD), "--ask", str(packets_between_requests(rate, loss)), "--wait", WAIT, "--id", "1",
                                *(["--rate", str(rate)] if rate else []), f"127.0.0.1:{port}", page],
                               capture_output=True, text=True, env=lossy(place, loss, seed, "sent"), check=False)
     finally:

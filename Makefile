@@ -18,6 +18,8 @@
 # make link     builds the link program, target/link/saratoga-link (docs/LINK.md)
 # make merge    builds the program that merges two plants' directories, target/merge/saratoga-merge (docs/LINK.md)
 # make gigabyte a page of a gigabyte through the link program, its MD5 against Python's; half a minute, two gigabytes of disk
+# make kills    kills the link program 2,000 times over a bad link and a bad disk, and compares every page that it reports; some minutes. KILLS=N, SEED=N
+#               optional; the seed is printed (docs/LINK.md)
 # make plan     builds the sender's planner, target/plan/saratoga-plan (docs/PLAN.md)
 # make send     builds the sender, target/send/saratoga-send (docs/SEND.md)
 # make settings builds the program for a plant's settings file, target/settings/saratoga-settings (docs/SETTINGS.md)
@@ -42,7 +44,7 @@ PASS ?= host/passes/page611.pass
 
 .PHONY: test test-extra lib shared engine simulate replay-program front replay compare soak stack bench-program bench bench-instructions bench-descriptors
 .PHONY: bench-engine bench-link
-.PHONY: link gigabyte send plan merge settings install uninstall deb clean help
+.PHONY: link gigabyte kills send plan merge settings install uninstall deb clean help
 
 help:
 	@sed -n '/^[^#]/q; s/^# //p' Makefile
@@ -138,8 +140,11 @@ link: lib engine
 	mkdir -p target/link
 	$(CC) $(LINK_FLAGS) $(LINK_SOURCES) $(ENGINE) $(ARCHIVE) -o target/link/saratoga-link
 
-gigabyte: lib
+gigabyte: lib engine
 	host/link/gigabyte.py
+
+kills: lib engine
+	host/link/kills.py $(if $(KILLS),--kills $(KILLS)) $(if $(SEED),--seed $(SEED))
 
 plan: lib
 	mkdir -p target/plan

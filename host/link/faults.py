@@ -7,9 +7,9 @@ import socket
 import subprocess
 import time
 
-from harness import SOURCES, WRAPPED, at, build, check, content, holds, is_there, numbers, page, records, run, stored
-from packets import WANTED, data, metadata
-from plant import NOSPACE, Link, is_complete, one_of_it
+from harness import at, check, content, failing, holds, is_there, numbers, page, records, run, stored
+from packets import UNASKED, WANTED, data, metadata, success
+from plant import STARTED, Link, is_complete, one_of_it
 
 ENDED = 0x080000  # bit 12 of METADATA
 UNKNOWN = bytes.fromhex("4400000600000007")
@@ -33,6 +33,27 @@ def other_octets(program, place):
     check(link.end() == 0, link.told)
     check(sum("ERROR: transfer 7: packet " in line and "brings other octets" in line for line in link.told) == 2, link.told)
     check(holds(place, f"00000007.{numbers(place, 7)[1]}.page", text), "the page was changed")
+
+
+def other_octets_before_the_report(program, place):
+    """`program` is built with nospace.c. A page that is complete and waits for its name isn't ended by other octets: the packet counts as lost."""
+    text, other, marker = page(100, 115), page(100, 116), os.path.join(os.path.dirname(place), "nospace")
+    link = Link(program, place, NOSPACE=marker)
+    link.quiet_send(metadata(7, 16, 100), data(7, 16, 0, text[:50], WANTED))
+    with open(marker, "w", encoding="ascii") as file:
+        file.write("p")
+    link.quiet_send(data(7, 16, 50, text[50:], WANTED))
+    for packet in (data(7, 16, 0, other), data(7, 16, 60, other[:9], WANTED)):
+        check(link.send(packet) is None, "answered, though the page is about to be reported")
+    os.remove(marker)
+    link.wait(lambda: any(" complete id=7 " in line for line in link.lines))
+    check([line for line in link.lines if " lost " in line] == ["4 lost id=7 offset=0 length=100", "5 lost id=7 offset=60 length=9"], link.lines)
+    check(sum("packet 4 brings other octets" in line and "count as lost" in line for line in link.told) == 1, link.told)
+    check(not any("packet 5" in line for line in link.told), link.told)
+    link.drain()
+    check(link.send(data(7, 16, 0, other, WANTED)) == UNKNOWN, "once it was reported other octets end it")
+    link.end()
+    check(holds(place, "00000007.page", text), "the page")
 
 
 def lingers(program, place):
@@ -77,6 +98,62 @@ def owners(program, place):
     check(link.send(data(7, 16, 0, text, WANTED)) == UNKNOWN, "the old owner is still heard")
     stranger.close()
     check(link.end() == 0 and holds(place, "00000007.page", text), link.told)
+
+
+def answered_after_a_kill(program, place):
+    """What was due when the program was killed is sent by the next one, to the owner that the area keeps, once it has a socket."""
+    link = Link(program, place)
+    check(link.send(metadata(7, 16, 100)) is not None, link.lines)
+    link.process.kill()
+    link.process.wait()
+    again = Link(program, place)
+    check(link.heard() == bytes.fromhex("440100000000000700000000"), again.lines)
+    check(again.end() == 0 and "0 send 440100000000000700000000" in again.lines, again.lines)
+    link.end()
+
+
+def shared_syncs(program, place):
+    """`program` is built with nospace.c. On a slow disk packets are taken while a thread syncs, and many openings and questions share one sync."""
+    text, marker = page(3000, 117), os.path.join(os.path.dirname(place), "nospace")
+    link = Link(program, place, NOSPACE=marker)
+    link.quiet_send(metadata(0, 16, 3000))
+    with open(marker, "w", encoding="ascii") as file:
+        file.write("z")
+    before, begun = syncs(place), time.monotonic()
+    for ident in range(1, 16):
+        link.socket.sendto(metadata(ident, 16, 20), ("127.0.0.1", link.port))
+    for start in range(0, 3000, 30):
+        link.socket.sendto(data(0, 16, start, text[start:start + 30], WANTED), ("127.0.0.1", link.port))
+    link.wait(lambda: sum(" record id=0 " in line for line in link.lines) == 100)
+    taken = time.monotonic() - begun
+    link.wait(lambda: {line.split()[2][8:16] for line in link.lines if " send 4401" in line} >= {f"{ident:08x}" for ident in range(1, 16)})
+    check(syncs(place) - before < 8, f"{syncs(place) - before} syncs for 15 openings and 100 questions")
+    check(taken < 1, f"packets waited {taken:.1f} s for a disk that takes 50 ms for each force")
+    os.remove(marker)
+    link.wait(lambda: any(" complete id=0 " in line for line in link.lines))
+    check(link.end() == 0 and holds(place, "00000000.page", text), link.told)
+
+
+def syncs(place):
+    """The number of the last sync."""
+    return int.from_bytes(content(place, "area")[32:40], "little")
+
+
+def unremovable(program, place):
+    """`program` is built with nospace.c. A `close` that can't be removed is told once, and isn't heard again and again."""
+    marker = os.path.join(os.path.dirname(place), "nospace")
+    with open(marker, "w", encoding="ascii") as file:
+        file.write("u")
+    link = Link(program, place, NOSPACE=marker)
+    link.quiet_send(metadata(31, 16, 100), data(31, 16, 0, b"x", WANTED))
+    with open(os.path.join(place, "close"), "w", encoding="ascii") as file:
+        file.write("31\n")
+    link.wait(lambda: link.told)
+    time.sleep(1)
+    check(len(link.told) == 1 and "can't be removed, and isn't heard" in link.told[0] and 31 in stored(place), link.told)
+    os.remove(marker)
+    link.wait(lambda: 31 not in stored(place))
+    link.end()
 
 
 def flipped_area(program, place):
@@ -171,7 +248,7 @@ def nobody_reads(program, place):
     text = page(60000, 110)
     reading, writing = os.pipe()
     process = subprocess.Popen([program, "-d", place, "--udp", "0", "--peer", "127.0.0.1"], stdout=writing, stderr=subprocess.PIPE)
-    Link.started.append(process)
+    STARTED.processes.append(process)
     os.close(writing)
     line = b""
     while not line.endswith(b"\n"):
@@ -265,15 +342,20 @@ def which_file_is_closed(program, place):
 
 
 def closed_descriptors(program, place):
-    """Without descriptors 0 to 2 no line goes into a file of the directory."""
-    done = subprocess.run(["sh", "-c", 'exec "$0" -d "$1" --udp 0 --any-peer --idle 1 <&- >&- 2>&-', program, place], check=False,
-                          timeout=20)
-    check(done.returncode in (0, 1), done)
-    check(all(b"listening" not in content(place, name) for name in os.listdir(place)), "a line went into a file")
+    """Without descriptors 0 to 2 no line and no message goes into a file of the directory."""
+    text, file = page(100, 118), os.path.join(os.path.dirname(place), "closed.pass")
+    with open(file, "wb") as made:
+        made.write(records([metadata(7, 16, 100), metadata(8, 16, 9, flags=0x11, checksum=b"\1\2\3\4"), data(7, 16, 0, text)]))
+    for source in (("--udp", "0", "--any-peer", "--idle", "1"), (file,)):
+        done = subprocess.run(["sh", "-c", 'exec "$@" <&- >&- 2>&-', "sh", program, "-d", place, *source], check=False, timeout=20)
+        check(done.returncode in (0, 1), done)
+    check(holds(place, "00000007.page", text), "the page")
+    check(all(b"listening" not in content(place, name) and b"is refused" not in content(place, name) for name in os.listdir(place)),
+          "a line went into a file")
 
 
 def one_without_a_name(program, place):
-    """A page that can't get its name holds nothing else up: others are reported, and make room."""
+    """A page that can't get its name holds nothing else up: others are reported, and make room. It isn't tried without a pause."""
     text = page(20, 114)
     link = Link(program, place)
     link.quiet_send(metadata(0, 16, 20))
@@ -285,8 +367,33 @@ def one_without_a_name(program, place):
     link.wait(lambda: sum(" complete id=" in line for line in link.lines) == 15)
     link.send(metadata(77, 16, 20))
     link.wait(lambda: any(" open id=77 " in line for line in link.lines))
+    before = ticks(link.process.pid)
+    time.sleep(1)
+    check(ticks(link.process.pid) - before < 30, "a page that waits for its name keeps the program at work")
     check(link.end() == 1, "a page without a name, and the exit status says nothing")
     check(sum("can't get its name" in line for line in link.told) == 1, link.told)
+
+
+def ticks(process):
+    """How much a process was at work, in hundredths of a second."""
+    fields = content(f"/proc/{process}/stat").rsplit(b")", 1)[1].split()
+    return int(fields[11]) + int(fields[12])
+
+
+def repair_status(program, place):
+    """With --repair-status each packet that needs a 65th run is answered with the STATUS, as of a sync; many share one."""
+    link = Link(program, place, "--repair-status")
+    link.quiet_send(metadata(7, 32, 9000))
+    for start in range(0, 128, 2):
+        link.socket.sendto(data(7, 32, start, b"x"), ("127.0.0.1", link.port))
+    for start in range(1000, 1400, 2):
+        link.socket.sendto(data(7, 32, start, b"x"), ("127.0.0.1", link.port))
+    heard = [link.heard()]
+    while heard[-1] is not None:
+        heard.append(link.heard())
+    check(1 < len(heard) < 100, f"{len(heard) - 1} STATUS for 200 packets that were refused")
+    check(all(answer == success(7, 32, 1, 127, [(at, at + 1) for at in range(1, 127, 2)], flags=UNASKED) for answer in heard[:-1]), heard[0])
+    check(link.end() == 0, link.told)
 
 
 def whole_lines(program, place):
@@ -296,7 +403,7 @@ def whole_lines(program, place):
         with open(log, "ab") as file:
             process = subprocess.Popen([program, "-d", place, "--no-fsync", "-"], stdin=subprocess.PIPE, stdout=file,
                                        stderr=subprocess.DEVNULL)
-        Link.started.append(process)
+        STARTED.processes.append(process)
         process.stdin.write(records([metadata(7, 16, 60000), *[data(7, 16, start, b"x" * 7) for start in range(0, 30000, 7)]]))
         process.stdin.flush()
         time.sleep(0.05)
@@ -328,13 +435,14 @@ def peers(program, place):
     check(version[0][0].startswith("saratoga-link (saratoga) ") and version[2] == 0, version)
 
 
-TESTS = (other_octets, lingers, owners, flipped_area, cut_short, ended_by_its_sender, full_table_is_told,
+TESTS = (other_octets, lingers, owners, answered_after_a_kill, flipped_area, cut_short, ended_by_its_sender, full_table_is_told,
          answers_from_where_it_was_asked, nobody_reads, few_answers, taken_as_documented, idle_and_strangers, which_file_is_closed,
-         closed_descriptors, one_without_a_name, whole_lines, peers)
+         closed_descriptors, one_without_a_name, repair_status, whole_lines, peers)
 
 
 def all_of_it(program, place):
     """Runs everything; `place` gives a new directory for a name."""
-    full = build([*SOURCES, NOSPACE], program + "-failing", *WRAPPED, "-Wl,--wrap=sendmsg")
-    for test, tested in [(test, program) for test in TESTS] + [(unwritable, full)]:
+    full = failing(program + "-failing")
+    for test, tested in [(test, program) for test in TESTS] + [
+            (test, full) for test in (unwritable, other_octets_before_the_report, shared_syncs, unremovable)]:
         one_of_it(test, tested, place(test.__name__))

@@ -30,10 +30,12 @@ static void take_signals(void)
     sigaction(SIGXFSZ, &ignore, NULL);
 }
 
-/* The directory is this program's until it ends. */
+/* The directory is this program's until it ends. What was due when an earlier one ended waits for the socket, if there is to be one. */
 static void run(void)
 {
     take_up();
+    if (options.port == NULL)
+        drive();
     if (options.to_close != NULL) {
         struct transfer *t = open_transfer(options.id_to_close);
         if (t == NULL || (options.file_to_close != 0 && options.file_to_close != t->file))

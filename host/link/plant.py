@@ -12,23 +12,29 @@ import sys
 import threading
 import time
 
-from harness import PLACE, SOURCES, WRAPPED, at, build, check, content, holds, is_there, page, records, run, stored
+from harness import PLACE, SANITIZED, SOURCES, at, build, check, content, failing, holds, is_there, page, records, run, stored
 from packets import (BUNDLES, END_OF_DATA, STREAMS, UNASKED, WANTED, beacon, data, metadata, record, success, time_record,
                      word)
 
-NOSPACE = os.path.join(PLACE, "nospace.c")
+
+class Started(threading.local):
+    """Processes that a test started. Each thread runs tests of its own."""
+
+    def __init__(self):
+        self.processes = []
+
+
+STARTED = Started()
 
 
 class Link:
     """The program on a socket of loopback, and a sender beside it."""
 
-    started = []
-
     def __init__(self, program, place, *options, sender="127.0.0.1", peer=("--peer", "127.0.0.1"), **environment):
         self.lines, self.told = [], []
         self.process = subprocess.Popen([program, "-d", place, "--udp", "0", *peer, *options], stdout=subprocess.PIPE,
                                         stderr=subprocess.PIPE, env=dict(os.environ, **environment))
-        self.started.append(self.process)
+        STARTED.processes.append(self.process)
         self.threads = [threading.Thread(target=self.read, args=pair, daemon=True)
                         for pair in ((self.process.stdout, self.lines), (self.process.stderr, self.told))]
         for thread in self.threads:
@@ -38,7 +44,7 @@ class Link:
         self.port = int(line.split("port=")[1])
         self.socket = socket.socket(socket.AF_INET, socket.SOCK_DGRAM)
         self.socket.bind((sender, 0))
-        self.socket.settimeout(0.5)
+        self.socket.settimeout(1.5 if SANITIZED else 0.5)
 
     @staticmethod
     def read(stream, lines):
@@ -211,7 +217,7 @@ def taken_away(program, place):
         first, second = data(7, 16, 0, text[:30], WANTED), data(7, 16, 30, text[30:50], WANTED)
         check(not is_complete(link.send(first), 100) and not is_complete(link.send(second), 100), "said to be complete")
         check(not any(name.endswith(".page") for name in os.listdir(place)), "a page")
-        link.wait(lambda: not stored(place).get(7) and not is_there(place, "00000007.part"))
+        link.wait(lambda: not stored(place).get(7) and not is_there(place, "00000007.part") and is_there(place, "00000007.sheet"))
         for name in os.listdir(place):
             if name.startswith("00000007"):
                 os.remove(os.path.join(place, name))
@@ -585,7 +591,7 @@ def stopped(program, place):
         os.mkdir(here)
         process = subprocess.Popen([program, "-d", here, "-q", "-"], stdin=subprocess.PIPE, stdout=subprocess.PIPE,
                                    stderr=subprocess.PIPE)
-        Link.started.append(process)
+        STARTED.processes.append(process)
         process.stdin.write(records([metadata(7, 16, 100), data(7, 16, 0, text[:40])]) + rest)
         process.stdin.flush()
         Link.wait(lambda: is_there(here, "00000007.part") and len(content(here, "00000007.part")) == 40)
@@ -751,7 +757,7 @@ def command_line(program, place):
 
 def all_of_it(program, place):
     """Runs everything; `place` gives a new directory for a name."""
-    full = build([*SOURCES, NOSPACE], program + "-full", *WRAPPED, "-Wl,--wrap=sendmsg")
+    full = failing(program + "-full")
     tests = [(test, program) for test in (used_again, no_crc_32c, never_overwritten, taken_away, full_table, operator,
                                           who_is_heard, two_senders, kept, what_is_known, runs, answers, many_holes, on_air,
                                           too_many_on_air, limits, stopped, traps, command_line)]
@@ -766,6 +772,6 @@ def one_of_it(test, program, place):
     except AssertionError as reason:
         raise AssertionError(f"{test.__name__}: {reason}") from reason
     finally:
-        for process in Link.started:  # a test that failed leaves none behind
+        for process in STARTED.processes:  # a test that failed leaves none behind
             if process.poll() is None:
                 process.kill()

@@ -84,6 +84,5 @@ void take_up(void)
         i += listed(one.id).number == 0; /* it may have been closed */
     }
     set_orphans_aside();
-    drive();
     flush_output();
 }

@@ -5,8 +5,10 @@ Needs a C compiler, python3 and the archive; one or two minutes.
 
     host/link/test.py [SECONDS]     SECONDS bounds the part that kills the program (else 6)
 
-With SHOW_WRONG set it prints how each program with another order of writes was found.
+With SHOW_WRONG set it prints how each program with another order of writes was found. With LINK_SANITIZE=thread, or address,undefined, all
+programs but the wrong ones are tested with that sanitizer.
 """
+import concurrent.futures
 import os
 import random
 import signal
@@ -19,12 +21,15 @@ import threading
 import time
 
 sys.dont_write_bytecode = True
-from harness import (AREA_HEAD, AREA_MAGIC, POWERCUT, SOURCES, WRAPPED, after_the_cut, at, build, check, compiled, content,  # noqa: E402
-                     holds, page, records, run, stamps, stem, stored)
+from harness import (AREA_HEAD, AREA_MAGIC, FAILS, NOSPACE, POWERCUT, SANITIZED, SOURCES, WRAPPED, after_the_cut, at, build,  # noqa: E402
+                     check, compiled, content, edited, failing, holds, page, records, run, sanitizer,
+                     stamps, stem, stored)
 from packets import END_OF_DATA, TIMESTAMP, UNASKED, WANTED, data, failure, metadata, record, success  # noqa: E402
 import faults  # noqa: E402
+import kills  # noqa: E402
 import plant  # noqa: E402
 import sheets  # noqa: E402
+import threaded  # noqa: E402
 
 
 def nothing_promised_is_missing(place, originals, lines=()):
@@ -661,10 +666,20 @@ def loopback(program, place, address, seconds, options):
 # Programs that write in another order, or take an option and don't do what it says, which the tests must find.
 
 
-ENDED, CUT = "ended", "power cut"
-# Which test finds it: one that ends the program, with its pass, or a function.
-TWO, TWO_CUT = (ENDED, two_transfers), (CUT, two_transfers)
-REPLACED, SPOILT = (ENDED, plant.two_files_of_one_id), (ENDED, sheets.spoilt)
+def threads_ended(program, place, step=9):
+    return threaded.ended(program, place, two_transfers, nothing_promised_is_missing, step)
+
+
+def threads_cut(program, place, plain=None, step=9):
+    return threaded.power_cuts(program, plain, place, two_transfers, nothing_promised_is_missing, step)
+
+
+AT_ONCE = 4  # wrong programs that are tried beside each other
+ENDED, CUT, FULL = "ended", "power cut", "calls that fail"
+# Which test finds it: a function, or how the program is built for it and a function.
+TWO, TWO_CUT = (ENDED, cut_everywhere), (CUT, lambda program, place: power_cuts(program, None, place))
+REPLACED = (ENDED, lambda program, place: cut_everywhere(program, place, plant.two_files_of_one_id))
+SPOILT = (ENDED, lambda program, place: cut_everywhere(program, place, sheets.spoilt))
 
 WRONG = {
     "tells the engine of octets before they are written": (
@@ -683,6 +698,9 @@ WRONG = {
         faults.other_octets, "    if (look->kind == SARATOGA_LOOK_COMPARE) {\n", "    if (0) {\n"),
     "writes the area in place": (
         TWO, 'snprintf(new_name, sizeof new_name, "%s.new", name);', 'snprintf(new_name, sizeof new_name, "%s", name);'),
+    "tells the engine that a sync is good while the thread is at work": (
+        (CUT, threads_cut), "    start_worker(&syncer, run_sync, NULL);\n",
+        "    start_worker(&syncer, run_sync, NULL);\n    saratoga_engine_synced(state, sizeof state, sync.sync, 1);\n"),
     "answers before the area is saved": (
         TWO, "    start_worker(&syncer, run_sync, NULL);\n",
         "    saratoga_engine_synced(state, sizeof state, sync.sync, 1);\n    for (size_t i = 0; i < MOST_FILES; i++) {\n"
@@ -704,6 +722,45 @@ WRONG = {
     "uses file numbers again after a restart": (
         REPLACED, "    job.area.next = used + RESERVED;\n", "    job.area.next = 1;\n",
         "    return bound == used || save_number(used) == 0;", "    return 1;"),
+    "ends a complete page that waits for its report": (
+        (FULL, faults.other_octets_before_the_report), "    int is_closed = open_transfer(t->id) != t;\n", "    int is_closed = 1;\n"),
+    "lets a complete page linger for ever": (faults.lingers, " INTERVAL, options.linger,", " INTERVAL, UINT64_MAX,"),
+    "never forgets": (faults.full_table_is_told, "options.forget, *from);", "0, *from);"),
+    "tells nobody of a full table": (faults.full_table_is_told, "REFUSED_TABLE_FULL && now_ms() >= full_until", "REFUSED_TABLE_FULL && 0"),
+    "answers before it has a socket": (faults.answered_after_a_kill, "    if (options.port == NULL)\n        drive();\n", "    drive();\n"),
+    "takes a .part that was cut": (
+        faults.cut_short, "    return length >= 0 && (uint64_t)length >= t->size && has_name(", "    return length >= 0 && has_name(",
+        "(uint64_t)seen.st_size < t->size;", "0;", "    if (!has_name(t->fd, name) || !file_has_length(name, one.length)) {\n", "    if (0) {\n"),
+    "lets a second program in": (faults.cut_short, "    if (flock(directory, (to_read", "    if (1 || flock(directory, (to_read"),
+    "goes on with what its sender ended": (
+        faults.ended_by_its_sender, "    int ends = met->kind == SARATOGA_MEET_ENDED;\n",
+        "    int ends = 0;\n    if (met->kind == SARATOGA_MEET_ENDED)\n        return;\n"),
+    "ends with status 0 where packets could not be written": (
+        (FULL, faults.unwritable), "    something_is_lost();\n    count++;\n", "    count++;\n"),
+    "tells of every packet that could not be written": (
+        (FULL, faults.unwritable), "    quiet_until = now_ms() + 60000;\n", ""),
+    "answers from any address": (
+        faults.answers_from_where_it_was_asked, "    if (route->family == AF_INET && of == AF_INET) {\n", "    if (0) {\n"),
+    "waits for whoever reads its lines": (
+        faults.nobody_reads, "    if (poll(&wait, 1, milliseconds) <= 0)\n", "    if (poll(&wait, 1, -1) <= 0)\n"),
+    "answers as often as it is asked": (
+        faults.few_answers, "    if (socket_fd < 0 || is_ending())\n", "    if (1)\n"),
+    "takes no packet while it syncs": ((FULL, faults.shared_syncs), "    if (!with_threads) {\n", "    if (1) {\n"),
+    "finds a fault where a page was taken away": (faults.taken_as_documented, "    if (slot->reported && is_gone)\n", "    if (0)\n"),
+    "goes on for senders that it doesn't hear": (
+        faults.idle_and_strangers, "ready[0].revents != 0 && take_batch(&number) > 0)", "ready[0].revents != 0 && (take_batch(&number), 1))"),
+    "hears the first line of a request alone": (faults.which_file_is_closed, "        done += length + 1;\n", "        done = have;\n"),
+    "tells ten times a second that close can't be removed": (
+        (FULL, faults.unremovable), "    told = 0;\n    while", "    while", "        told = 1;\n        return;\n", "        return;\n"),
+    "writes lines into a file where descriptors are closed": (
+        faults.closed_descriptors, "    open_output();\n    take_arguments", "    take_arguments"),
+    "lets one page without a name hold up all others": (
+        faults.one_without_a_name, "open_transfer(due.id)->put_off <= now)", "1)"),
+    "tries again and again what can't be done": (
+        faults.one_without_a_name, "    return (int)(until - now);\n", "    return 0;\n"),
+    "answers no refused packet where others came since": (
+        faults.repair_status, "        t->repair = t->repair != 0 ? t->repair : covering_sync();\n", "        t->repair = UINT64_MAX;\n"),
+    "dies of SIGHUP": (faults.whole_lines, "    sigaction(SIGHUP, &action, NULL);\n", ""),
     "makes no room, whatever --make-room says": (
         plant.full_table, "slot.reported || options.make_room", "slot.reported || 0"),
     "makes room by the Id, and not by who was heard longest ago": (
@@ -747,7 +804,7 @@ WRONG = {
         sheets.agrees, "            saratoga_md5_add(", "            if (have == 0) saratoga_md5_add("),
     "ends with status 0 where a page differs": (sheets.differs, "    return STATUS_DIFFERS;", "    return 0;"),
     "tells a sender that a page which differs is complete": (
-        sheets.sent_again, ".complete && !is_ready(t))", ".complete && 0)"),
+        sheets.sent_again, "    int named = is_ready(t) ? give_name(t) : -1;\n", "    int named = 1;\n"),
     "gives a page its name before its sheet": (
         TWO, "    if (!has_its_sheet(t, \"page\"))\n", "    rename_to(t, \"page\");\n    cut_point(\"early\");\n    if (!has_its_sheet(t, \"page\"))\n"),
     "writes a sheet in place": (
@@ -765,38 +822,46 @@ WRONG = {
 
 
 def wrong_programs(place):
-    """Each edit stands once in the sources. What isn't edited is compiled once, with cut points and without."""
-    sources = {path: content(path).decode() for path in SOURCES}
+    """What isn't edited is compiled once, with cut points and without; what a test links beside it too."""
     made = {cuts: {path: compiled(path, os.path.join(place, f"{number}{cuts}.o"), *([cuts] if cuts else []))
                    for number, path in enumerate(SOURCES)} for cuts in ("", "-DLINK_CUT_POINTS")}
-    power = compiled(POWERCUT, os.path.join(place, "powercut.o"))
-    for number, (what, (test, *edits)) in enumerate(WRONG.items()):
+    beside = {CUT: ([compiled(POWERCUT, os.path.join(place, "powercut.o"))], WRAPPED),
+              FULL: ([compiled(NOSPACE, os.path.join(place, "nospace.o"))], [*WRAPPED, FAILS])}
+
+    def tried(number, what, test, edits):
+        """Why a program was found wrong; None where it wasn't."""
         here = os.path.join(place, str(number))
         os.mkdir(here)
-        edited = {}
-        for old, new in zip(edits[::2], edits[1::2]):
-            places = [path for path in SOURCES for _ in range(sources[path].count(old))]
-            check(len(places) == 1, f"{what}: {old!r} stands {len(places)} times")
-            edited[places[0]] = edited.get(places[0], sources[places[0]]).replace(old, new)
-        ended = not callable(test) and test[0] == ENDED
-        objects = dict(made["-DLINK_CUT_POINTS" if ended else ""])
-        for path, text in edited.items():
-            name = os.path.join(place, f"{number}-{os.path.basename(path)}")
-            with open(name, "w", encoding="utf-8") as file:
-                file.write(text)
-            objects[path] = compiled(name, name + ".o", "-w", *(["-DLINK_CUT_POINTS"] if ended else []))
+        kind, test = ("", test) if callable(test) else test
+        cuts = ["-DLINK_CUT_POINTS"] if kind == ENDED else []
+        objects = dict(made["".join(cuts)])
+        changed = here + ".edited"
+        os.mkdir(changed)
+        for path, name in edited(edits, changed).items():
+            objects[path] = compiled(name, name + ".o", "-w", *cuts)
+        more, options = beside.get(kind, ([], []))
         try:
-            if callable(test):
-                plant.one_of_it(test, build(objects.values(), here + ".out"), here)
-            elif ended:
-                cut_everywhere(build(objects.values(), here + ".out"), here, test[1])
-            else:
-                power_cuts(build([*objects.values(), power], here + ".out", *WRAPPED), None, here, test[1])
+            plant.one_of_it(test, build([*objects.values(), *more], here + ".out", *options), here)
         except AssertionError as reason:
+            return f"a program that {what}: {reason}"
+        return None
+
+    with concurrent.futures.ThreadPoolExecutor(AT_ONCE) as pool:  # most of them wait most of the time
+        for what, reason in zip(WRONG, pool.map(tried, range(len(WRONG)), WRONG, *zip(*((test, edits) for test, *edits in WRONG.values())))):
+            check(reason, f"a program that {what} isn't found")
             if os.environ.get("SHOW_WRONG"):
-                print(f"link: a program that {what}: {reason}")
-            continue
-        check(False, f"a program that {what} isn't found")
+                print(f"link: {reason}")
+
+
+def sanitized(program, name, make=lambda out, *options: build(SOURCES, out, *options)):
+    """The program with a sanitizer; without one where the compiler has none, or where all are built with one."""
+    if SANITIZED:
+        return program
+    try:
+        return make(program + "-" + name, *sanitizer(name))
+    except subprocess.CalledProcessError:
+        print(f"link: skipped with sanitizers: the compiler doesn't support {name}")
+        return program
 
 
 def main():
@@ -818,12 +883,7 @@ def main():
         more_than_sixteen(program, fresh("sixteen"))
         descriptors_of_128_bits(program, fresh("wide"))
         longest_status(program, fresh("longest"))
-        try:
-            checked = build(SOURCES, os.path.join(place, "saratoga-link-sanitized"), "-fsanitize=address,undefined",
-                            "-fno-sanitize-recover=all")
-        except subprocess.CalledProcessError:
-            print("link: skipped with sanitizers: the compiler doesn't support them")
-            checked = program
+        checked, racing = sanitized(program, "address,undefined"), sanitized(program, "thread", failing)
         any_octets(checked, fresh("any"))
         print("link: passes, timestamps, settings, damaged packets, restarts, wrong input and areas of another layout are as "
               "expected")
@@ -841,9 +901,17 @@ def main():
             power_cuts(power, program, fresh("power-replaced"), plant.two_files_of_one_id)) + (
             power_cuts(power, program, fresh("power-spoilt"), sheets.spoilt))
         print(f"link: power cut at each of {calls} calls, whatever of the rest is on disk nothing promised is missing")
-        wrong_programs(fresh("wrong"))
-        print(f"link: {len(WRONG)} programs with another order of writes, or an option that does nothing, are found")
+        places, calls = threads_ended(cutting, fresh("threads")), threads_cut(power, fresh("threads-power"), program)
+        print(f"link: on a socket, with a thread that syncs, ended at {places} places and cut at {calls} calls: nothing promised is missing")
+        if not SANITIZED:
+            wrong_programs(fresh("wrong"))
+            print(f"link: {len(WRONG)} programs with another order of writes, or an option that does nothing, are found")
         print("link: " + loopback(program, fresh("four"), "127.0.0.1", seconds, ()))
+        print("link: " + kills.soak(failing(os.path.join(place, "saratoga-link-failing")), fresh("kills"), 40, 32))
+        if not SANITIZED:
+            kills.wrong_programs(fresh("kills-wrong"), 100, 32, ("doesn't keep whose an Id is", "reports a page before a sync has saved it"))
+        if racing != program:
+            print("link: with ThreadSanitizer: " + kills.soak(racing, fresh("racing"), 15, 33))
         try:
             socket.socket(socket.AF_INET6, socket.SOCK_DGRAM).bind(("::1", 0))
         except OSError:

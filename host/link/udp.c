@@ -160,6 +160,7 @@ void from_socket(const char *host, const char *port, uint64_t idle)
     with_threads = 1;
     listen_on(host, port);
     prepare_batch();
+    drive();
     for (uint64_t last = now_ms(); !stopped && (idle == 0 || now_ms() - last < 1000 * idle);) {
         struct pollfd ready[2] = {{.fd = socket_fd, .events = POLLIN}, {.fd = wake_descriptor(), .events = POLLIN}};
         if (poll(ready, 2, 0) == 0) {

@@ -309,7 +309,7 @@ static void lose_stretch(const struct packet *p, const struct saratoga_packet *r
     int error = errno;
     name_of_file(name, t);
     lose(p, read, name, error);
-    if (!is_where_it_was(t))
+    if (t->why == NULL && !is_where_it_was(t))
         lose_file(p, t);
 }
 
@@ -405,16 +405,18 @@ void store_kept(void)
     const struct packet all = {.octets = kept.octets};
     const struct saratoga_look look = {.kind = SARATOGA_LOOK_WRITE, .from = kept.from, .to = kept.to};
     size_t count = kept.count;
-    int well = count > 0 ? do_stretch(kept.t, &all, &look) : 0, error = errno;
+    if (count == 0)
+        return;
     kept.count = 0;
+    int well = do_stretch(kept.t, &all, &look), error = errno;
     for (size_t i = 0; i < count; i++) {
         const struct packet *p = &kept.packets[i];
         struct saratoga_packet read = saratoga_read(p->octets, p->length);
-        struct saratoga_recorded recorded = saratoga_try_record(state, SARATOGA_AREA_OCTETS, p->octets, p->length);
-        errno = error;
-        if (well < 0 && kept.t->used && kept.t->why == NULL) {
+        if (well < 0) {
+            errno = error;
             lose_stretch(p, &read, kept.t);
-        } else if (well > 0) {
+        } else {
+            struct saratoga_recorded recorded = saratoga_try_record(state, SARATOGA_AREA_OCTETS, p->octets, p->length);
             tell_engine(p, 0, 1);
             has_recorded(p, &read, kept.t, &recorded);
         }

@@ -11,6 +11,9 @@
 # make stack    prints the stack that each function needs
 # make bench    measures the library beside plain C and prints the ratios; docs/BENCHMARKS.md
 # make bench-instructions   the same in instructions, by callgrind
+# make bench-engine  the engine: nanoseconds a call, packets a second with and without writes, and its share of a packet's time in the link program
+# make bench-link   the link program and saratoga-send beside uftp on loopback, some 15 minutes and 2 GB of disk; SIZE=octets, RATES=100,0,
+#               LOSSES=0,1,5 and REPEATS=N optional
 # make bench-descriptors    reading a descriptor now, at earlier commits and in plain C, in time and instructions; needs the history
 # make link     builds the link program, target/link/saratoga-link (docs/LINK.md)
 # make merge    builds the program that merges two plants' directories, target/merge/saratoga-merge (docs/LINK.md)
@@ -41,6 +44,7 @@ BENCH_FLAGS = -O2 -Wall -Wextra -Iinclude
 PASS ?= host/passes/page611.pass
 
 .PHONY: test test-extra lib shared engine simulate replay-program front replay compare soak stack bench-program bench bench-instructions bench-descriptors
+.PHONY: bench-engine bench-link
 .PHONY: link gigabyte kills send plan merge settings install uninstall deb clean help
 
 help:
@@ -117,9 +121,25 @@ bench-instructions: bench-program
 bench-descriptors:
 	CC='$(CC)' REPEATS='$(REPEATS)' host/bench/descriptors/run
 
+WRAPPED = $(foreach name,read try_record engine_look engine_stored engine_next engine_sync engine_synced engine_tell,-Wl,--wrap=saratoga_$(name))
+
+bench-engine: lib engine send
+	mkdir -p target/bench
+	$(CC) -std=c11 $(BENCH_FLAGS) host/bench/engine/engine.c $(ENGINE) $(ARCHIVE) -o target/bench/engine
+	$(CC) $(LINK_FLAGS) host/bench/link/share.c $(LINK_SOURCES) $(ENGINE) $(ARCHIVE) $(WRAPPED) -o target/bench/saratoga-link-counted
+	target/bench/engine target/bench
+	host/bench/link/share.py
+
+bench-link: link send
+	mkdir -p target/bench
+	$(CC) -O2 -Wall -Wextra -fPIC -shared host/bench/link/lossy.c -o target/bench/lossy.so -ldl
+	host/bench/link/bench.py $(if $(SIZE),--size $(SIZE)) $(if $(RATES),--rates $(RATES)) $(if $(LOSSES),--losses $(LOSSES)) $(if $(REPEATS),--repeats $(REPEATS))
+
+LINK_FLAGS = -std=c11 -Wall -Wextra -pedantic -O2 -pthread -Iinclude
+
 link: lib engine
 	mkdir -p target/link
-	$(CC) -std=c11 -Wall -Wextra -pedantic -O2 -pthread -Iinclude $(LINK_SOURCES) $(ENGINE) $(ARCHIVE) -o target/link/saratoga-link
+	$(CC) $(LINK_FLAGS) $(LINK_SOURCES) $(ENGINE) $(ARCHIVE) -o target/link/saratoga-link
 
 gigabyte: lib engine
 	host/link/gigabyte.py

@@ -134,6 +134,33 @@ def shared_syncs(program, place):
     check(link.end() == 0 and holds(place, "00000000.page", text), link.told)
 
 
+def one_batch(program, place):
+    """Packets that come together do what they do one by one, as on a pass: octets that follow on each other, are another transfer's, come again,
+    or stand on both sides of what was received."""
+    long, first, second = page(180000, 118), page(1000, 119), page(400, 120)
+    before = [metadata(6, 32, 180000), metadata(7, 16, 1000), metadata(8, 16, 400), data(7, 16, 300, first[300:400], WANTED)]
+    batch = [data(7, 16, 200, first[200:300]), data(7, 16, 400, first[400:500]), data(7, 16, 500, first[500:600]), data(8, 16, 600, b"x"),
+             data(8, 16, 0, second[:100]), data(7, 16, 100, first[100:200]), data(8, 16, 200, second[200:300]), data(7, 16, 0, first[:100]),
+             data(8, 16, 100, second[100:200]), data(8, 16, 100, second[100:200]), data(7, 16, 550, first[550:700]), b"",
+             data(7, 16, 700, first[700:]), *(data(6, 32, start, long[start:start + 60000]) for start in range(0, 180000, 60000)),
+             data(8, 16, 300, second[300:]), metadata(9, 16, 0)]
+    other = place + "-pass"
+    os.mkdir(other)
+    expected = [line for line in run(program, other, "-", octets=records(before + batch))[0] if " record " in line or " refused " in line]
+    link = Link(program, place)
+    link.quiet_send(*before)
+    os.kill(link.process.pid, signal.SIGSTOP)
+    for packet in batch:
+        link.socket.sendto(packet, ("127.0.0.1", link.port))
+    os.kill(link.process.pid, signal.SIGCONT)
+    link.wait(lambda: sum(" complete id=" in line for line in link.lines) == 4)
+    got = [line for line in link.lines if " record " in line or " refused " in line]
+    check(got == expected and len(got) == 18, (got, expected))
+    check(link.end() == 0, link.told)
+    for ident, octets in ((6, long), (7, first), (8, second)):
+        check(holds(place, f"0000000{ident}.page", octets), f"page {ident}")
+
+
 def syncs(place):
     """The number of the last sync."""
     return int.from_bytes(content(place, "area")[32:40], "little")
@@ -435,7 +462,7 @@ def peers(program, place):
     check(version[0][0].startswith("saratoga-link (saratoga) ") and version[2] == 0, version)
 
 
-TESTS = (other_octets, lingers, owners, answered_after_a_kill, flipped_area, cut_short, ended_by_its_sender, full_table_is_told,
+TESTS = (other_octets, one_batch, lingers, owners, answered_after_a_kill, flipped_area, cut_short, ended_by_its_sender, full_table_is_told,
          answers_from_where_it_was_asked, nobody_reads, few_answers, taken_as_documented, idle_and_strangers, which_file_is_closed,
          closed_descriptors, one_without_a_name, repair_status, whole_lines, peers)
 

@@ -383,6 +383,7 @@ void tell_unsent(void);
 
 /* packets.c */
 void take_packet(const struct packet *p);
+void store_kept(void);
 
 /* onair.c */
 void hear_beacon(const struct packet *p, const struct saratoga_packet *read);

@@ -67,6 +67,7 @@ void from_pass(const char *name)
             count_packet(&p);
             take_packet(&p);
         }
+        store_kept();
         passed_over += kind == 'O' || kind == 'D';
         drive();
         if (tick_is_due()) {

@@ -686,14 +686,21 @@ SPOILT = (ENDED, lambda program, place: cut_everywhere(program, place, sheets.sp
 
 WRONG = {
     "tells the engine of octets before they are written": (
-        TWO, "        int well = do_stretch(t, p, &look);\n",
-        "        saratoga_engine_stored(state, sizeof state, now_ms(), 0, 0, 0, p->octets, p->length, from, 1);\n"
-        "        begin_sync(); finish_sync();\n        int well = do_stretch(t, p, &look);\n"),
+        TWO, "    int well = do_stretch(kept.t, &all, &look), error = errno;\n",
+        "    for (size_t i = 0; i < count; i++)\n        tell_engine(&kept.packets[i], 0, 1);\n    begin_sync(); finish_sync();\n"
+        "    int well = do_stretch(kept.t, &all, &look), error = errno;\n"),
     "reports before the last payload is written": (
-        TWO, "    if (!store_all(p, read, look))\n",
-        "    if (recorded.complete) { static char d[MOST_META]; meta_for_report(d, t);\n"
-        "        report(\"%d complete id=%d length=%d file=%08x.%d.page %s\", 1, (int)read->id, 1, (int)read->id, (int)t->file, d); }\n"
-        "    if (!store_all(p, read, look))\n"),
+        TWO, "    int well = do_stretch(kept.t, &all, &look), error = errno;\n",
+        "    int id = (int)kept.t->id; const struct packet *last = &kept.packets[count - 1]; static char d[MOST_META]; meta_for_report(d, kept.t);\n"
+        "    if (saratoga_try_record(state, SARATOGA_AREA_OCTETS, last->octets, last->length).complete)\n"
+        "        report(\"%d complete id=%d length=%d file=%08x.%d.page %s\", 1, id, 1, id, (int)kept.t->file, d);\n"
+        "    int well = do_stretch(kept.t, &all, &look), error = errno;\n"),
+    "writes together what doesn't follow on each other": (faults.one_batch, "look->from == kept.to && ", ""),
+    "writes octets of two transfers into one file": (faults.one_batch, "look->id == kept.t->id && look->file == kept.t->file &&", ""),
+    "writes more together than it has room for": (faults.one_batch, "look->to - kept.from <= MOST_KEPT_OCTETS", "1"),
+    "keeps the last packets of a batch": (faults.one_batch, "    store_kept();\n    return taken;\n", "    return taken;\n"),
+    "tells the engine of octets that could not be written": (
+        (FULL, faults.unwritable), "        if (well < 0) {\n            errno = error;\n", "        if (0) {\n            errno = error;\n"),
     "reports a page before its name is on disk for good": (
         TWO_CUT, "    cut_point(\"between the page's name and its report\");\n", "    if (named == 1)\n        report_page(t);\n"),
     "compares nothing": (faults.other_octets, "        return fd < 0 ? -1 : has_octets(fd, octets, count, look->from);", "        return 1;"),

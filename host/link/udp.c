@@ -141,6 +141,7 @@ static unsigned take_batch(uint64_t *number)
         message->msg_namelen = sizeof addresses[i];
         message->msg_controllen = sizeof controls[i];
     }
+    store_kept();
     return taken;
 }
 

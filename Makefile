@@ -29,8 +29,8 @@ ENGINE = target/staticlib/libsaratoga_engine.a
 PLAN_SOURCES = $(addprefix host/plan/,plan.c input.c reason.c)
 SEND_SOURCES = $(addprefix host/send/,send.c options.c page.c transfer.c round.c run.c wire.c lines.c)
 LINK_SOURCES = $(addprefix host/link/,link.c options.c source.c udp.c peers.c packets.c answers.c shell.c sync.c worker.c area.c pages.c closing.c \
-	start.c files.c disk.c meta.c check.c sheet.c onair.c control.c settings.c text.c output.c)
-MERGE_SOURCES = $(addprefix host/merge/,merge.c octets.c) $(addprefix host/link/,area.c files.c disk.c meta.c text.c output.c)
+	start.c files.c disk.c meta.c check.c sheet.c onair.c control.c settings.c text.c output.c log.c config.c hook.c notify.c)
+MERGE_SOURCES = $(addprefix host/merge/,merge.c octets.c) $(addprefix host/link/,area.c files.c disk.c meta.c text.c output.c log.c)
 SIMULATE_SOURCES = $(addprefix host/simulate/,simulate.c disk.c network.c judge.c listen.c shell.c first.c second.c)
 SETTINGS_SOURCES = $(addprefix host/settings/,settings.c fault.c store.c)
 BENCH_FLAGS = -O2 -Wall -Wextra -Iinclude

@@ -17,12 +17,13 @@ ARCHIVE = os.path.join(ROOT, "target", "staticlib", "libsaratoga.a")
 ARCHIVES = [os.path.join(ROOT, "target", "staticlib", f"libsaratoga{name}.a") for name in ("_engine", "")]
 SOURCES = [os.path.join(PLACE, name + ".c") for name in (
     "link", "options", "source", "udp", "peers", "packets", "answers", "shell", "sync", "worker", "area", "pages", "closing", "start",
-    "files", "disk", "meta", "check", "sheet", "onair", "control", "settings", "text", "output")]
+    "files", "disk", "meta", "check", "sheet", "onair", "control", "settings", "text", "output", "log", "config", "hook",
+    "notify")]
 POWERCUT = os.path.join(PLACE, "powercut.c")
 WRAPPED = ["-Wl," + ",".join(f"--wrap={name}" for name in (
     "openat", "openat64", "pwrite", "pwrite64", "renameat", "fsync"))]
 AREA_MAGIC, AREA_HEAD, AREA_WORDS, SLOT_WORDS, PLACES = b"saratoga-area 3\n", 48, 2161, 11, 16
-ENDINGS = ("part", "page", "differs", "meta", "sheet", "aside")
+ENDINGS = ("part", "page", "differs", "meta", "sheet", "aside", "hook")
 
 
 def check(holds, what):

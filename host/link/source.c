@@ -57,15 +57,17 @@ void from_pass(const char *name)
     uint64_t passed_over = 0, number = 1;
     long length = 0;
     char kind;
-    FILE *file = strcmp(name, "-") == 0 ? stdin : fopen(name, "rb");
+    FILE *file = strcmp(name, "-") == 0 ? stdin : fopen(name, "rbe");
     if (file == NULL)
         die("%s: can't be opened: %s", name, strerror(errno));
+    tell_ready("packets of a pass");
     for (; !stopped && (length = read_record(file, &kind, octets)) >= 0; number++) {
         struct packet p = {.number = number, .octets = octets, .length = (size_t)length};
         if (kind == 'P')
             take_packet(&p);
         passed_over += kind == 'O' || kind == 'D';
         drive();
+        attend();
         if (tick_is_due())
             hear_operator();
     }

@@ -3,8 +3,9 @@
  * pwrite, renameat and fsync (--wrap). While the file named by NOSPACE holds the letter of a call (o, w, r, f), that
  * call fails with ENOSPC; o only where a file is to be made. Letter p is a complete file that is to get its name, d the
  * force to disk after that, h a sheet that is to get its name. Letter s is an answer that can't be sent, e a write that fails with EIO.
+ * While it holds z, nothing comes to an end that is to be forced to disk.
  */
-#define _POSIX_C_SOURCE 200809L
+#define _DEFAULT_SOURCE
 #define _FILE_OFFSET_BITS 64
 
 #include <errno.h>
@@ -81,6 +82,8 @@ int __wrap_renameat(int directory, const char *name, int other, const char *new_
 
 int __wrap_fsync(int fd)
 {
+    while (full('z'))
+        usleep(10000);
     return full('f') || (page_was_named && full('d')) ? -1 : __real_fsync(fd);
 }
 

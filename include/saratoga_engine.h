@@ -102,9 +102,10 @@ struct saratoga_look saratoga_engine_look(const uint8_t *state, size_t state_len
                                           uint64_t port, const uint8_t *packet, size_t packet_len, uint64_t from);
 
 /*
- * It was done: `well` is 0 where the write failed, or the octets differ. A write that failed changes nothing; octets that differ end
- * the transfer: set its file aside, and send failure 6. So where the file can't be read for a comparison, do not call this: leave the
- * rest of the packet, which counts as lost.
+ * It was done: `well` is 0 where the write failed, or the octets differ. A write that failed changes nothing. Octets that differ end
+ * the transfer, unless its page is complete and not reported: then nothing changes. Where it ended, saratoga_engine_look refuses the
+ * packet with 12 from then on: set its file aside, and send failure 6. So where the file can't be read for a comparison, do not call
+ * this: leave the rest of the packet, which counts as lost.
  */
 struct saratoga_look saratoga_engine_stored(uint8_t *state, size_t state_len, uint64_t time, uint64_t high, uint64_t low,
                                             uint64_t port, const uint8_t *packet, size_t packet_len, uint64_t from,

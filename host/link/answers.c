@@ -104,13 +104,11 @@ void send_failure(uint64_t number, const struct sender *to, const struct route *
         answer(number, to, route, out, (size_t)written.size);
 }
 
-/* Whether what a STATUS says of a transfer may be said: a file that is complete was checked before. */
-static int may_tell(struct transfer *t)
+/* Whether a transfer's owner may have a STATUS now; else the transfer is put off. */
+static int may_answer(struct transfer *t)
 {
     struct slot slot;
-    if (!is_open(t->id, &slot))
-        return 0;
-    if (!slot.reported && saratoga_find(state + SYNCED, SARATOGA_AREA_OCTETS, t->id).complete && !is_ready(t))
+    if (!slot_of(state + SYNCED, t->id, &slot))
         return 0;
     uint64_t wait = must_wait(&slot.owner);
     if (wait > 0)
@@ -123,7 +121,7 @@ void answer_due(uint64_t id)
 {
     uint8_t out[SARATOGA_STATUS_OCTETS];
     struct transfer *t = open_transfer(id);
-    if (!may_tell(t))
+    if (!may_answer(t))
         return;
     struct saratoga_letter letter = saratoga_engine_tell(state, sizeof state, id, out, sizeof out);
     if (letter.number != 0)
@@ -132,23 +130,36 @@ void answer_due(uint64_t id)
     answer(t->number, &owner, &t->route, out, (size_t)letter.size);
 }
 
-/*
- * A STATUS that a good sync allows and the engine no longer holds due: it was asked for again while that sync was under way, so that the
- * engine waits for the next. Whoever asks faster than the disk writes would else never be answered. It says what the engine would have
- * said: what is synced, to the owner there.
- */
-void send_owed(struct transfer *t, uint64_t good)
+/* The STATUS of --repair-status, as the engine would write it: what is synced, to the owner there. */
+static void send_repair(struct transfer *t)
 {
     uint8_t out[SARATOGA_STATUS_OCTETS];
     struct slot now, synced;
-    t->owed = 0;
-    if (t->why != NULL || !slot_of(state, t->id, &now) || !slot_of(state + SYNCED, t->id, &synced) || now.file != synced.file ||
-        now.file != t->file || (now.due != 0 && now.due <= good) || t->put_off > now_ms() || !may_tell(t))
+    int is_there = slot_of(state, t->id, &now) && slot_of(state + SYNCED, t->id, &synced) && now.file == t->file && synced.file == t->file;
+    if (is_there && now.due == 0 && !may_answer(t))
+        return;
+    t->repair = 0;
+    if (!is_there || now.due != 0) /* it has ended, or is answered anyway */
         return;
     struct saratoga_written written =
         saratoga_write_status(state + SYNCED, SARATOGA_AREA_OCTETS, t->id, 0, 1, out, sizeof out);
     if (written.number == 0)
         answer(t->number, &synced.owner, &t->route, out, (size_t)written.size);
+}
+
+/* Those that wait for a sync which is good now: the engine has no word for them. Gives 1 where there was one. */
+int send_repairs(void)
+{
+    int did = 0;
+    uint64_t now = now_ms();
+    for (size_t i = 0; i < MOST_FILES; i++) {
+        struct transfer *t = &transfers[i];
+        if (t->used && t->repair != 0 && t->repair <= last_good_sync() && t->put_off <= now) {
+            send_repair(t);
+            did = 1;
+        }
+    }
+    return did;
 }
 
 /* At the end. */

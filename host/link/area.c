@@ -5,7 +5,7 @@
  *            16 to 31   the MD5 of all that follows: a file that isn't whole is never used
  *            32 to 39   the number of the last sync
  *            40 to 47   a file number above every one that was used
- *            48 on      the snapshot: the area of docs/AREA.md, then 16 slots of 11 numbers
+ *            48 on      the snapshot: the area of docs/AREA.md, then 16 slots of 12 numbers
  */
 #include "link.h"
 
@@ -18,7 +18,7 @@
 #define AREA_LAYOUT 3
 #define MAGIC_OCTETS 16
 #define AREA_WORDS 2161
-#define SLOT_WORDS 11
+#define SLOT_WORDS 12
 #define LAYOUT_1_OCTETS 16904      /* of an area without timestamps, and so of its file */
 
 static const char magic[] = AREA_MAGIC "3\n";

@@ -13,7 +13,7 @@ void has_closed(uint64_t number, struct transfer *t, const struct saratoga_liste
 {
     t->why = why;
     t->put_off = 0;
-    t->owed = 0;
+    t->repair = 0;
     t->has_sheet &= t->closing_len == 0;
     say(number, "close id=%" PRIu64 " %s recordings=%" PRIu64 " absorbed=%" PRIu64 " runs=%" PRIu64, t->id, why,
         t->work.recordings, t->work.absorbed, one->runs);

@@ -7,9 +7,9 @@ import socket
 import subprocess
 import time
 
-from harness import SOURCES, WRAPPED, at, build, check, content, holds, is_there, numbers, page, records, run, stored
+from harness import at, check, content, failing, holds, is_there, numbers, page, records, run, stored
 from packets import WANTED, data, metadata
-from plant import NOSPACE, Link, is_complete, one_of_it
+from plant import Link, is_complete, one_of_it
 
 ENDED = 0x080000  # bit 12 of METADATA
 UNKNOWN = bytes.fromhex("4400000600000007")
@@ -33,6 +33,27 @@ def other_octets(program, place):
     check(link.end() == 0, link.told)
     check(sum("ERROR: transfer 7: packet " in line and "brings other octets" in line for line in link.told) == 2, link.told)
     check(holds(place, f"00000007.{numbers(place, 7)[1]}.page", text), "the page was changed")
+
+
+def other_octets_before_the_report(program, place):
+    """`program` is built with nospace.c. A page that is complete and waits for its name isn't ended by other octets: the packet counts as lost."""
+    text, other, marker = page(100, 115), page(100, 116), os.path.join(os.path.dirname(place), "nospace")
+    link = Link(program, place, NOSPACE=marker)
+    link.quiet_send(metadata(7, 16, 100), data(7, 16, 0, text[:50], WANTED))
+    with open(marker, "w", encoding="ascii") as file:
+        file.write("p")
+    link.quiet_send(data(7, 16, 50, text[50:], WANTED))
+    for packet in (data(7, 16, 0, other), data(7, 16, 60, other[:9], WANTED)):
+        check(link.send(packet) is None, "answered, though the page is about to be reported")
+    os.remove(marker)
+    link.wait(lambda: any(" complete id=7 " in line for line in link.lines))
+    check([line for line in link.lines if " lost " in line] == ["4 lost id=7 offset=0 length=100", "5 lost id=7 offset=60 length=9"], link.lines)
+    check(sum("packet 4 brings other octets" in line and "count as lost" in line for line in link.told) == 1, link.told)
+    check(not any("packet 5" in line for line in link.told), link.told)
+    link.drain()
+    check(link.send(data(7, 16, 0, other, WANTED)) == UNKNOWN, "once it was reported other octets end it")
+    link.end()
+    check(holds(place, "00000007.page", text), "the page")
 
 
 def lingers(program, place):
@@ -335,6 +356,6 @@ TESTS = (other_octets, lingers, owners, flipped_area, cut_short, ended_by_its_se
 
 def all_of_it(program, place):
     """Runs everything; `place` gives a new directory for a name."""
-    full = build([*SOURCES, NOSPACE], program + "-failing", *WRAPPED, "-Wl,--wrap=sendmsg")
-    for test, tested in [(test, program) for test in TESTS] + [(unwritable, full)]:
+    full = failing(program + "-failing")
+    for test, tested in [(test, program) for test in TESTS] + [(unwritable, full), (other_octets_before_the_report, full)]:
         one_of_it(test, tested, place(test.__name__))

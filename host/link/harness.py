@@ -19,10 +19,11 @@ SOURCES = [os.path.join(PLACE, name + ".c") for name in (
     "link", "options", "source", "udp", "peers", "packets", "answers", "shell", "sync", "worker", "area", "pages", "closing", "start",
     "files", "disk", "meta", "check", "sheet", "onair", "control", "settings", "text", "output", "log", "config", "hook",
     "notify")]
-POWERCUT = os.path.join(PLACE, "powercut.c")
+POWERCUT, NOSPACE = os.path.join(PLACE, "powercut.c"), os.path.join(PLACE, "nospace.c")
 WRAPPED = ["-Wl," + ",".join(f"--wrap={name}" for name in (
     "openat", "openat64", "pwrite", "pwrite64", "renameat", "fsync"))]
-AREA_MAGIC, AREA_HEAD, AREA_WORDS, SLOT_WORDS, PLACES = b"saratoga-area 3\n", 48, 2161, 11, 16
+FAILS = "-Wl,--wrap=sendmsg,--wrap=unlinkat"
+AREA_MAGIC, AREA_HEAD, AREA_WORDS, SLOT_WORDS, PLACES = b"saratoga-area 3\n", 48, 2161, 12, 16
 ENDINGS = ("part", "page", "differs", "meta", "sheet", "aside", "hook")
 
 
@@ -33,12 +34,35 @@ def check(holds, what):
 
 COMPILER = [os.environ.get("CC", "cc"), "-std=c11", "-Wall", "-Wextra", "-Werror", "-pedantic", "-O1", "-g", "-pthread",
             "-I" + os.path.join(ROOT, "include"), "-I" + PLACE]
+# LINK_SANITIZE=thread, or address,undefined: every program of the tests is built with it.
+if os.environ.get("LINK_SANITIZE"):
+    COMPILER += ["-fsanitize=" + os.environ["LINK_SANITIZE"], "-fno-sanitize-recover=all"]
 
 
 def build(sources, out, *options):
     """A program from sources, or from what compiled() made of them."""
     subprocess.run([*COMPILER, *options, *sources, *ARCHIVES, "-o", out], check=True)
     return out
+
+
+def failing(out, *options, sources=tuple(SOURCES)):
+    """The program on a machine whose calls fail (nospace.c)."""
+    return build([*sources, NOSPACE], out, *options, *WRAPPED, FAILS)
+
+
+def edited(edits, place):
+    """For each source that edits change, its path and that of the edited one in `place`. What is edited stands once in the sources."""
+    texts, changed = {path: content(path).decode() for path in SOURCES}, {}
+    for old, new in zip(edits[::2], edits[1::2]):
+        places = [path for path in SOURCES for _ in range(texts[path].count(old))]
+        check(len(places) == 1, f"{old!r} stands {len(places)} times in the sources")
+        path = places[0]
+        texts[path] = texts[path].replace(old, new)
+        changed[path] = os.path.join(place, os.path.basename(path))
+    for path, new_path in changed.items():
+        with open(new_path, "w", encoding="utf-8") as file:
+            file.write(texts[path])
+    return changed
 
 
 def compiled(source, out, *options):

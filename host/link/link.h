@@ -142,13 +142,14 @@ struct transfer {
     int has_sheet;                 /* of this program, and so of the complete file */
     int told;                      /* that its page can't get its name */
     int said;                      /* that its page differs */
+    int mixed;                     /* it was told that a packet brings other octets */
     int opened_here;               /* by this program: its work is counted from its beginning */
     int heard_here;                /* a packet of it was taken by this program */
     struct work work;              /* since it was opened, or since the program began */
     struct work pending_work, synced_work; /* the same as the last sync found it, and the last good one */
     uint64_t number;               /* of the packet by which it was last heard */
     struct route route;            /* by which that came */
-    uint64_t owed;                 /* a STATUS goes out once this sync is good; 0: none */
+    uint64_t repair;               /* the STATUS of --repair-status goes out once this sync is good; 0: none */
     uint64_t put_off;              /* until when nothing is done that the engine says of it */
     const char *why;               /* it was closed; NULL where it is open */
     int empty;                     /* and nothing of it came */
@@ -291,6 +292,7 @@ int finish_sync(void);
 void want_sync(void);
 int sync_is_wanted(void);
 uint64_t covering_sync(void);
+uint64_t last_good_sync(void);
 int last_sync_was_good(void);
 
 /* pages.c */
@@ -319,7 +321,7 @@ void take_up(void);
 /* answers.c */
 void send_failure(uint64_t number, const struct sender *to, const struct route *route, uint64_t id, uint64_t code);
 void answer_due(uint64_t id);
-void send_owed(struct transfer *t, uint64_t good);
+int send_repairs(void);
 void tell_unsent(void);
 
 /* packets.c */

@@ -2,10 +2,11 @@
  * For the tests of the link program: a disk that is full. The linker puts these functions in the place of openat,
  * pwrite, renameat and fsync (--wrap). While the file named by NOSPACE holds the letter of a call (o, w, r, f), that
  * call fails with ENOSPC; o only where a file is to be made. Letter p is a complete file that is to get its name, d the
- * force to disk after that, h a sheet that is to get its name. Letter s is an answer that can't be sent, e a write that fails with EIO.
- * While it holds z, nothing comes to an end that is to be forced to disk.
+ * force to disk after that, h a sheet that is to get its name. Letter s is an answer that can't be sent, e a write that fails with EIO, u a
+ * file that can't be removed. And z is a disk that is slow: it takes 50 milliseconds to force something to it; y one
+ * that doesn't come to an end with it.
  */
-#define _DEFAULT_SOURCE
+#define _POSIX_C_SOURCE 200809L
 #define _FILE_OFFSET_BITS 64
 
 #include <errno.h>
@@ -14,12 +15,14 @@
 #include <stdlib.h>
 #include <string.h>
 #include <sys/socket.h>
+#include <time.h>
 #include <unistd.h>
 
 int __real_openat(int directory, const char *name, int flags, ...);
 ssize_t __real_pwrite(int fd, const void *octets, size_t count, off_t offset);
 int __real_renameat(int directory, const char *name, int other, const char *new_name);
 int __real_fsync(int fd);
+int __real_unlinkat(int directory, const char *name, int flags);
 ssize_t __real_sendmsg(int fd, const struct msghdr *message, int flags);
 int __wrap_openat(int directory, const char *name, int flags, ...);
 int __wrap_openat64(int directory, const char *name, int flags, ...);
@@ -27,9 +30,10 @@ ssize_t __wrap_pwrite(int fd, const void *octets, size_t count, off_t offset);
 ssize_t __wrap_pwrite64(int fd, const void *octets, size_t count, off_t offset);
 int __wrap_renameat(int directory, const char *name, int other, const char *new_name);
 int __wrap_fsync(int fd);
+int __wrap_unlinkat(int directory, const char *name, int flags);
 ssize_t __wrap_sendmsg(int fd, const struct msghdr *message, int flags);
 
-static int page_was_named;
+static _Atomic int page_was_named;
 
 static int full(char call)
 {
@@ -82,9 +86,17 @@ int __wrap_renameat(int directory, const char *name, int other, const char *new_
 
 int __wrap_fsync(int fd)
 {
-    while (full('z'))
-        usleep(10000);
+    const struct timespec slow = {.tv_nsec = 50000000};
+    if (full('z'))
+        nanosleep(&slow, NULL);
+    while (full('y'))
+        nanosleep(&slow, NULL);
     return full('f') || (page_was_named && full('d')) ? -1 : __real_fsync(fd);
+}
+
+int __wrap_unlinkat(int directory, const char *name, int flags)
+{
+    return full('u') ? -1 : __real_unlinkat(directory, name, flags);
 }
 
 ssize_t __wrap_sendmsg(int fd, const struct msghdr *message, int flags)

@@ -205,17 +205,16 @@ void report(const char *form, ...)
 }
 
 #ifdef LINK_CUT_POINTS
+/* What was said was said: in the main thread, whose lines they are. */
 void cut_point(const char *where)
 {
-    static long left = -1;
-    if (left < 0) {
-        const char *text = getenv("LINK_CUT");
-        left = text ? atol(text) : 0;
-    }
-    if (left > 0 && --left == 0) {
-        finish_output(); /* what was said was said */
-        fprintf(stderr, "cut %s\n", where);
-        _exit(99);
-    }
+    static _Atomic long passed;
+    const char *text = getenv("LINK_CUT");
+    if (text == NULL || ++passed != atol(text))
+        return;
+    if (gettid() == getpid())
+        finish_output();
+    fprintf(stderr, "cut %s\n", where);
+    _exit(99);
 }
 #endif

@@ -89,6 +89,14 @@ static void write_fails(const char *name, int error)
     quiet_until = now_ms() + 60000;
 }
 
+static void say_lost(const struct packet *p, const struct saratoga_packet *read)
+{
+    if (read->type == SARATOGA_TYPE_DATA)
+        say(p->number, "lost id=%" PRIu64 " offset=%" PRIu64 " length=%" PRIu64, read->id, read->offset, read->payload_len);
+    else
+        say(p->number, "lost id=%" PRIu64, read->id);
+}
+
 /* The packet counts as lost: something on disk failed. */
 static void lose(const struct packet *p, const struct saratoga_packet *read, const char *name, int error)
 {
@@ -100,10 +108,7 @@ static void lose(const struct packet *p, const struct saratoga_packet *read, con
         room_is_lacking(name, error);
     else
         write_fails(name, error);
-    if (read->type == SARATOGA_TYPE_DATA)
-        say(p->number, "lost id=%" PRIu64 " offset=%" PRIu64 " length=%" PRIu64, read->id, read->offset, read->payload_len);
-    else
-        say(p->number, "lost id=%" PRIu64, read->id);
+    say_lost(p, read);
 }
 
 /* Makes the files of a new transfer. Gives NULL where they can't be: the packet then counts as lost. */
@@ -176,7 +181,7 @@ static void take_metadata(const struct packet *p, const struct saratoga_packet *
         met = saratoga_engine_meet(state, sizeof state, p->octets, p->length);
     switch (met.kind) {
     case SARATOGA_MEET_WAIT:
-        say(p->number, "lost id=%" PRIu64, read->id);
+        say_lost(p, read);
         break;
     case SARATOGA_MEET_MAKE:
         open_new(p, read, &met);
@@ -193,7 +198,7 @@ static void take_metadata(const struct packet *p, const struct saratoga_packet *
 
 /* ---- DATA */
 
-/* Whether the file has the octets that a packet brings again. Gives -1 with errno where it can't be read. */
+/* Whether the file has the octets that a packet brings again. Gives -1 with errno where it can't be read, or was cut. */
 static int has_octets(int fd, const uint8_t *octets, size_t count, uint64_t offset)
 {
     uint8_t part[4096];
@@ -201,9 +206,11 @@ static int has_octets(int fd, const uint8_t *octets, size_t count, uint64_t offs
         ssize_t got = pread(fd, part, count < sizeof part ? count : sizeof part, (off_t)offset);
         if (got < 0 && errno == EINTR)
             continue;
-        if (got < 0)
+        if (got == 0)
+            errno = ESTALE;
+        if (got <= 0)
             return -1;
-        if (got == 0 || memcmp(part, octets, (size_t)got) != 0)
+        if (memcmp(part, octets, (size_t)got) != 0)
             return 0;
         octets += got;
         count -= (size_t)got;
@@ -236,31 +243,44 @@ static int do_stretch(struct transfer *t, const struct packet *p, const struct s
     return 1;
 }
 
-/* A packet brings other octets than were received: two files are mixed up somewhere. The engine has closed the transfer. */
-static void tell_mixture(const struct packet *p, struct transfer *t, const struct saratoga_listed *one, const struct saratoga_look *look)
+/* A packet brings other octets than were received: two files are mixed up somewhere. Of a page that waits for its report it is told once. */
+static void tell_mixture(const struct packet *p, struct transfer *t, const struct saratoga_look *look, int is_closed)
 {
-    warn("ERROR: transfer %" PRIu64 ": packet %" PRIu64 " brings other octets than were received from %" PRIu64 " to %" PRIu64
-         ": two files are mixed up under one Id; it is closed and must begin anew",
-         t->id, p->number, look->from, look->to - 1);
-    has_closed(p->number, t, one, "other-octets");
-    fail(p, t->id, SARATOGA_CODE_UNKNOWN_ID);
+    if (!t->mixed || is_closed)
+        warn("ERROR: transfer %" PRIu64 ": packet %" PRIu64 " brings other octets than were received from %" PRIu64 " to %" PRIu64
+             ": two files are mixed up under one Id; %s",
+             t->id, p->number, look->from, look->to - 1,
+             is_closed ? "it is closed and must begin anew" : "the first is complete, and of the other such packets count as lost");
+    t->mixed = 1;
 }
 
-/* Tells the engine how a stretch ended. Gives 0 where the transfer is closed for it. */
-static int store(const struct packet *p, struct transfer *t, const struct saratoga_look *look, uint64_t from, int well)
+static void tell_engine(const struct packet *p, uint64_t from, int well)
 {
-    struct saratoga_listed one = {.runs = 0};
-    struct slot slot;
-    if (!well) {
-        one = listed(t->id);
-        if (is_open(t->id, &slot))
-            prepare_closing(t, &one, "other-octets", (int)slot.reported);
-    }
     saratoga_engine_stored(state, sizeof state, now_ms(), p->from.high, p->from.low, p->from.port, p->octets, p->length, from,
                            (uint64_t)well);
-    if (!well)
-        tell_mixture(p, t, &one, look);
-    return well;
+}
+
+/*
+ * A stretch that differs from the file. The engine ends the transfer, unless its page is complete and about to be reported: then the packet
+ * counts as lost.
+ */
+static void differ(const struct packet *p, const struct saratoga_packet *read, struct transfer *t, const struct saratoga_look *look,
+                   uint64_t from)
+{
+    struct saratoga_listed one = listed(t->id);
+    struct slot slot = {.reported = 0};
+    if (is_open(t->id, &slot))
+        prepare_closing(t, &one, "other-octets", (int)slot.reported);
+    tell_engine(p, from, 0);
+    int is_closed = open_transfer(t->id) != t;
+    tell_mixture(p, t, look, is_closed);
+    if (is_closed) {
+        has_closed(p->number, t, &one, "other-octets");
+        fail(p, t->id, SARATOGA_CODE_UNKNOWN_ID);
+    } else {
+        forget_closing(t);
+        say_lost(p, read);
+    }
 }
 
 /* Its file is gone or was cut, and its sender learns that the Id isn't open. */
@@ -290,8 +310,11 @@ static int store_all(const struct packet *p, const struct saratoga_packet *read,
                 lose_file(p, t);
             return 0;
         }
-        if (!store(p, t, &look, from, well))
+        if (well == 0) {
+            differ(p, read, t, &look, from);
             return 0;
+        }
+        tell_engine(p, from, 1);
         from = look.to;
         if (from >= stop)
             break;
@@ -310,7 +333,7 @@ static void refuse_data(const struct packet *p, const struct saratoga_packet *re
     } else if (look->number == SARATOGA_REFUSED_RUNS && options.repair_status && t != NULL) {
         say(p->number, "refused %" PRIu64 " code=0", look->number);
         hear(t, p);
-        t->owed = covering_sync();
+        t->repair = t->repair != 0 ? t->repair : covering_sync();
         want_sync();
     } else {
         refuse(p, look->number, look->code);

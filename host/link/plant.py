@@ -12,11 +12,9 @@ import sys
 import threading
 import time
 
-from harness import PLACE, SOURCES, WRAPPED, at, build, check, content, holds, is_there, page, records, run, stored
+from harness import PLACE, SOURCES, at, build, check, content, failing, holds, is_there, page, records, run, stored
 from packets import (BUNDLES, END_OF_DATA, STREAMS, UNASKED, WANTED, beacon, data, metadata, record, success, time_record,
                      word)
-
-NOSPACE = os.path.join(PLACE, "nospace.c")
 
 
 class Link:
@@ -751,7 +749,7 @@ def command_line(program, place):
 
 def all_of_it(program, place):
     """Runs everything; `place` gives a new directory for a name."""
-    full = build([*SOURCES, NOSPACE], program + "-full", *WRAPPED, "-Wl,--wrap=sendmsg")
+    full = failing(program + "-full")
     tests = [(test, program) for test in (used_again, no_crc_32c, never_overwritten, taken_away, full_table, operator,
                                           who_is_heard, two_senders, kept, what_is_known, runs, answers, many_holes, on_air,
                                           too_many_on_air, limits, stopped, traps, command_line)]

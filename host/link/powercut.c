@@ -7,14 +7,17 @@
  *     names          the directory when it was last forced to disk: lines "INODE NAME"
  *     changes        what was done to it since: lines "make INODE NAME" and "rename INODE NAME NEW-NAME"
  *
- * The call whose number is POWERCUT, counted from 1, doesn't return: the program ends there with status 98.
+ * The call whose number is POWERCUT, counted from 1, doesn't return: the program ends there with status 98. One call is made at a time,
+ * whichever thread makes it.
  */
-#define _POSIX_C_SOURCE 200809L
+#define _GNU_SOURCE
 #define _FILE_OFFSET_BITS 64
 
 #include <dirent.h>
+#include <errno.h>
 #include <fcntl.h>
 #include <inttypes.h>
+#include <pthread.h>
 #include <stdio.h>
 #include <stdlib.h>
 #include <sys/stat.h>
@@ -29,13 +32,15 @@ int __real_renameat(int directory, const char *name, int other, const char *new_
 void flush_output(void);
 
 static long calls;
+static pthread_mutex_t one_at_a_time = PTHREAD_MUTEX_INITIALIZER;
 
-/* Counts a call, and ends the program at the one named. */
+/* Counts a call, and ends the program at the one named. What was said was said: in the main thread, whose lines they are. */
 static void call(void)
 {
     const char *last = getenv("POWERCUT");
     if (last != NULL && ++calls == atol(last)) {
-        flush_output(); /* what was said was said */
+        if (gettid() == getpid())
+            flush_output();
         _exit(98);
     }
 }
@@ -97,25 +102,32 @@ int __wrap_fsync(int fd);
 
 int __wrap_openat(int directory, const char *name, int flags, ...)
 {
-    return opened(directory, name, flags, 0666);
+    pthread_mutex_lock(&one_at_a_time);
+    int fd = opened(directory, name, flags, 0666), error = errno;
+    pthread_mutex_unlock(&one_at_a_time);
+    errno = error;
+    return fd;
 }
 
 int __wrap_openat64(int directory, const char *name, int flags, ...)
 {
-    return opened(directory, name, flags, 0666);
+    return __wrap_openat(directory, name, flags);
 }
 
 ssize_t __wrap_pwrite(int fd, const void *octets, size_t count, off_t offset)
 {
-    return written(fd, octets, count, offset);
+    pthread_mutex_lock(&one_at_a_time);
+    ssize_t done = written(fd, octets, count, offset);
+    pthread_mutex_unlock(&one_at_a_time);
+    return done;
 }
 
 ssize_t __wrap_pwrite64(int fd, const void *octets, size_t count, off_t offset)
 {
-    return written(fd, octets, count, offset);
+    return __wrap_pwrite(fd, octets, count, offset);
 }
 
-int __wrap_renameat(int directory, const char *name, int other, const char *new_name)
+static int renamed(int directory, const char *name, int other, const char *new_name)
 {
     call();
     uint64_t number = inode(directory, name);
@@ -128,7 +140,15 @@ int __wrap_renameat(int directory, const char *name, int other, const char *new_
     return status;
 }
 
-int __wrap_fsync(int fd)
+int __wrap_renameat(int directory, const char *name, int other, const char *new_name)
+{
+    pthread_mutex_lock(&one_at_a_time);
+    int status = renamed(directory, name, other, new_name);
+    pthread_mutex_unlock(&one_at_a_time);
+    return status;
+}
+
+static void forced(int fd)
 {
     struct stat seen;
     call();
@@ -155,5 +175,12 @@ int __wrap_fsync(int fd)
         fclose(file);
         fclose(copy);
     }
+}
+
+int __wrap_fsync(int fd)
+{
+    pthread_mutex_lock(&one_at_a_time);
+    forced(fd);
+    pthread_mutex_unlock(&one_at_a_time);
     return 0;
 }

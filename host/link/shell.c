@@ -56,35 +56,20 @@ int is_live(const struct transfer *t)
            (slot_of(state + SYNCED, t->id, &slot) && slot.file == t->file);
 }
 
-/* Whether anything changed since a sync last began: the fifth of the numbers after the three snapshots. */
-static int is_changed(void)
-{
-    const uint8_t *at = state + 3 * SARATOGA_ENGINE_SNAPSHOT + 8 * 4;
-    return at[0] != 0;
-}
-
 /*
- * What is next. Of a transfer that is put off, since its page has no name yet or its owner had enough answers for now, the engine is not
- * asked: it answers for a copy of the state that lacks it.
+ * What is next, from an Id on. A transfer that is put off, since its page can't have its name yet or its owner had enough answers for now,
+ * is passed over: the others don't wait for it.
  */
-static struct saratoga_next next_due(void)
+static struct saratoga_next next_due(uint64_t *from)
 {
-    static uint8_t view[SARATOGA_ENGINE_STATE];
-    const uint8_t *asked = state;
-    uint64_t now = now_ms();
-    for (size_t i = 0; i < MOST_FILES; i++) {
-        if (transfers[i].used && transfers[i].put_off > now) {
-            if (asked == state)
-                memcpy(view, state, sizeof view);
-            asked = view;
-            saratoga_engine_close(view, sizeof view, transfers[i].id, 1);
-        }
+    for (uint64_t now = now_ms();;) {
+        struct saratoga_next due = saratoga_engine_next(state, sizeof state, now, at_the_end ? 0 : INTERVAL, options.linger,
+                                                        options.forget, *from);
+        int is_of_an_id = due.kind != SARATOGA_NEXT_REFUSED && due.kind != SARATOGA_NEXT_NOTHING && due.kind != SARATOGA_NEXT_SYNC;
+        if (!is_of_an_id || open_transfer(due.id)->put_off <= now)
+            return due;
+        *from = due.id + 1;
     }
-    struct saratoga_next due =
-        saratoga_engine_next(asked, sizeof state, now, at_the_end ? 0 : INTERVAL, options.linger, options.forget, 0);
-    if (due.kind == SARATOGA_NEXT_SYNC && !is_changed())
-        due.kind = SARATOGA_NEXT_NOTHING; /* only the copy was */
-    return due;
 }
 
 static void close_at_its_end(uint64_t id)
@@ -94,10 +79,10 @@ static void close_at_its_end(uint64_t id)
     close_transfer(t->number, t, 0, is_open(id, &slot) && slot.reported ? "lingered" : "forgotten");
 }
 
-/* Does one thing. Gives 0 where there was none. */
-static int do_next(void)
+/* Does one thing, from an Id on. Gives 0 where there was none. */
+static int do_next(uint64_t *from)
 {
-    struct saratoga_next due = next_due();
+    struct saratoga_next due = next_due(from);
     struct transfer *t;
     switch (due.kind) {
     case SARATOGA_NEXT_ANSWER:
@@ -125,15 +110,18 @@ static int do_next(void)
     }
 }
 
-/* Does all that is due. */
+/* Does all that is due. Who was passed over comes again once a worker is done, and at the next turn. */
 void drive(void)
 {
+    uint64_t from = 0;
     int more;
     do {
         more = finish_sync();
         more |= finish_page();
         more |= settle();
-        more |= do_next();
+        more |= send_repairs();
+        from = more ? 0 : from;
+        more |= do_next(&from);
     } while (more);
 }
 

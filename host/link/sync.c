@@ -103,7 +103,6 @@ static void add_descriptor(int fd)
 /* What a transfer brings to a sync. */
 static void add_transfer(struct transfer *t)
 {
-    struct slot slot;
     if (t->written && t->fd >= 0)
         add_descriptor(t->fd);
     if (t->meta_fd >= 0) {
@@ -113,8 +112,6 @@ static void add_transfer(struct transfer *t)
     t->meta_fd = -1;
     t->written = 0;
     t->pending_work = t->work;
-    if (is_open(t->id, &slot) && slot.file == t->file && slot.due == job.number)
-        t->owed = job.number;
 }
 
 static void run_sync(void *unused)
@@ -175,6 +172,11 @@ uint64_t covering_sync(void)
     return last_begun + 1;
 }
 
+uint64_t last_good_sync(void)
+{
+    return last_good;
+}
+
 int last_sync_was_good(void)
 {
     return was_good;
@@ -216,13 +218,10 @@ int finish_sync(void)
         room_is_lacking("area", job.error);
     }
     for (size_t i = 0; i < MOST_FILES; i++) {
-        struct transfer *t = &transfers[i];
-        if (!t->used)
-            continue;
-        settle_work(t, was_good);
-        open_again(t);
-        if (t->owed != 0 && t->owed <= last_good)
-            send_owed(t, last_good);
+        if (transfers[i].used) {
+            settle_work(&transfers[i], was_good);
+            open_again(&transfers[i]);
+        }
     }
     return 1;
 }

@@ -20,7 +20,7 @@ import time
 
 sys.dont_write_bytecode = True
 from harness import (AREA_HEAD, AREA_MAGIC, POWERCUT, SOURCES, WRAPPED, after_the_cut, at, build, check, compiled, content,  # noqa: E402
-                     holds, page, records, run, stamps, stem, stored)
+                     edited, holds, page, records, run, stamps, stem, stored)
 from packets import END_OF_DATA, TIMESTAMP, UNASKED, WANTED, data, failure, metadata, record, success  # noqa: E402
 import faults  # noqa: E402
 import plant  # noqa: E402
@@ -747,7 +747,7 @@ WRONG = {
         sheets.agrees, "            saratoga_md5_add(", "            if (have == 0) saratoga_md5_add("),
     "ends with status 0 where a page differs": (sheets.differs, "    return STATUS_DIFFERS;", "    return 0;"),
     "tells a sender that a page which differs is complete": (
-        sheets.sent_again, ".complete && !is_ready(t))", ".complete && 0)"),
+        sheets.sent_again, "    int named = is_ready(t) ? give_name(t) : -1;\n", "    int named = 1;\n"),
     "gives a page its name before its sheet": (
         TWO, "    if (!has_its_sheet(t, \"page\"))\n", "    rename_to(t, \"page\");\n    cut_point(\"early\");\n    if (!has_its_sheet(t, \"page\"))\n"),
     "writes a sheet in place": (
@@ -765,25 +765,18 @@ WRONG = {
 
 
 def wrong_programs(place):
-    """Each edit stands once in the sources. What isn't edited is compiled once, with cut points and without."""
-    sources = {path: content(path).decode() for path in SOURCES}
+    """What isn't edited is compiled once, with cut points and without."""
     made = {cuts: {path: compiled(path, os.path.join(place, f"{number}{cuts}.o"), *([cuts] if cuts else []))
                    for number, path in enumerate(SOURCES)} for cuts in ("", "-DLINK_CUT_POINTS")}
     power = compiled(POWERCUT, os.path.join(place, "powercut.o"))
     for number, (what, (test, *edits)) in enumerate(WRONG.items()):
         here = os.path.join(place, str(number))
         os.mkdir(here)
-        edited = {}
-        for old, new in zip(edits[::2], edits[1::2]):
-            places = [path for path in SOURCES for _ in range(sources[path].count(old))]
-            check(len(places) == 1, f"{what}: {old!r} stands {len(places)} times")
-            edited[places[0]] = edited.get(places[0], sources[places[0]]).replace(old, new)
         ended = not callable(test) and test[0] == ENDED
         objects = dict(made["-DLINK_CUT_POINTS" if ended else ""])
-        for path, text in edited.items():
-            name = os.path.join(place, f"{number}-{os.path.basename(path)}")
-            with open(name, "w", encoding="utf-8") as file:
-                file.write(text)
+        changed = here + ".edited"
+        os.mkdir(changed)
+        for path, name in edited(edits, changed).items():
             objects[path] = compiled(name, name + ".o", "-w", *(["-DLINK_CUT_POINTS"] if ended else []))
         try:
             if callable(test):

@@ -17,11 +17,13 @@ struct opening {
     int is_reported, is_spoilt;
 };
 
-/* Which Ids are open, for which file, and whose they are; and for a snapshot that is saved, the offsets that it has as received. */
+/* Which Ids are open, for which file, whose they are, which offsets were stored, and whether the page was reported. */
 struct entry {
     int is_open;
     uint64_t id, file;
     struct address owner;
+    uint8_t is_stored[MOST_LENGTH];
+    int is_reported;
 };
 struct map {
     struct entry entries[SARATOGA_TRANSFERS];
@@ -31,11 +33,13 @@ const struct engine *tried_engine;
 static struct opening openings[MOST_FILES];
 static size_t opening_count;
 static struct map map_now, map_pending, map_synced, map_saved[MOST_VERSIONS];
+/* the offsets that a saved snapshot has as received */
 static uint8_t saved_has[MOST_VERSIONS][SARATOGA_TRANSFERS][MOST_LENGTH];
 static uint64_t sync_under_way;
-/* of the packet at hand: a file of which it brings other octets than were told; whether it was taken; whether a write failed */
+/* of the packet at hand: a file of which it brings other octets than were told; whether it was taken; whether a write failed, or the page waited
+ * for its report */
 static uint64_t differs_in;
-static int differs, is_taken, has_failed;
+static int differs, is_taken, has_failed, was_busy;
 
 void judge_clear(void)
 {
@@ -236,13 +240,19 @@ void judge_crash(void)
     }
 }
 
-/* What no rule forbids, and is counted: the sender was told that its page is complete, and the page was never reported. */
+/* A page that its sender was told is complete was reported, or is still open to be; or it was spoilt, which is counted. */
 void judge_end(void)
 {
     size_t i;
-    for (i = 0; i < opening_count; i++)
-        if (!openings[i].is_reported && openings[i].length > 0 && memchr(openings[i].is_told, 0, (size_t)openings[i].length) == NULL)
-            counted[openings[i].is_spoilt ? COMPLETE_SPOILT : COMPLETE_ENDED]++;
+    for (i = 0; i < opening_count; i++) {
+        const struct opening *opening = &openings[i];
+        const struct entry *entry = find_entry(&map_now, opening->id);
+        if (opening->is_reported || opening->length == 0 || memchr(opening->is_told, 0, (size_t)opening->length) != NULL)
+            continue;
+        counted[COMPLETE_SPOILT] += (uint64_t)opening->is_spoilt;
+        if (!opening->is_spoilt && (entry == NULL || entry->file != opening->file))
+            violated("R19.6", "file %d was told as complete, and ended before its report", (int)opening->file);
+    }
 }
 
 /* ---- what is done to the disk */
@@ -295,6 +305,7 @@ void judge_report(uint64_t id, uint64_t number, uint64_t length)
 {
     struct opening *opening = find_opening(number);
     struct file *file = disk_find(number);
+    struct entry *entry = find_entry(&map_now, id);
     if (opening == NULL || opening->id != id || opening->length != length)
         violated("R19.14", "report: file %d was not opened so", (int)number);
     check_parts("R19.14", file, 1, "report");
@@ -303,6 +314,8 @@ void judge_report(uint64_t id, uint64_t number, uint64_t length)
     tell_octets(opening, file, NULL);
     counted[REPORTED_AGAIN] += (uint64_t)opening->is_reported;
     opening->is_reported = 1;
+    if (entry != NULL && entry->file == number)
+        entry->is_reported = 1;
     if (opening->page != NULL)
         opening->page->is_reported = 1;
     counted[REPORTS]++;
@@ -316,7 +329,7 @@ void judge_arrival(const struct address *from, const uint8_t *packet, size_t siz
     struct entry *entry = find_entry(&map_now, read.id);
     struct opening *opening;
     uint64_t i;
-    differs = is_taken = has_failed = 0;
+    differs = is_taken = has_failed = was_busy = 0;
     if (read.number != 0 || read.type != SARATOGA_TYPE_DATA || entry == NULL || !is_same_address(&entry->owner, from))
         return;
     opening = find_opening(entry->file);
@@ -328,11 +341,11 @@ void judge_arrival(const struct address *from, const uint8_t *packet, size_t siz
     differs_in = entry->file;
 }
 
-/* Other octets than those that were told end the transfer. */
+/* Other octets than those that were told end the transfer, unless its page waits for its report. */
 void judge_handled(void)
 {
     int i;
-    for (i = 0; differs && is_taken && !has_failed && i < SARATOGA_TRANSFERS; i++)
+    for (i = 0; differs && is_taken && !has_failed && !was_busy && i < SARATOGA_TRANSFERS; i++)
         if (map_now.entries[i].is_open && map_now.entries[i].file == differs_in)
             violated("R19.5", "a packet brought other octets than file %d has, and the transfer goes on", (int)differs_in);
     differs = 0;
@@ -370,8 +383,7 @@ static void open_anew(const struct saratoga_meeting *m, const uint8_t *packet, s
     opening->length = saratoga_read(packet, size).size;
     memcpy(opening->metadata, packet, opening->metadata_len = size);
     opening->page = page_of(packet, size);
-    entry->is_open = 1;
-    entry->id = m->id, entry->file = m->file, entry->owner = *from;
+    *entry = (struct entry){.is_open = 1, .id = m->id, .file = m->file, .owner = *from};
 }
 
 static void keep_open(uint64_t id, const uint8_t *packet, size_t size, const struct address *from)
@@ -398,13 +410,24 @@ void judge_looked(const struct saratoga_look *l)
     is_taken |= l->kind >= SARATOGA_LOOK_COMPARE;
 }
 
+/* A page that is complete and was not reported. */
+static int is_busy(const struct entry *entry)
+{
+    return !entry->is_reported && memchr(entry->is_stored, 0, (size_t)find_opening(entry->file)->length) == NULL;
+}
+
 void judge_stored(const struct saratoga_look *l, int well)
 {
+    struct entry *entry = find_entry(&map_now, l->id);
+    int is_other = l->kind == SARATOGA_LOOK_COMPARE && !well;
     has_failed |= l->kind == SARATOGA_LOOK_WRITE && !well;
     counted[WRITTEN] += l->kind == SARATOGA_LOOK_WRITE && well;
     counted[COMPARED] += l->kind == SARATOGA_LOOK_COMPARE;
-    counted[OTHER_OCTETS] += l->kind == SARATOGA_LOOK_COMPARE && !well;
-    if (l->kind == SARATOGA_LOOK_COMPARE && !well)
+    counted[OTHER_OCTETS] += (uint64_t)is_other;
+    if (l->kind == SARATOGA_LOOK_WRITE && well && entry != NULL)
+        memset(entry->is_stored + l->from, 1, (size_t)(l->to - l->from));
+    was_busy |= is_other && entry != NULL && is_busy(entry);
+    if (is_other && !was_busy)
         remove_entry(l->id);
 }
 

@@ -375,7 +375,7 @@ static struct saratoga_look stored(uint8_t *state, size_t state_len, uint64_t ti
     struct saratoga_packet read = saratoga_read(packet, packet_len);
     if ((l.kind == SARATOGA_LOOK_COMPARE || l.kind == SARATOGA_LOOK_WRITE) && well)
         record(state, time, packet, &read, &l);
-    else if (l.kind == SARATOGA_LOOK_COMPARE)
+    else if (l.kind == SARATOGA_LOOK_COMPARE && !is_busy(state, l.id))
         take_out(state, l.id);
     return l;
 }

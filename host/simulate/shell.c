@@ -123,11 +123,15 @@ static void data(const struct address *from, const uint8_t *packet, size_t size)
         trace("  DATA: kind %d, file %d, octets %d to %d, well %d", (int)l.kind, (int)l.file, (int)l.from, (int)l.to, well);
         ENGINE->stored(state, sizeof state, now, from->high, from->low, from->port, packet, size, at, (uint64_t)well);
     }
-    if (l.kind == SARATOGA_LOOK_COMPARE && !well)
-        end_file(l.file);
+    if (l.kind == SARATOGA_LOOK_COMPARE && !well) {
+        uint64_t file = l.file;
+        l = ENGINE->look(state, sizeof state, from->high, from->low, from->port, packet, size, 0);
+        if (l.number == SARATOGA_REFUSED_NOT_OPEN)
+            end_file(file);
+    }
     if (l.kind == SARATOGA_LOOK_REFUSED)
         fail(from, packet, size, l.code);
-    if (l.kind == SARATOGA_LOOK_STRANGER || (l.kind == SARATOGA_LOOK_COMPARE && !well))
+    if (l.kind == SARATOGA_LOOK_STRANGER)
         fail(from, packet, size, SARATOGA_CODE_UNKNOWN_ID);
 }
 

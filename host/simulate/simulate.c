@@ -15,10 +15,9 @@ uint64_t now;
 uint64_t counted[COUNTED];
 static uint64_t chance, event, total;
 static jmp_buf stopped, ended;
-static const char *const counted_names[COUNTED] = {"crashes", "openings", "stretches written", "stretches compared", "ended by other octets",
+static const char *const counted_names[COUNTED] = {"crashes", "openings", "stretches written", "stretches compared", "of other octets",
                                                    "STATUS", "good syncs", "bad syncs", "pages spoilt", "reports", "of them again",
-                                                   "pages spoilt after they were told as complete",
-                                                   "ended by other octets after they were told as complete"};
+                                                   "pages spoilt after they were told as complete"};
 static char why[512];
 static int is_tracing;
 static char lines[TRACED][LINE];

@@ -29,7 +29,7 @@ extern uint64_t now; /* the time */
 /* How often what happened. */
 enum {
     CRASHES, OPENINGS, WRITTEN, COMPARED, OTHER_OCTETS, TOLD, GOOD_SYNCS, BAD_SYNCS, SPOILT, REPORTS, REPORTED_AGAIN, COMPLETE_SPOILT,
-    COMPLETE_ENDED, COUNTED
+    COUNTED
 };
 extern uint64_t counted[COUNTED];
 

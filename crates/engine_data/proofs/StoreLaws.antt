@@ -19,9 +19,9 @@ use Rattle.engine_slots.specs.declared.Look.the-variants as look
 use Rattle.engine_model.specs.Snapshots.{isOpen}
 use Rattle.engine_model.specs.Stretches.{lookData}
 use Rattle.engine_model.proofs.LookLaws.{Looked as LookedAt, looked-open, look-new, look-known}
-use Rattle.engine_state.specs.State.{snapshotIn, heldState, changedState, closedState}
+use Rattle.engine_state.specs.State.{snapshotIn, heldState}
 use Rattle.engine_state.proofs.StateLaws.{held-known, open-kept}
-use Rattle.engine_piece.specs.Piece.{pieceState}
+use Rattle.engine_piece.specs.Piece.{pieceState, differsState}
 use Rattle.engine_piece.specs.Known.{Piece}
 use Rattle.engine_data.specs.Store.{lookState, storedBy, storedState}
 use Rattle.engine_data.specs.Taken.{Looked}
@@ -39,10 +39,10 @@ module _ (s : List ℕ) (t : ℕ) (p : List ℕ) where
     unfolding storedBy
     new-well w f b e = rw (f, data-accepted p z) e
 
-    pub known-bad : (w : Bool) → w ≡ false → (i : ℕ) → i ≡ dataOf p .id → (b : List ℕ) → b ≡ changedState (closedState s i)
+    pub known-bad : (w : Bool) → w ≡ false → (i : ℕ) → i ≡ dataOf p .id → (b : List ℕ) → b ≡ differsState s i
         → b ≡ storedBy s t p w (readData p) (look.Known x)
     unfolding storedBy
-    known-bad w f i e b g = rw (f, data-accepted p z) (g ∙ ap (λ (n : ℕ). changedState (closedState s n)) e)
+    known-bad w f i e b g = rw (f, data-accepted p z) (g ∙ ap (differsState s) e)
 
     pub known-well : (w : Bool) → w ≡ true → (b : List ℕ) → b ≡ pieceState s t p (dataOf p) x → b ≡ storedBy s t p w (readData p) (look.Known x)
     unfolding storedBy

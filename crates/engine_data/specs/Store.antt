@@ -11,19 +11,19 @@ use Rattle.engine_slots.specs.declared.Sender.{Sender}
 use Rattle.engine_slots.specs.declared.Look.{Look}
 use Rattle.engine_slots.specs.declared.Look.the-variants as look
 use Rattle.engine_model.specs.Stretches.{lookData}
-use Rattle.engine_state.specs.State.{snapshotIn, heldState, changedState, closedState}
-use Rattle.engine_piece.specs.Piece.{pieceState}
+use Rattle.engine_state.specs.State.{snapshotIn, heldState}
+use Rattle.engine_piece.specs.Piece.{pieceState, differsState}
 
 -- 22 first
 unfoldable pub lookState : List ℕ → Sender → List ℕ → ℕ → Look
 lookState s r p from = cond (heldState s) (lookData (snapshotIn s) r p from) (look.Refused (refusalOf 22))
 
--- a stretch that differs from its file ends the transfer
+-- a stretch that differs from its file ends the transfer, unless the page is busy
 unfoldable pub storedBy : List ℕ → ℕ → List ℕ → Bool → DataRead → Look → List ℕ
 storedBy s t p true (data-read.Accepted d) (look.New x) = pieceState s t p d x
 storedBy s t p false (data-read.Accepted d) (look.New x) = s
 storedBy s t p true (data-read.Accepted d) (look.Known x) = pieceState s t p d x
-storedBy s t p false (data-read.Accepted d) (look.Known x) = changedState (closedState s (d .id))
+storedBy s t p false (data-read.Accepted d) (look.Known x) = differsState s (d .id)
 storedBy s t p b (data-read.Accepted d) look.Over = s
 storedBy s t p b (data-read.Accepted d) look.Stranger = s
 storedBy s t p b (data-read.Accepted d) (look.Refused r) = s

@@ -69,7 +69,7 @@ pub record At (a : List ℕ) (q : ℕ) (x : Snapshot) : Type 0 where
   pub fine : judged (drop (q * 8) a) ≡ true
   pub is : snapshotIn (drop (q * 8) a) ≡ x
 
-word-from : (a : List ℕ) (q k : ℕ) → wordAt (drop (q * 8) a) k ≡ wordAt a (q + k)
+pub word-from : (a : List ℕ) (q k : ℕ) → wordAt (drop (q * 8) a) k ≡ wordAt a (q + k)
 word-from a q k =
     let e : q * 8 + k * 8 ≡ (q + k) * 8 = omega arith in
     ap (λ (l : List ℕ). leValue (take 8 l)) (drop-drop (k * 8) (q * 8) a ∙ ap (λ (n : ℕ). drop n a) e)

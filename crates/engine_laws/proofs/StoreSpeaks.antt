@@ -2,7 +2,7 @@
 -- Assumes nothing.
 use Prim.Native.Nat.{ℕ, suc, _^_, _≤_, _<_}
 use mathlib.Core.Path.{_≡_, refl, sym, ap, subst, _∙_}
-use mathlib.Core.Bool.{Bool, true, false, _||_}
+use mathlib.Core.Bool.{Bool, true, false, cond, _||_}
 use mathlib.Core.List.{List}
 use native.Mathlib.Omega.{arith}
 use lib.ListN.{length}
@@ -27,17 +27,17 @@ use Rattle.engine_slots.specs.declared.Look.the-variants as look
 use Rattle.engine_slots.specs.Layout.{snapshotOctets}
 use Rattle.engine_slots.specs.Slots.{setSlot}
 use Rattle.engine_slots.proofs.SlotLaws.{length-slots}
-use Rattle.engine_model.specs.Snapshots.{Snapshot, isOpen, slotOf, isComplete, withSlot, withTable, heardAt}
+use Rattle.engine_model.specs.Snapshots.{Snapshot, isOpen, slotOf, isComplete, withSlot, withTable, closedIn, heardAt}
 use Rattle.engine_model.specs.Stretches.{pieceOf, lookData}
-use Rattle.engine_model.specs.Engine.{recordedIn, storedAs, stored}
+use Rattle.engine_model.specs.Engine.{withNow, recordedIn, mayClose, closed, storedAs, stored}
 use Rattle.engine_model.proofs.FitLaws.{Fit, open-key, key-open}
 use Rattle.engine_model.proofs.RecordingLaws.{recording, fit-recording, recording-key}
 use Rattle.engine_model.proofs.LookLaws.{Looked, looked-open, look-new, look-known, piece-some}
 use Rattle.engine_state.specs.Layout.{numberField}
-use Rattle.engine_state.specs.State.{snapshotIn, numberIn, engineIn}
+use Rattle.engine_state.specs.State.{snapshotIn, numberIn, engineIn, changedState, closedState}
 use Rattle.engine_state.proofs.StateLaws.{Held, known-held}
 use Rattle.engine_data.specs.Store.{lookState, storedBy, storedState}
-use Rattle.engine_piece.specs.Piece.{pieceRecorded, heardState, pieceState}
+use Rattle.engine_piece.specs.Piece.{pieceRecorded, heardState, pieceState, differsState}
 use Rattle.engine_laws.specs.Speaks.{endOf, Holds}
 use Rattle.engine_laws.proofs.LeaveLaws.{Leaves, leaves-then, slot-leaves, table-leaves}
 use Rattle.engine_laws.proofs.SizeLaws.{sized-fits, open-sized, sized-heard}
@@ -91,6 +91,15 @@ module _ (s : List ℕ) (o : Octets s) (h : Held s) (t : ℕ) (r : Sender) (p : 
       let y : k .d ≡ d = cc in
       piece-holds d x e (k .some-octets) (subst (λ (c : Data). isOpen (snapshotIn s) (c .id) ≡ true) y (looked-open k))
 
+  differs : (i : ℕ) → Holds (differsState s i) (closed (engineIn s) i false)
+  unfolding differsState closed
+  differs i = go (mayClose (snapshotIn s) i false)
+    where
+      go : (b : Bool)
+          → Holds (cond b (changedState (closedState s i)) s) (cond b (withNow (engineIn s) (closedIn (snapshotIn s) i) (engineIn s .next) 1) (engineIn s))
+      go true = closed-holds s o h i
+      go false = kept-holds s o h
+
   pub stores : (b : Bool) (k : ℕ → Bool) → Holds (storedState s t r p from b) (stored (engineIn s) t r p from (endOf b k))
   unfolding storedState lookState stored storedBy storedAs endOf
   stores b k = rw (known-held s h) (go b (readData p) refl (lookData (snapshotIn s) r p from) refl)
@@ -100,7 +109,7 @@ module _ (s : List ℕ) (o : Octets s) (h : Held s) (t : ℕ) (r : Sender) (p : 
       go true (data-read.Accepted d) e (look.New x) f = taken d x e (look-new (snapshotIn s) r p from x (now-fit s (h .now-judged)) f .0)
       go false (data-read.Accepted d) e (look.New x) f = kept-holds s o h
       go true (data-read.Accepted d) e (look.Known x) f = taken d x e (look-known (snapshotIn s) r p from x (now-fit s (h .now-judged)) f .0)
-      go false (data-read.Accepted d) e (look.Known x) f = closed-holds s o h (d .id)
+      go false (data-read.Accepted d) e (look.Known x) f = differs (d .id)
       go b (data-read.Accepted d) e look.Over f = kept-holds s o h
       go b (data-read.Accepted d) e look.Stranger f = kept-holds s o h
       go b (data-read.Accepted d) e (look.Refused n) f = kept-holds s o h

@@ -99,7 +99,7 @@ module _ (s : List ℕ) {now pending synced : Snapshot} {num : ℕ → ℕ} (h :
 
 -- ---- the events
 
-pending-some : (w : ℕ) (y x : Snapshot) → pendingIf w y ≡ some x → y ≡ x
+pub pending-some : (w : ℕ) (y x : Snapshot) → pendingIf w y ≡ some x → y ≡ x
 unfolding pendingIf
 pending-some zero y x e = absurd (let z : _≡_ {A = ℕ} 0 1 = cc in omega arith)
 pending-some (suc w) y x e = cc

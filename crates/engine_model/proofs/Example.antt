@@ -30,10 +30,10 @@ use Rattle.area.specs.Places.{placeOf}
 use Rattle.engine_slots.specs.declared.Sender.{Sender}
 use Rattle.engine_slots.specs.Slots.{insertIn, removeIn}
 use Rattle.engine_stretch.specs.Stretch.{reachFrom}
-use Rattle.engine_model.specs.Snapshots.{Packet, isOpen, slotOf, completeOf, isComplete, sameSender, sameFile, withSlot, withTable, withNew, without, closedIn, heardAt}
+use Rattle.engine_model.specs.Snapshots.{Packet, isOpen, slotOf, completeOf, isComplete, isBusy, mustWait, sameSender, sameFile, withSlot, withTable, withNew, without, closedIn, heardAt}
 use Rattle.engine_model.specs.Stretches.{brings, bringsIn, pieceOf, stretchOf, lookReach, lookFrom, lookOwned, lookJudged, lookData}
 use Rattle.engine_model.specs.Meetings.{endedBy, isOther, roomFor, filesFor, meetOpened, meetOther, meetRead, meet}
-use Rattle.engine_model.specs.Engine.{whole, part, Event, opening, storing, answering, naming, reporting, syncing, good, bad, crash, answer, report, octetsPart, namePart, metaPart, token, madeOf, writeOf, answerOf, mayName, nameOf, mayReport, reportOf, maySync, actions, withNow, metadataId, openedBy, opened, recordedIn, storedAs, stored, marked, named, begunAt, current, confirmed, dropped, started}
+use Rattle.engine_model.specs.Engine.{whole, part, Event, opening, storing, answering, naming, reporting, syncing, good, bad, crash, answer, report, octetsPart, namePart, metaPart, token, madeOf, writeOf, answerOf, mayName, nameOf, mayReport, reportOf, maySync, actions, withNow, metadataId, openedBy, opened, recordedIn, mayClose, closed, storedAs, stored, marked, named, begunAt, current, confirmed, dropped, started}
 use Rattle.engine_model.specs.Disk.{orElse, octetIn, content, asDue, writtenOf, does, doesAll, asForced, forced, asLeft, left}
 use Rattle.engine_model.specs.World.{written, restarted, withEngine, acts, lost, step, start}
 use Rattle.engine_model.specs.World as world
@@ -76,16 +76,18 @@ before =
     ∷ opening 1 (sender 1) (metadata 7 3) whole
     ∷ []
 
--- so the opening counts as lost too. All is sent again; the last packet overlaps: its first octet is compared, its second is written
-abbrev sent : List Event
-sent =
-    storing 12 (sender 1) (data16 7 1 (11 ∷ 12 ∷ [])) 2 whole
-    ∷ storing 12 (sender 1) (data16 7 1 (11 ∷ 12 ∷ [])) 0 whole
-    ∷ storing 11 (sender 1) (data16 7 0 (10 ∷ 11 ∷ [])) 0 whole
+-- so the opening counts as lost too, and all is sent again: first what was sent before
+abbrev partly : List Event
+partly =
+    storing 11 (sender 1) (data16 7 0 (10 ∷ 11 ∷ [])) 0 whole
     ∷ storing 10 (sender 1) (data16 7 0 (10 ∷ 11 ∷ [])) 0 (part (λ o. true))
     ∷ opening 9 (sender 1) (metadata 7 3) whole
     ∷ opening 8 (sender 1) (metadata 7 3) (part (λ o. false))
     ∷ before
+
+-- the last packet overlaps: its first octet is compared, its second is written
+abbrev sent : List Event
+sent = storing 12 (sender 1) (data16 7 1 (11 ∷ 12 ∷ [])) 2 whole ∷ storing 12 (sender 1) (data16 7 1 (11 ∷ 12 ∷ [])) 0 whole ∷ partly
 
 -- the crash comes when the sync has replaced the area, and takes what it can
 abbrev started-again : List Event
@@ -97,9 +99,9 @@ with-name = naming 7 whole ∷ started-again
 abbrev saved : List Event
 saved = good 6 ∷ syncing 15 ∷ with-name
 
--- a packet with another octet at a received offset: it ends the transfer
-abbrev ended-by-other : List Event
-ended-by-other = storing 13 (sender 1) (data16 7 1 (77 ∷ 12 ∷ [])) 0 (part (λ o. false)) ∷ sent
+-- a packet with another octet at a received offset: it ends the transfer, unless the page is complete and not reported
+abbrev differs : Event
+differs = storing 13 (sender 1) (data16 7 1 (77 ∷ 12 ∷ [])) 0 (part (λ o. false))
 
 -- nothing is told before it is on disk, nothing is reported before its name is
 runs-so : (actions (world.run before .engine) (answering 7) ≡ [])
@@ -111,6 +113,7 @@ runs-so : (actions (world.run before .engine) (answering 7) ≡ [])
     × (map (content (world.run saved .writes) 7 1 octetsPart) (0 ∷ 1 ∷ 2 ∷ []) ≡ some 10 ∷ some 11 ∷ some 12 ∷ [])
     × (map (content (world.run saved .writes) 7 1 namePart) (0 ∷ 1 ∷ []) ≡ some 1 ∷ none ∷ [])
     × (content (world.run saved .writes) 7 1 metaPart 0 ≡ some 1)
-    × (isOpen (world.run ended-by-other .engine .now) 7 ≡ false)
-unfolding octetsOf startRefusal typeRefusal fileRefusal descriptorRefusal upperZero propertyRefusal pathRefusal entryRefusal entryOf pairAllowed pairRefusal metadataRefusal metadataOf readMetadata dataRefusal dataOf readData insert progress complete keys find runsOf add renewed setRuns remove stampIn judgeFound newRefusal judgeOpen openAs openKey openRead openPacket keyRefusal runsRefusal extended dataJudged recordRefusal grown recordAs recordData recordRead recordPacket closeFound closeId placeOf insertIn removeIn reachFrom isOpen slotOf completeOf isComplete sameSender sameFile withSlot withTable withNew without closedIn heardAt brings bringsIn pieceOf stretchOf lookReach lookFrom lookOwned lookJudged lookData endedBy isOther roomFor filesFor meetOpened meetOther meetRead meet token madeOf writeOf answerOf mayName nameOf mayReport reportOf maySync actions withNow metadataId openedBy opened recordedIn storedAs stored marked named begunAt current confirmed dropped started orElse octetIn content asDue writtenOf does doesAll asForced forced asLeft left written restarted withEngine acts lost step start world.run
-runs-so = (refl, refl, refl, refl, refl, refl, refl, refl, refl, refl)
+    × (isOpen (world.run (differs ∷ partly) .engine .now) 7 ≡ false)
+    × (isOpen (world.run (differs ∷ sent) .engine .now) 7 ≡ true)
+unfolding octetsOf startRefusal typeRefusal fileRefusal descriptorRefusal upperZero propertyRefusal pathRefusal entryRefusal entryOf pairAllowed pairRefusal metadataRefusal metadataOf readMetadata dataRefusal dataOf readData insert progress complete keys find runsOf add renewed setRuns remove stampIn judgeFound newRefusal judgeOpen openAs openKey openRead openPacket keyRefusal runsRefusal extended dataJudged recordRefusal grown recordAs recordData recordRead recordPacket closeFound closeId placeOf insertIn removeIn reachFrom isOpen slotOf completeOf isComplete isBusy mustWait sameSender sameFile withSlot withTable withNew without closedIn heardAt brings bringsIn pieceOf stretchOf lookReach lookFrom lookOwned lookJudged lookData endedBy isOther roomFor filesFor meetOpened meetOther meetRead meet token madeOf writeOf answerOf mayName nameOf mayReport reportOf maySync actions withNow metadataId openedBy opened recordedIn mayClose closed storedAs stored marked named begunAt current confirmed dropped started orElse octetIn content asDue writtenOf does doesAll asForced forced asLeft left written restarted withEngine acts lost step start world.run
+runs-so = (refl, refl, refl, refl, refl, refl, refl, refl, refl, refl, refl)

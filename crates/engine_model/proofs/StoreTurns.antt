@@ -2,7 +2,7 @@
 -- Assumes nothing.
 use Prim.Native.Nat.{ℕ, suc, _<_}
 use mathlib.Core.Path.{_≡_, refl, sym, ap, subst, _∙_}
-use mathlib.Core.Bool.{true, false, _||_}
+use mathlib.Core.Bool.{Bool, true, false, cond, _||_}
 use mathlib.Core.List.{List, [], _∷_}
 use mathlib.Core.Logic.{_⊎_, inl, inr}
 use mathlib.Core.Option.{Option, some}
@@ -20,9 +20,9 @@ use Rattle.engine_slots.specs.declared.Slot.{Slot}
 use Rattle.engine_slots.specs.declared.Stretch.{Stretch}
 use Rattle.engine_slots.specs.declared.Look.{Look}
 use Rattle.engine_slots.specs.declared.Look.the-variants as look
-use Rattle.engine_model.specs.Snapshots.{Packet, Snapshot, isOpen, isComplete, slotOf, fileOf, received, withSlot, heardAt}
+use Rattle.engine_model.specs.Snapshots.{Packet, Snapshot, isOpen, isComplete, slotOf, fileOf, received, withSlot, closedIn, heardAt}
 use Rattle.engine_model.specs.Stretches.{bringsIn, pieceOf, lookData}
-use Rattle.engine_model.specs.Engine.{Engine, Ended, whole, part, Event, storing, octetsPart, actions, writeOf, recordedIn, storedAs, stored}
+use Rattle.engine_model.specs.Engine.{Engine, Ended, whole, part, Event, storing, octetsPart, actions, writeOf, withNow, recordedIn, mayClose, closed, storedAs, stored}
 use Rattle.engine_model.specs.Disk.{Write, writtenOf, does, doesAll}
 use Rattle.engine_model.specs.World.{World, acts, step}
 use Rattle.engine_model.specs.World as world
@@ -188,11 +188,21 @@ new-turn h t r p from q d y fit read e =
         still h (storing t r p from (part k)) (stretchWrite (p .octets) (l .d) y (part k) ∷ writesOf h) fit
         (stretch-added h t r p from (part k) y l e missing)
 
+-- one that differs: the transfer ends, or waits
+differs-turn : (h : List Event) (x : Event) (i : ℕ) → Fit (nowOf h) → (b : Bool)
+    → Turn h x (record {
+      engine = cond b (withNow (world.run h .engine) (closedIn (nowOf h) i) (nextOf h) 1) (world.run h .engine);
+      writes = writesOf h;
+      area = world.run h .area;
+    })
+differs-turn h x i fit true = closes h x i fit
+differs-turn h x i fit false = nothing h x fit
+
 known-turn : (h : List Event) (t : ℕ) (r : Sender) (p : Packet) (from : ℕ) (q : Ended) (d : Data) (y : Stretch) → Fit (nowOf h)
     → readData (p .octets) ≡ data-read.Accepted d → lookData (nowOf h) r (p .octets) from ≡ look.Known y
     → Turn h (storing t r p from q) (after h t r p from q (data-read.Accepted d) (look.Known y))
-unfolding storedAs writeOf doesAll does
-known-turn h t r p from (part k) d y fit read e = closes h (storing t r p from (part k)) (d .id) fit
+unfolding storedAs writeOf doesAll does closed
+known-turn h t r p from (part k) d y fit read e = differs-turn h (storing t r p from (part k)) (d .id) fit (mayClose (nowOf h) (d .id) false)
 known-turn h t r p from whole d y fit read e =
     let l = look-known (nowOf h) r (p .octets) from y fit e in
     let same : l .0 .d ≡ d = (let u : readData (p .octets) ≡ data-read.Accepted (l .0 .d) = l .0 .read in cc) in

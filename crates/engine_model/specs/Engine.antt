@@ -201,12 +201,19 @@ recordedIn e t p d x =
     let slot = heardAt t (suc (e .number)) (wanted || isComplete s (d .id)) wanted (slotOf s (d .id)) in
     withNow e (withSlot s (d .id) slot) (e .next) 1
 
--- what is compared and is not equal ends the transfer
+-- a page that is complete is reported first, unless it is spoilt
+unfoldable pub mayClose : Snapshot → ℕ → Bool → Bool
+mayClose s i spoilt = isOpen s i && not (mustWait s i spoilt)
+
+unfoldable pub closed : Engine → ℕ → Bool → Engine
+closed e i b = cond (mayClose (e .now) i b) (withNow e (closedIn (e .now) i) (e .next) 1) e
+
+-- what is compared and is not equal ends the transfer, unless its page is busy
 unfoldable pub storedAs : Engine → ℕ → List ℕ → Ended → DataRead → Look → Engine
 storedAs e t p whole (data-read.Accepted d) (look.New x) = recordedIn e t p d x
 storedAs e t p (part k) (data-read.Accepted d) (look.New x) = e
 storedAs e t p whole (data-read.Accepted d) (look.Known x) = recordedIn e t p d x
-storedAs e t p (part k) (data-read.Accepted d) (look.Known x) = withNow e (closedIn (e .now) (d .id)) (e .next) 1
+storedAs e t p (part k) (data-read.Accepted d) (look.Known x) = closed e (d .id) false
 storedAs e t p x (data-read.Accepted d) look.Over = e
 storedAs e t p x (data-read.Accepted d) look.Stranger = e
 storedAs e t p x (data-read.Accepted d) (look.Refused r) = e
@@ -214,13 +221,6 @@ storedAs e t p x (data-read.Refused r) l = e
 
 unfoldable pub stored : Engine → ℕ → Sender → List ℕ → ℕ → Ended → Engine
 stored e t r p from x = storedAs e t p x (readData p) (lookData (e .now) r p from)
-
--- a page that is complete is reported first, unless it is spoilt
-unfoldable pub mayClose : Snapshot → ℕ → Bool → Bool
-mayClose s i spoilt = isOpen s i && not (mustWait s i spoilt)
-
-unfoldable pub closed : Engine → ℕ → Bool → Engine
-closed e i b = cond (mayClose (e .now) i b) (withNow e (closedIn (e .now) i) (e .next) 1) e
 
 -- the slot of an Id that is open for the same file in `now` and in `synced`
 unfoldable pub marked : Engine → ℕ → Bool → Slot → ℕ → Engine

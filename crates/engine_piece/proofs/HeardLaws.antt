@@ -1,8 +1,8 @@
--- A transfer that was heard, and one that ends.
+-- A transfer that was heard, and one that ends, or waits for its report.
 -- Assumes nothing.
 use Prim.Native.Nat.{ℕ, _≤_, _<_}
 use mathlib.Core.Path.{_≡_, sym, ap, subst, _∙_}
-use mathlib.Core.Bool.{Bool, cond, _||_}
+use mathlib.Core.Bool.{Bool, true, false, cond, not, _||_}
 use mathlib.Core.List.{List}
 use native.Mathlib.Omega.{arith}
 use lib.ListN.{length}
@@ -14,11 +14,12 @@ use Rattle.area.proofs.KeptLaws.{kept-known}
 use Rattle.engine_slots.specs.declared.Slot.{Slot}
 use Rattle.engine_slots.specs.Layout.{snapshotOctets}
 use Rattle.engine_slots.specs.Slots.{slotAt, setSlot}
-use Rattle.engine_model.specs.Snapshots.{slotOf, isComplete, heardAt}
+use Rattle.engine_model.specs.Snapshots.{slotOf, isComplete, isBusy, mustWait, heardAt}
+use Rattle.engine_model.specs.Engine.{mayClose}
 use Rattle.engine_state.specs.Layout.{changedField}
 use Rattle.engine_state.specs.State.{snapshotIn, setNumber, takenOut, changedState, closedState}
 use Rattle.engine_state.proofs.StateLaws.{slot-known, kept-open}
-use Rattle.engine_piece.specs.Piece.{heardState}
+use Rattle.engine_piece.specs.Piece.{heardState, differsState}
 use Rattle.engine_piece.specs.Known.{OpenIn, Known}
 
 -- ---- a transfer that was heard
@@ -47,3 +48,25 @@ pub closed-is : (s : List ℕ) (i : ℕ) → OpenIn s i → (b e : List ℕ) →
 unfolding closedState
 closed-is s i k b e f g =
     g ∙ ap (λ (l : List ℕ). setNumber l changedField 1) (f ∙ sym (ap (λ (z : Bool). cond z (takenOut s i) s) (kept-open s i (placeOf i (readTable s)) k)))
+
+-- ---- one whose page is busy
+
+pub busy-not : (s : List ℕ) (i : ℕ) (c : Bool) → c ≡ isComplete (snapshotIn s) i → c ≡ false → false ≡ isBusy (snapshotIn s) i
+unfolding isBusy
+busy-not s i c f h = rw (← f, h)
+
+pub busy-by : (s : List ℕ) (i p : ℕ) → p ≡ placeOf i (readTable s) → OpenIn s i → (x : Slot) → x ≡ slotAt s p → (c : Bool)
+    → c ≡ isComplete (snapshotIn s) i → c ≡ true → not (eqb (x .reported) 1) ≡ isBusy (snapshotIn s) i
+unfolding isBusy
+busy-by s i p is kept x e c f h =
+    let same : x ≡ slotOf (snapshotIn s) i = e ∙ sym (slot-known s i p (subst (KeptAt i (readTable s)) (sym is) kept)) in
+    rw (← f, h, ← same)
+
+pub busy-stays : (s : List ℕ) (i : ℕ) → OpenIn s i → isBusy (snapshotIn s) i ≡ true → s ≡ differsState s i
+unfolding differsState mayClose mustWait
+busy-stays s i k f = rw (kept-open s i (placeOf i (readTable s)) k, f)
+
+pub idle-ends : (s : List ℕ) (i : ℕ) → OpenIn s i → isBusy (snapshotIn s) i ≡ false → (b : List ℕ) → b ≡ changedState (closedState s i)
+    → b ≡ differsState s i
+unfolding differsState mayClose mustWait
+idle-ends s i k f b e = rw (kept-open s i (placeOf i (readTable s)) k, f) e

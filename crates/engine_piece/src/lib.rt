@@ -1,12 +1,13 @@
-// A stretch of DATA that was written, or compared and is equal, recorded, and its transfer heard; or one that differs, and its transfer ended.
+// A stretch of DATA that was written, or compared and is equal, recorded, and its transfer heard; or one that differs, and its transfer ended unless its page
+// is busy.
 ghost use mathlib.Core.Path.{_≡_};
 ghost use mathlib.Core.Bool.{true, cond, _||_};
 ghost use Prim.Native.Nat.{_≤_};
 ghost use Rattle.packet_data.specs.Data.{dataOf};
-ghost use Rattle.engine_model.specs.Snapshots.{heardAt};
+ghost use Rattle.engine_model.specs.Snapshots.{isBusy, heardAt};
 ghost use Rattle.engine_model.specs.Stretches.{pieceOf};
-ghost use Rattle.engine_state.specs.State.{heldState, changedState, closedState};
-ghost use Rattle.engine_piece.specs.Piece.{heardState, pieceState};
+ghost use Rattle.engine_state.specs.State.{snapshotIn, heldState, changedState, closedState};
+ghost use Rattle.engine_piece.specs.Piece.{heardState, pieceState, differsState};
 ghost use Rattle.engine_piece.specs.Known.{OpenIn, Known, Piece};
 use engine_slots::Slot;
 use engine_slots::Stretch;
@@ -99,12 +100,36 @@ pub fn store_piece(state: &mut [u8], time: u64, packet: &[u8], x: Stretch)
     heard(state, time, n, d);
 }
 
-// A stretch differs from its file: its transfer ends.
-pub fn end_transfer(state: &mut [u8], id: u64)
+// Whether the page of an open Id is complete and was not reported yet.
+fn is_busy(state: &[u8], id: u64) -> bool
+    requires { ⌜ Known (now state) id ⌝ }
+    ensures { λ r. ⌜ r ≡ isBusy (snapshotIn (now (state .entry))) id ⌝ }
+{
+    let place = area_find::find_place(state, id).at;
+    let slot = engine_slots::slot_at(state, place);
+    if engine_state::is_complete(state, id) {
+        return slot.reported != 1;
+    }
+    false
+}
+
+// An open Id is taken out of what is now, and that is to be saved.
+fn take(state: &mut [u8], id: u64)
     requires { ⌜ (heldState (now state) ≡ true) × OpenIn (now state) id ⌝ }
     ensures { λ _. ⌜ now (state .exit) ≡ changedState (closedState (now (state .entry)) id) ⌝ }
 {
     let place = area_find::find_place(state, id).at;
     engine_state::take_out(state, place, id);
     engine_state::set_number(state, engine_state::CHANGED, 1);
+}
+
+// A stretch differs from its file: its transfer ends, unless its page is busy.
+pub fn end_transfer(state: &mut [u8], id: u64)
+    requires { ⌜ (heldState (now state) ≡ true) × OpenIn (now state) id ⌝ }
+    ensures { λ _. ⌜ now (state .exit) ≡ differsState (now (state .entry)) id ⌝ }
+{
+    if is_busy(state, id) {
+        return;
+    }
+    take(state, id);
 }

@@ -1,4 +1,4 @@
--- `engine_data::store_known` meets its contract: a stretch that differs from its file ends the transfer. Assumes nothing.
+-- `engine_data::store_known` meets its contract: a stretch that differs from its file ends the transfer or waits. Assumes nothing.
 use borrow.Author.Needs.{needs}
 use borrow.Author.Tests.{not-true, not-false}
 use Rattle.engine_data.proofs.StoreLaws.{known-bad, known-well}

@@ -1,38 +1,33 @@
--- `engine_piece::end_transfer` meets its contract: the Id is taken out, and there is something to save. Assumes nothing.
-use native.Mathlib.Omega.{arith}
+-- `engine_piece::end_transfer` meets its contract: nothing changes while the page is busy. Assumes nothing.
 use borrow.Author.Needs.{needs}
-use denote.Ref.{now}
-use mathlib.Core.Path.{sym, ap, subst}
-use Rattle.area.specs.Places.{readTable, placeIn, KeptAt}
-use Rattle.area.specs.declared.Place.{Place}
+use mathlib.Core.Path.{sym, _∙_}
 use Rattle.engine_state.proofs.StateLaws.{held-known}
-use Rattle.engine_piece.proofs.HeardLaws.{closed-is}
+use Rattle.engine_piece.proofs.HeardLaws.{busy-stays, idle-ends}
 use Rattle.engine_piece.proofs.end_transfer.Statement.{statement}
 use Rattle.engine_piece.proofs.end_transfer.Tie as tie
 
-take-out-requires : tie.Need-take-out-requires
-unfolding placeIn
-take-out-requires c κs =
-    let f = c .before in
-    let s = f .before .before .before in
-    (s .pre .0, subst (KeptAt (s .args .id) (readTable (now (s .args .state)))) (sym (ap (λ (x : Place). x .at) (f .find-place .ensures))) (s .pre .1))
-
-set-number-requires : tie.Need-set-number-requires
-set-number-requires c κs =
-    let t = c .before .before .before in
-    let s = t .before .before .before .before .before in
-    let h = held-known _ (s .pre .0) .long in
-    (omega arith, omega arith)
+is-busy-requires : tie.Need-is-busy-requires
+is-busy-requires c κs =
+    let s = c .before .before in
+    let h = held-known _ (s .pre .0) in
+    record { long = h .long; table = h .now-judged; kept = s .pre .1 }
 
 returns : tie.Need-returns
 returns c =
-    let n = c .before .before in
-    let t = n .before .before .before .before in
-    let s = t .before .before .before .before .before in
-    closed-is _ _ (s .pre .1) _ _ (t .take-out .ensures) (n .set-number .ensures)
+    let b = c .before in
+    let s = b .before .before .before in
+    busy-stays _ _ (s .pre .1) (sym (b .is-busy .ensures) ∙ c .if1 .taken)
+
+returns-2 : tie.Need-returns-2
+returns-2 c =
+    let t = c .before .before in
+    let e = t .before .before in
+    let b = e .before in
+    let s = b .before .before .before in
+    idle-ends _ _ (s .pre .1) (sym (b .is-busy .ensures) ∙ e .if1 .left) _ (t .take .ensures)
 
 pub end-transfer-spec : {M : Type 1} → statement M
 end-transfer-spec =
     tie.close
     (tie.spec
-    (λ c κs. held-known _ (c .before .before .pre .0) .now-judged) take-out-requires set-number-requires (λ c. search needs) returns)
+    is-busy-requires (λ c. search needs) returns (λ c κs. c .before .before .before .before .before .pre) (λ c. search needs) returns-2)

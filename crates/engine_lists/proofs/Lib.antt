@@ -1,0 +1,4 @@
+pub mod StartLaws
+pub mod CopyLaws
+pub mod CallLaws
+pub mod Theorems

@@ -15,12 +15,13 @@
 # make link     builds the link program, target/link/saratoga-link (docs/LINK.md)
 # make merge    builds the program that merges two plants' directories, target/merge/saratoga-merge (docs/LINK.md)
 # make gigabyte a page of a gigabyte through the link program, its MD5 against Python's; half a minute, two gigabytes of disk
+# make scale    1, 10 and 100 link programs and as many senders on this machine: memory, CPU time and octets a second (docs/LINK.md); COUNTS="1 10"
 # make plan     builds the sender's planner, target/plan/saratoga-plan (docs/PLAN.md)
 # make send     builds the sender, target/send/saratoga-send (docs/SEND.md)
 # make settings builds the program for a plant's settings file, target/settings/saratoga-settings (docs/SETTINGS.md)
 # make install  header, archive, shared library, pkg-config file, Python module, replay, the tools, the link program, the sender, the planner,
-#               saratoga-merge, the program for settings and the dissector, with man pages, below PREFIX (default /usr/local; PREFIX=$HOME/.local needs no
-#               root); make uninstall takes them away
+#               saratoga-merge, the program for settings, the dissector, and a systemd unit with an example of its options, with man pages, below
+#               PREFIX (default /usr/local; PREFIX=$HOME/.local needs no root); make uninstall takes them away
 # make deb      a Debian package of all that make install puts, target/deb/saratoga_VERSION_amd64.deb; DEB_MAINTAINER= names who makes it
 PREFIX ?= /usr/local
 VERSION = 0.1
@@ -38,7 +39,7 @@ BENCH_FLAGS = -O2 -Wall -Wextra -Iinclude
 PASS ?= host/passes/page611.pass
 
 .PHONY: test test-extra lib shared engine simulate replay-program front replay compare soak stack bench-program bench bench-instructions bench-descriptors
-.PHONY: link gigabyte send plan merge settings install uninstall deb clean help
+.PHONY: link gigabyte scale send plan merge settings install uninstall deb clean help
 
 help:
 	@sed -n '/^[^#]/q; s/^# //p' Makefile
@@ -121,6 +122,9 @@ link: lib engine
 gigabyte: lib
 	host/link/gigabyte.py
 
+scale: link send
+	host/link/scale.py $(COUNTS)
+
 plan: lib
 	mkdir -p target/plan
 	$(CC) -std=c99 -Wall -Wextra -pedantic -O2 -Iinclude $(PLAN_SOURCES) $(ARCHIVE) -o target/plan/saratoga-plan
@@ -162,7 +166,7 @@ PAGES = replay pcap2pass passtext passplot marks sheet saratoga-link saratoga-se
 
 install: lib engine shared front link send plan merge settings
 	install -d "$(AT)/include" "$(AT)/lib/pkgconfig" "$(AT)/bin" "$(AT)/libexec/saratoga" "$(AT)/share/man/man1" "$(AT)/share/man/man3"
-	install -d "$(DESTDIR)$(PYTHON_DIR)" "$(AT)/share/saratoga" "$(AT)/share/man/man7"
+	install -d "$(DESTDIR)$(PYTHON_DIR)" "$(AT)/share/saratoga" "$(AT)/share/man/man7" "$(AT)/lib/systemd/system"
 	install -m 644 include/saratoga.h "$(AT)/include/saratoga.h"
 	install -m 644 include/saratoga_engine.h "$(AT)/include/saratoga_engine.h"
 	install -m 644 $(ARCHIVE) "$(AT)/lib/libsaratoga.a"
@@ -181,7 +185,9 @@ install: lib engine shared front link send plan merge settings
 	install -m 644 $(PAGES:%=host/man/%.1) "$(AT)/share/man/man1"
 	install -m 644 host/man/saratoga.3 "$(AT)/share/man/man3"
 	install -m 644 host/man/saratoga-wireshark.7 "$(AT)/share/man/man7"
-	install -m 644 host/wireshark/saratoga.lua "$(AT)/share/saratoga"
+	install -m 644 host/wireshark/saratoga.lua host/systemd/saratoga-link.conf.example "$(AT)/share/saratoga"
+	sed 's|@PREFIX@|$(PREFIX)|' host/systemd/saratoga-link@.service >"$(AT)/lib/systemd/system/saratoga-link@.service"
+	chmod 644 "$(AT)/lib/systemd/system/saratoga-link@.service"
 
 DEB_MAINTAINER ?= Storhnipa maintainers <maintainers@users.noreply.storhnipa.example>
 
@@ -192,6 +198,7 @@ uninstall:
 	rm -f "$(AT)/include/saratoga_engine.h" "$(AT)/lib/libsaratoga_engine.a"
 	rm -f "$(AT)/include/saratoga.h" "$(AT)/lib/libsaratoga.a" "$(AT)/lib/pkgconfig/saratoga.pc" "$(AT)/share/man/man3/saratoga.3"
 	rm -f "$(AT)/share/man/man7/saratoga-wireshark.7" "$(AT)/share/saratoga/saratoga.lua"
+	rm -f "$(AT)/share/saratoga/saratoga-link.conf.example" "$(AT)/lib/systemd/system/saratoga-link@.service"
 	rm -f "$(AT)/lib/libsaratoga.so" "$(AT)/lib/$(SONAME)" "$(AT)/lib/$(SHARED)" "$(DESTDIR)$(PYTHON_DIR)/saratoga.py"
 	for file in replay saratoga-link saratoga-send saratoga-plan saratoga-merge saratoga-settings $(TOOLS); do rm -f "$(AT)/bin/$$file" || exit 1; done
 	for page in $(PAGES); do rm -f "$(AT)/share/man/man1/$$page.1" || exit 1; done

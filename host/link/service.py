@@ -2,6 +2,7 @@
 takes the program and an empty directory."""
 import hashlib
 import os
+import random
 import re
 import shutil
 import signal
@@ -10,7 +11,8 @@ import subprocess
 import time
 from datetime import datetime, timezone
 
-from harness import FAILS, NOSPACE, ROOT, SOURCES, WRAPPED, at, build, check, content, is_there, numbers, page, records, run
+from harness import (FAILS, NOSPACE, POWERCUT, ROOT, SOURCES, WRAPPED, after_the_cut, at, build, check, content, edited, is_there, numbers, page,
+                     records, run)
 from packets import WANTED, data, metadata
 from plant import Link, is_complete, one_of_it
 
@@ -21,7 +23,7 @@ BEGAN, ENDED = "began", "ended"
 # What the hooks of these tests do: note that they began, and with which page; wait while the file `hold` is there; end with the status in
 # the file `status`.
 HOOK = """#!/bin/sh
-here=$(dirname "$0")
+here=${0%/*}
 echo "began $1" >>"$here/notes"
 while [ -e "$here/hold" ]; do sleep 0.02; done
 echo "ended $1" >>"$here/notes"
@@ -34,7 +36,7 @@ class Hook:
     """A program for --on-complete, in a folder with a blank, and what it noted."""
 
     def __init__(self, place, text=HOOK):
-        self.folder = os.path.join(os.path.dirname(place), "the hook")
+        self.folder = place + " the hook"
         os.makedirs(self.folder, exist_ok=True)
         self.path = os.path.join(self.folder, "run me")
         with open(self.path, "w", encoding="ascii") as file:
@@ -84,16 +86,16 @@ read -r anything && exit 9
 echo "standard output of the hook"
 exit 0
 """))
-    odd = os.path.join(os.path.dirname(place), "a dir; echo $(touch harm) 'x'")
+    odd = place + "; echo $(touch harm) 'x'"
     os.rename(place, odd)
     reading, writing = os.pipe()
-    with open(os.path.join(os.path.dirname(place), "lines"), "wb") as out:
+    with open(place + ".lines", "wb") as out:
         done = subprocess.run([program, "-d", os.path.basename(odd), "--on-complete", hook.path, "-"], input=records(pages(7)),
                               stdout=out, stderr=subprocess.PIPE, cwd=os.path.dirname(place), pass_fds=(reading, writing),
                               env=dict(os.environ, NOTIFY_SOCKET="", WATCHDOG_USEC="5"), check=False, timeout=20)
     os.close(reading)
     os.close(writing)
-    lines = content(os.path.dirname(place), "lines").decode().splitlines()
+    lines = content(place + ".lines").decode().splitlines()
     check(done.returncode == 0 and done.stderr == b"standard output of the hook\n", done)
     check(hook_lines(lines) == ["0 hook id=7 file=00000007.1.page status=0"], lines)
     check([" complete id=7 " in line for line in lines].index(True) < lines.index(hook_lines(lines)[0]), lines)
@@ -185,7 +187,6 @@ def slow_hooks(program, place):
     link = Link(program, place, "--on-complete", hook.path, "--hooks", "2")
     for ident in range(1, 8):
         link.send(pages(ident)[0])
-        link.drain()
         begun = time.monotonic()
         check(is_complete(link.send(data(ident, 16, 0, page(60, ident), WANTED)), 60), f"page {ident} isn't answered")
         check(time.monotonic() - begun < 0.5, "the answer waits for a hook")
@@ -213,7 +214,7 @@ def at_the_end(program, place):
     check(link.told == ["saratoga-link: the hooks of 0 pages still run, and those of 1 weren't started; they are run again at the next "
                         "start"], link.told)
     hook.set("hold")
-    begun, log = time.monotonic(), os.path.join(os.path.dirname(place), "told")  # a hook that goes on would keep a pipe open
+    begun, log = time.monotonic(), place + ".told"  # a hook that goes on would keep a pipe open
     with open(log, "wb") as told:
         status = subprocess.run([program, "-d", place, "--on-complete", hook.path, "--hook-wait", "1", "-"], stdin=subprocess.DEVNULL,
                                 stdout=told, stderr=told, check=False, timeout=20).returncode
@@ -243,7 +244,7 @@ def no_such_hook(program, place):
 
 def no_room_for_a_note(program, place):
     """`program` is built with nospace.c. A page whose note can't be made isn't reported until it can, and then it is handed over."""
-    hook, marker = Hook(place), os.path.join(os.path.dirname(place), "nospace")
+    hook, marker = Hook(place), place + ".nospace"
     link = Link(program, place, "--on-complete", hook.path, NOSPACE=marker)
     link.quiet_send(pages(7)[0])
     os.mkdir(os.path.join(place, f"00000007.{numbers(place, 7)[0]}.hook"))
@@ -257,17 +258,17 @@ def no_room_for_a_note(program, place):
 
 def cut_with_a_hook(program, place):
     """`program` has cut points. Ended at each of them, and again after each restart: every page is handed over at least once, and whole."""
-    octets = records(pages(7, 8) + [metadata(7, 16, 60, b"another"), data(7, 16, 0, page(60, 9))])
-    keeps = HOOK.replace("exit 0\n", 'cp "$1" "$here/$(basename "$1").$$"\nexit 0\n')
+    looks = HOOK.replace("exit 0\n", 'cmp -s "$1" "$here/whole" || echo "torn $1" >>"$here/notes"\nexit 0\n')
     count = 0
     while True:
         count += 1
         here = os.path.join(place, str(count), "here")
         os.makedirs(here)
-        hook = Hook(here, keeps)
-        cut, status = count, 99
+        hook = Hook(here, looks)
+        with open(os.path.join(hook.folder, "whole"), "wb") as file:
+            file.write(page(60, 7))
         for cut in (count, count, 0):
-            status = run(program, here, "--no-fsync", "-q", "--linger", "0", "--on-complete", hook.path, "-", octets=octets,
+            status = run(program, here, "--no-fsync", "-q", "--linger", "0", "--on-complete", hook.path, "-", octets=records(pages(7)),
                          LINK_CUT=str(cut))[2]
             check(status in (0, 99), status)
             if status == 0:
@@ -276,9 +277,34 @@ def cut_with_a_hook(program, place):
         kept = [name for name in os.listdir(here) if name.endswith(".page")]
         for name in kept:
             check(any(os.path.basename(path) == name for path in hook.notes(ENDED)), f"{name} wasn't handed over after a cut at {count}")
-        check(len(kept) >= 3 and notes_left(here) == [], f"after a cut at {count}: {sorted(os.listdir(here))}")
+        check(kept and notes_left(here) == [], f"after a cut at {count}: {sorted(os.listdir(here))}")
+        check(hook.notes("torn") == [], f"after a cut at {count} a page is handed over that isn't whole")
         if cut == count and status == 0:
             return count - 1
+
+
+def power_cut_with_a_hook(program, place, plain):
+    """`program` is built with powercut.c. The power goes at each call; the hook fails before that. Whatever of the rest is on disk, a page
+    that is there is handed over after the restart. Gives the number of calls."""
+    chance = random.Random(614)
+    count, status = 0, 98
+    while status == 98:
+        count += 1
+        here, disk = os.path.join(place, str(count)), os.path.join(place, f"{count}-disk")
+        os.mkdir(here)
+        os.mkdir(disk)
+        words = ("-q", "--linger", "0", "--on-complete")
+        status = run(program, here, *words, Hook(here, "#!/bin/sh\nexit 1\n").path, "-", octets=records(pages(7)), POWERCUT=str(count),
+                     POWERCUT_DISK=disk)[2]
+        check(status in (1, 98), status)
+        for number, how in enumerate(("none", "names", "some", "some", "some")):
+            left = os.path.join(place, f"{count}-{number}")
+            after_the_cut(disk, here, left, how, chance)
+            found = [name for name in os.listdir(left) if name.endswith(".page")]
+            lines, told, _ = run(plain, left, *words, Hook(left).path, "-")
+            for name in found:
+                check(any(f" file={name} status=0" in line for line in lines), f"call {count}, {how}: {name} isn't handed over: {told}")
+    return count - 1
 
 
 # The service manager.
@@ -313,7 +339,7 @@ class Manager:
 
 def managed(program, place):
     """READY once packets are heard, STATUS as it changes, STOPPING at the end; by a path and by an abstract name."""
-    for name in (os.path.join(os.path.dirname(place), "notify"), f"@saratoga-test-{os.getpid()}-{place}"[:100]):
+    for name in (place + ".notify", f"@saratoga-test-{os.getpid()}-{place}"[:100]):
         here = os.path.join(place, "path" if name.startswith("/") else "name")
         os.mkdir(here)
         manager = Manager(name)
@@ -339,7 +365,7 @@ def managed(program, place):
 
 def watched(program, place):
     """`program` is built with nospace.c. The watchdog is fed at half its time by the thread that takes packets, while the disk answers."""
-    name, marker = os.path.join(os.path.dirname(place), "notify"), os.path.join(os.path.dirname(place), "nospace")
+    name, marker = place + ".notify", place + ".nospace"
     manager = Manager(name)
     link = Link(program, place, NOTIFY_SOCKET=name, WATCHDOG_USEC="300000", NOSPACE=marker)
     check(5 <= manager.fed(1.2) <= 9, manager.told)
@@ -367,7 +393,7 @@ def watched(program, place):
 
 def logged(program, place):
     """Lines go to the file, after what it has; SIGHUP opens it anew, and no line is lost between; a file that can't be opened is told."""
-    log = os.path.join(os.path.dirname(place), "log")
+    log = place + ".log"
     with open(log, "w", encoding="ascii") as file:
         file.write("what was there\n")
     process = subprocess.Popen([program, "-d", place, "--udp", "0", "--any-peer", "--log", log], stdout=subprocess.PIPE,
@@ -434,7 +460,7 @@ def times(program, place):
         check(re.fullmatch(r"\d{4}-\d\d-\d\dT\d\d:\d\d:\d\d\.\d{3}Z .+", line), line)
         check(before <= datetime.fromisoformat(line[:23] + "+00:00") <= after, line)
         rest.append(line[25:])
-    check((rest, status) == (expected[0] + expected[1].splitlines(), expected[2]) and told, (rest, expected))
+    check((rest, status) == (expected[0] + expected[1].replace(plain, here).splitlines(), expected[2]) and told, (rest, expected))
 
 
 # The file of options.
@@ -442,7 +468,7 @@ def times(program, place):
 
 def config(program, place):
     """What a file says is as if it stood before the command line; what is wrong is told with its line."""
-    path = os.path.join(os.path.dirname(place), "options.conf")
+    path = place + ".conf"
 
     def told(text, *words, octets=b""):
         with open(path, "wb") as file:
@@ -469,7 +495,7 @@ def config(program, place):
         check(" open id=7 " in got[0][0] and got[2] == 0, f"the command line doesn't win: {got}")
         check(told(text, "--close", "7")[2] == 0, "--close with a file")
     # A service's file serves --list too, and blanks within a value stay.
-    blank = os.path.join(os.path.dirname(place), "with a blank")
+    blank = place + " with a blank"
     os.mkdir(blank)
     check(run(program, blank, "-", octets=packet)[2] == 0, "the files aren't made")
     with open(path, "w", encoding="ascii") as file:
@@ -486,7 +512,7 @@ def config(program, place):
 
 def shipped(program, place):
     """The example of a file of options runs; the unit starts the program with such a file, and systemd finds nothing wrong with it."""
-    manager = Manager(os.path.join(os.path.dirname(place), "notify"))
+    manager = Manager(place + ".notify")
     process = subprocess.Popen([program, "--config", EXAMPLE, "--directory", place, "--udp", "0"], stdout=subprocess.PIPE,
                                stderr=subprocess.PIPE, env=dict(os.environ, NOTIFY_SOCKET=manager.name))
     Link.started.append(process)
@@ -505,7 +531,7 @@ def shipped(program, place):
     check("ExecStart=@PREFIX@/bin/saratoga-link --config /etc/saratoga/%i.conf --directory /var/lib/saratoga/%i\n" in unit, unit)
     if shutil.which("systemd-analyze") is None:
         return "systemd-analyze isn't installed, and the unit wasn't verified"
-    folder = os.path.join(os.path.dirname(place), "unit")
+    folder = place + ".unit"
     os.makedirs(os.path.join(folder, "bin"))
     shutil.copy(program, os.path.join(folder, "bin", "saratoga-link"))
     with open(os.path.join(folder, "saratoga-link@.service"), "w", encoding="utf-8") as file:
@@ -519,9 +545,25 @@ def shipped(program, place):
 TESTS = (handed_over, failed_and_differs, after_a_kill, not_what_it_was, slow_hooks, at_the_end, no_such_hook, managed, logged, times, config)
 
 
-def all_of_it(program, place, cutting):
+def found(test, source, edits, place, *words):
+    """A program made by edits, and with one source more, must fail a test, which may take more words."""
+    os.mkdir(place + ".edited")
+    changed = edited(edits, place + ".edited")
+    wrong = build([*[changed.get(path, path) for path in SOURCES], source], place + ".out", *WRAPPED, *([FAILS] if source == NOSPACE else []))
+    try:
+        one_of_it(lambda program, here: test(program, here, *words), wrong, place)
+    except AssertionError:
+        return
+    check(False, f"{test.__name__} doesn't find a wrong program")
+
+
+def all_of_it(program, place, cutting, power):
     """Runs everything; `place` gives a new directory for a name. Gives what was verified of the unit, and how many places it was cut at."""
     full = build([*SOURCES, NOSPACE], program + "-hanging", *WRAPPED, FAILS)
     for test, tested in [(test, program) for test in TESTS] + [(watched, full), (no_room_for_a_note, full)]:
         one_of_it(test, tested, place("service-" + test.__name__))
-    return shipped(program, place("service-shipped")), cut_with_a_hook(cutting, place("service-cut"))
+    found(watched, NOSPACE, ("period > 0 && works(now) && ", "period > 0 && "), place("service-blind"))
+    places = cut_with_a_hook(cutting, place("service-cut")) + power_cut_with_a_hook(power, place("service-power"), program)
+    found(power_cut_with_a_hook, POWERCUT, ("    close(fd);\n    directory_changed = 1;\n    cut_point", "    close(fd);\n    cut_point"),
+          place("service-unforced"), program)
+    return shipped(program, place("service-shipped")), places

@@ -24,6 +24,7 @@ from harness import (AREA_HEAD, AREA_MAGIC, POWERCUT, SOURCES, WRAPPED, after_th
 from packets import END_OF_DATA, TIMESTAMP, UNASKED, WANTED, data, failure, metadata, record, success  # noqa: E402
 import faults  # noqa: E402
 import plant  # noqa: E402
+import service  # noqa: E402
 import sheets  # noqa: E402
 
 
@@ -759,6 +760,27 @@ WRONG = {
         sheets.not_checked, "one->complete && t->verdict == SARATOGA_AGREES", "one->complete && t->verdict != SARATOGA_DIFFERS"),
     "leaves out of what is missing all that lies past the edge": (
         sheets.incomplete, "if (!more && one->edge == one->length)", "if (!more)"),
+    "forgets the hook of a page before it has ended": (
+        service.after_a_kill, "        slot->file = taken.file;\n", "        slot->file = taken.file;\n        forget_note(slot->id, slot->file);\n"),
+    "forgets the hook of a page whose transfer is closed": (service.after_a_kill, "    take_up_hooks();\n", ""),
+    "hands a page over at each start": (
+        service.failed_and_differs, "    if (options.hook != NULL && length_of(name) >= 0)\n", "    if (options.hook != NULL)\n"),
+    "hands a page over that was changed": (
+        service.not_what_it_was, "        if (check.failed || check.verdict == SARATOGA_DIFFERS || !file_has_length(check.name, check.length)) {\n",
+        "        if (check.failed) {\n"),
+    "waits for a hook": (service.slow_hooks, "&status, WNOHANG)", "&status, 0)"),
+    "runs any number of hooks": (service.slow_hooks, "i < options.hooks &&", "i < MOST_HOOKS &&"),
+    "leaves its descriptors to the hook": (service.handed_over, "addclosefrom_np(&actions, 3)", "addclosefrom_np(&actions, 99)"),
+    "ignores signals for the hook too": (service.handed_over, "POSIX_SPAWN_SETSIGDEF | ", ""),
+    "ends without its hooks": (service.at_the_end, "    write_open_sheets();\n    finish_hooks();\n", "    write_open_sheets();\n"),
+    "gives a page up where its hook can't be started": (
+        service.no_such_hook, "        slot->pid = 0;\n        not_before = now_ms() + INTERVAL;\n", "        slot->pid = 0;\n        take_first();\n"),
+    "says that it is ready before it is": (
+        service.managed, "    struct sockaddr_storage own;\n", "    struct sockaddr_storage own;\n    tell_ready(\"early\");\n"),
+    "keeps the log open that it had": (service.logged, "    if (options.log != NULL && open_anew() < 0)\n        warn(", "    if (0)\n        warn("),
+    "writes the times of where it is": (service.times, "gmtime_r(&now.tv_sec, &parts)", "localtime_r(&now.tv_sec, &parts)"),
+    "lets the file of options have the last word": (
+        service.config, "    take_files(count, arguments);\n", "", "    pass_over(&from_file);\n", "    take_files(count, arguments);\n    pass_over(&from_file);\n"),
     "leaves the sheet of what is closed as it was": (
         sheets.incomplete, "    if (t->closing_len > 0 && !t->has_sheet) {\n", "    if (0) {\n"),
 }
@@ -824,6 +846,8 @@ def main():
         print("link: Ids used again, lost files, a full table, the operator, a full disk and traps are as expected")
         faults.all_of_it(checked, fresh)
         print("link: a hostile network, a careless operator and a failing machine find no mixed page, no silence and no stop")
+        unit, handed = service.all_of_it(checked, fresh, cutting, power)
+        print(f"link: its hook, also ended at each of {handed} places, its service manager, log and file of options are as expected; {unit}")
         sheets.all_of_it(checked, fresh)
         print("link: pages that agree with their MD5, differ or aren't checked, and the sheets of all, are as expected")
         places = cut_everywhere(cutting, fresh("cuts")), cut_while_an_id_is_used_again(cutting, fresh("again")), (

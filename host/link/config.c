@@ -66,7 +66,7 @@ void read_config(const char *file)
         line[length] = '\0';
         stand_at(file, number);
         if (strlen(line) != length)
-            wrong_usage("the line has an octet 0", "");
+            wrong_line("the line has an octet 0");
         take_line(line);
         left -= length + (end != NULL);
         line += length + 1;

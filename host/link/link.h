@@ -358,7 +358,7 @@ void show_address(const struct sockaddr_storage *address, socklen_t length, char
 void take_arguments(int count, char **arguments);
 void take_from_file(const char *name, const char *value);
 void stand_at(const char *file, unsigned line);
-void wrong_usage(const char *what, const char *argument) __attribute__((noreturn));
+void wrong_line(const char *what);
 
 /* config.c */
 void read_config(const char *file);

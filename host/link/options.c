@@ -80,7 +80,7 @@ void stand_at(const char *file, unsigned line)
 }
 
 /* An argument is whatever was typed, so it is escaped. */
-void wrong_usage(const char *what, const char *argument)
+static void wrong_usage(const char *what, const char *argument)
 {
     char shown[256];
     escape(shown, sizeof shown, (const uint8_t *)argument, strlen(argument));
@@ -89,6 +89,11 @@ void wrong_usage(const char *what, const char *argument)
         fprintf(stderr, "%s:%u: ", config, config_line);
     fprintf(stderr, "%s%s; see saratoga-link --help\n", what, argument[0] == ' ' ? argument : shown);
     exit(2);
+}
+
+void wrong_line(const char *what)
+{
+    wrong_usage(what, "");
 }
 
 static uint64_t number_of(const char *text, const char *option, uint64_t most)

@@ -77,7 +77,10 @@ static void tell(const char *form, ...)
     va_start(arguments, form);
     vsnprintf(text, sizeof text, form, arguments);
     va_end(arguments);
-    if (manager_fd < 0 || sendto(manager_fd, text, strlen(text), MSG_NOSIGNAL | MSG_DONTWAIT, (const struct sockaddr *)&manager, manager_len) >= 0)
+    if (manager_fd < 0)
+        return;
+    ssize_t sent = sendto(manager_fd, text, strlen(text), MSG_NOSIGNAL | MSG_DONTWAIT, (struct sockaddr *)&manager, manager_len);
+    if (sent >= 0)
         return;
     if (!told)
         warn("the service manager can't be told anything: %s", strerror(errno));

@@ -42,6 +42,7 @@ static void end_pass(FILE *file, const char *name, uint64_t number, int cut)
     if (drive_to_the_end())
         write_open_sheets();
     keep_exact_number();
+    finish_hooks();
     if (error != 0)
         die("%s: can't be read: %s", name, strerror(error));
     die("%s: cut short in record %" PRIu64, name, number);

@@ -20,12 +20,13 @@
 # make gigabyte a page of a gigabyte through the link program, its MD5 against Python's; half a minute, two gigabytes of disk
 # make kills    kills the link program 2,000 times over a bad link and a bad disk, and compares every page that it reports; some minutes. KILLS=N, SEED=N
 #               optional; the seed is printed (docs/LINK.md)
+# make scale    1, 10 and 100 link programs and as many senders on this machine: memory, CPU time and octets a second (docs/LINK.md); COUNTS="1 10"
 # make plan     builds the sender's planner, target/plan/saratoga-plan (docs/PLAN.md)
 # make send     builds the sender, target/send/saratoga-send (docs/SEND.md)
 # make settings builds the program for a plant's settings file, target/settings/saratoga-settings (docs/SETTINGS.md)
 # make install  header, archive, shared library, pkg-config file, Python module, replay, the tools, the link program, the sender, the planner,
-#               saratoga-merge, the program for settings, the dissector and the schema of the link program's lines, with man pages, below PREFIX
-#               (default /usr/local; PREFIX=$HOME/.local needs no root); make uninstall takes them away
+#               saratoga-merge, the program for settings, the dissector, the schema of the link program's lines, and a systemd unit with an example of its
+#               options, with man pages, below PREFIX (default /usr/local; PREFIX=$HOME/.local needs no root); make uninstall takes them away
 # make deb      a Debian package of all that make install puts, target/deb/saratoga_VERSION_amd64.deb; DEB_MAINTAINER= names who makes it
 PREFIX ?= /usr/local
 VERSION = 0.1
@@ -35,8 +36,8 @@ PLAN_SOURCES = $(addprefix host/plan/,plan.c input.c reason.c)
 SEND_SOURCES = $(addprefix host/send/,send.c options.c page.c transfer.c round.c run.c wire.c lines.c)
 LINK_SOURCES = $(addprefix host/link/,link.c options.c source.c udp.c peers.c packets.c answers.c shell.c sync.c worker.c area.c pages.c closing.c \
 	start.c files.c disk.c meta.c check.c sheet.c onair.c control.c settings.c text.c output.c json.c progress.c live.c counters.c \
-	metrics.c)
-MERGE_SOURCES = $(addprefix host/merge/,merge.c octets.c) $(addprefix host/link/,area.c files.c disk.c meta.c text.c output.c)
+	metrics.c log.c config.c hook.c notify.c)
+MERGE_SOURCES = $(addprefix host/merge/,merge.c octets.c) $(addprefix host/link/,area.c files.c disk.c meta.c text.c output.c log.c)
 SIMULATE_SOURCES = $(addprefix host/simulate/,simulate.c disk.c network.c judge.c listen.c shell.c first.c second.c)
 SETTINGS_SOURCES = $(addprefix host/settings/,settings.c fault.c store.c)
 BENCH_FLAGS = -O2 -Wall -Wextra -Iinclude
@@ -45,7 +46,7 @@ PASS ?= host/passes/page611.pass
 
 .PHONY: test test-extra lib shared engine simulate replay-program front replay compare soak stack bench-program bench bench-instructions bench-descriptors
 .PHONY: bench-engine bench-link
-.PHONY: link gigabyte kills send plan merge settings install uninstall deb clean help
+.PHONY: link gigabyte kills scale send plan merge settings install uninstall deb clean help
 
 help:
 	@sed -n '/^[^#]/q; s/^# //p' Makefile
@@ -147,6 +148,9 @@ gigabyte: lib engine
 kills: lib engine
 	host/link/kills.py $(if $(KILLS),--kills $(KILLS)) $(if $(SEED),--seed $(SEED))
 
+scale: link send
+	host/link/scale.py $(COUNTS)
+
 plan: lib
 	mkdir -p target/plan
 	$(CC) -std=c99 -Wall -Wextra -pedantic -O2 -Iinclude $(PLAN_SOURCES) $(ARCHIVE) -o target/plan/saratoga-plan
@@ -188,7 +192,7 @@ PAGES = replay pcap2pass passtext passplot marks sheet saratoga-link saratoga-se
 
 install: lib engine shared front link send plan merge settings
 	install -d "$(AT)/include" "$(AT)/lib/pkgconfig" "$(AT)/bin" "$(AT)/libexec/saratoga" "$(AT)/share/man/man1" "$(AT)/share/man/man3"
-	install -d "$(DESTDIR)$(PYTHON_DIR)" "$(AT)/share/saratoga" "$(AT)/share/man/man7"
+	install -d "$(DESTDIR)$(PYTHON_DIR)" "$(AT)/share/saratoga" "$(AT)/share/man/man7" "$(AT)/lib/systemd/system"
 	install -m 644 include/saratoga.h "$(AT)/include/saratoga.h"
 	install -m 644 include/saratoga_engine.h "$(AT)/include/saratoga_engine.h"
 	install -m 644 $(ARCHIVE) "$(AT)/lib/libsaratoga.a"
@@ -207,7 +211,9 @@ install: lib engine shared front link send plan merge settings
 	install -m 644 $(PAGES:%=host/man/%.1) "$(AT)/share/man/man1"
 	install -m 644 host/man/saratoga.3 "$(AT)/share/man/man3"
 	install -m 644 host/man/saratoga-wireshark.7 "$(AT)/share/man/man7"
-	install -m 644 host/wireshark/saratoga.lua docs/link.schema.json "$(AT)/share/saratoga"
+	install -m 644 host/wireshark/saratoga.lua docs/link.schema.json host/systemd/saratoga-link.conf.example "$(AT)/share/saratoga"
+	sed 's|@PREFIX@|$(PREFIX)|' host/systemd/saratoga-link@.service >"$(AT)/lib/systemd/system/saratoga-link@.service"
+	chmod 644 "$(AT)/lib/systemd/system/saratoga-link@.service"
 
 DEB_MAINTAINER ?= Storhnipa maintainers <maintainers@users.noreply.storhnipa.example>
 
@@ -218,6 +224,7 @@ uninstall:
 	rm -f "$(AT)/include/saratoga_engine.h" "$(AT)/lib/libsaratoga_engine.a"
 	rm -f "$(AT)/include/saratoga.h" "$(AT)/lib/libsaratoga.a" "$(AT)/lib/pkgconfig/saratoga.pc" "$(AT)/share/man/man3/saratoga.3"
 	rm -f "$(AT)/share/man/man7/saratoga-wireshark.7" "$(AT)/share/saratoga/saratoga.lua" "$(AT)/share/saratoga/link.schema.json"
+	rm -f "$(AT)/share/saratoga/saratoga-link.conf.example" "$(AT)/lib/systemd/system/saratoga-link@.service"
 	rm -f "$(AT)/lib/libsaratoga.so" "$(AT)/lib/$(SONAME)" "$(AT)/lib/$(SHARED)" "$(DESTDIR)$(PYTHON_DIR)/saratoga.py"
 	for file in replay saratoga-link saratoga-send saratoga-plan saratoga-merge saratoga-settings $(TOOLS); do rm -f "$(AT)/bin/$$file" || exit 1; done
 	for page in $(PAGES); do rm -f "$(AT)/share/man/man1/$$page.1" || exit 1; done

@@ -18,13 +18,13 @@ ARCHIVES = [os.path.join(ROOT, "target", "staticlib", f"libsaratoga{name}.a") fo
 SOURCES = [os.path.join(PLACE, name + ".c") for name in (
     "link", "options", "source", "udp", "peers", "packets", "answers", "shell", "sync", "worker", "area", "pages", "closing", "start",
     "files", "disk", "meta", "check", "sheet", "onair", "control", "settings", "text", "output", "json", "progress", "live", "counters",
-    "metrics")]
+    "metrics", "log", "config", "hook", "notify")]
 POWERCUT, NOSPACE = os.path.join(PLACE, "powercut.c"), os.path.join(PLACE, "nospace.c")
 WRAPPED = ["-Wl," + ",".join(f"--wrap={name}" for name in (
     "openat", "openat64", "pwrite", "pwrite64", "renameat", "fsync"))]
 FAILS = "-Wl,--wrap=sendmsg,--wrap=unlinkat"
 AREA_MAGIC, AREA_HEAD, AREA_WORDS, SLOT_WORDS, PLACES = b"saratoga-area 3\n", 48, 2161, 12, 16
-ENDINGS = ("part", "page", "differs", "meta", "sheet", "aside")
+ENDINGS = ("part", "page", "differs", "meta", "sheet", "aside", "hook")
 
 
 def check(holds, what):

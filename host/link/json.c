@@ -108,19 +108,25 @@ static void put_value(struct writer *w, struct word kind, struct word name, stru
 /* What a word without a name is called. */
 static struct word name_for(struct word kind)
 {
-    static const char *const names[][2] = {{"refused", "refusal"}, {"send", "hex"}, {"open", "how"}, {"close", "why"}};
+    static const char *const names[][2] = {{"refused", "refusal"}, {"send", "hex"}, {"open", "how"}, {"close", "why"},
+                                            {"hook", "how"}};
     for (size_t i = 0; i < sizeof names / sizeof names[0]; i++)
         if (is_word(kind, names[i][0]))
             return (struct word){names[i][1], strlen(names[i][1])};
     return (struct word){"word", 4};
 }
 
+static void pass_blanks(struct word *line)
+{
+    while (line->length > 0 && line->at[0] == ' ')
+        *line = (struct word){line->at + 1, line->length - 1};
+}
+
 /* Takes the next word of the line. Only an endpoint has blanks, between quotation marks. Gives a length of 0 at the end. */
 static struct word take_word(struct word *line)
 {
     static const char quoted[] = "endpoint=\"";
-    while (line->length > 0 && line->at[0] == ' ')
-        *line = (struct word){line->at + 1, line->length - 1};
+    pass_blanks(line);
     size_t length = 0;
     if (line->length > sizeof quoted && memcmp(line->at, quoted, sizeof quoted - 1) == 0)
         for (length = sizeof quoted - 1; length < line->length && line->at[length] != '"';)
@@ -132,12 +138,18 @@ static struct word take_word(struct word *line)
     return word;
 }
 
-/* Begins the object: with the packet's number and what happened, or for --list, whose lines have neither, as a transfer. Gives what happened. */
+/*
+ * Begins the object: with the time where --times asks for it, the packet's number and what happened; or for --list, whose lines have none of
+ * it, as a transfer. Gives what happened.
+ */
 static struct word put_head(struct writer *w, struct word *line)
 {
-    const char *equals = memchr(line->at, '=', line->length), *blank = memchr(line->at, ' ', line->length);
     struct word kind = {"transfer", 8}, number;
     put_text(w, "{");
+    if (options.times)
+        put_value(w, kind, (struct word){"time", 4}, take_word(line));
+    pass_blanks(line);
+    const char *equals = memchr(line->at, '=', line->length), *blank = memchr(line->at, ' ', line->length);
     if (equals == NULL || (blank != NULL && blank < equals)) {
         number = take_word(line);
         put_value(w, kind, (struct word){"packet", 6}, number);

@@ -23,6 +23,10 @@
  *     onair.c     who is on the air: BEACONs
  *     control.c   what an operator asks of a program that runs
  *     settings.c  the plant's settings file
+ *     config.c    a file of options
+ *     hook.c      a program of the operator's, run for each page
+ *     notify.c    what a service manager is told
+ *     log.c       lines in a file, and their times
  *     text.c      octets of packets made fit to be printed; output.c lines and messages, json.c lines as JSON
  *     progress.c  how far a transfer is, for --list and for live.c, lines on a terminal that follow it
  *     counters.c  what is counted, and metrics.c the same for Prometheus
@@ -59,6 +63,7 @@
 #endif
 #define SENDER_TEXT 96
 #define START_OF_2000 946684800    /* seconds from the start of 1970 */
+#define MOST_HOOKS 64              /* that run at a time */
 
 /* A peer's network: an address of 16 octets, IPv4 as ::ffff:a.b.c.d, how many of its bits count, and its scope. */
 struct network {
@@ -85,6 +90,10 @@ struct options {
     struct network peers[MOST_PEERS];
     /* what is asked for */
     const char *port, *host, *pass, *to_close, *settings;
+    const char *hook;              /* the program that is run for each page; NULL: none */
+    const char *log;               /* where lines go; NULL: to standard output */
+    int times;                     /* lines begin with them */
+    uint64_t hooks, hook_wait;     /* that run at a time; milliseconds that the end waits for them */
     uint64_t id_to_close, file_to_close;
     uint64_t idle;                 /* seconds without a packet until the end; 0: for ever */
     int to_list;
@@ -98,6 +107,7 @@ struct options {
 extern struct options options;
 extern const char *const program_name;
 extern volatile sig_atomic_t stopped;
+void attend(void);
 
 /* How much work a pass makes: the recordings that were accepted, and the runs that they absorbed. */
 struct work {
@@ -286,6 +296,7 @@ void there_is_room(void);
 
 /* files.c */
 extern struct transfer transfers[MOST_FILES];
+void make_name(char name[NAME_OCTETS], uint64_t id, uint64_t file, const char *suffix);
 void name_of(char name[NAME_OCTETS], const struct transfer *t, const char *suffix);
 void name_of_file(char name[NAME_OCTETS], const struct transfer *t);
 const char *parse_name(const char *name, uint64_t *id, uint64_t *file);
@@ -415,6 +426,34 @@ void show_sender(const struct sender *from, char host[64], char port[16]);
 
 /* options.c */
 void take_arguments(int count, char **arguments);
+void take_from_file(const char *name, const char *value);
+void stand_at(const char *file, unsigned line);
+void wrong_line(const char *what);
+
+/* config.c */
+void read_config(const char *file);
+
+/* log.c */
+extern volatile sig_atomic_t hung_up;
+void open_log(void);
+void look_at_log(void);
+size_t time_of_line(char *out, size_t room);
+
+/* notify.c */
+void find_manager(void);
+int has_manager(void);
+void tell_ready(const char *form, ...) __attribute__((format(printf, 1, 2)));
+void tell_manager(void);
+int manager_wait(int most);
+void tell_stopping(void);
+
+/* hook.c */
+void prepare_hooks(void);
+int owe_hook(struct transfer *t);
+void owe_again(const struct transfer *t);
+void take_up_hooks(void);
+void look_at_hooks(void);
+void finish_hooks(void);
 
 /*
  * Tests build the program with LINK_CUT_POINTS, to end it between two writes, or inside one, at the place whose number

@@ -88,7 +88,7 @@ static void has_lost(struct channel *channel, const char *why)
     int told = channel->lost;
     channel->lost = 1;
     if (channel == &out && !told)
-        warn("standard output can't be written: %s; lines are lost, pages are not", why);
+        warn("%s can't be written: %s; lines are lost, pages are not", options.log != NULL ? options.log : "standard output", why);
 }
 
 static void write_lines(struct channel *channel, int milliseconds)
@@ -173,7 +173,8 @@ static void compose(struct channel *channel, const char *head, const char *form,
 {
     static const char cut[] = " ..cut";
     char line[MOST_LINE];
-    size_t length = (size_t)snprintf(line, sizeof line, "%s", head);
+    size_t length = time_of_line(line, sizeof line);
+    length += (size_t)snprintf(line + length, sizeof line - length, "%s", head);
     length += (size_t)vsnprintf(line + length, sizeof line - length, form, arguments);
     if (length > sizeof line - 2) {
         length = sizeof line - 2;

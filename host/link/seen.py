@@ -75,6 +75,8 @@ STATS = ("packets octets refused rejected lost dropped unheard answers held-back
 FORMS = {
     "listening": "{packet} listening address={address} port={port}",
     "receive-buffer": "{packet} receive-buffer octets={octets} asked={asked}",
+    "hook": "{packet} hook id={id} file={file}[ status={status}][ signal={signal}][ {how}]",
+    "hooks": "{packet} hooks running={running} waiting={waiting}",
     "settings": "{packet} settings version={version} largest-payload={largest_payload} interval={interval} partner={partner}",
     "taken-up": "{packet} taken-up id={id} width={width} length={length} edge={edge} complete={complete}",
     "open": "{packet} open id={id} width={width} length={length} edge={edge} complete={complete} {how}",
@@ -111,9 +113,10 @@ def plain_of(one):
         return str(int(value)) if isinstance(value, bool) else str(value)
 
     filled = {name: text(value) for name, value in one.items()}
-    form, optional, rest = re.fullmatch(r"([^\[\]]*)(?:\[([^\[\]]*)\](.*))?", FORMS[one["event"]]).groups()
-    line = form.format(**filled)
-    return line if optional is None or re.findall(r"{(\w+)}", optional)[0] not in one else line + optional.format(**filled) + rest
+    form, *optional = re.split(r"\[|\]\[?", FORMS[one["event"]])
+    moment = f"{one['time']} " if "time" in one else ""
+    return moment + form.format(**filled) + "".join(
+        part.format(**filled) for part in optional if part and re.findall(r"{(\w+)}", part)[0] in one)
 
 
 def judge(line, seen, valid=by_jsonschema(), shapes=set()):
@@ -201,6 +204,11 @@ def other_lines(program, place, seen):
     lines = two_runs(program, os.path.join(place, "holes"), seen, records([success(7, 32, 0, 999, many)]))
     heard = json.loads(lines[0])
     check(heard["holes"] == [list(hole) for hole in many[:64]] and heard["hole_count"] == 100, heard)
+    hooked = records([metadata(7, 16, 0)])
+    two_runs(program, os.path.join(place, "hook"), seen, hooked, "--on-complete", "/bin/true")
+    two_runs(program, os.path.join(place, "failed"), seen, hooked, "--on-complete", "/bin/false")
+    dated = run(program, os.path.join(place, "hook"), "--json", "--times", "-", octets=hooked)[0]
+    check(dated and all(plain_of(judge(line, seen)).startswith(json.loads(line)["time"] + " ") for line in dated), dated)
     here = os.path.join(place, "socket")
     os.mkdir(here)
     link = Link(program, here, "--json", "--stats", "--receive-buffer", str(1 << 30), peer=("--peer", "127.0.0.0/8"))

@@ -43,6 +43,7 @@ static void end_pass(FILE *file, const char *name, uint64_t number, int cut)
         write_open_sheets();
     keep_exact_number();
     end_counters();
+    finish_hooks();
     if (error != 0)
         die("%s: can't be read: %s", name, strerror(error));
     die("%s: cut short in record %" PRIu64, name, number);
@@ -58,9 +59,10 @@ void from_pass(const char *name)
     uint64_t passed_over = 0, number = 1;
     long length = 0;
     char kind;
-    FILE *file = strcmp(name, "-") == 0 ? stdin : fopen(name, "rb");
+    FILE *file = strcmp(name, "-") == 0 ? stdin : fopen(name, "rbe");
     if (file == NULL)
         die("%s: can't be opened: %s", name, strerror(errno));
+    tell_ready("packets of a pass");
     for (; !stopped && (length = read_record(file, &kind, octets)) >= 0; number++) {
         struct packet p = {.number = number, .octets = octets, .length = (size_t)length};
         if (kind == 'P') {
@@ -70,6 +72,7 @@ void from_pass(const char *name)
         store_kept();
         passed_over += kind == 'O' || kind == 'D';
         drive();
+        attend();
         if (tick_is_due()) {
             hear_operator();
             tick_counters();

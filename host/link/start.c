@@ -9,8 +9,10 @@ static void take_up_one(struct transfer *t, const struct saratoga_listed *one, c
 {
     say(0, "taken-up id=%" PRIu64 " width=%" PRIu64 " length=%" PRIu64 " edge=%" PRIu64 " complete=%" PRIu64, one->id,
         8 * one->width, one->length, one->edge, one->complete);
-    if (slot->reported && strcmp(t->suffix, "gone") != 0 && is_ready(t) && give_name(t) == 1)
+    if (slot->reported && strcmp(t->suffix, "gone") != 0 && is_ready(t) && give_name(t) == 1) {
         report_page(t);
+        owe_again(t);
+    }
 }
 
 static void take_up_transfer(const struct saratoga_listed *one)
@@ -84,5 +86,6 @@ void take_up(void)
         i += listed(one.id).number == 0; /* it may have been closed */
     }
     set_orphans_aside();
+    take_up_hooks();
     flush_output();
 }

@@ -30,6 +30,7 @@ import faults  # noqa: E402
 import kills  # noqa: E402
 import plant  # noqa: E402
 import seen  # noqa: E402
+import service  # noqa: E402
 import sheets  # noqa: E402
 import terminal  # noqa: E402
 import threaded  # noqa: E402
@@ -849,6 +850,27 @@ WRONG = {
     "waits for the reader of a terminal": (
         terminal.nobody_reads, "O_WRONLY | O_NONBLOCK | O_NOCTTY", "O_WRONLY | O_NOCTTY"),
     "draws live lines where others print from a pipe": (terminal.only_where_it_fits, "S_ISFIFO(seen.st_mode) || ", ""),
+    "forgets the hook of a page before it has ended": (
+        service.after_a_kill, "        slot->file = taken.file;\n", "        slot->file = taken.file;\n        forget_note(slot->id, slot->file);\n"),
+    "forgets the hook of a page whose transfer is closed": (service.after_a_kill, "    take_up_hooks();\n", ""),
+    "hands a page over at each start": (
+        service.failed_and_differs, "    if (options.hook != NULL && length_of(name) >= 0)\n", "    if (options.hook != NULL)\n"),
+    "hands a page over that was changed": (
+        service.not_what_it_was, "        if (check.failed || check.verdict == SARATOGA_DIFFERS || !file_has_length(check.name, check.length)) {\n",
+        "        if (check.failed) {\n"),
+    "waits for a hook": (service.slow_hooks, "&status, WNOHANG)", "&status, 0)"),
+    "runs any number of hooks": (service.slow_hooks, "i < options.hooks &&", "i < MOST_HOOKS &&"),
+    "leaves its descriptors to the hook": (service.handed_over, "addclosefrom_np(&actions, 3)", "addclosefrom_np(&actions, 99)"),
+    "ignores signals for the hook too": (service.handed_over, "POSIX_SPAWN_SETSIGDEF | ", ""),
+    "ends without its hooks": (service.at_the_end, "    write_open_sheets();\n    finish_hooks();\n", "    write_open_sheets();\n"),
+    "gives a page up where its hook can't be started": (
+        service.no_such_hook, "        slot->pid = 0;\n        not_before = now_ms() + INTERVAL;\n", "        slot->pid = 0;\n        take_first();\n"),
+    "says that it is ready before it is": (
+        service.managed, "    struct sockaddr_storage own;\n", "    struct sockaddr_storage own;\n    tell_ready(\"early\");\n"),
+    "keeps the log open that it had": (service.logged, "    if (options.log != NULL && open_anew() < 0)\n        warn(", "    if (0)\n        warn("),
+    "writes the times of where it is": (service.times, "gmtime_r(&now.tv_sec, &parts)", "localtime_r(&now.tv_sec, &parts)"),
+    "lets the file of options have the last word": (
+        service.config, "    take_files(count, arguments);\n", "", "    pass_over(&from_file);\n", "    take_files(count, arguments);\n    pass_over(&from_file);\n"),
     "leaves the sheet of what is closed as it was": (
         sheets.incomplete, "    if (t->closing_len > 0 && !t->has_sheet) {\n", "    if (0) {\n"),
 }
@@ -924,6 +946,8 @@ def main():
         print("link: Ids used again, lost files, a full table, the operator, a full disk and traps are as expected")
         faults.all_of_it(checked, fresh)
         print("link: a hostile network, a careless operator and a failing machine find no mixed page, no silence and no stop")
+        unit, handed = service.all_of_it(checked, fresh, cutting, power)
+        print(f"link: its hook, also ended at each of {handed} places, its service manager, log and file of options are as expected; {unit}")
         sheets.all_of_it(checked, fresh)
         print("link: pages that agree with their MD5, differ or aren't checked, and the sheets of all, are as expected")
         seen.all_of_it(checked, fresh)

@@ -80,6 +80,7 @@ static void listen_on(const char *host, const char *port)
         die("%s, port %s: %s", host, port, strerror(errno));
     show_address(&own, own_len, own_host, own_port);
     say(0, "listening address=%s port=%s", own_host, own_port);
+    tell_ready("listening on %s, port %s", own_host, own_port);
 }
 
 /* Once when it happens, and at the end how many: packets that came while the program was busy with others. */
@@ -167,7 +168,7 @@ void from_socket(const char *host, const char *port, uint64_t idle)
         struct pollfd ready[2] = {{.fd = socket_fd, .events = POLLIN}, {.fd = wake_descriptor(), .events = POLLIN}};
         if (poll(ready, 2, 0) == 0) {
             flush_output();
-            if (poll(ready, 2, most_wait()) < 0 && errno != EINTR)
+            if (poll(ready, 2, manager_wait(most_wait())) < 0 && errno != EINTR)
                 die("%s, port %s: %s", host, port, strerror(errno));
         }
         if (ready[1].revents != 0)
@@ -182,7 +183,9 @@ void from_socket(const char *host, const char *port, uint64_t idle)
             tick_counters();
             draw_live();
         }
+        attend();
     }
+    tell_stopping();
     int saved = drive_to_the_end();
     tell_the_end();
     if (!saved)

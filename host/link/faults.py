@@ -161,6 +161,21 @@ def one_batch(program, place):
         check(holds(place, f"0000000{ident}.page", octets), f"page {ident}")
 
 
+def opened_while_it_syncs(program, place):
+    """`program` is built with nospace.c. After a restart METADATA that comes while a sync is under way isn't lost for want of a file number."""
+    marker = os.path.join(os.path.dirname(place), "nospace")
+    run(program, place, "-", octets=records([metadata(7, 16, 100)]))
+    link = Link(program, place, NOSPACE=marker)
+    with open(marker, "w", encoding="ascii") as file:
+        file.write("z")
+    for packet in (metadata(7, 16, 100), metadata(8, 16, 100)):
+        link.socket.sendto(packet, ("127.0.0.1", link.port))
+        time.sleep(0.02)
+    link.wait(lambda: any(" open id=8 " in line or " lost id=8" in line for line in link.lines))
+    os.remove(marker)
+    check(link.end() == 0 and not any(" lost " in line for line in link.lines), link.lines)
+
+
 def syncs(place):
     """The number of the last sync."""
     return int.from_bytes(content(place, "area")[32:40], "little")
@@ -471,5 +486,5 @@ def all_of_it(program, place):
     """Runs everything; `place` gives a new directory for a name."""
     full = failing(program + "-failing")
     for test, tested in [(test, program) for test in TESTS] + [
-            (test, full) for test in (unwritable, other_octets_before_the_report, shared_syncs, unremovable)]:
+            (test, full) for test in (unwritable, other_octets_before_the_report, shared_syncs, opened_while_it_syncs, unremovable)]:
         one_of_it(test, tested, place(test.__name__))

@@ -79,7 +79,7 @@ void take_up(void)
             "to begin anew",
             options.directory, done.number);
     begin_numbers(&area);
-    if (!found && !reserve_first() && !is_lack_of_room(errno))
+    if ((!found || options.port != NULL) && !reserve_first() && !is_lack_of_room(errno))
         die("%s/area: can't be written: %s", options.directory, strerror(errno));
     for (uint64_t i = 0; (one = saratoga_transfer(state, SARATOGA_AREA_OCTETS, i)).number == 0;) {
         take_up_transfer(&one);

@@ -63,7 +63,7 @@ int reserve(uint64_t file)
     return 1;
 }
 
-/* In a directory that has no area yet. Gives 0 with errno where none can be written. */
+/* In a directory that has no area yet, and where packets don't wait for a sync. Gives 0 with errno where none can be written. */
 int reserve_first(void)
 {
     if (save_number(used + RESERVED) == 0)

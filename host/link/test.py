@@ -757,6 +757,8 @@ WRONG = {
     "answers as often as it is asked": (
         faults.few_answers, "    if (socket_fd < 0 || is_ending())\n", "    if (1)\n"),
     "takes no packet while it syncs": ((FULL, faults.shared_syncs), "    if (!with_threads) {\n", "    if (1) {\n"),
+    "has no file number while it syncs": (
+        (FULL, faults.opened_while_it_syncs), "    if ((!found || options.port != NULL) && ", "    if (!found && "),
     "finds a fault where a page was taken away": (faults.taken_as_documented, "    if (slot->reported && is_gone)\n", "    if (0)\n"),
     "goes on for senders that it doesn't hear": (
         faults.idle_and_strangers, "ready[0].revents != 0 && take_batch(&number) > 0)", "ready[0].revents != 0 && (take_batch(&number), 1))"),

@@ -14,7 +14,7 @@ from datetime import datetime, timezone
 from harness import (FAILS, NOSPACE, POWERCUT, ROOT, SOURCES, WRAPPED, after_the_cut, at, build, check, content, edited, is_there, numbers, page,
                      records, run)
 from packets import WANTED, data, metadata
-from plant import Link, is_complete, one_of_it
+from plant import STARTED, Link, is_complete, one_of_it
 
 UNIT = os.path.join(ROOT, "host", "systemd", "saratoga-link@.service")
 EXAMPLE = os.path.join(ROOT, "host", "systemd", "saratoga-link.conf.example")
@@ -398,7 +398,7 @@ def logged(program, place):
         file.write("what was there\n")
     process = subprocess.Popen([program, "-d", place, "--udp", "0", "--any-peer", "--log", log], stdout=subprocess.PIPE,
                                stderr=subprocess.PIPE)
-    Link.started.append(process)
+    STARTED.processes.append(process)
     Link.wait(lambda: b" listening " in content(log))
     port = int(re.search(rb"port=(\d+)", content(log))[1])
     sender = socket.socket(socket.AF_INET, socket.SOCK_DGRAM)
@@ -430,7 +430,7 @@ def logged(program, place):
     # Ignored from the start, SIGHUP ends nothing.
     process = subprocess.Popen(["sh", "-c", 'trap "" HUP; exec "$@"', "sh", program, "-d", place, "--udp", "0", "--any-peer"],
                                stdout=subprocess.PIPE)
-    Link.started.append(process)
+    STARTED.processes.append(process)
     while b" listening " not in process.stdout.readline():
         pass
     process.send_signal(signal.SIGHUP)
@@ -515,7 +515,7 @@ def shipped(program, place):
     manager = Manager(place + ".notify")
     process = subprocess.Popen([program, "--config", EXAMPLE, "--directory", place, "--udp", "0"], stdout=subprocess.PIPE,
                                stderr=subprocess.PIPE, env=dict(os.environ, NOTIFY_SOCKET=manager.name))
-    Link.started.append(process)
+    STARTED.processes.append(process)
     Link.wait(manager.hear)
     port = int(re.search(r"port (\d+)", manager.hear()[0])[1])
     sender = socket.socket(socket.AF_INET, socket.SOCK_DGRAM)

@@ -9,7 +9,7 @@ import time
 
 from harness import at, check, content, failing, holds, is_there, numbers, page, records, run, stored
 from packets import UNASKED, WANTED, data, metadata, success
-from plant import STARTED, Link, is_complete, one_of_it
+from plant import STARTED, Link, is_complete, side_by_side
 
 ENDED = 0x080000  # bit 12 of METADATA
 UNKNOWN = bytes.fromhex("4400000600000007")
@@ -485,6 +485,5 @@ TESTS = (other_octets, one_batch, lingers, owners, answered_after_a_kill, flippe
 def all_of_it(program, place):
     """Runs everything; `place` gives a new directory for a name."""
     full = failing(program + "-failing")
-    for test, tested in [(test, program) for test in TESTS] + [
-            (test, full) for test in (unwritable, other_octets_before_the_report, shared_syncs, opened_while_it_syncs, unremovable)]:
-        one_of_it(test, tested, place(test.__name__))
+    side_by_side([(test, program) for test in TESTS] + [(test, full) for test in (
+        unwritable, other_octets_before_the_report, shared_syncs, opened_while_it_syncs, unremovable)], place)

@@ -29,7 +29,7 @@ from packets import WANTED, data, metadata  # noqa: E402
 
 IDS = ((0, 1, 7), (0xFFFFFFFF, 2, 7))  # of each sender: some of its own, and one that both use
 FULL = ("w", "f", "r", "o", "e", "p", "d", "h", "wfro")
-FAILED = b"can't be forced to disk, or area not be replaced: Input/output error\n"
+FAILED = (b"can't be forced to disk, or area not be replaced: Input/output error\n", b"area: can't be written: Input/output error\n")
 REPORT = re.compile(r"^\d+ complete id=(\d+) length=(\d+) file=(\S+) .*md5=(\S+) .*path=(\S+)$")
 
 

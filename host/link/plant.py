@@ -1,5 +1,6 @@
 """Tests of the link program as a plant uses it: Ids used again, files taken away, a full table, a full disk, and
 packets and files that mean harm. Run by test.py; each function takes the program and an empty directory."""
+import concurrent.futures
 import hashlib
 import os
 import random
@@ -16,6 +17,9 @@ import time
 from harness import PLACE, SANITIZED, SOURCES, at, build, check, content, failing, holds, is_there, page, records, run, stored
 from packets import (BUNDLES, END_OF_DATA, STREAMS, UNASKED, WANTED, beacon, data, metadata, record, success, time_record,
                      word)
+
+
+AT_ONCE = 4  # tests that run beside each other
 
 
 class Started(threading.local):
@@ -762,9 +766,14 @@ def all_of_it(program, place):
     tests = [(test, program) for test in (used_again, no_crc_32c, never_overwritten, taken_away, full_table, operator,
                                           who_is_heard, two_senders, kept, what_is_known, runs, answers, many_holes, on_air,
                                           too_many_on_air, limits, stopped, traps, command_line)]
-    for test, tested in tests + [(no_room, full), (work_without_room, full), (no_room_for_a_name, full),
-                                 (unsendable, full)]:
-        one_of_it(test, tested, place(test.__name__))
+    side_by_side(tests + [(test, full) for test in (no_room, work_without_room, no_room_for_a_name, unsendable)], place)
+
+
+def side_by_side(tests, place):
+    """Runs tests, each with the program that it takes, some beside each other: they wait most of the time."""
+    with concurrent.futures.ThreadPoolExecutor(AT_ONCE) as pool:
+        for done in [pool.submit(one_of_it, test, program, place(test.__name__)) for test, program in tests]:
+            done.result()
 
 
 def one_of_it(test, program, place):

@@ -678,7 +678,6 @@ def threads_cut(program, place, plain=None, step=9):
     return threaded.power_cuts(program, plain, place, two_transfers, nothing_promised_is_missing, step)
 
 
-AT_ONCE = 4  # wrong programs that are tried beside each other
 ENDED, CUT, FULL = "ended", "power cut", "calls that fail"
 # Which test finds it: a function, or how the program is built for it and a function.
 TWO, TWO_CUT = (ENDED, cut_everywhere), (CUT, lambda program, place: power_cuts(program, None, place))
@@ -887,8 +886,8 @@ def wrong_programs(place):
 
     def tried(number, what, test, edits):
         """Why a program was found wrong; None where it wasn't."""
-        here = os.path.join(place, str(number))
-        os.mkdir(here)
+        here = os.path.join(place, str(number), "here")
+        os.makedirs(here)
         kind, test = ("", test) if callable(test) else test
         cuts = ["-DLINK_CUT_POINTS"] if kind == ENDED else []
         objects = dict(made["".join(cuts)])
@@ -903,7 +902,7 @@ def wrong_programs(place):
             return f"a program that {what}: {reason}"
         return None
 
-    with concurrent.futures.ThreadPoolExecutor(AT_ONCE) as pool:  # most of them wait most of the time
+    with concurrent.futures.ThreadPoolExecutor(plant.AT_ONCE) as pool:
         for what, reason in zip(WRONG, pool.map(tried, range(len(WRONG)), WRONG, *zip(*((test, edits) for test, *edits in WRONG.values())))):
             check(reason, f"a program that {what} isn't found")
             if os.environ.get("SHOW_WRONG"):

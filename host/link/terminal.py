@@ -219,7 +219,7 @@ def only_where_it_fits(program, place):
                 terminal.process.stdout.close()
 
 
-def nobody_reads(program, place):
+def unread(program, place):
     """A terminal that is stopped, or that nobody reads, stops no reception; the lines come when it is read again."""
     stops = ((lambda terminal: termios.tcflow(terminal.master, termios.TCOOFF), lambda terminal: termios.tcflow(terminal.master, termios.TCOON)),
              (lambda terminal: terminal.reading.clear(), lambda terminal: terminal.reading.set()))
@@ -246,7 +246,7 @@ def nobody_reads(program, place):
         check(sum(" record id=7 " in line for line in terminal.lines()) == 100 and terminal.live() == {}, terminal.lines())
 
 
-TESTS = live_lines, nothing_is_garbled, only_where_it_fits, nobody_reads
+TESTS = live_lines, nothing_is_garbled, only_where_it_fits, unread
 
 
 def all_of_it(program, place):

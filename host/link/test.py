@@ -849,7 +849,7 @@ WRONG = {
     "takes one live line away of several": (terminal.nothing_is_garbled, '"\\r\\033[%dA\\033[J", shown);', '"\\r\\033[%dA\\033[J", 1);'),
     "lets a live line run over the edge": (terminal.nothing_is_garbled, "    length = length < columns ? length : columns;\n", ""),
     "waits for the reader of a terminal": (
-        terminal.nobody_reads, "O_WRONLY | O_NONBLOCK | O_NOCTTY", "O_WRONLY | O_NOCTTY"),
+        terminal.unread, "O_WRONLY | O_NONBLOCK | O_NOCTTY", "O_WRONLY | O_NOCTTY"),
     "draws live lines where others print from a pipe": (terminal.only_where_it_fits, "S_ISFIFO(seen.st_mode) || ", ""),
     "forgets the hook of a page before it has ended": (
         service.after_a_kill, "        slot->file = taken.file;\n", "        slot->file = taken.file;\n        forget_note(slot->id, slot->file);\n"),

@@ -11,10 +11,10 @@ import subprocess
 import time
 from datetime import datetime, timezone
 
-from harness import (FAILS, NOSPACE, POWERCUT, ROOT, SOURCES, WRAPPED, after_the_cut, at, build, check, content, edited, is_there, numbers, page,
+from harness import (FAILS, NOSPACE, POWERCUT, ROOT, SOURCES, WRAPPED, after_the_cut, at, build, check, content, edited, failing, is_there, numbers, page,
                      records, run)
 from packets import WANTED, data, metadata
-from plant import STARTED, Link, is_complete, one_of_it
+from plant import STARTED, Link, is_complete, one_of_it, side_by_side
 
 UNIT = os.path.join(ROOT, "host", "systemd", "saratoga-link@.service")
 EXAMPLE = os.path.join(ROOT, "host", "systemd", "saratoga-link.conf.example")
@@ -559,9 +559,8 @@ def found(test, source, edits, place, *words):
 
 def all_of_it(program, place, cutting, power):
     """Runs everything; `place` gives a new directory for a name. Gives what was verified of the unit, and how many places it was cut at."""
-    full = build([*SOURCES, NOSPACE], program + "-hanging", *WRAPPED, FAILS)
-    for test, tested in [(test, program) for test in TESTS] + [(watched, full), (no_room_for_a_note, full)]:
-        one_of_it(test, tested, place("service-" + test.__name__))
+    full = failing(program + "-hanging")
+    side_by_side([(test, program) for test in TESTS] + [(watched, full), (no_room_for_a_note, full)], lambda name: place("service-" + name))
     found(watched, NOSPACE, ("period > 0 && works(now) && ", "period > 0 && "), place("service-blind"))
     places = cut_with_a_hook(cutting, place("service-cut")) + power_cut_with_a_hook(power, place("service-power"), program)
     found(power_cut_with_a_hook, POWERCUT, ("    close(fd);\n    directory_changed = 1;\n    cut_point", "    close(fd);\n    cut_point"),

@@ -204,11 +204,15 @@ def other_lines(program, place, seen):
     lines = two_runs(program, os.path.join(place, "holes"), seen, records([success(7, 32, 0, 999, many)]))
     heard = json.loads(lines[0])
     check(heard["holes"] == [list(hole) for hole in many[:64]] and heard["hole_count"] == 100, heard)
-    hooked = records([metadata(7, 16, 0)])
-    two_runs(program, os.path.join(place, "hook"), seen, hooked, "--on-complete", "/bin/true")
-    two_runs(program, os.path.join(place, "failed"), seen, hooked, "--on-complete", "/bin/false")
-    dated = run(program, os.path.join(place, "hook"), "--json", "--times", "-", octets=hooked)[0]
-    check(dated and all(plain_of(judge(line, seen)).startswith(json.loads(line)["time"] + " ") for line in dated), dated)
+    for hook, status in (("/bin/true", 0), ("/bin/false", 1)):
+        here = os.path.join(place, "hook" + str(status))
+        os.mkdir(here)
+        lines = run(program, here, "--json", "--times", "--on-complete", hook, "-", octets=records([metadata(7, 16, 0)]))[0]
+        told = [judge(line, seen) for line in lines]
+        check(all(plain_of(one).startswith(one["time"] + " ") for one in told), lines)
+        ended, = [plain_of(one) for one in told if one["event"] == "hook"]
+        check(ended.endswith(f" 0 hook id=7 file=00000007.1.page status={status}"), lines)
+    judge('{"packet":0,"event":"hooks","running":1,"waiting":0}', seen)  # whether there is one to wait for is a matter of time
     here = os.path.join(place, "socket")
     os.mkdir(here)
     link = Link(program, here, "--json", "--stats", "--receive-buffer", str(1 << 30), peer=("--peer", "127.0.0.0/8"))

@@ -923,6 +923,7 @@ def sanitized(program, name, make=lambda out, *options: build(SOURCES, out, *opt
 def main():
     seconds = float(sys.argv[1]) if len(sys.argv) > 1 else 6.0
     begun = time.monotonic()
+    signal.signal(signal.SIGHUP, signal.SIG_DFL)  # nohup has programs ignore it
     with tempfile.TemporaryDirectory() as place:
         def fresh(name):
             path = os.path.join(place, name, "here")

@@ -50,8 +50,8 @@ static void write_rest(void)
 /* Gives 0 where the terminal has no room, also not for what was put before. */
 static int put(const char *text, size_t count, int milliseconds)
 {
-    struct pollfd wait = {.fd = terminal, .events = POLLOUT};
-    if (poll(&wait, 1, milliseconds) <= 0)
+    struct pollfd ready = {.fd = terminal, .events = POLLOUT};
+    if (poll(&ready, 1, milliseconds) <= 0)
         return 0;
     if (rest_len > 0)
         write_rest();

@@ -410,8 +410,8 @@ def one_without_a_name(program, place):
     link.send(metadata(77, 16, 20))
     link.wait(lambda: any(" open id=77 " in line for line in link.lines))
     before = ticks(link.process.pid)
-    time.sleep(1)
-    check(ticks(link.process.pid) - before < 30, "a page that waits for its name keeps the program at work")
+    time.sleep(2)
+    check(ticks(link.process.pid) - before < 5, "a page that waits for its name keeps the program at work")
     check(link.end() == 1, "a page without a name, and the exit status says nothing")
     check(sum("can't get its name" in line for line in link.told) == 1, link.told)
 

@@ -971,7 +971,7 @@ def main():
         print("link: " + loopback(program, fresh("four"), "127.0.0.1", seconds, ()))
         print("link: " + kills.soak(failing(os.path.join(place, "saratoga-link-failing")), fresh("kills"), 40, 32))
         if not SANITIZED:
-            kills.wrong_programs(fresh("kills-wrong"), 100, 32, ("doesn't keep whose an Id is", "reports a page before a sync has saved it"))
+            kills.wrong_programs(fresh("kills-wrong"), 600, 32, ("doesn't keep whose an Id is", "reports a page before a sync has saved it"))
         if racing != program:
             print("link: with ThreadSanitizer: " + kills.soak(racing, fresh("racing"), 15, 33))
         try:

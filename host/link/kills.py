@@ -260,12 +260,12 @@ def soak(program, place, kills, seed):
 
 WRONG = {
     "doesn't keep whose an Id is": (
-        "    struct saratoga_packet read = saratoga_read(p->octets, p->length);\n    if (read.number != 0)\n",
+        "    struct saratoga_packet read = saratoga_read(p->octets, p->length);\n    if (read.number != 0 || read.type",
         "    struct packet nobody = *p;\n    nobody.from = (struct sender){0, 0, 0};\n    p = &nobody;\n"
-        "    struct saratoga_packet read = saratoga_read(p->octets, p->length);\n    if (read.number != 0)\n"),
+        "    struct saratoga_packet read = saratoga_read(p->octets, p->length);\n    if (read.number != 0 || read.type"),
     "reports a page before a sync has saved it": (
         "    hear(t, p);\n    t->work.recordings++;\n",
-        "    hear(t, p);\n    if (recorded.complete) {\n        t->verdict = SARATOGA_NOT_CHECKED;\n        report_page(t);\n    }\n    t->work.recordings++;\n"),
+        "    hear(t, p);\n    if (recorded->complete) {\n        t->verdict = SARATOGA_NOT_CHECKED;\n        report_page(t);\n    }\n    t->work.recordings++;\n"),
     "takes every page for the one that its MD5 is of": (
         "    t->verdict = job.check.verdict;\n", "    t->verdict = job.check.verdict == SARATOGA_NOT_CHECKED ? SARATOGA_NOT_CHECKED : SARATOGA_AGREES;\n"),
     "takes a flipped area": ("    return memcmp(digest, file + MAGIC_OCTETS, sizeof digest) == 0;", "    return 1;"),

@@ -130,10 +130,16 @@ static void run_sync(void *unused)
     cut_point("between area and answer");
 }
 
+/* After a sync that failed, but not at the end: there is no later time. */
+static int must_pause(void)
+{
+    return now_ms() < not_before && !is_ending();
+}
+
 /* Begins a sync. Gives 0 where one is under way, or the last one failed just now. */
 int begin_sync(void)
 {
-    if (is_at_work(&syncer) || now_ms() < not_before)
+    if (is_at_work(&syncer) || must_pause())
         return 0;
     look_at_files();
     struct saratoga_sync sync = saratoga_engine_sync(state, sizeof state, now_ms());
@@ -163,7 +169,7 @@ void want_sync(void)
 
 int sync_is_wanted(void)
 {
-    return wanted && !is_at_work(&syncer) && now_ms() >= not_before;
+    return wanted && !is_at_work(&syncer) && !must_pause();
 }
 
 /* The number of the sync that covers what is now. */

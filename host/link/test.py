@@ -179,7 +179,7 @@ def passes(program, place):
     flipped = [good[:number] + bytes([good[number] ^ 1 << number % 8]) + good[number + 1:]
                for number in (15, 16, 31, 32, 39, 40, 47, 48, 48 + 8, 48 + 17287, 48 + 17288, len(good) - 1)]
     for bad in (b"", good[:AREA_HEAD], good[:-1], good + b"\0", b"\xff" + good[1:], good[AREA_HEAD:], bytes(len(good)),
-                AREA_MAGIC + bytes(len(good) - 16), b"saratoga-area \n" + good[15:], b"saratoga-area 3" + good[16:], *flipped):
+                AREA_MAGIC + bytes(len(good) - 16), b"saratoga-area \n" + good[15:], b"saratoga-area 3x" + good[16:], *flipped):
         with open(os.path.join(place, "area"), "wb") as file:
             file.write(bad)
         before = {name: content(place, name) for name in os.listdir(place)}

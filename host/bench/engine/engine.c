@@ -3,7 +3,7 @@
  * takes them, without writes and with each payload written to a file, synced where an answer is due.
  *
  *     engine DIR            the file is written there
- *     engine DIR --packets N    how many of them (default 200000)
+ *     engine DIR --packets N    how many packets a stream has (default 50000)
  */
 #define _GNU_SOURCE
 #include <fcntl.h>
@@ -16,7 +16,7 @@
 
 #include "saratoga_engine.h"
 
-enum { PAYLOAD = 1400, BATCH = 64, ASK = 256, CALLS = 1024, REPEATS = 51, HEAD = 24 };
+enum { PAYLOAD = 1400, BATCH = 64, ASK = 256, CALLS = 1024, REPEATS = 51, STREAMS = 7, HEAD = 24 };
 #define LENGTH (UINT64_C(1) << 40)
 #define FAR (LENGTH / 2)           /* octets from here on come in order, before it are the runs */
 
@@ -132,13 +132,19 @@ static void make_call(enum call call, size_t i)
     }
 }
 
-/* Nanoseconds of a call, the median of some; the state is the same at the start of each repeat. */
-static int is_less(const void *one, const void *other)
+static int compare_times(const void *one, const void *other)
 {
     double first = *(const double *)one, second = *(const double *)other;
     return (first > second) - (first < second);
 }
 
+static double median(double *times, size_t count)
+{
+    qsort(times, count, sizeof times[0], compare_times);
+    return times[count / 2];
+}
+
+/* Nanoseconds of a call, the median of some; the state is the same at the start of each repeat. */
 static double measure(enum call call)
 {
     static uint8_t start[sizeof state];
@@ -152,8 +158,7 @@ static double measure(enum call call)
         times[repeat] = (now() - begun) / CALLS;
     }
     memcpy(state, start, sizeof state);
-    qsort(times, REPEATS, sizeof times[0], is_less);
-    return times[REPEATS / 2];
+    return median(times, REPEATS);
 }
 
 static void measure_calls(void)
@@ -230,27 +235,33 @@ static double stream(uint64_t count, int with_engine, int with_writes, int with_
     return (double)count / (now() - begun) * 1e9;
 }
 
+/* One case after the other, some times. */
 static void measure_streams(uint64_t count)
 {
     static const struct { const char *name; int engine, writes, syncs; } cases[] = {
-        {"packets written by the library alone", 0, 0, 0},
+        {"the packets made, and nothing done with them", 0, 0, 0},
         {"the engine", 1, 0, 0},
-        {"writes alone", 0, 1, 0},
+        {"writes", 0, 1, 0},
         {"the engine, with writes", 1, 1, 0},
         {"the engine, with writes and syncs", 1, 1, 1},
     };
-    printf("\n| One transfer in order, packets of %d octets, every %dth asks | Packets a second |\n|---|---:|\n", PAYLOAD, ASK);
-    for (size_t i = 0; i < sizeof cases / sizeof cases[0]; i++) {
-        make_state(1, 1);
-        must(ftruncate(page, 0) == 0 && fsync(page) == 0, "the page can't be emptied");
-        printf("| %s | %.0f |\n", cases[i].name, stream(count, cases[i].engine, cases[i].writes, cases[i].syncs));
-        fflush(stdout);
+    enum { CASES = sizeof cases / sizeof cases[0] };
+    double rates[CASES][STREAMS];
+    for (size_t repeat = 0; repeat < STREAMS; repeat++) {
+        for (size_t i = 0; i < CASES; i++) {
+            make_state(1, 1);
+            must(ftruncate(page, 0) == 0 && fsync(page) == 0, "the page can't be emptied");
+            rates[i][repeat] = stream(count, cases[i].engine, cases[i].writes, cases[i].syncs);
+        }
     }
+    printf("\n| One transfer in order, packets of %d octets, every %dth asks | Packets a second |\n|---|---:|\n", PAYLOAD, ASK);
+    for (size_t i = 0; i < CASES; i++)
+        printf("| %s | %.0f |\n", cases[i].name, median(rates[i], STREAMS));
 }
 
 int main(int argc, char **argv)
 {
-    uint64_t count = argc == 4 && strcmp(argv[2], "--packets") == 0 ? strtoull(argv[3], NULL, 10) : 200000;
+    uint64_t count = argc == 4 && strcmp(argv[2], "--packets") == 0 ? strtoull(argv[3], NULL, 10) : 50000;
     directory = argc >= 2 ? open(argv[1], O_RDONLY | O_DIRECTORY) : -1;
     page = directory < 0 ? -1 : openat(directory, "page", O_RDWR | O_CREAT | O_TRUNC, 0666);
     must(page >= 0, "which directory may be written to?");

@@ -78,7 +78,10 @@ def owners(program, place):
 
     def strange(packet):
         stranger.sendto(packet, ("127.0.0.1", link.port))
-        return stranger.recv(65535)
+        try:
+            return stranger.recv(65535)
+        except socket.timeout:
+            return None
 
     link.quiet_send(metadata(7, 16, 100), data(7, 16, 0, text[:50], WANTED))
     check(strange(data(7, 16, 50, other[50:], WANTED)) == UNKNOWN, "DATA of another port is taken")

@@ -259,10 +259,10 @@ def soak(program, place, kills, seed):
 # Wrong programs, which must be found.
 
 WRONG = {
-    "doesn't keep whose an Id is": (
-        "    struct saratoga_packet read = saratoga_read(p->octets, p->length);\n    if (read.number != 0 || read.type",
-        "    struct packet nobody = *p;\n    nobody.from = (struct sender){0, 0, 0};\n    p = &nobody;\n"
-        "    struct saratoga_packet read = saratoga_read(p->octets, p->length);\n    if (read.number != 0 || read.type"),
+    "doesn't look whose an Id is": (
+        "static void take_data(const struct packet *p, const struct saratoga_packet *read)\n{\n",
+        "static void take_data(const struct packet *p, const struct saratoga_packet *read)\n{\n    struct packet owned = *p;\n    struct slot slot;\n"
+        "    if (is_open(read->id, &slot))\n        owned.from = slot.owner;\n    p = &owned;\n"),
     "reports a page before a sync has saved it": (
         "    hear(t, p);\n    t->work.recordings++;\n",
         "    hear(t, p);\n    if (recorded->complete) {\n        t->verdict = SARATOGA_NOT_CHECKED;\n        report_page(t);\n    }\n    t->work.recordings++;\n"),

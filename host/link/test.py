@@ -734,6 +734,7 @@ WRONG = {
         "    return bound == used || save_number(used) == 0;", "    return 1;"),
     "ends a complete page that waits for its report": (
         (FULL, faults.other_octets_before_the_report), "    int is_closed = open_transfer(t->id) != t;\n", "    int is_closed = 1;\n"),
+    "takes DATA of any sender": (faults.owners, *kills.WRONG["doesn't look whose an Id is"]),
     "lets a complete page linger for ever": (faults.lingers, " INTERVAL, options.linger,", " INTERVAL, UINT64_MAX,"),
     "never forgets": (faults.full_table_is_told, "options.forget, *from);", "0, *from);"),
     "tells nobody of a full table": (faults.full_table_is_told, "REFUSED_TABLE_FULL && now_ms() >= full_until", "REFUSED_TABLE_FULL && 0"),
@@ -772,7 +773,7 @@ WRONG = {
         faults.one_without_a_name, "    return (int)(until - now);\n", "    return 0;\n"),
     "answers no refused packet where others came since": (
         faults.repair_status, "        t->repair = t->repair != 0 ? t->repair : covering_sync();\n", "        t->repair = UINT64_MAX;\n"),
-    "dies of SIGHUP": (faults.whole_lines, "    sigaction(SIGHUP, &action, NULL);\n", ""),
+    "dies of SIGHUP": (faults.whole_lines, "        sigaction(SIGHUP, end, NULL);\n", "        signal(SIGHUP, SIG_DFL);\n"),
     "makes no room, whatever --make-room says": (
         plant.full_table, "slot.reported || options.make_room", "slot.reported || 0"),
     "makes room by the Id, and not by who was heard longest ago": (
@@ -971,7 +972,7 @@ def main():
         print("link: " + loopback(program, fresh("four"), "127.0.0.1", seconds, ()))
         print("link: " + kills.soak(failing(os.path.join(place, "saratoga-link-failing")), fresh("kills"), 40, 32))
         if not SANITIZED:
-            kills.wrong_programs(fresh("kills-wrong"), 600, 32, ("doesn't keep whose an Id is", "reports a page before a sync has saved it"))
+            kills.wrong_programs(fresh("kills-wrong"), 40, 32, ("reports a page before a sync has saved it",))
         if racing != program:
             print("link: with ThreadSanitizer: " + kills.soak(racing, fresh("racing"), 15, 33))
         try:

@@ -11,16 +11,22 @@
 # make stack    prints the stack that each function needs
 # make bench    measures the library beside plain C and prints the ratios; docs/BENCHMARKS.md
 # make bench-instructions   the same in instructions, by callgrind
+# make bench-engine  the engine: nanoseconds a call, packets a second with and without writes, and its share of a packet's time in the link program
+# make bench-link   the link program and saratoga-send beside uftp on loopback, some 15 minutes and 2 GB of disk; SIZE=octets, RATES=100,0,
+#               LOSSES=0,1,5 and REPEATS=N optional
 # make bench-descriptors    reading a descriptor now, at earlier commits and in plain C, in time and instructions; needs the history
 # make link     builds the link program, target/link/saratoga-link (docs/LINK.md)
 # make merge    builds the program that merges two plants' directories, target/merge/saratoga-merge (docs/LINK.md)
 # make gigabyte a page of a gigabyte through the link program, its MD5 against Python's; half a minute, two gigabytes of disk
+# make kills    kills the link program 2,000 times over a bad link and a bad disk, and compares every page that it reports; some minutes. KILLS=N, SEED=N
+#               optional; the seed is printed (docs/LINK.md)
+# make scale    1, 10 and 100 link programs and as many senders on this machine: memory, CPU time and octets a second (docs/LINK.md); COUNTS="1 10"
 # make plan     builds the sender's planner, target/plan/saratoga-plan (docs/PLAN.md)
 # make send     builds the sender, target/send/saratoga-send (docs/SEND.md)
 # make settings builds the program for a plant's settings file, target/settings/saratoga-settings (docs/SETTINGS.md)
 # make install  header, archive, shared library, pkg-config file, Python module, replay, the tools, the link program, the sender, the planner,
-#               saratoga-merge, the program for settings and the dissector, with man pages, below PREFIX (default /usr/local; PREFIX=$HOME/.local needs no
-#               root); make uninstall takes them away
+#               saratoga-merge, the program for settings, the dissector, the schema of the link program's lines, and a systemd unit with an example of its
+#               options, with man pages, below PREFIX (default /usr/local; PREFIX=$HOME/.local needs no root); make uninstall takes them away
 # make deb      a Debian package of all that make install puts, target/deb/saratoga_VERSION_amd64.deb; DEB_MAINTAINER= names who makes it
 PREFIX ?= /usr/local
 VERSION = 0.1
@@ -29,8 +35,9 @@ ENGINE = target/staticlib/libsaratoga_engine.a
 PLAN_SOURCES = $(addprefix host/plan/,plan.c input.c reason.c)
 SEND_SOURCES = $(addprefix host/send/,send.c options.c page.c transfer.c round.c run.c wire.c lines.c)
 LINK_SOURCES = $(addprefix host/link/,link.c options.c source.c udp.c peers.c packets.c answers.c shell.c sync.c worker.c area.c pages.c closing.c \
-	start.c files.c disk.c meta.c check.c sheet.c onair.c control.c settings.c text.c output.c)
-MERGE_SOURCES = $(addprefix host/merge/,merge.c octets.c) $(addprefix host/link/,area.c files.c disk.c meta.c text.c output.c)
+	start.c files.c disk.c meta.c check.c sheet.c onair.c control.c settings.c text.c output.c json.c progress.c live.c counters.c \
+	metrics.c log.c config.c hook.c notify.c)
+MERGE_SOURCES = $(addprefix host/merge/,merge.c octets.c) $(addprefix host/link/,area.c files.c disk.c meta.c text.c output.c log.c)
 SIMULATE_SOURCES = $(addprefix host/simulate/,simulate.c disk.c network.c judge.c listen.c shell.c first.c second.c)
 SETTINGS_SOURCES = $(addprefix host/settings/,settings.c fault.c store.c)
 BENCH_FLAGS = -O2 -Wall -Wextra -Iinclude
@@ -38,7 +45,8 @@ BENCH_FLAGS = -O2 -Wall -Wextra -Iinclude
 PASS ?= host/passes/page611.pass
 
 .PHONY: test test-extra lib shared engine simulate replay-program front replay compare soak stack bench-program bench bench-instructions bench-descriptors
-.PHONY: link gigabyte send plan merge settings install uninstall deb clean help
+.PHONY: bench-engine bench-link
+.PHONY: link gigabyte kills scale send plan merge settings install uninstall deb clean help
 
 help:
 	@sed -n '/^[^#]/q; s/^# //p' Makefile
@@ -114,12 +122,34 @@ bench-instructions: bench-program
 bench-descriptors:
 	CC='$(CC)' REPEATS='$(REPEATS)' host/bench/descriptors/run
 
+WRAPPED = $(foreach name,read try_record engine_look engine_stored engine_next engine_sync engine_synced engine_tell,-Wl,--wrap=saratoga_$(name))
+
+bench-engine: lib engine send
+	mkdir -p target/bench
+	$(CC) -std=c11 $(BENCH_FLAGS) host/bench/engine/engine.c $(ENGINE) $(ARCHIVE) -o target/bench/engine
+	$(CC) $(LINK_FLAGS) host/bench/link/share.c $(LINK_SOURCES) $(ENGINE) $(ARCHIVE) $(WRAPPED) -o target/bench/saratoga-link-counted
+	target/bench/engine target/bench
+	host/bench/link/share.py
+
+bench-link: link send
+	mkdir -p target/bench
+	$(CC) -O2 -Wall -Wextra -fPIC -shared host/bench/link/lossy.c -o target/bench/lossy.so -ldl
+	host/bench/link/bench.py $(if $(SIZE),--size $(SIZE)) $(if $(RATES),--rates $(RATES)) $(if $(LOSSES),--losses $(LOSSES)) $(if $(REPEATS),--repeats $(REPEATS))
+
+LINK_FLAGS = -std=c11 -Wall -Wextra -pedantic -O2 -pthread -Iinclude
+
 link: lib engine
 	mkdir -p target/link
-	$(CC) -std=c11 -Wall -Wextra -pedantic -O2 -pthread -Iinclude $(LINK_SOURCES) $(ENGINE) $(ARCHIVE) -o target/link/saratoga-link
+	$(CC) $(LINK_FLAGS) $(LINK_SOURCES) $(ENGINE) $(ARCHIVE) -o target/link/saratoga-link
 
-gigabyte: lib
+gigabyte: lib engine
 	host/link/gigabyte.py
+
+kills: lib engine
+	host/link/kills.py $(if $(KILLS),--kills $(KILLS)) $(if $(SEED),--seed $(SEED))
+
+scale: link send
+	host/link/scale.py $(COUNTS)
 
 plan: lib
 	mkdir -p target/plan
@@ -162,7 +192,7 @@ PAGES = replay pcap2pass passtext passplot marks sheet saratoga-link saratoga-se
 
 install: lib engine shared front link send plan merge settings
 	install -d "$(AT)/include" "$(AT)/lib/pkgconfig" "$(AT)/bin" "$(AT)/libexec/saratoga" "$(AT)/share/man/man1" "$(AT)/share/man/man3"
-	install -d "$(DESTDIR)$(PYTHON_DIR)" "$(AT)/share/saratoga" "$(AT)/share/man/man7"
+	install -d "$(DESTDIR)$(PYTHON_DIR)" "$(AT)/share/saratoga" "$(AT)/share/man/man7" "$(AT)/lib/systemd/system"
 	install -m 644 include/saratoga.h "$(AT)/include/saratoga.h"
 	install -m 644 include/saratoga_engine.h "$(AT)/include/saratoga_engine.h"
 	install -m 644 $(ARCHIVE) "$(AT)/lib/libsaratoga.a"
@@ -181,7 +211,9 @@ install: lib engine shared front link send plan merge settings
 	install -m 644 $(PAGES:%=host/man/%.1) "$(AT)/share/man/man1"
 	install -m 644 host/man/saratoga.3 "$(AT)/share/man/man3"
 	install -m 644 host/man/saratoga-wireshark.7 "$(AT)/share/man/man7"
-	install -m 644 host/wireshark/saratoga.lua "$(AT)/share/saratoga"
+	install -m 644 host/wireshark/saratoga.lua docs/link.schema.json host/systemd/saratoga-link.conf.example "$(AT)/share/saratoga"
+	sed 's|@PREFIX@|$(PREFIX)|' host/systemd/saratoga-link@.service >"$(AT)/lib/systemd/system/saratoga-link@.service"
+	chmod 644 "$(AT)/lib/systemd/system/saratoga-link@.service"
 
 DEB_MAINTAINER ?= Storhnipa maintainers <maintainers@users.noreply.storhnipa.example>
 
@@ -191,7 +223,8 @@ deb: lib engine shared front link send plan merge settings
 uninstall:
 	rm -f "$(AT)/include/saratoga_engine.h" "$(AT)/lib/libsaratoga_engine.a"
 	rm -f "$(AT)/include/saratoga.h" "$(AT)/lib/libsaratoga.a" "$(AT)/lib/pkgconfig/saratoga.pc" "$(AT)/share/man/man3/saratoga.3"
-	rm -f "$(AT)/share/man/man7/saratoga-wireshark.7" "$(AT)/share/saratoga/saratoga.lua"
+	rm -f "$(AT)/share/man/man7/saratoga-wireshark.7" "$(AT)/share/saratoga/saratoga.lua" "$(AT)/share/saratoga/link.schema.json"
+	rm -f "$(AT)/share/saratoga/saratoga-link.conf.example" "$(AT)/lib/systemd/system/saratoga-link@.service"
 	rm -f "$(AT)/lib/libsaratoga.so" "$(AT)/lib/$(SONAME)" "$(AT)/lib/$(SHARED)" "$(DESTDIR)$(PYTHON_DIR)/saratoga.py"
 	for file in replay saratoga-link saratoga-send saratoga-plan saratoga-merge saratoga-settings $(TOOLS); do rm -f "$(AT)/bin/$$file" || exit 1; done
 	for page in $(PAGES); do rm -f "$(AT)/share/man/man1/$$page.1" || exit 1; done

@@ -8,7 +8,6 @@
 #include <string.h>
 
 static int family;                 /* of the socket */
-static uint64_t unsent;
 
 /* How many STATUS a peer may get now, and up to when that was counted. */
 static struct allowance {
@@ -90,8 +89,9 @@ static int send_to(const struct sender *to, const struct route *route, const uin
 /* Sends a packet, or shows what would be sent. A sender may have an address that nothing can be sent to. */
 static void answer(uint64_t number, const struct sender *to, const struct route *route, const uint8_t *octets, size_t count)
 {
+    counters.answers++;
     say_octets(number, "send", octets, count);
-    if (socket_fd >= 0 && send_to(to, route, octets, count) != 0 && unsent++ == 0)
+    if (socket_fd >= 0 && send_to(to, route, octets, count) != 0 && counters.unsent++ == 0)
         warn("packet %" PRIu64 ": the answer can't be sent: %s; of more only the number is told, at the end", number,
              strerror(errno));
 }
@@ -111,6 +111,7 @@ static int may_answer(struct transfer *t)
     if (!slot_of(state + SYNCED, t->id, &slot))
         return 0;
     uint64_t wait = must_wait(&slot.owner);
+    count_answer(t, wait > 0);
     if (wait > 0)
         t->put_off = now_ms() + wait;
     return wait == 0;
@@ -165,6 +166,6 @@ int send_repairs(void)
 /* At the end. */
 void tell_unsent(void)
 {
-    if (unsent > 0)
-        warn("%" PRIu64 " answers could not be sent", unsent);
+    if (counters.unsent > 0)
+        warn("%" PRIu64 " answers could not be sent", counters.unsent);
 }

@@ -84,23 +84,13 @@ void hear_operator(void)
 void list_transfers(void)
 {
     static struct area area;
-    static struct transfer t;
     struct saratoga_listed one;
     struct slot slot;
     if (!read_area(&area))
         return;
-    for (uint64_t i = 0; (one = saratoga_transfer(area.snapshot, SARATOGA_AREA_OCTETS, i)).number == 0; i++) {
-        char name[NAME_OCTETS], meta[MOST_META] = "";
-        if (!slot_of(area.snapshot, one.id, &slot))
-            continue;
-        t = (struct transfer){.id = one.id, .file = slot.file, .fd = -1, .meta_fd = -1};
-        if (read_meta(&t) == 0 && meta_is_of(t.meta, t.meta_len, &one))
-            meta_for_report(meta, &t);
-        name_of(name, &t, one.complete ? "page" : "part");
-        report("id=%" PRIu64 " width=%" PRIu64 " length=%" PRIu64 " edge=%" PRIu64 " runs=%" PRIu64
-               " complete=%" PRIu64 " file=%s %s",
-               one.id, 8 * one.width, one.length, one.edge, one.runs, one.complete, name, meta);
-    }
+    for (uint64_t i = 0; (one = saratoga_transfer(area.snapshot, SARATOGA_AREA_OCTETS, i)).number == 0; i++)
+        if (slot_of(area.snapshot, one.id, &slot))
+            list_one(area.snapshot, &one, &slot);
 }
 
 /* Whether an Id is open on disk, for the file that is meant. */

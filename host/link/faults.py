@@ -8,8 +8,8 @@ import subprocess
 import time
 
 from harness import at, check, content, failing, holds, is_there, numbers, page, records, run, stored
-from packets import WANTED, data, metadata
-from plant import Link, is_complete, one_of_it
+from packets import UNASKED, WANTED, data, metadata, success
+from plant import STARTED, Link, is_complete, side_by_side
 
 ENDED = 0x080000  # bit 12 of METADATA
 UNKNOWN = bytes.fromhex("4400000600000007")
@@ -78,7 +78,10 @@ def owners(program, place):
 
     def strange(packet):
         stranger.sendto(packet, ("127.0.0.1", link.port))
-        return stranger.recv(65535)
+        try:
+            return stranger.recv(65535)
+        except socket.timeout:
+            return None
 
     link.quiet_send(metadata(7, 16, 100), data(7, 16, 0, text[:50], WANTED))
     check(strange(data(7, 16, 50, other[50:], WANTED)) == UNKNOWN, "DATA of another port is taken")
@@ -98,6 +101,104 @@ def owners(program, place):
     check(link.send(data(7, 16, 0, text, WANTED)) == UNKNOWN, "the old owner is still heard")
     stranger.close()
     check(link.end() == 0 and holds(place, "00000007.page", text), link.told)
+
+
+def answered_after_a_kill(program, place):
+    """What was due when the program was killed is sent by the next one, to the owner that the area keeps, once it has a socket."""
+    link = Link(program, place)
+    check(link.send(metadata(7, 16, 100)) is not None, link.lines)
+    link.process.kill()
+    link.process.wait()
+    again = Link(program, place)
+    check(link.heard() == bytes.fromhex("440100000000000700000000"), again.lines)
+    check(again.end() == 0 and "0 send 440100000000000700000000" in again.lines, again.lines)
+    link.end()
+
+
+def shared_syncs(program, place):
+    """`program` is built with nospace.c. On a slow disk packets are taken while a thread syncs, and many openings and questions share one sync."""
+    text, marker = page(3000, 117), os.path.join(os.path.dirname(place), "nospace")
+    link = Link(program, place, NOSPACE=marker)
+    link.quiet_send(metadata(0, 16, 3000))
+    with open(marker, "w", encoding="ascii") as file:
+        file.write("z")
+    before, begun = syncs(place), time.monotonic()
+    for ident in range(1, 16):
+        link.socket.sendto(metadata(ident, 16, 20), ("127.0.0.1", link.port))
+    for start in range(0, 3000, 30):
+        link.socket.sendto(data(0, 16, start, text[start:start + 30], WANTED), ("127.0.0.1", link.port))
+    link.wait(lambda: sum(" record id=0 " in line for line in link.lines) == 100)
+    taken = time.monotonic() - begun
+    link.wait(lambda: {line.split()[2][8:16] for line in link.lines if " send 4401" in line} >= {f"{ident:08x}" for ident in range(1, 16)})
+    check(syncs(place) - before < 8, f"{syncs(place) - before} syncs for 15 openings and 100 questions")
+    check(taken < 1, f"packets waited {taken:.1f} s for a disk that takes 50 ms for each force")
+    os.remove(marker)
+    link.wait(lambda: any(" complete id=0 " in line for line in link.lines))
+    check(link.end() == 0 and holds(place, "00000000.page", text), link.told)
+
+
+def one_batch(program, place):
+    """Packets that come together do what they do one by one, as on a pass: octets that follow on each other, are another transfer's, come again,
+    or stand on both sides of what was received."""
+    long, first, second = page(180000, 118), page(1000, 119), page(400, 120)
+    before = [metadata(6, 32, 180000), metadata(7, 16, 1000), metadata(8, 16, 400), data(7, 16, 300, first[300:400], WANTED)]
+    batch = [data(7, 16, 200, first[200:300]), data(7, 16, 400, first[400:500]), data(7, 16, 500, first[500:600]), data(8, 16, 600, b"x"),
+             data(8, 16, 0, second[:100]), data(7, 16, 100, first[100:200]), data(8, 16, 200, second[200:300]), data(7, 16, 0, first[:100]),
+             data(8, 16, 100, second[100:200]), data(8, 16, 100, second[100:200]), data(7, 16, 550, first[550:700]), b"",
+             data(7, 16, 700, first[700:]), *(data(6, 32, start, long[start:start + 60000]) for start in range(0, 180000, 60000)),
+             data(8, 16, 300, second[300:]), metadata(9, 16, 0)]
+    other = place + "-pass"
+    os.mkdir(other)
+    expected = [line for line in run(program, other, "-", octets=records(before + batch))[0] if " record " in line or " refused " in line]
+    link = Link(program, place)
+    link.quiet_send(*before)
+    os.kill(link.process.pid, signal.SIGSTOP)
+    for packet in batch:
+        link.socket.sendto(packet, ("127.0.0.1", link.port))
+    os.kill(link.process.pid, signal.SIGCONT)
+    link.wait(lambda: sum(" complete id=" in line for line in link.lines) == 4)
+    got = [line for line in link.lines if " record " in line or " refused " in line]
+    check(got == expected and len(got) == 18, (got, expected))
+    check(link.end() == 0, link.told)
+    for ident, octets in ((6, long), (7, first), (8, second)):
+        check(holds(place, f"0000000{ident}.page", octets), f"page {ident}")
+
+
+def opened_while_it_syncs(program, place):
+    """`program` is built with nospace.c. After a restart METADATA that comes while a sync is under way isn't lost for want of a file number."""
+    marker = os.path.join(os.path.dirname(place), "nospace")
+    run(program, place, "-", octets=records([metadata(7, 16, 100)]))
+    link = Link(program, place, NOSPACE=marker)
+    with open(marker, "w", encoding="ascii") as file:
+        file.write("z")
+    for packet in (metadata(7, 16, 100), metadata(8, 16, 100)):
+        link.socket.sendto(packet, ("127.0.0.1", link.port))
+        time.sleep(0.02)
+    link.wait(lambda: any(" open id=8 " in line or " lost id=8" in line for line in link.lines))
+    os.remove(marker)
+    check(link.end() == 0 and not any(" lost " in line for line in link.lines), link.lines)
+
+
+def syncs(place):
+    """The number of the last sync."""
+    return int.from_bytes(content(place, "area")[32:40], "little")
+
+
+def unremovable(program, place):
+    """`program` is built with nospace.c. A `close` that can't be removed is told once, and isn't heard again and again."""
+    marker = os.path.join(os.path.dirname(place), "nospace")
+    with open(marker, "w", encoding="ascii") as file:
+        file.write("u")
+    link = Link(program, place, NOSPACE=marker)
+    link.quiet_send(metadata(31, 16, 100), data(31, 16, 0, b"x", WANTED))
+    with open(os.path.join(place, "close"), "w", encoding="ascii") as file:
+        file.write("31\n")
+    link.wait(lambda: link.told)
+    time.sleep(1)
+    check(len(link.told) == 1 and "can't be removed, and isn't heard" in link.told[0] and 31 in stored(place), link.told)
+    os.remove(marker)
+    link.wait(lambda: 31 not in stored(place))
+    link.end()
 
 
 def flipped_area(program, place):
@@ -192,7 +293,7 @@ def nobody_reads(program, place):
     text = page(60000, 110)
     reading, writing = os.pipe()
     process = subprocess.Popen([program, "-d", place, "--udp", "0", "--peer", "127.0.0.1"], stdout=writing, stderr=subprocess.PIPE)
-    Link.started.append(process)
+    STARTED.processes.append(process)
     os.close(writing)
     line = b""
     while not line.endswith(b"\n"):
@@ -286,15 +387,20 @@ def which_file_is_closed(program, place):
 
 
 def closed_descriptors(program, place):
-    """Without descriptors 0 to 2 no line goes into a file of the directory."""
-    done = subprocess.run(["sh", "-c", 'exec "$0" -d "$1" --udp 0 --any-peer --idle 1 <&- >&- 2>&-', program, place], check=False,
-                          timeout=20)
-    check(done.returncode in (0, 1), done)
-    check(all(b"listening" not in content(place, name) for name in os.listdir(place)), "a line went into a file")
+    """Without descriptors 0 to 2 no line and no message goes into a file of the directory."""
+    text, file = page(100, 118), os.path.join(os.path.dirname(place), "closed.pass")
+    with open(file, "wb") as made:
+        made.write(records([metadata(7, 16, 100), metadata(8, 16, 9, flags=0x11, checksum=b"\1\2\3\4"), data(7, 16, 0, text)]))
+    for source in (("--udp", "0", "--any-peer", "--idle", "1"), (file,)):
+        done = subprocess.run(["sh", "-c", 'exec "$@" <&- >&- 2>&-', "sh", program, "-d", place, *source], check=False, timeout=20)
+        check(done.returncode in (0, 1), done)
+    check(holds(place, "00000007.page", text), "the page")
+    check(all(b"listening" not in content(place, name) and b"is refused" not in content(place, name) for name in os.listdir(place)),
+          "a line went into a file")
 
 
 def one_without_a_name(program, place):
-    """A page that can't get its name holds nothing else up: others are reported, and make room."""
+    """A page that can't get its name holds nothing else up: others are reported, and make room. It isn't tried without a pause."""
     text = page(20, 114)
     link = Link(program, place)
     link.quiet_send(metadata(0, 16, 20))
@@ -306,8 +412,33 @@ def one_without_a_name(program, place):
     link.wait(lambda: sum(" complete id=" in line for line in link.lines) == 15)
     link.send(metadata(77, 16, 20))
     link.wait(lambda: any(" open id=77 " in line for line in link.lines))
+    before = ticks(link.process.pid)
+    time.sleep(2)
+    check(ticks(link.process.pid) - before < 5, "a page that waits for its name keeps the program at work")
     check(link.end() == 1, "a page without a name, and the exit status says nothing")
     check(sum("can't get its name" in line for line in link.told) == 1, link.told)
+
+
+def ticks(process):
+    """How much a process was at work, in hundredths of a second."""
+    fields = content(f"/proc/{process}/stat").rsplit(b")", 1)[1].split()
+    return int(fields[11]) + int(fields[12])
+
+
+def repair_status(program, place):
+    """With --repair-status each packet that needs a 65th run is answered with the STATUS, as of a sync; many share one."""
+    link = Link(program, place, "--repair-status")
+    link.quiet_send(metadata(7, 32, 9000))
+    for start in range(0, 128, 2):
+        link.socket.sendto(data(7, 32, start, b"x"), ("127.0.0.1", link.port))
+    for start in range(1000, 1400, 2):
+        link.socket.sendto(data(7, 32, start, b"x"), ("127.0.0.1", link.port))
+    heard = [link.heard()]
+    while heard[-1] is not None:
+        heard.append(link.heard())
+    check(1 < len(heard) < 100, f"{len(heard) - 1} STATUS for 200 packets that were refused")
+    check(all(answer == success(7, 32, 1, 127, [(at, at + 1) for at in range(1, 127, 2)], flags=UNASKED) for answer in heard[:-1]), heard[0])
+    check(link.end() == 0, link.told)
 
 
 def whole_lines(program, place):
@@ -317,7 +448,7 @@ def whole_lines(program, place):
         with open(log, "ab") as file:
             process = subprocess.Popen([program, "-d", place, "--no-fsync", "-"], stdin=subprocess.PIPE, stdout=file,
                                        stderr=subprocess.DEVNULL)
-        Link.started.append(process)
+        STARTED.processes.append(process)
         process.stdin.write(records([metadata(7, 16, 60000), *[data(7, 16, start, b"x" * 7) for start in range(0, 30000, 7)]]))
         process.stdin.flush()
         time.sleep(0.05)
@@ -349,13 +480,13 @@ def peers(program, place):
     check(version[0][0].startswith("saratoga-link (saratoga) ") and version[2] == 0, version)
 
 
-TESTS = (other_octets, lingers, owners, flipped_area, cut_short, ended_by_its_sender, full_table_is_told,
+TESTS = (other_octets, one_batch, lingers, owners, answered_after_a_kill, flipped_area, cut_short, ended_by_its_sender, full_table_is_told,
          answers_from_where_it_was_asked, nobody_reads, few_answers, taken_as_documented, idle_and_strangers, which_file_is_closed,
-         closed_descriptors, one_without_a_name, whole_lines, peers)
+         closed_descriptors, one_without_a_name, repair_status, whole_lines, peers)
 
 
 def all_of_it(program, place):
     """Runs everything; `place` gives a new directory for a name."""
     full = failing(program + "-failing")
-    for test, tested in [(test, program) for test in TESTS] + [(unwritable, full), (other_octets_before_the_report, full)]:
-        one_of_it(test, tested, place(test.__name__))
+    side_by_side([(test, program) for test in TESTS] + [(test, full) for test in (
+        unwritable, other_octets_before_the_report, shared_syncs, opened_while_it_syncs, unremovable)], place)

@@ -8,6 +8,7 @@
  *     0000001f.5.meta    its METADATA as text
  *     0000001f.5.sheet   what the printer signs
  *     0000001f.5.aside   what a transfer had that was ended
+ *     0000001f.5.hook    a page that is still to be handed over: hook.c
  *
  * No symbolic link is followed.
  */
@@ -23,7 +24,7 @@
 
 struct transfer transfers[MOST_FILES];
 
-static void make_name(char name[NAME_OCTETS], uint64_t id, uint64_t file, const char *suffix)
+void make_name(char name[NAME_OCTETS], uint64_t id, uint64_t file, const char *suffix)
 {
     snprintf(name, NAME_OCTETS, "%08" PRIx64 ".%" PRIu64 ".%s", id, file, suffix);
 }
@@ -42,7 +43,7 @@ void name_of_file(char name[NAME_OCTETS], const struct transfer *t)
 /* The Id, number and suffix of a name that make_name makes; gives NULL for any other. */
 const char *parse_name(const char *name, uint64_t *id, uint64_t *file)
 {
-    static const char *const suffixes[] = {"part", "page", "differs", "meta", "sheet", "aside"};
+    static const char *const suffixes[] = {"part", "page", "differs", "meta", "sheet", "aside", "hook"};
     char made[NAME_OCTETS];
     if (strspn(name, "0123456789abcdef") != 8 || name[8] != '.' || name[9] < '1' || name[9] > '9')
         return NULL;

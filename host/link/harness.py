@@ -17,13 +17,14 @@ ARCHIVE = os.path.join(ROOT, "target", "staticlib", "libsaratoga.a")
 ARCHIVES = [os.path.join(ROOT, "target", "staticlib", f"libsaratoga{name}.a") for name in ("_engine", "")]
 SOURCES = [os.path.join(PLACE, name + ".c") for name in (
     "link", "options", "source", "udp", "peers", "packets", "answers", "shell", "sync", "worker", "area", "pages", "closing", "start",
-    "files", "disk", "meta", "check", "sheet", "onair", "control", "settings", "text", "output")]
+    "files", "disk", "meta", "check", "sheet", "onair", "control", "settings", "text", "output", "json", "progress", "live", "counters",
+    "metrics", "log", "config", "hook", "notify")]
 POWERCUT, NOSPACE = os.path.join(PLACE, "powercut.c"), os.path.join(PLACE, "nospace.c")
 WRAPPED = ["-Wl," + ",".join(f"--wrap={name}" for name in (
     "openat", "openat64", "pwrite", "pwrite64", "renameat", "fsync"))]
 FAILS = "-Wl,--wrap=sendmsg,--wrap=unlinkat"
 AREA_MAGIC, AREA_HEAD, AREA_WORDS, SLOT_WORDS, PLACES = b"saratoga-area 3\n", 48, 2161, 12, 16
-ENDINGS = ("part", "page", "differs", "meta", "sheet", "aside")
+ENDINGS = ("part", "page", "differs", "meta", "sheet", "aside", "hook")
 
 
 def check(holds, what):
@@ -33,9 +34,17 @@ def check(holds, what):
 
 COMPILER = [os.environ.get("CC", "cc"), "-std=c11", "-Wall", "-Wextra", "-Werror", "-pedantic", "-O1", "-g", "-pthread",
             "-I" + os.path.join(ROOT, "include"), "-I" + PLACE]
-# LINK_SANITIZE=thread, or address,undefined: every program of the tests is built with it.
-if os.environ.get("LINK_SANITIZE"):
-    COMPILER += ["-fsanitize=" + os.environ["LINK_SANITIZE"], "-fno-sanitize-recover=all"]
+os.environ.setdefault("TSAN_OPTIONS", "halt_on_error=1")
+
+
+def sanitizer(name):
+    return ["-fsanitize=" + name, "-fno-sanitize-recover=all"]
+
+
+# LINK_SANITIZE=thread, or address,undefined: every program of the tests is built with it, and wrong ones are not.
+SANITIZED = os.environ.get("LINK_SANITIZE")
+if SANITIZED:
+    COMPILER += sanitizer(SANITIZED)
 
 
 def build(sources, out, *options):

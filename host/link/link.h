@@ -23,7 +23,13 @@
  *     onair.c     who is on the air: BEACONs
  *     control.c   what an operator asks of a program that runs
  *     settings.c  the plant's settings file
- *     text.c      octets of packets made fit to be printed; output.c lines and messages
+ *     config.c    a file of options
+ *     hook.c      a program of the operator's, run for each page
+ *     notify.c    what a service manager is told
+ *     log.c       lines in a file, and their times
+ *     text.c      octets of packets made fit to be printed; output.c lines and messages, json.c lines as JSON
+ *     progress.c  how far a transfer is, for --list and for live.c, lines on a terminal that follow it
+ *     counters.c  what is counted, and metrics.c the same for Prometheus
  */
 #ifndef LINK_H
 #define LINK_H
@@ -50,6 +56,14 @@
 #define NAME_OCTETS 56
 #define TICK 200                   /* milliseconds: the operator is heard at least so often */
 #define INTERVAL 1000              /* milliseconds between two syncs that nobody waits for */
+#define MOST_REFUSALS 27           /* their numbers are below */
+#define MOST_COUNTED 64            /* peers that are counted one by one */
+#ifndef METRICS_EVERY              /* milliseconds between two files for Prometheus; tests build it with less */
+#define METRICS_EVERY 5000
+#endif
+#define SENDER_TEXT 96
+#define START_OF_2000 946684800    /* seconds from the start of 1970 */
+#define MOST_HOOKS 64              /* that run at a time */
 
 /* A peer's network: an address of 16 octets, IPv4 as ::ffff:a.b.c.d, how many of its bits count, and its scope. */
 struct network {
@@ -76,13 +90,24 @@ struct options {
     struct network peers[MOST_PEERS];
     /* what is asked for */
     const char *port, *host, *pass, *to_close, *settings;
+    const char *hook;              /* the program that is run for each page; NULL: none */
+    const char *log;               /* where lines go; NULL: to standard output */
+    int times;                     /* lines begin with them */
+    uint64_t hooks, hook_wait;     /* that run at a time; milliseconds that the end waits for them */
     uint64_t id_to_close, file_to_close;
     uint64_t idle;                 /* seconds without a packet until the end; 0: for ever */
     int to_list;
+    /* how it is shown */
+    int json;                      /* lines are JSON */
+    int no_live;                   /* no live lines, also on a terminal */
+    int stats;                     /* counters are printed at the end */
+    uint64_t stats_every;          /* and after so many milliseconds; 0: never */
+    const char *metrics;           /* the file for Prometheus */
 };
 extern struct options options;
 extern const char *const program_name;
 extern volatile sig_atomic_t stopped;
+void attend(void);
 
 /* How much work a pass makes: the recordings that were accepted, and the runs that they absorbed. */
 struct work {
@@ -141,6 +166,7 @@ struct transfer {
     struct route route;            /* by which that came */
     uint64_t repair;               /* the STATUS of --repair-status goes out once this sync is good; 0: none */
     uint64_t put_off;              /* until when nothing is done that the engine says of it */
+    int held_back;                 /* its answer is, since its sender had enough for now */
     const char *why;               /* it was closed; NULL where it is open */
     int empty;                     /* and nothing of it came */
     char *closing;                 /* the sheet for that */
@@ -151,6 +177,9 @@ struct transfer {
 
 /* output.c */
 extern int socket_fd;              /* -1: of a pass, whose answers are only shown, and which waits for the reader of its lines */
+extern size_t (*form_of_line)(char *out, size_t room, const char *line, size_t length); /* another form of each line; NULL: none */
+extern int (*hide_live)(int milliseconds); /* takes live lines away; gives 0 where the terminal isn't ready. NULL: there are none */
+extern void (*show_live)(void);            /* and puts them back */
 void open_output(void);
 void die(const char *form, ...) __attribute__((format(printf, 1, 2), noreturn));
 void warn(const char *form, ...) __attribute__((format(printf, 1, 2)));
@@ -159,6 +188,8 @@ void say_octets(uint64_t number, const char *what, const uint8_t *octets, size_t
 void report(const char *form, ...) __attribute__((format(printf, 1, 2)));
 void flush_output(void);
 void finish_output(void);
+int open_terminal(void);
+int line_is_half_written(void);
 int output_was_lost(void);
 
 /* text.c */
@@ -166,7 +197,54 @@ size_t escape(char *out, size_t room, const uint8_t *octets, size_t count);
 size_t quote(char *out, size_t room, const uint8_t *octets, size_t count);
 int id_of_text(const char *text, uint64_t *id, uint64_t *file);
 
+/* json.c */
+size_t json_of_line(char *out, size_t room, const char *text, size_t length);
+
+/* progress.c */
+struct progress {
+    uint64_t percent, holes;
+    char sender[SENDER_TEXT];      /* as 127.0.0.1:40000 or [::1]:40000; empty where it came from a pass */
+};
+struct progress progress_of(const uint8_t *snapshot, const struct saratoga_listed *one, const struct slot *slot);
+uint64_t in_a_second(uint64_t octets, uint64_t milliseconds);
+void list_one(const uint8_t *snapshot, const struct saratoga_listed *one, const struct slot *slot);
+
+/* live.c */
+void begin_live(void);
+void draw_live(void);
+
+/* counters.c */
+struct counted_peer {
+    int used;
+    struct sender address;
+    uint64_t packets, octets;
+};
+struct counters {
+    uint64_t packets, octets;      /* of senders that are heard */
+    uint64_t refused[MOST_REFUSALS]; /* by the library, by the refusal's number */
+    uint64_t rejected;             /* by the program: too-large, too-many, of-another-sender */
+    uint64_t lost, dropped, unheard; /* not stored; by the kernel; of senders that aren't heard */
+    uint64_t answers, held_back, unsent;
+    uint64_t good_syncs, bad_syncs;
+    uint64_t complete, differing;  /* files that were reported */
+    struct counted_peer peers[MOST_COUNTED], others;
+};
+extern struct counters counters;
+void count_packet(const struct packet *p);
+void count_refusal(uint64_t number);
+void count_answer(struct transfer *t, int waits);
+uint64_t all_refused(void);
+uint64_t open_now(void);
+void print_stats(void);
+void tick_counters(void);
+void end_counters(void);
+
+/* metrics.c */
+void begin_metrics(void);
+void write_metrics(void);
+
 /* meta.c */
+void date_of(char out[32], uint64_t seconds);
 size_t meta_text(char out[MOST_META], const uint8_t *packet, const struct saratoga_packet *read);
 size_t meta_packet(uint8_t out[SARATOGA_METADATA_OCTETS], const char *meta, size_t meta_len);
 int meta_is_of(const char *meta, size_t meta_len, const struct saratoga_listed *one);
@@ -218,6 +296,7 @@ void there_is_room(void);
 
 /* files.c */
 extern struct transfer transfers[MOST_FILES];
+void make_name(char name[NAME_OCTETS], uint64_t id, uint64_t file, const char *suffix);
 void name_of(char name[NAME_OCTETS], const struct transfer *t, const char *suffix);
 void name_of_file(char name[NAME_OCTETS], const struct transfer *t);
 const char *parse_name(const char *name, uint64_t *id, uint64_t *file);
@@ -315,6 +394,7 @@ void tell_unsent(void);
 
 /* packets.c */
 void take_packet(const struct packet *p);
+void store_kept(void);
 
 /* onair.c */
 void hear_beacon(const struct packet *p, const struct saratoga_packet *read);
@@ -342,9 +422,38 @@ int is_heard(const struct sender *from);
 void sender_of(struct sender *out, const struct sockaddr_storage *address);
 socklen_t address_of(struct sockaddr_storage *out, const struct sender *to, int family);
 void show_address(const struct sockaddr_storage *address, socklen_t length, char host[64], char port[16]);
+void show_sender(const struct sender *from, char host[64], char port[16]);
 
 /* options.c */
 void take_arguments(int count, char **arguments);
+void take_from_file(const char *name, const char *value);
+void stand_at(const char *file, unsigned line);
+void wrong_line(const char *what);
+
+/* config.c */
+void read_config(const char *file);
+
+/* log.c */
+extern volatile sig_atomic_t hung_up;
+void open_log(void);
+void look_at_log(void);
+size_t time_of_line(char *out, size_t room);
+
+/* notify.c */
+void find_manager(void);
+int has_manager(void);
+void tell_ready(const char *form, ...) __attribute__((format(printf, 1, 2)));
+void tell_manager(void);
+int manager_wait(int most);
+void tell_stopping(void);
+
+/* hook.c */
+void prepare_hooks(void);
+int owe_hook(struct transfer *t);
+void owe_again(const struct transfer *t);
+void take_up_hooks(void);
+void look_at_hooks(void);
+void finish_hooks(void);
 
 /*
  * Tests build the program with LINK_CUT_POINTS, to end it between two writes, or inside one, at the place whose number

@@ -11,9 +11,9 @@
 #include <time.h>
 
 #define FIRST_LINE "saratoga-meta 2\n"
-#define START_OF_2000 946684800 /* seconds from the start of 1970 */
 
-static void date_of(char out[32], uint64_t seconds)
+/* The date of a second, counted from the start of 2000. */
+void date_of(char out[32], uint64_t seconds)
 {
     time_t when = (time_t)(START_OF_2000 + seconds);
     struct tm parts;

@@ -3,7 +3,8 @@
  * pwrite, renameat and fsync (--wrap). While the file named by NOSPACE holds the letter of a call (o, w, r, f), that
  * call fails with ENOSPC; o only where a file is to be made. Letter p is a complete file that is to get its name, d the
  * force to disk after that, h a sheet that is to get its name. Letter s is an answer that can't be sent, e a write that fails with EIO, u a
- * file that can't be removed. And z is a disk that is slow: it takes 50 milliseconds to force something to it.
+ * file that can't be removed. And z is a disk that is slow: it takes 50 milliseconds to force something to it; y one
+ * that doesn't come to an end with it.
  */
 #define _POSIX_C_SOURCE 200809L
 #define _FILE_OFFSET_BITS 64
@@ -87,6 +88,8 @@ int __wrap_fsync(int fd)
 {
     const struct timespec slow = {.tv_nsec = 50000000};
     if (full('z'))
+        nanosleep(&slow, NULL);
+    while (full('y'))
         nanosleep(&slow, NULL);
     return full('f') || (page_was_named && full('d')) ? -1 : __real_fsync(fd);
 }

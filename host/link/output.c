@@ -17,6 +17,7 @@
 #include <unistd.h>
 
 #define MOST_LINE 8192             /* octets of a line: a report with the longest path has fewer than 5,000 */
+#define MOST_FORM (3 * MOST_LINE)  /* and in another form: ` free=` is ,"free":null there */
 #define AT_A_TIME 4096             /* a pipe that takes octets at all takes so many without waiting */
 #define FLUSH_AT 32768
 #define LAST_WAIT 1000             /* milliseconds */
@@ -24,11 +25,15 @@
 struct channel {
     int fd;
     int lost;
+    int half;                      /* a line was written in part */
     size_t have, room;
     char *buffer;
 };
 
 int socket_fd = -1;
+size_t (*form_of_line)(char *out, size_t room, const char *line, size_t length);
+int (*hide_live)(int milliseconds);
+void (*show_live)(void);
 static char lines[1 << 20], messages[1 << 16];
 static struct channel out = {.fd = 1, .room = sizeof lines, .buffer = lines};
 static struct channel err = {.fd = 2, .room = sizeof messages, .buffer = messages};
@@ -42,6 +47,24 @@ void open_output(void)
             return;
         }
     }
+}
+
+/*
+ * For live lines, which are drawn also where nothing happens: a terminal whose reader stops must not stop the program. It is opened anew, so
+ * that a write that finds no room ends at once, here alone. Gives the descriptor of standard error; -1 where that is no terminal, or can't be
+ * opened.
+ */
+int open_terminal(void)
+{
+    struct channel *const both[] = {&out, &err};
+    for (size_t i = 0; i < 2; i++) {
+        char name[32];
+        snprintf(name, sizeof name, "/proc/self/fd/%d", both[i]->fd);
+        int fd = isatty(both[i]->fd) ? open(name, O_WRONLY | O_NONBLOCK | O_NOCTTY | O_CLOEXEC) : -1;
+        if (fd >= 0)
+            both[i]->fd = fd;
+    }
+    return err.fd != 2 ? err.fd : -1;
 }
 
 /* How many octets can be written now, in whole lines where that is possible. */
@@ -65,11 +88,10 @@ static void has_lost(struct channel *channel, const char *why)
     int told = channel->lost;
     channel->lost = 1;
     if (channel == &out && !told)
-        warn("standard output can't be written: %s; lines are lost, pages are not", why);
+        warn("%s can't be written: %s; lines are lost, pages are not", options.log != NULL ? options.log : "standard output", why);
 }
 
-/* Writes what can be written within so many milliseconds. */
-static void flush_channel(struct channel *channel, int milliseconds)
+static void write_lines(struct channel *channel, int milliseconds)
 {
     while (channel->have > 0) {
         size_t count = writable(channel, milliseconds);
@@ -84,10 +106,28 @@ static void flush_channel(struct channel *channel, int milliseconds)
             return;
         }
         if (done > 0) {
+            channel->half = channel->buffer[done - 1] != '\n';
             channel->have -= (size_t)done;
             memmove(channel->buffer, channel->buffer + done, channel->have);
         }
     }
+}
+
+/* Writes what can be written within so many milliseconds. On a terminal live lines make way for that. */
+static void flush_channel(struct channel *channel, int milliseconds)
+{
+    int beside_live = channel->have > 0 && hide_live != NULL && isatty(channel->fd);
+    if (beside_live && !hide_live(milliseconds))
+        return;
+    write_lines(channel, milliseconds);
+    if (beside_live && hide_live != NULL)
+        show_live();
+}
+
+/* Whether the terminal took a line in part, so that nothing else may be written now. */
+int line_is_half_written(void)
+{
+    return out.half || err.half;
 }
 
 void flush_output(void)
@@ -99,6 +139,9 @@ void flush_output(void)
 /* At the end. */
 void finish_output(void)
 {
+    if (hide_live != NULL)
+        hide_live(LAST_WAIT);
+    hide_live = NULL;
     flush_channel(&out, LAST_WAIT);
     if (out.have > 0)
         has_lost(&out, "nobody reads it");
@@ -130,11 +173,19 @@ static void compose(struct channel *channel, const char *head, const char *form,
 {
     static const char cut[] = " ..cut";
     char line[MOST_LINE];
-    size_t length = (size_t)snprintf(line, sizeof line, "%s", head);
+    size_t length = time_of_line(line, sizeof line);
+    length += (size_t)snprintf(line + length, sizeof line - length, "%s", head);
     length += (size_t)vsnprintf(line + length, sizeof line - length, form, arguments);
     if (length > sizeof line - 2) {
         length = sizeof line - 2;
         memcpy(line + length - (sizeof cut - 1), cut, sizeof cut - 1);
+    }
+    if (channel == &out && form_of_line != NULL) {
+        char other[MOST_FORM];
+        length = form_of_line(other, sizeof other - 1, line, length);
+        other[length] = '\n';
+        add_line(channel, other, length + 1);
+        return;
     }
     line[length++] = '\n';
     add_line(channel, line, length);

@@ -10,6 +10,8 @@
 #include <unistd.h>
 
 #define MOST_HOLES 64              /* shown of a STATUS */
+#define MOST_KEPT_PACKETS 64       /* that are written together, and their octets */
+#define MOST_KEPT_OCTETS 131072
 
 static void fail(const struct packet *p, uint64_t id, uint64_t code)
 {
@@ -20,6 +22,7 @@ static void fail(const struct packet *p, uint64_t id, uint64_t code)
 static void refuse(const struct packet *p, uint64_t refusal, uint64_t code)
 {
     uint64_t id;
+    count_refusal(refusal);
     say(p->number, "refused %" PRIu64 " code=%" PRIu64, refusal, code);
     if (refusal == SARATOGA_REFUSED_AREA)
         die("the state in memory is no engine's: the program has a fault");
@@ -47,6 +50,7 @@ static int is_over_a_limit(const struct packet *p, const struct saratoga_packet 
         code = SARATOGA_CODE_RECEIVER_RESOURCES;
         say(p->number, "too-many id=%" PRIu64 " code=%" PRIu64, read->id, code);
     }
+    counters.rejected += code != 0;
     if (code != 0)
         fail(p, read->id, code);
     return code != 0;
@@ -91,6 +95,7 @@ static void write_fails(const char *name, int error)
 
 static void say_lost(const struct packet *p, const struct saratoga_packet *read)
 {
+    counters.lost++;
     if (read->type == SARATOGA_TYPE_DATA)
         say(p->number, "lost id=%" PRIu64 " offset=%" PRIu64 " length=%" PRIu64, read->id, read->offset, read->payload_len);
     else
@@ -198,6 +203,12 @@ static void take_metadata(const struct packet *p, const struct saratoga_packet *
 
 /* ---- DATA */
 
+/* What the engine says of a packet from an offset on. */
+static struct saratoga_look look_at(const struct packet *p, uint64_t from)
+{
+    return saratoga_engine_look(state, sizeof state, p->from.high, p->from.low, p->from.port, p->octets, p->length, from);
+}
+
 /* Whether the file has the octets that a packet brings again. Gives -1 with errno where it can't be read, or was cut. */
 static int has_octets(int fd, const uint8_t *octets, size_t count, uint64_t offset)
 {
@@ -294,6 +305,17 @@ static void lose_file(const struct packet *p, struct transfer *t)
         fail(p, id, SARATOGA_CODE_UNKNOWN_ID);
 }
 
+/* A stretch could not be written or read. */
+static void lose_stretch(const struct packet *p, const struct saratoga_packet *read, struct transfer *t)
+{
+    char name[NAME_OCTETS];
+    int error = errno;
+    name_of_file(name, t);
+    lose(p, read, name, error);
+    if (t->why == NULL && !is_where_it_was(t))
+        lose_file(p, t);
+}
+
 /* All stretches of a packet that the engine takes. Gives 0 where one failed. */
 static int store_all(const struct packet *p, const struct saratoga_packet *read, struct saratoga_look look)
 {
@@ -302,12 +324,7 @@ static int store_all(const struct packet *p, const struct saratoga_packet *read,
     while (look.kind == SARATOGA_LOOK_COMPARE || look.kind == SARATOGA_LOOK_WRITE) {
         int well = do_stretch(t, p, &look);
         if (well < 0) {
-            char name[NAME_OCTETS];
-            int error = errno;
-            name_of_file(name, t);
-            lose(p, read, name, error);
-            if (!is_where_it_was(t))
-                lose_file(p, t);
+            lose_stretch(p, read, t);
             return 0;
         }
         if (well == 0) {
@@ -318,7 +335,7 @@ static int store_all(const struct packet *p, const struct saratoga_packet *read,
         from = look.to;
         if (from >= stop)
             break;
-        look = saratoga_engine_look(state, sizeof state, p->from.high, p->from.low, p->from.port, p->octets, p->length, from);
+        look = look_at(p, from);
     }
     return 1;
 }
@@ -328,9 +345,11 @@ static void refuse_data(const struct packet *p, const struct saratoga_packet *re
 {
     struct transfer *t = open_transfer(read->id);
     if (look->kind == SARATOGA_LOOK_STRANGER) {
+        counters.rejected++;
         say(p->number, "of-another-sender id=%" PRIu64 " code=%d", read->id, SARATOGA_CODE_UNKNOWN_ID);
         fail(p, read->id, SARATOGA_CODE_UNKNOWN_ID);
     } else if (look->number == SARATOGA_REFUSED_RUNS && options.repair_status && t != NULL) {
+        count_refusal(look->number);
         say(p->number, "refused %" PRIu64 " code=0", look->number);
         hear(t, p);
         t->repair = t->repair != 0 ? t->repair : covering_sync();
@@ -340,25 +359,92 @@ static void refuse_data(const struct packet *p, const struct saratoga_packet *re
     }
 }
 
-static void take_data(const struct packet *p, const struct saratoga_packet *read)
+/* The engine has a packet: it is counted and told. */
+static void has_recorded(const struct packet *p, const struct saratoga_packet *read, struct transfer *t, const struct saratoga_recorded *recorded)
 {
-    struct saratoga_look look =
-        saratoga_engine_look(state, sizeof state, p->from.high, p->from.low, p->from.port, p->octets, p->length, 0);
-    if (look.kind == SARATOGA_LOOK_REFUSED || look.kind == SARATOGA_LOOK_STRANGER) {
-        refuse_data(p, read, &look);
-        return;
-    }
-    struct saratoga_recorded recorded = saratoga_try_record(state, SARATOGA_AREA_OCTETS, p->octets, p->length);
-    struct transfer *t = transfer_of(look.id, look.file);
-    if (!store_all(p, read, look))
-        return;
     hear(t, p);
     t->work.recordings++;
-    t->work.absorbed += recorded.absorbed;
+    t->work.absorbed += recorded->absorbed;
     say(p->number,
         "record id=%" PRIu64 " offset=%" PRIu64 " length=%" PRIu64 " edge=%" PRIu64 " complete=%" PRIu64
         " absorbed=%" PRIu64,
-        read->id, read->offset, read->payload_len, recorded.edge, recorded.complete, recorded.absorbed);
+        read->id, read->offset, read->payload_len, recorded->edge, recorded->complete, recorded->absorbed);
+}
+
+/*
+ * Packets whose octets follow on each other in one file are written together, and only then told to the engine one by one: a write for
+ * each would cost more than all else. Each was looked at, and is new from its first octet to its last; so it is still when those before it
+ * are stored, which end where it begins.
+ */
+static struct {
+    struct transfer *t;
+    size_t count;
+    uint64_t from, to;             /* of the file */
+    struct packet packets[MOST_KEPT_PACKETS];
+    uint8_t octets[MOST_KEPT_OCTETS];
+} kept;
+
+/* Whether a packet is written as a whole and can be written with those that are kept. */
+static int joins(const struct saratoga_packet *read, const struct saratoga_look *look)
+{
+    return look->kind == SARATOGA_LOOK_WRITE && look->from == read->offset && look->to == read->offset + read->payload_len &&
+           look->to - look->from <= MOST_KEPT_OCTETS &&
+           (kept.count == 0 || (kept.count < MOST_KEPT_PACKETS && look->id == kept.t->id && look->file == kept.t->file &&
+                                look->from == kept.to && look->to - kept.from <= MOST_KEPT_OCTETS));
+}
+
+static void keep(const struct packet *p, const struct saratoga_look *look)
+{
+    if (kept.count == 0) {
+        kept.t = transfer_of(look->id, look->file);
+        kept.from = look->from;
+    }
+    memcpy(kept.octets + (look->from - kept.from), p->octets + look->start, (size_t)(look->to - look->from));
+    kept.to = look->to;
+    kept.packets[kept.count++] = *p;
+}
+
+/* Writes what was kept and tells it to the engine. The octets of its packets must still be there. */
+void store_kept(void)
+{
+    const struct packet all = {.octets = kept.octets};
+    const struct saratoga_look look = {.kind = SARATOGA_LOOK_WRITE, .from = kept.from, .to = kept.to};
+    size_t count = kept.count;
+    if (count == 0)
+        return;
+    kept.count = 0;
+    int well = do_stretch(kept.t, &all, &look), error = errno;
+    for (size_t i = 0; i < count; i++) {
+        const struct packet *p = &kept.packets[i];
+        struct saratoga_packet read = saratoga_read(p->octets, p->length);
+        if (well < 0) {
+            errno = error;
+            lose_stretch(p, &read, kept.t);
+        } else {
+            struct saratoga_recorded recorded = saratoga_try_record(state, SARATOGA_AREA_OCTETS, p->octets, p->length);
+            tell_engine(p, 0, 1);
+            has_recorded(p, &read, kept.t, &recorded);
+        }
+    }
+}
+
+static void take_data(const struct packet *p, const struct saratoga_packet *read)
+{
+    struct saratoga_look look = look_at(p, 0);
+    if (kept.count > 0 && !joins(read, &look)) {
+        store_kept();
+        look = look_at(p, 0);
+    }
+    if (look.kind == SARATOGA_LOOK_REFUSED || look.kind == SARATOGA_LOOK_STRANGER) {
+        refuse_data(p, read, &look);
+    } else if (joins(read, &look)) {
+        keep(p, &look);
+    } else {
+        struct saratoga_recorded recorded = saratoga_try_record(state, SARATOGA_AREA_OCTETS, p->octets, p->length);
+        struct transfer *t = transfer_of(look.id, look.file);
+        if (store_all(p, read, look))
+            has_recorded(p, read, t, &recorded);
+    }
 }
 
 /* ---- the others */
@@ -383,10 +469,12 @@ static void show_success(const struct packet *p, const struct saratoga_packet *r
         read->id, read->flags, 8 * read->width, stamp, read->progress, read->in_response_to, holes);
 }
 
-/* A packet off the link. */
+/* A packet off the link. DATA may be kept until store_kept, or the next packet, writes it. */
 void take_packet(const struct packet *p)
 {
     struct saratoga_packet read = saratoga_read(p->octets, p->length);
+    if (read.number != 0 || read.type != SARATOGA_TYPE_DATA)
+        store_kept();
     if (read.number != 0)
         refuse(p, read.number, read.code);
     else if (read.type == SARATOGA_TYPE_METADATA)

@@ -183,6 +183,8 @@ void name_page(const struct saratoga_next *due)
 void report_line(struct transfer *t, const struct saratoga_listed *one)
 {
     char name[NAME_OCTETS], meta[MOST_META];
+    counters.complete += t->verdict != SARATOGA_DIFFERS;
+    counters.differing += t->verdict == SARATOGA_DIFFERS;
     name_of_file(name, t);
     meta_for_report(meta, t);
     report("%" PRIu64 " %s id=%" PRIu64 " length=%" PRIu64 " file=%s recordings=%" PRIu64 " absorbed=%" PRIu64

@@ -136,3 +136,13 @@ void show_address(const struct sockaddr_storage *address, socklen_t length, char
         strcpy(port, "?");
     }
 }
+
+/* The same of a sender. */
+void show_sender(const struct sender *from, char host[64], char port[16])
+{
+    struct sockaddr_storage address;
+    uint8_t octets[16];
+    octets_of(octets, from);
+    socklen_t length = address_of(&address, from, memcmp(octets, mapped, sizeof mapped) == 0 ? AF_INET : AF_INET6);
+    show_address(&address, length, host, port);
+}

@@ -1,8 +1,10 @@
 """Tests of the link program as a plant uses it: Ids used again, files taken away, a full table, a full disk, and
 packets and files that mean harm. Run by test.py; each function takes the program and an empty directory."""
+import concurrent.futures
 import hashlib
 import os
 import random
+import re
 import resource
 import signal
 import socket
@@ -12,31 +14,42 @@ import sys
 import threading
 import time
 
-from harness import PLACE, SOURCES, at, build, check, content, failing, holds, is_there, page, records, run, stored
+from harness import PLACE, SANITIZED, SOURCES, at, build, check, content, failing, holds, is_there, page, records, run, stored
 from packets import (BUNDLES, END_OF_DATA, STREAMS, UNASKED, WANTED, beacon, data, metadata, record, success, time_record,
                      word)
+
+
+AT_ONCE = 4  # tests that run beside each other
+
+
+class Started(threading.local):
+    """Processes that a test started. Each thread runs tests of its own."""
+
+    def __init__(self):
+        self.processes = []
+
+
+STARTED = Started()
 
 
 class Link:
     """The program on a socket of loopback, and a sender beside it."""
 
-    started = []
-
     def __init__(self, program, place, *options, sender="127.0.0.1", peer=("--peer", "127.0.0.1"), **environment):
         self.lines, self.told = [], []
         self.process = subprocess.Popen([program, "-d", place, "--udp", "0", *peer, *options], stdout=subprocess.PIPE,
                                         stderr=subprocess.PIPE, env=dict(os.environ, **environment))
-        self.started.append(self.process)
+        STARTED.processes.append(self.process)
         self.threads = [threading.Thread(target=self.read, args=pair, daemon=True)
                         for pair in ((self.process.stdout, self.lines), (self.process.stderr, self.told))]
         for thread in self.threads:
             thread.start()
-        self.wait(lambda: any(" listening " in line for line in self.lines))
-        line, = [line for line in self.lines if " listening " in line]
-        self.port = int(line.split("port=")[1])
+        self.wait(lambda: any("listening" in line for line in self.lines))
+        line, = [line for line in self.lines if "listening" in line]
+        self.port = int(re.search(r"port\W+(\d+)", line)[1])  # of a plain line, or of JSON
         self.socket = socket.socket(socket.AF_INET, socket.SOCK_DGRAM)
         self.socket.bind((sender, 0))
-        self.socket.settimeout(0.5)
+        self.socket.settimeout(1.5 if SANITIZED else 0.5)
 
     @staticmethod
     def read(stream, lines):
@@ -209,7 +222,7 @@ def taken_away(program, place):
         first, second = data(7, 16, 0, text[:30], WANTED), data(7, 16, 30, text[30:50], WANTED)
         check(not is_complete(link.send(first), 100) and not is_complete(link.send(second), 100), "said to be complete")
         check(not any(name.endswith(".page") for name in os.listdir(place)), "a page")
-        link.wait(lambda: not stored(place).get(7) and not is_there(place, "00000007.part"))
+        link.wait(lambda: not stored(place).get(7) and not is_there(place, "00000007.part") and is_there(place, "00000007.sheet"))
         for name in os.listdir(place):
             if name.startswith("00000007"):
                 os.remove(os.path.join(place, name))
@@ -583,7 +596,7 @@ def stopped(program, place):
         os.mkdir(here)
         process = subprocess.Popen([program, "-d", here, "-q", "-"], stdin=subprocess.PIPE, stdout=subprocess.PIPE,
                                    stderr=subprocess.PIPE)
-        Link.started.append(process)
+        STARTED.processes.append(process)
         process.stdin.write(records([metadata(7, 16, 100), data(7, 16, 0, text[:40])]) + rest)
         process.stdin.flush()
         Link.wait(lambda: is_there(here, "00000007.part") and len(content(here, "00000007.part")) == 40)
@@ -753,9 +766,14 @@ def all_of_it(program, place):
     tests = [(test, program) for test in (used_again, no_crc_32c, never_overwritten, taken_away, full_table, operator,
                                           who_is_heard, two_senders, kept, what_is_known, runs, answers, many_holes, on_air,
                                           too_many_on_air, limits, stopped, traps, command_line)]
-    for test, tested in tests + [(no_room, full), (work_without_room, full), (no_room_for_a_name, full),
-                                 (unsendable, full)]:
-        one_of_it(test, tested, place(test.__name__))
+    side_by_side(tests + [(test, full) for test in (no_room, work_without_room, no_room_for_a_name, unsendable)], place)
+
+
+def side_by_side(tests, place):
+    """Runs tests, each with the program that it takes, some beside each other: they wait most of the time."""
+    with concurrent.futures.ThreadPoolExecutor(AT_ONCE) as pool:
+        for done in [pool.submit(one_of_it, test, program, place(test.__name__)) for test, program in tests]:
+            done.result()
 
 
 def one_of_it(test, program, place):
@@ -764,6 +782,6 @@ def one_of_it(test, program, place):
     except AssertionError as reason:
         raise AssertionError(f"{test.__name__}: {reason}") from reason
     finally:
-        for process in Link.started:  # a test that failed leaves none behind
+        for process in STARTED.processes:  # a test that failed leaves none behind
             if process.poll() is None:
                 process.kill()

@@ -9,7 +9,7 @@ import time
 
 from harness import at, check, content, is_there, page, real, records, run, stem as latest, stored
 from packets import END_OF_DATA, WANTED, data, metadata
-from plant import Link, one_of_it
+from plant import Link, side_by_side
 
 MD5, DIFFERS = 0x42, 3  # the checksum pair in METADATA, and the exit status
 WHOLE, SIGNED = "THE PAGE ARRIVED WHOLE.", "Signed       ______________________________    Date  ________________\n"
@@ -381,6 +381,5 @@ def spoilt():
 
 def all_of_it(program, place):
     """Runs everything; `place` gives a new directory for a name."""
-    for test in (agrees, differs, sent_again, not_checked, made_again, restarted, incomplete, a_page_at_most, times, given_up,
-                 stopped_or_killed):
-        one_of_it(test, program, place(test.__name__))
+    side_by_side([(test, program) for test in (agrees, differs, sent_again, not_checked, made_again, restarted, incomplete, a_page_at_most, times,
+                                              given_up, stopped_or_killed)], place)

@@ -93,7 +93,7 @@ static int do_next(uint64_t *from)
         return 1;
     case SARATOGA_NEXT_REPORT:
         t = transfer_of(due.id, due.file);
-        if (is_ready(t)) {
+        if (is_ready(t) && owe_hook(t)) {
             report_page(t);
             saratoga_engine_reported(state, sizeof state, due.id);
         }

@@ -42,6 +42,8 @@ static void end_pass(FILE *file, const char *name, uint64_t number, int cut)
     if (drive_to_the_end())
         write_open_sheets();
     keep_exact_number();
+    end_counters();
+    finish_hooks();
     if (error != 0)
         die("%s: can't be read: %s", name, strerror(error));
     die("%s: cut short in record %" PRIu64, name, number);
@@ -57,17 +59,25 @@ void from_pass(const char *name)
     uint64_t passed_over = 0, number = 1;
     long length = 0;
     char kind;
-    FILE *file = strcmp(name, "-") == 0 ? stdin : fopen(name, "rb");
+    FILE *file = strcmp(name, "-") == 0 ? stdin : fopen(name, "rbe");
     if (file == NULL)
         die("%s: can't be opened: %s", name, strerror(errno));
+    tell_ready("packets of a pass");
     for (; !stopped && (length = read_record(file, &kind, octets)) >= 0; number++) {
         struct packet p = {.number = number, .octets = octets, .length = (size_t)length};
-        if (kind == 'P')
+        if (kind == 'P') {
+            count_packet(&p);
             take_packet(&p);
+        }
+        store_kept();
         passed_over += kind == 'O' || kind == 'D';
         drive();
-        if (tick_is_due())
+        attend();
+        if (tick_is_due()) {
             hear_operator();
+            tick_counters();
+            draw_live();
+        }
     }
     end_pass(file, name, number, length == -2 && !stopped);
     if (passed_over > 0)
@@ -75,6 +85,8 @@ void from_pass(const char *name)
              passed_over);
     if (file != stdin)
         fclose(file);
-    if (!drive_to_the_end())
+    int saved = drive_to_the_end();
+    end_counters();
+    if (!saved)
         die("%s/area: what came last isn't saved, and counts as lost", options.directory);
 }

@@ -9,8 +9,10 @@ static void take_up_one(struct transfer *t, const struct saratoga_listed *one, c
 {
     say(0, "taken-up id=%" PRIu64 " width=%" PRIu64 " length=%" PRIu64 " edge=%" PRIu64 " complete=%" PRIu64, one->id,
         8 * one->width, one->length, one->edge, one->complete);
-    if (slot->reported && strcmp(t->suffix, "gone") != 0 && is_ready(t) && give_name(t) == 1)
+    if (slot->reported && strcmp(t->suffix, "gone") != 0 && is_ready(t) && give_name(t) == 1) {
         report_page(t);
+        owe_again(t);
+    }
 }
 
 static void take_up_transfer(const struct saratoga_listed *one)
@@ -77,13 +79,13 @@ void take_up(void)
             "to begin anew",
             options.directory, done.number);
     begin_numbers(&area);
-    if (!found && !reserve_first() && !is_lack_of_room(errno))
+    if ((!found || options.port != NULL) && !reserve_first() && !is_lack_of_room(errno))
         die("%s/area: can't be written: %s", options.directory, strerror(errno));
     for (uint64_t i = 0; (one = saratoga_transfer(state, SARATOGA_AREA_OCTETS, i)).number == 0;) {
         take_up_transfer(&one);
         i += listed(one.id).number == 0; /* it may have been closed */
     }
     set_orphans_aside();
-    drive();
+    take_up_hooks();
     flush_output();
 }

@@ -63,7 +63,7 @@ int reserve(uint64_t file)
     return 1;
 }
 
-/* In a directory that has no area yet. Gives 0 with errno where none can be written. */
+/* In a directory that has no area yet, and where packets don't wait for a sync. Gives 0 with errno where none can be written. */
 int reserve_first(void)
 {
     if (save_number(used + RESERVED) == 0)
@@ -130,10 +130,16 @@ static void run_sync(void *unused)
     cut_point("between area and answer");
 }
 
+/* After a sync that failed, but not at the end: there is no later time. */
+static int must_pause(void)
+{
+    return now_ms() < not_before && !is_ending();
+}
+
 /* Begins a sync. Gives 0 where one is under way, or the last one failed just now. */
 int begin_sync(void)
 {
-    if (is_at_work(&syncer) || now_ms() < not_before)
+    if (is_at_work(&syncer) || must_pause())
         return 0;
     look_at_files();
     struct saratoga_sync sync = saratoga_engine_sync(state, sizeof state, now_ms());
@@ -163,7 +169,7 @@ void want_sync(void)
 
 int sync_is_wanted(void)
 {
-    return wanted && !is_at_work(&syncer) && now_ms() >= not_before;
+    return wanted && !is_at_work(&syncer) && !must_pause();
 }
 
 /* The number of the sync that covers what is now. */
@@ -205,6 +211,8 @@ int finish_sync(void)
     if (!is_done(&syncer))
         return 0;
     was_good = job.error == 0;
+    counters.good_syncs += was_good;
+    counters.bad_syncs += !was_good;
     if (!was_good && !is_lack_of_room(job.error))
         die("%s: can't be forced to disk, or area not be replaced: %s", options.directory, strerror(job.error));
     saratoga_engine_synced(state, sizeof state, job.number, (uint64_t)was_good);

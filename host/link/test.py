@@ -1,12 +1,15 @@
 #!/usr/bin/env python3
 """Tests the link program end to end: on passes, cut off at every place between two writes, and over a lossy loopback
-while it is killed again and again; plant.py has the tests of what a plant does, sheets.py those of the check and the sheet.
+while it is killed again and again; plant.py has the tests of what a plant does, sheets.py those of the check and the sheet, seen.py
+and terminal.py those of what a program and a person see of it.
 Needs a C compiler, python3 and the archive; one or two minutes.
 
     host/link/test.py [SECONDS]     SECONDS bounds the part that kills the program (else 6)
 
-With SHOW_WRONG set it prints how each program with another order of writes was found.
+With SHOW_WRONG set it prints how each program with another order of writes was found. With LINK_SANITIZE=thread, or address,undefined, all
+programs but the wrong ones are tested with that sanitizer.
 """
+import concurrent.futures
 import os
 import random
 import signal
@@ -19,12 +22,18 @@ import threading
 import time
 
 sys.dont_write_bytecode = True
-from harness import (AREA_HEAD, AREA_MAGIC, POWERCUT, SOURCES, WRAPPED, after_the_cut, at, build, check, compiled, content,  # noqa: E402
-                     edited, holds, page, records, run, stamps, stem, stored)
+from harness import (AREA_HEAD, AREA_MAGIC, FAILS, NOSPACE, POWERCUT, SANITIZED, SOURCES, WRAPPED, after_the_cut, at, build,  # noqa: E402
+                     check, compiled, content, edited, failing, holds, page, records, run, sanitizer,
+                     stamps, stem, stored)
 from packets import END_OF_DATA, TIMESTAMP, UNASKED, WANTED, data, failure, metadata, record, success  # noqa: E402
 import faults  # noqa: E402
+import kills  # noqa: E402
 import plant  # noqa: E402
+import seen  # noqa: E402
+import service  # noqa: E402
 import sheets  # noqa: E402
+import terminal  # noqa: E402
+import threaded  # noqa: E402
 
 
 def nothing_promised_is_missing(place, originals, lines=()):
@@ -170,7 +179,7 @@ def passes(program, place):
     flipped = [good[:number] + bytes([good[number] ^ 1 << number % 8]) + good[number + 1:]
                for number in (15, 16, 31, 32, 39, 40, 47, 48, 48 + 8, 48 + 17287, 48 + 17288, len(good) - 1)]
     for bad in (b"", good[:AREA_HEAD], good[:-1], good + b"\0", b"\xff" + good[1:], good[AREA_HEAD:], bytes(len(good)),
-                AREA_MAGIC + bytes(len(good) - 16), b"saratoga-area \n" + good[15:], b"saratoga-area 3" + good[16:], *flipped):
+                AREA_MAGIC + bytes(len(good) - 16), b"saratoga-area \n" + good[15:], b"saratoga-area 3x" + good[16:], *flipped):
         with open(os.path.join(place, "area"), "wb") as file:
             file.write(bad)
         before = {name: content(place, name) for name in os.listdir(place)}
@@ -661,21 +670,37 @@ def loopback(program, place, address, seconds, options):
 # Programs that write in another order, or take an option and don't do what it says, which the tests must find.
 
 
-ENDED, CUT = "ended", "power cut"
-# Which test finds it: one that ends the program, with its pass, or a function.
-TWO, TWO_CUT = (ENDED, two_transfers), (CUT, two_transfers)
-REPLACED, SPOILT = (ENDED, plant.two_files_of_one_id), (ENDED, sheets.spoilt)
+def threads_ended(program, place, step=9):
+    return threaded.ended(program, place, two_transfers, nothing_promised_is_missing, step)
+
+
+def threads_cut(program, place, plain=None, step=9):
+    return threaded.power_cuts(program, plain, place, two_transfers, nothing_promised_is_missing, step)
+
+
+ENDED, CUT, FULL = "ended", "power cut", "calls that fail"
+# Which test finds it: a function, or how the program is built for it and a function.
+TWO, TWO_CUT = (ENDED, cut_everywhere), (CUT, lambda program, place: power_cuts(program, None, place))
+REPLACED = (ENDED, lambda program, place: cut_everywhere(program, place, plant.two_files_of_one_id))
+SPOILT = (ENDED, lambda program, place: cut_everywhere(program, place, sheets.spoilt))
 
 WRONG = {
     "tells the engine of octets before they are written": (
-        TWO, "        int well = do_stretch(t, p, &look);\n",
-        "        saratoga_engine_stored(state, sizeof state, now_ms(), 0, 0, 0, p->octets, p->length, from, 1);\n"
-        "        begin_sync(); finish_sync();\n        int well = do_stretch(t, p, &look);\n"),
+        TWO, "    int well = do_stretch(kept.t, &all, &look), error = errno;\n",
+        "    for (size_t i = 0; i < count; i++)\n        tell_engine(&kept.packets[i], 0, 1);\n    begin_sync(); finish_sync();\n"
+        "    int well = do_stretch(kept.t, &all, &look), error = errno;\n"),
     "reports before the last payload is written": (
-        TWO, "    if (!store_all(p, read, look))\n",
-        "    if (recorded.complete) { static char d[MOST_META]; meta_for_report(d, t);\n"
-        "        report(\"%d complete id=%d length=%d file=%08x.%d.page %s\", 1, (int)read->id, 1, (int)read->id, (int)t->file, d); }\n"
-        "    if (!store_all(p, read, look))\n"),
+        TWO, "    int well = do_stretch(kept.t, &all, &look), error = errno;\n",
+        "    int id = (int)kept.t->id; const struct packet *last = &kept.packets[count - 1]; static char d[MOST_META]; meta_for_report(d, kept.t);\n"
+        "    if (saratoga_try_record(state, SARATOGA_AREA_OCTETS, last->octets, last->length).complete)\n"
+        "        report(\"%d complete id=%d length=%d file=%08x.%d.page %s\", 1, id, 1, id, (int)kept.t->file, d);\n"
+        "    int well = do_stretch(kept.t, &all, &look), error = errno;\n"),
+    "writes together what doesn't follow on each other": (faults.one_batch, "look->from == kept.to && ", ""),
+    "writes octets of two transfers into one file": (faults.one_batch, "look->id == kept.t->id && look->file == kept.t->file &&", ""),
+    "writes more together than it has room for": (faults.one_batch, "look->to - kept.from <= MOST_KEPT_OCTETS", "1"),
+    "keeps the last packets of a batch": (faults.one_batch, "    store_kept();\n    return taken;\n", "    return taken;\n"),
+    "tells the engine of octets that could not be written": (
+        (FULL, faults.unwritable), "        if (well < 0) {\n            errno = error;\n", "        if (0) {\n            errno = error;\n"),
     "reports a page before its name is on disk for good": (
         TWO_CUT, "    cut_point(\"between the page's name and its report\");\n", "    if (named == 1)\n        report_page(t);\n"),
     "compares nothing": (faults.other_octets, "        return fd < 0 ? -1 : has_octets(fd, octets, count, look->from);", "        return 1;"),
@@ -683,6 +708,9 @@ WRONG = {
         faults.other_octets, "    if (look->kind == SARATOGA_LOOK_COMPARE) {\n", "    if (0) {\n"),
     "writes the area in place": (
         TWO, 'snprintf(new_name, sizeof new_name, "%s.new", name);', 'snprintf(new_name, sizeof new_name, "%s", name);'),
+    "tells the engine that a sync is good while the thread is at work": (
+        (CUT, threads_cut), "    start_worker(&syncer, run_sync, NULL);\n",
+        "    start_worker(&syncer, run_sync, NULL);\n    saratoga_engine_synced(state, sizeof state, sync.sync, 1);\n"),
     "answers before the area is saved": (
         TWO, "    start_worker(&syncer, run_sync, NULL);\n",
         "    saratoga_engine_synced(state, sizeof state, sync.sync, 1);\n    for (size_t i = 0; i < MOST_FILES; i++) {\n"
@@ -704,6 +732,48 @@ WRONG = {
     "uses file numbers again after a restart": (
         REPLACED, "    job.area.next = used + RESERVED;\n", "    job.area.next = 1;\n",
         "    return bound == used || save_number(used) == 0;", "    return 1;"),
+    "ends a complete page that waits for its report": (
+        (FULL, faults.other_octets_before_the_report), "    int is_closed = open_transfer(t->id) != t;\n", "    int is_closed = 1;\n"),
+    "takes DATA of any sender": (faults.owners, *kills.WRONG["doesn't look whose an Id is"]),
+    "lets a complete page linger for ever": (faults.lingers, " INTERVAL, options.linger,", " INTERVAL, UINT64_MAX,"),
+    "never forgets": (faults.full_table_is_told, "options.forget, *from);", "0, *from);"),
+    "tells nobody of a full table": (faults.full_table_is_told, "REFUSED_TABLE_FULL && now_ms() >= full_until", "REFUSED_TABLE_FULL && 0"),
+    "answers before it has a socket": (faults.answered_after_a_kill, "    if (options.port == NULL)\n        drive();\n", "    drive();\n"),
+    "takes a .part that was cut": (
+        faults.cut_short, "    return length >= 0 && (uint64_t)length >= t->size && has_name(", "    return length >= 0 && has_name(",
+        "(uint64_t)seen.st_size < t->size;", "0;", "    if (!has_name(t->fd, name) || !file_has_length(name, one.length)) {\n", "    if (0) {\n"),
+    "lets a second program in": (faults.cut_short, "    if (flock(directory, (to_read", "    if (1 || flock(directory, (to_read"),
+    "goes on with what its sender ended": (
+        faults.ended_by_its_sender, "    int ends = met->kind == SARATOGA_MEET_ENDED;\n",
+        "    int ends = 0;\n    if (met->kind == SARATOGA_MEET_ENDED)\n        return;\n"),
+    "ends with status 0 where packets could not be written": (
+        (FULL, faults.unwritable), "    something_is_lost();\n    count++;\n", "    count++;\n"),
+    "tells of every packet that could not be written": (
+        (FULL, faults.unwritable), "    quiet_until = now_ms() + 60000;\n", ""),
+    "answers from any address": (
+        faults.answers_from_where_it_was_asked, "    if (route->family == AF_INET && of == AF_INET) {\n", "    if (0) {\n"),
+    "waits for whoever reads its lines": (
+        faults.nobody_reads, "    if (poll(&wait, 1, milliseconds) <= 0)\n", "    if (poll(&wait, 1, -1) <= 0)\n"),
+    "answers as often as it is asked": (
+        faults.few_answers, "    if (socket_fd < 0 || is_ending())\n", "    if (1)\n"),
+    "takes no packet while it syncs": ((FULL, faults.shared_syncs), "    if (!with_threads) {\n", "    if (1) {\n"),
+    "has no file number while it syncs": (
+        (FULL, faults.opened_while_it_syncs), "    if ((!found || options.port != NULL) && ", "    if (!found && "),
+    "finds a fault where a page was taken away": (faults.taken_as_documented, "    if (slot->reported && is_gone)\n", "    if (0)\n"),
+    "goes on for senders that it doesn't hear": (
+        faults.idle_and_strangers, "ready[0].revents != 0 && take_batch(&number) > 0)", "ready[0].revents != 0 && (take_batch(&number), 1))"),
+    "hears the first line of a request alone": (faults.which_file_is_closed, "        done += length + 1;\n", "        done = have;\n"),
+    "tells ten times a second that close can't be removed": (
+        (FULL, faults.unremovable), "    told = 0;\n    while", "    while", "        told = 1;\n        return;\n", "        return;\n"),
+    "writes lines into a file where descriptors are closed": (
+        faults.closed_descriptors, "    open_output();\n    take_arguments", "    take_arguments"),
+    "lets one page without a name hold up all others": (
+        faults.one_without_a_name, "open_transfer(due.id)->put_off <= now)", "1)"),
+    "tries again and again what can't be done": (
+        faults.one_without_a_name, "    return (int)(until - now);\n", "    return 0;\n"),
+    "answers no refused packet where others came since": (
+        faults.repair_status, "        t->repair = t->repair != 0 ? t->repair : covering_sync();\n", "        t->repair = UINT64_MAX;\n"),
+    "dies of SIGHUP": (faults.whole_lines, "        sigaction(SIGHUP, end, NULL);\n", "        signal(SIGHUP, SIG_DFL);\n"),
     "makes no room, whatever --make-room says": (
         plant.full_table, "slot.reported || options.make_room", "slot.reported || 0"),
     "makes room by the Id, and not by who was heard longest ago": (
@@ -759,42 +829,102 @@ WRONG = {
         sheets.not_checked, "one->complete && t->verdict == SARATOGA_AGREES", "one->complete && t->verdict != SARATOGA_DIFFERS"),
     "leaves out of what is missing all that lies past the edge": (
         sheets.incomplete, "if (!more && one->edge == one->length)", "if (!more)"),
+    "prints numbers in JSON as doubles": (
+        seen.exact, "        put(w, value.at, value.length);\n",
+        "        { extern double strtod(const char *, char **); char text[40];\n"
+        "          put(w, text, (size_t)__builtin_sprintf(text, \"%.0f\", strtod(value.at, 0))); }\n"),
+    "takes flags that are digits for a number in JSON": (seen.exact, '"file", "flags", "heard"', '"file", "heard"'),
+    "leaves a backslash in JSON as it is": (seen.exact, "word.at[i] == '\"' || word.at[i] == '\\\\'", "word.at[i] == '\"'"),
+    "rounds percents up": (
+        seen.columns, "100 * one->received / one->length", "(100 * one->received + one->length - 1) / one->length"),
+    "counts no hole at the beginning of a file": (seen.columns, "    return count + (saratoga_transfer_hole(", "    return count + 0 * (saratoga_transfer_hole("),
+    "counts no refusal by its number": (seen.known_traffic, "counters.refused[number < MOST_REFUSALS ? number : 0]++;", "counters.refused[1]++;"),
+    "counts a packet of a further peer with the first": (seen.held_back, "    return &counters.others;", "    return &counters.peers[0];"),
+    "counts each time what the kernel dropped since the start": (
+        seen.dropped, "counters.dropped += (uint32_t)(count - dropped);", "counters.dropped += count;"),
+    "writes the file for Prometheus in place": (
+        seen.replaced_whole, "is_due(&written, METRICS_EVERY)", "is_due(&written, 1)", "open(new_name, O_WRONLY", "open(options.metrics, O_WRONLY",
+        "    return rename(new_name, options.metrics);", "    return 0;"),
+    "writes lines among live lines": (
+        terminal.nothing_is_garbled, "    if (beside_live && !hide_live(milliseconds))\n", "    if (0)\n"),
+    "takes one live line away of several": (terminal.nothing_is_garbled, '"\\r\\033[%dA\\033[J", shown);', '"\\r\\033[%dA\\033[J", 1);'),
+    "lets a live line run over the edge": (terminal.nothing_is_garbled, "    length = length < columns ? length : columns;\n", ""),
+    "waits for the reader of a terminal": (
+        terminal.unread, "O_WRONLY | O_NONBLOCK | O_NOCTTY", "O_WRONLY | O_NOCTTY"),
+    "draws live lines where others print from a pipe": (terminal.only_where_it_fits, "S_ISFIFO(seen.st_mode) || ", ""),
+    "forgets the hook of a page before it has ended": (
+        service.after_a_kill, "        slot->file = taken.file;\n", "        slot->file = taken.file;\n        forget_note(slot->id, slot->file);\n"),
+    "forgets the hook of a page whose transfer is closed": (service.after_a_kill, "    take_up_hooks();\n", ""),
+    "hands a page over at each start": (
+        service.failed_and_differs, "    if (options.hook != NULL && length_of(name) >= 0)\n", "    if (options.hook != NULL)\n"),
+    "hands a page over that was changed": (
+        service.not_what_it_was, "        if (check.failed || check.verdict == SARATOGA_DIFFERS || !file_has_length(check.name, check.length)) {\n",
+        "        if (check.failed) {\n"),
+    "waits for a hook": (service.slow_hooks, "&status, WNOHANG)", "&status, 0)"),
+    "runs any number of hooks": (service.slow_hooks, "i < options.hooks &&", "i < MOST_HOOKS &&"),
+    "leaves its descriptors to the hook": (service.handed_over, "addclosefrom_np(&actions, 3)", "addclosefrom_np(&actions, 99)"),
+    "ignores signals for the hook too": (service.handed_over, "POSIX_SPAWN_SETSIGDEF | ", ""),
+    "ends without its hooks": (service.at_the_end, "    write_open_sheets();\n    finish_hooks();\n", "    write_open_sheets();\n"),
+    "gives a page up where its hook can't be started": (
+        service.no_such_hook, "        slot->pid = 0;\n        not_before = now_ms() + INTERVAL;\n", "        slot->pid = 0;\n        take_first();\n"),
+    "says that it is ready before it is": (
+        service.managed, "    struct sockaddr_storage own;\n", "    struct sockaddr_storage own;\n    tell_ready(\"early\");\n"),
+    "keeps the log open that it had": (service.logged, "    if (options.log != NULL && open_anew() < 0)\n        warn(", "    if (0)\n        warn("),
+    "writes the times of where it is": (service.times, "gmtime_r(&now.tv_sec, &parts)", "localtime_r(&now.tv_sec, &parts)"),
+    "lets the file of options have the last word": (
+        service.config, "    take_files(count, arguments);\n", "", "    pass_over(&from_file);\n", "    take_files(count, arguments);\n    pass_over(&from_file);\n"),
     "leaves the sheet of what is closed as it was": (
         sheets.incomplete, "    if (t->closing_len > 0 && !t->has_sheet) {\n", "    if (0) {\n"),
 }
 
 
 def wrong_programs(place):
-    """What isn't edited is compiled once, with cut points and without."""
+    """What isn't edited is compiled once, with cut points and without; what a test links beside it too."""
     made = {cuts: {path: compiled(path, os.path.join(place, f"{number}{cuts}.o"), *([cuts] if cuts else []))
                    for number, path in enumerate(SOURCES)} for cuts in ("", "-DLINK_CUT_POINTS")}
-    power = compiled(POWERCUT, os.path.join(place, "powercut.o"))
-    for number, (what, (test, *edits)) in enumerate(WRONG.items()):
-        here = os.path.join(place, str(number))
-        os.mkdir(here)
-        ended = not callable(test) and test[0] == ENDED
-        objects = dict(made["-DLINK_CUT_POINTS" if ended else ""])
+    beside = {CUT: ([compiled(POWERCUT, os.path.join(place, "powercut.o"))], WRAPPED),
+              FULL: ([compiled(NOSPACE, os.path.join(place, "nospace.o"))], [*WRAPPED, FAILS])}
+
+    def tried(number, what, test, edits):
+        """Why a program was found wrong; None where it wasn't."""
+        here = os.path.join(place, str(number), "here")
+        os.makedirs(here)
+        kind, test = ("", test) if callable(test) else test
+        cuts = ["-DLINK_CUT_POINTS"] if kind == ENDED else []
+        objects = dict(made["".join(cuts)])
         changed = here + ".edited"
         os.mkdir(changed)
         for path, name in edited(edits, changed).items():
-            objects[path] = compiled(name, name + ".o", "-w", *(["-DLINK_CUT_POINTS"] if ended else []))
+            objects[path] = compiled(name, name + ".o", "-w", *cuts)
+        more, options = beside.get(kind, ([], []))
         try:
-            if callable(test):
-                plant.one_of_it(test, build(objects.values(), here + ".out"), here)
-            elif ended:
-                cut_everywhere(build(objects.values(), here + ".out"), here, test[1])
-            else:
-                power_cuts(build([*objects.values(), power], here + ".out", *WRAPPED), None, here, test[1])
+            plant.one_of_it(test, build([*objects.values(), *more], here + ".out", *options), here)
         except AssertionError as reason:
+            return f"a program that {what}: {reason}"
+        return None
+
+    with concurrent.futures.ThreadPoolExecutor(plant.AT_ONCE) as pool:
+        for what, reason in zip(WRONG, pool.map(tried, range(len(WRONG)), WRONG, *zip(*((test, edits) for test, *edits in WRONG.values())))):
+            check(reason, f"a program that {what} isn't found")
             if os.environ.get("SHOW_WRONG"):
-                print(f"link: a program that {what}: {reason}")
-            continue
-        check(False, f"a program that {what} isn't found")
+                print(f"link: {reason}")
+
+
+def sanitized(program, name, make=lambda out, *options: build(SOURCES, out, *options)):
+    """The program with a sanitizer; without one where the compiler has none, or where all are built with one."""
+    if SANITIZED:
+        return program
+    try:
+        return make(program + "-" + name, *sanitizer(name))
+    except subprocess.CalledProcessError:
+        print(f"link: skipped with sanitizers: the compiler doesn't support {name}")
+        return program
 
 
 def main():
     seconds = float(sys.argv[1]) if len(sys.argv) > 1 else 6.0
     begun = time.monotonic()
+    signal.signal(signal.SIGHUP, signal.SIG_DFL)  # nohup has programs ignore it
     with tempfile.TemporaryDirectory() as place:
         def fresh(name):
             path = os.path.join(place, name, "here")
@@ -811,12 +941,7 @@ def main():
         more_than_sixteen(program, fresh("sixteen"))
         descriptors_of_128_bits(program, fresh("wide"))
         longest_status(program, fresh("longest"))
-        try:
-            checked = build(SOURCES, os.path.join(place, "saratoga-link-sanitized"), "-fsanitize=address,undefined",
-                            "-fno-sanitize-recover=all")
-        except subprocess.CalledProcessError:
-            print("link: skipped with sanitizers: the compiler doesn't support them")
-            checked = program
+        checked, racing = sanitized(program, "address,undefined"), sanitized(program, "thread", failing)
         any_octets(checked, fresh("any"))
         print("link: passes, timestamps, settings, damaged packets, restarts, wrong input and areas of another layout are as "
               "expected")
@@ -824,8 +949,13 @@ def main():
         print("link: Ids used again, lost files, a full table, the operator, a full disk and traps are as expected")
         faults.all_of_it(checked, fresh)
         print("link: a hostile network, a careless operator and a failing machine find no mixed page, no silence and no stop")
+        unit, handed = service.all_of_it(checked, fresh, cutting, power)
+        print(f"link: its hook, also ended at each of {handed} places, its service manager, log and file of options are as expected; {unit}")
         sheets.all_of_it(checked, fresh)
         print("link: pages that agree with their MD5, differ or aren't checked, and the sheets of all, are as expected")
+        seen.all_of_it(checked, fresh)
+        terminal.all_of_it(checked, fresh)
+        print(f"link: lines as JSON, {len(seen.EVENTS)} kinds, counters and live lines say what the plain lines say")
         places = cut_everywhere(cutting, fresh("cuts")), cut_while_an_id_is_used_again(cutting, fresh("again")), (
             cut_everywhere(cutting, fresh("replaced"), plant.two_files_of_one_id)), (
             cut_everywhere(cutting, fresh("spoilt"), sheets.spoilt))
@@ -834,9 +964,17 @@ def main():
             power_cuts(power, program, fresh("power-replaced"), plant.two_files_of_one_id)) + (
             power_cuts(power, program, fresh("power-spoilt"), sheets.spoilt))
         print(f"link: power cut at each of {calls} calls, whatever of the rest is on disk nothing promised is missing")
-        wrong_programs(fresh("wrong"))
-        print(f"link: {len(WRONG)} programs with another order of writes, or an option that does nothing, are found")
+        places, calls = threads_ended(cutting, fresh("threads")), threads_cut(power, fresh("threads-power"), program)
+        print(f"link: on a socket, with a thread that syncs, ended at {places} places and cut at {calls} calls: nothing promised is missing")
+        if not SANITIZED:
+            wrong_programs(fresh("wrong"))
+            print(f"link: {len(WRONG)} programs with another order of writes, or an option that does nothing, are found")
         print("link: " + loopback(program, fresh("four"), "127.0.0.1", seconds, ()))
+        print("link: " + kills.soak(failing(os.path.join(place, "saratoga-link-failing")), fresh("kills"), 40, 32))
+        if not SANITIZED:
+            kills.wrong_programs(fresh("kills-wrong"), 40, 32, ("reports a page before a sync has saved it",))
+        if racing != program:
+            print("link: with ThreadSanitizer: " + kills.soak(racing, fresh("racing"), 15, 33))
         try:
             socket.socket(socket.AF_INET6, socket.SOCK_DGRAM).bind(("::1", 0))
         except OSError:

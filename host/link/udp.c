@@ -19,8 +19,7 @@ static struct {
     _Alignas(struct cmsghdr) char octets[CMSG_SPACE(sizeof(struct in6_pktinfo)) + CMSG_SPACE(sizeof(uint32_t))];
 } controls[BATCH];
 
-static uint64_t unheard;
-static uint32_t dropped;           /* by the kernel, since the socket was made */
+static uint32_t dropped;           /* by the kernel, since the socket was made: a number that begins anew after 2^32 */
 
 static void prepare_batch(void)
 {
@@ -81,15 +80,17 @@ static void listen_on(const char *host, const char *port)
         die("%s, port %s: %s", host, port, strerror(errno));
     show_address(&own, own_len, own_host, own_port);
     say(0, "listening address=%s port=%s", own_host, own_port);
+    tell_ready("listening on %s, port %s", own_host, own_port);
 }
 
 /* Once when it happens, and at the end how many: packets that came while the program was busy with others. */
 static void count_dropped(uint32_t count)
 {
-    if (count != 0 && dropped == 0)
+    if (count != 0 && counters.dropped == 0)
         warn("the socket has no room: %" PRIu32 " packets were dropped before the program could take them; of more only the number is told, at "
              "the end. --receive-buffer makes more room",
              count);
+    counters.dropped += (uint32_t)(count - dropped);
     dropped = count;
 }
 
@@ -132,24 +133,27 @@ static unsigned take_batch(uint64_t *number)
         take_control(message, &p.route);
         if (is_heard(&p.from)) {
             p.number = (*number)++;
+            count_packet(&p);
             take_packet(&p);
             taken++;
-        } else if (unheard++ == 0) {
+        } else if (counters.unheard++ == 0) {
             tell_unheard(&addresses[i], message->msg_namelen);
         }
         message->msg_namelen = sizeof addresses[i];
         message->msg_controllen = sizeof controls[i];
     }
+    store_kept();
     return taken;
 }
 
 static void tell_the_end(void)
 {
-    if (unheard > 0)
-        warn("%" PRIu64 " packets of senders that --peer doesn't name were dropped", unheard);
-    if (dropped > 0)
-        warn("%" PRIu32 " packets were dropped by the socket, which had no room", dropped);
+    if (counters.unheard > 0)
+        warn("%" PRIu64 " packets of senders that --peer doesn't name were dropped", counters.unheard);
+    if (counters.dropped > 0)
+        warn("%" PRIu64 " packets were dropped by the socket, which had no room", counters.dropped);
     tell_unsent();
+    end_counters();
 }
 
 /* Packets from a UDP socket, until a signal, or `idle` seconds without one of a sender that is heard (0: for ever). */
@@ -159,21 +163,29 @@ void from_socket(const char *host, const char *port, uint64_t idle)
     with_threads = 1;
     listen_on(host, port);
     prepare_batch();
+    drive();
     for (uint64_t last = now_ms(); !stopped && (idle == 0 || now_ms() - last < 1000 * idle);) {
         struct pollfd ready[2] = {{.fd = socket_fd, .events = POLLIN}, {.fd = wake_descriptor(), .events = POLLIN}};
         if (poll(ready, 2, 0) == 0) {
             flush_output();
-            if (poll(ready, 2, most_wait()) < 0 && errno != EINTR)
+            if (poll(ready, 2, manager_wait(most_wait())) < 0 && errno != EINTR)
                 die("%s, port %s: %s", host, port, strerror(errno));
         }
         if (ready[1].revents != 0)
             hush_wake();
         if (ready[0].revents != 0 && take_batch(&number) > 0)
             last = now_ms();
-        if (tick_is_due())
+        int tick = tick_is_due();
+        if (tick)
             hear_operator();
         drive();
+        if (tick) {
+            tick_counters();
+            draw_live();
+        }
+        attend();
     }
+    tell_stopping();
     int saved = drive_to_the_end();
     tell_the_end();
     if (!saved)

@@ -24,7 +24,7 @@ from harness import AREA_HEAD, POWERCUT, WRAPPED, after_the_cut, at, check, cont
 from packets import TIMESTAMP, data, metadata  # noqa: E402
 
 LINK = harness.SOURCES
-SHARED = [os.path.join(harness.PLACE, name + ".c") for name in ("area", "files", "disk", "meta", "text", "output")]
+SHARED = [os.path.join(harness.PLACE, name + ".c") for name in ("area", "files", "disk", "meta", "text", "output", "log")]
 SOURCES = [os.path.join(PLACE, name + ".c") for name in ("merge", "octets")] + SHARED
 LENGTH = 3000
 FIRST, SECOND = [(0, 700), (1500, 2100)], [(300, 1200), (1400, 1600), (2600, 3000)]

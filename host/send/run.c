@@ -4,8 +4,11 @@
 #include <string.h>
 #include <time.h>
 
-/* So much is made good where the program did not run in time. More would be a burst that no buffer on the way has room for. */
-#define CATCH_UP (SECOND / 250)
+/*
+ * So much is made good where the program did not run in time: what waits on the way has run empty meanwhile, and has room for it. More would
+ * be a burst that not every buffer has room for.
+ */
+#define CATCH_UP (SECOND / 50)
 
 int64_t clock_now(void)
 {

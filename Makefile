@@ -1,5 +1,5 @@
 # make test     the gate: proofs, must-fail edits, host tests
-# make test-extra   the host tests that need Debian's tshark, tcpdump, chromium and lintian, which it installs where it may
+# make test-extra   the host tests that need Debian's tshark, tcpdump, chromium, lintian and uftp, which it installs where it may
 # make lib      proves the library and builds target/staticlib/libsaratoga.a
 # make engine   proves the engine and builds target/staticlib/libsaratoga_engine.a, over which the link program is (docs/ENGINE.md)
 # make shared   links it as target/shared/libsaratoga.so too, over which host/python/saratoga.py is (docs/PYTHON.md)

@@ -23,8 +23,15 @@ LINK = os.path.join(ROOT, "target", "link", "saratoga-link")
 SEND = os.path.join(ROOT, "target", "send", "saratoga-send")
 PAYLOAD = 1400
 BUFFER = 8 << 20
+LIMIT = "/proc/sys/net/core/rmem_max"
 WAIT = "0.1"  # seconds: some syncs
 AIMS = ((1000, 0.97), (0, 0.5))
+
+
+def buffer():
+    """Octets of the receive buffer that both receivers get. Ours could go beyond the system's limit where it may, and uftpd can't."""
+    with open(LIMIT, encoding="ascii") as limit:
+        return min(BUFFER, int(limit.read()))
 
 
 def free_port():
@@ -111,7 +118,7 @@ def packets_between_requests(rate, loss):
 
 def run_ours(place, page, size, rate, loss, seed):
     port, into = free_port(), os.path.join(place, "in")
-    receiver = Receiver([LINK, "-d", into, "--udp", str(port), "--peer", "127.0.0.1", "--largest", str(size), "--receive-buffer", str(BUFFER),
+    receiver = Receiver([LINK, "-d", into, "--udp", str(port), "--peer", "127.0.0.1", "--largest", str(size), "--receive-buffer", str(buffer()),
                          "-q"], port, lossy(place, loss, seed + 1), os.path.join(place, "link.log"))
     try:
         done = subprocess.run([SEND, "-q", "--payload", str(PAYLOAD), "--ask", str(packets_between_requests(rate, loss)), "--wait", WAIT, "--id", "1",
@@ -127,11 +134,11 @@ def run_ours(place, page, size, rate, loss, seed):
 
 def run_uftp(place, page, size, rate, loss, seed):
     port, into = free_port(), os.path.join(place, "in")
-    receiver = Receiver(["uftpd", "-d", "-I", "lo", "-p", str(port), "-D", into, "-B", str(BUFFER)], port, lossy(place, loss, seed + 1),
+    receiver = Receiver(["uftpd", "-d", "-I", "lo", "-p", str(port), "-D", into, "-B", str(buffer())], port, lossy(place, loss, seed + 1),
                         os.path.join(place, "uftpd.log"))
     try:
         done = subprocess.run(["uftp", "-M", "127.0.0.1", "-I", "lo", "-p", str(port), "-R", str(1000 * rate) if rate else "-1",
-                               "-B", str(BUFFER), "-b", str(PAYLOAD), page],
+                               "-B", str(buffer()), "-b", str(PAYLOAD), page],
                               capture_output=True, text=True, env=lossy(place, loss, seed, "sent"), check=False)
         said = done.stdout + done.stderr
         arrived = os.path.join(into, os.path.basename(page))
@@ -156,12 +163,13 @@ def once(run, place, page, size, rate, loss, seed):
 
 
 def summed(runs, size):
-    """What a receiver did in several runs: the median of each figure, and the most packets that were dropped."""
+    """What a receiver did in several runs: the median of each figure, the least and the greatest goodput, and the most packets dropped."""
     if not runs:
         return None
     result = {name: statistics.median(one[name] for one in runs) for name in runs[0]}
     result["dropped"] = max(one["dropped"] for one in runs)
     result["mbit"] = 8 * size / result["seconds"] / 1e6
+    result["spread"] = [8 * size / 1e6 / found(one["seconds"] for one in runs) for found in (max, min)]
     result["mbit_on_disk"] = 8 * size / result["on_disk"] / 1e6
     return result
 
@@ -170,8 +178,11 @@ def row(rate, loss, size, ours, uftp):
     """A line of the table; uftp's figures stand before ours."""
     def pair(form, name, scale=1.0):
         return " / ".join(form.format(one[name] * scale) if one else "" for one in (uftp, ours))
+    def goodput(one):
+        low, high = (f"{mbit:,.0f}" for mbit in one["spread"])
+        return f"{one['mbit']:,.0f}" + (f" ({low} to {high})" if low != high else "")
     ratios = [f"{ours['mbit'] / uftp[name]:.2f}" if uftp else "" for name in ("mbit", "mbit_on_disk")]
-    return "| " + " | ".join([f"{rate:,}" if rate else "as fast as it goes", f"{loss} %", pair("{:,.0f}", "mbit"), *ratios,
+    return "| " + " | ".join([f"{rate:,}" if rate else "as fast as it goes", f"{loss} %", " / ".join(goodput(one) if one else "" for one in (uftp, ours)), *ratios,
                               pair("{:,.0f}", "dropped"), pair("{:.1f} %", "again", 100), pair("{:.1f}", "cpu", 1e9 / size),
                               pair("{:.1f}", "peak", 1 / (1 << 20))]) + " |"
 
@@ -217,7 +228,7 @@ def main():
     make_page(page, asked.size)
     if not has_uftp:
         print("bench-link: uftp is skipped: it isn't installed (Debian has it as the package uftp)")
-    print(f"{asked.size:,} octets, payloads of {PAYLOAD:,}; median of {asked.repeats}\n\n{HEAD}")
+    print(f"{asked.size:,} octets, payloads of {PAYLOAD:,}, receive buffers of {buffer():,}; median of {asked.repeats}\n\n{HEAD}")
     results = {}
     for loss in map(int, asked.losses.split(",")):
         for rate in map(int, asked.rates.split(",")):

@@ -773,6 +773,12 @@ WRONG = {
         faults.one_without_a_name, "    return (int)(until - now);\n", "    return 0;\n"),
     "answers no refused packet where others came since": (
         faults.repair_status, "        t->repair = t->repair != 0 ? t->repair : covering_sync();\n", "        t->repair = UINT64_MAX;\n"),
+    "prints all holes of a STATUS": (plant.many_holes, "#define MOST_HOLES 64 ", "#define MOST_HOLES 16384 "),
+    "leaves half a line where it is killed": (
+        faults.whole_lines, "S_ISREG(seen.st_mode))\n        return channel->have;\n", "S_ISREG(seen.st_mode))\n        return channel->have / 2;\n"),
+    "takes a network for one address": (
+        faults.peers, "    unsigned whole = network->bits / 8, rest = network->bits % 8;\n", "    unsigned whole = 16, rest = 0;\n"),
+    "echoes what was typed": (faults.which_file_is_closed, "argument[0] == ' ' ? argument : shown", "argument"),
     "dies of SIGHUP": (faults.whole_lines, "        sigaction(SIGHUP, end, NULL);\n", "        signal(SIGHUP, SIG_DFL);\n"),
     "makes no room, whatever --make-room says": (
         plant.full_table, "slot.reported || options.make_room", "slot.reported || 0"),

@@ -1,20 +1,9 @@
 // Reads the records of a pass from standard input, or from the file that the first argument names, and writes the answer to each.
 use libc::STDIN_FILENO;
 
-// Of a body the pieces of a `K` are kept, and of a packet one octet more than it may have, so that the reader itself refuses what is too
-// long.
-fn run(fd: i32) {
-    let mut zero = [0u8; area::AREA_OCTETS];
-    let mut one = [0u8; area::AREA_OCTETS];
-    let mut body = [0u8; 131088];
-    let mut lent = [0u8; 65535];
-    let mut out = [0u8; 524288];
-    replay_loop::replay(fd, &mut zero, &mut one, &mut body, &mut lent, &mut out);
-}
-
 fn main() {
     if os::arg_count() < 2 {
-        run(STDIN_FILENO);
+        replay_run::run(STDIN_FILENO);
         return;
     }
     let mut path = io::buffer();
@@ -28,6 +17,6 @@ fn main() {
         os::fail(&path[..length]);
         return;
     }
-    run(fd);
+    replay_run::run(fd);
     libc::close(fd);
 }

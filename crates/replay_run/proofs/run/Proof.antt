@@ -1,12 +1,12 @@
--- `replay::run` is safe: its buffers are as large as an answer asks for. No length is counted out: that would take a gigabyte.
+-- `replay_run::run` is safe: its buffers are as large as an answer asks for. No length is counted out: that would take a gigabyte.
 -- Assumes nothing.
 use Prim.Native.Nat.{ℕ, _≤_}
 use mathlib.Core.Path.{_≡_, sym}
 use native.Mathlib.Omega.{arith}
 use lib.ListN.{length, replicate, length-replicate}
 use borrow.Author.Needs.{needs}
-use Rattle.replay.proofs.run.Statement.{statement}
-use Rattle.replay.proofs.run.Tie as tie
+use Rattle.replay_run.proofs.run.Statement.{statement}
+use Rattle.replay_run.proofs.run.Tie as tie
 
 -- a buffer of n octets
 sized : (n v : ℕ) → n ≡ length (replicate n v)

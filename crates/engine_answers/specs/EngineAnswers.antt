@@ -18,8 +18,8 @@ use Rattle.engine_open.specs.declared.Closed.the-variants as closed
 use Rattle.engine_tell.specs.declared.Letter.{Letter}
 use Rattle.engine_tell.specs.declared.Told.{Told}
 use Rattle.engine_tell.specs.declared.Told.the-variants as told
+use Rattle.engine_due.specs.declared.Waits.{Waits}
 use Rattle.engine_next.specs.declared.Page.{Page}
-use Rattle.engine_next.specs.declared.Waits.{Waits}
 use Rattle.engine_next.specs.declared.Next.{Next}
 use Rattle.engine_next.specs.declared.Next.the-variants as next
 use Rattle.engine_answers.specs.declared.LookAnswer.{LookAnswer}

@@ -13,7 +13,7 @@ use engine_answers::LookAnswer;
 use engine_answers::MeetingAnswer;
 use engine_answers::NextAnswer;
 use engine_answers::SyncAnswer;
-use engine_next::Waits;
+use engine_due::Waits;
 use engine_slots::Sender;
 
 pub fn start(state: &mut [u8], saved: &[u8], sync: u64, file: u64) -> DoneAnswer

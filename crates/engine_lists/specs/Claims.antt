@@ -12,8 +12,8 @@ use Rattle.engine_model.specs.Snapshots.{Snapshot}
 use Rattle.engine_model.specs.Claims.{Whole}
 use Rattle.engine_model.specs.World.{run}
 use Rattle.engine_state.specs.State.{snapshotIn}
+use Rattle.engine_due.specs.declared.Waits.{Waits}
 use Rattle.engine_next.specs.declared.Page.{Page}
-use Rattle.engine_next.specs.declared.Waits.{Waits}
 use Rattle.engine_next.specs.declared.Next.the-variants as next
 use Rattle.engine_next.specs.Next.{nextState}
 use Rattle.engine_tell.specs.Tell.{telling, letterBuffer}

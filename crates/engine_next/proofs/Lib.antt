@@ -1,5 +1,5 @@
 pub mod NextLaws
-pub mod KindLaws
+pub mod SyncLaws
 pub mod PageLaws
 pub mod PlaceLaws
 pub mod ReportLaws

@@ -1,4 +1,4 @@
--- The places that are walked: what is known of each, and what the walks come to.
+-- The places that are walked: what the walks come to.
 -- Assumes nothing.
 use Prim.Native.Nat.{ℕ, zero, suc, _+_, _-_, _≤_, _<_}
 use mathlib.Core.Path.{_≡_, sym, ap, _∙_}
@@ -11,31 +11,21 @@ use borrow.Author.Tests.{lt-ltb, le-ltb, eq-eqb, ne-eqb}
 use Rattle.words.specs.Words.{wordAt}
 use Rattle.transfer.specs.Transfers.{Transfer}
 use Rattle.table.specs.Tables.{FineFrom}
-use Rattle.area.specs.Layout.{transferPlaces, idField, headAt}
+use Rattle.area.specs.Layout.{idField, headAt}
 use Rattle.area.specs.Places.{transferAt, transfersFrom, readTable, nth, placeOf}
 use Rattle.area.proofs.JudgeLaws.{judged-passed}
 use Rattle.area.proofs.PlaceLaws.{length-transfers, transfer-at}
 use Rattle.engine_slots.specs.declared.Slot.{Slot}
 use Rattle.engine_slots.specs.Slots.{slotAt, slotsFrom}
 use Rattle.engine_model.specs.Snapshots.{slotOf}
-use Rattle.engine_state.specs.Layout.{stateOctets}
 use Rattle.engine_state.specs.State.{snapshotIn, engineIn, heldState}
 use Rattle.engine_state.proofs.StateLaws.{held-known, slot-known}
+use Rattle.engine_due.specs.declared.Waits.{Waits}
+use Rattle.engine_due.specs.Due.{kindFrom}
 use Rattle.engine_next.specs.declared.Page.{Page}
-use Rattle.engine_next.specs.declared.Waits.{Waits}
 use Rattle.engine_next.specs.declared.Next.{Next}
 use Rattle.engine_next.specs.declared.Next.the-variants.{Sync, Nothing}
-use Rattle.engine_next.specs.Next.{isUrgent, anyUrgent, kindFrom, pageOf, nextBy, syncDue, firstNext}
-
-pub record Walked (s : List ℕ) : Type 0 where
-  pub long : stateOctets ≤ length s
-  pub count : length (readTable s) ≡ wordAt s 0
-  pub few : length (readTable s) ≤ transferPlaces
-
-pub walked : (s : List ℕ) → heldState s ≡ true → Walked s
-walked s h =
-    let k = held-known s h in
-    record { long = k .long; count = length-transfers s 0 (wordAt s 0); few = judged-passed s (k .now-judged) .1 .few }
+use Rattle.engine_next.specs.Next.{isUrgent, anyUrgent, pageOf, nextBy, syncDue, firstNext}
 
 -- ---- whether a sync is urgent
 

@@ -20,11 +20,12 @@ use Rattle.engine_model.specs.Engine.{Engine, Ended, write, report, namePart, t
 use Rattle.engine_model.specs.Claims.{In}
 use Rattle.engine_model.proofs.FitLaws.{open-key, complete-open}
 use Rattle.engine_state.specs.State.{engineIn, heldState}
+use Rattle.engine_due.specs.declared.Waits.{Waits}
+use Rattle.engine_due.specs.Due.{isCovered, nameDue, reportDue, isAtEnd, kindFor, kindFrom}
 use Rattle.engine_next.specs.declared.Page.{Page}
-use Rattle.engine_next.specs.declared.Waits.{Waits}
 use Rattle.engine_next.specs.declared.Next.{Next}
 use Rattle.engine_next.specs.declared.Next.the-variants.{Refused, Answer, Name, Report, Close, Sync, Nothing}
-use Rattle.engine_next.specs.Next.{isCovered, nameDue, reportDue, isAtEnd, kindFor, kindFrom, pageBy, pageOf, nextBy, syncDue, firstNext, nextState}
+use Rattle.engine_next.specs.Next.{pageBy, pageOf, nextBy, syncDue, firstNext, nextState}
 
 -- ---- from what is said to the transfer that it is said of
 

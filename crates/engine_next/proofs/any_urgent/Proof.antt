@@ -9,8 +9,9 @@ use Rattle.words.specs.Words.{wordAt}
 use Rattle.engine_slots.specs.Slots.{slotsFrom}
 use Rattle.engine_state.specs.Layout.{doneField}
 use Rattle.engine_state.specs.State.{numberIn}
+use Rattle.engine_due.proofs.PlaceLaws.{Walked, walked}
 use Rattle.engine_next.specs.Next.{anyUrgent}
-use Rattle.engine_next.proofs.PlaceLaws.{Walked, walked, urgent-here, urgent-later, urgent-none}
+use Rattle.engine_next.proofs.PlaceLaws.{urgent-here, urgent-later, urgent-none}
 use Rattle.engine_next.proofs.any_urgent.Statement.{statement}
 use Rattle.engine_next.proofs.any_urgent.Tie as tie
 

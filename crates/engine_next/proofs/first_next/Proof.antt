@@ -9,9 +9,10 @@ use lib.ListN.{length}
 use denote.Ref.{now}
 use Rattle.area.specs.Places.{transfersFrom, readTable}
 use Rattle.engine_state.specs.State.{engineIn}
+use Rattle.engine_due.proofs.PlaceLaws.{Walked, walked}
 use Rattle.engine_next.specs.declared.Next.the-variants.{Sync, Nothing}
 use Rattle.engine_next.specs.Next.{firstNext}
-use Rattle.engine_next.proofs.PlaceLaws.{Walked, walked, next-here, next-later, next-none}
+use Rattle.engine_next.proofs.PlaceLaws.{next-here, next-later, next-none}
 use Rattle.engine_next.proofs.first_next.Statement.{statement}
 use Rattle.engine_next.proofs.first_next.Tie as tie
 

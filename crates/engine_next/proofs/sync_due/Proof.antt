@@ -6,7 +6,7 @@ use mathlib.Core.Path.{_≡_, _∙_}
 use denote.Ref.{now}
 use Rattle.engine_state.specs.State.{engineIn}
 use Rattle.engine_state.proofs.StateLaws.{Held, held-known}
-use Rattle.engine_next.proofs.KindLaws.{due-unchanged, due-not, due-urgent, due-over}
+use Rattle.engine_next.proofs.SyncLaws.{due-unchanged, due-not, due-urgent, due-over}
 use Rattle.engine_next.proofs.sync_due.Statement.{statement}
 use Rattle.engine_next.proofs.sync_due.Tie as tie
 

@@ -1,11 +1,11 @@
--- `engine_next::is_at_end` meets its contract, case by case. Assumes nothing.
+-- `engine_due::is_at_end` meets its contract, case by case. Assumes nothing.
 use native.Mathlib.Omega.{arith}
 use borrow.Author.Needs.{needs}
 use mathlib.Core.Path.{_≡_, _∙_}
-use Rattle.engine_next.specs.Next.{isOver}
-use Rattle.engine_next.proofs.NextLaws.{end-lingered, end-complete, end-never, end-forgotten}
-use Rattle.engine_next.proofs.is_at_end.Statement.{statement}
-use Rattle.engine_next.proofs.is_at_end.Tie as tie
+use Rattle.engine_due.specs.Due.{isOver}
+use Rattle.engine_due.proofs.DueLaws.{end-lingered, end-complete, end-never, end-forgotten}
+use Rattle.engine_due.proofs.is_at_end.Statement.{statement}
+use Rattle.engine_due.proofs.is_at_end.Tie as tie
 
 -- a page that was reported waits as long as it lingers
 lingered : (c : tie.After-is-over)

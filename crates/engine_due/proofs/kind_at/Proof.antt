@@ -1,4 +1,4 @@
--- `engine_next::kind_at` meets its contract: the four tests, in their order. Assumes nothing.
+-- `engine_due::kind_at` meets its contract: the four tests, in their order. Assumes nothing.
 use native.Mathlib.Omega.{arith}
 use borrow.Author.Needs.{needs}
 use mathlib.Core.Path.{_≡_, _∙_}
@@ -9,11 +9,11 @@ use Rattle.engine_slots.specs.Slots.{slotAt}
 use Rattle.engine_state.specs.Layout.{doneField}
 use Rattle.engine_state.specs.State.{numberIn, engineIn}
 use Rattle.engine_state.proofs.StateLaws.{held-known}
-use Rattle.engine_next.specs.Next.{kindFor}
-use Rattle.engine_next.proofs.KindLaws.{kind-answer, kind-name, kind-report, kind-close, kind-none}
-use Rattle.engine_next.proofs.PlaceLaws.{Walked, walked}
-use Rattle.engine_next.proofs.kind_at.Statement.{statement}
-use Rattle.engine_next.proofs.kind_at.Tie as tie
+use Rattle.engine_due.specs.Due.{kindFor}
+use Rattle.engine_due.proofs.KindLaws.{kind-answer, kind-name, kind-report, kind-close, kind-none}
+use Rattle.engine_due.proofs.PlaceLaws.{Walked, walked}
+use Rattle.engine_due.proofs.kind_at.Statement.{statement}
+use Rattle.engine_due.proofs.kind_at.Tie as tie
 
 known : (c : tie.Start) → Walked (now (c .args .state))
 known c = walked (now (c .args .state)) (c .pre .0)

@@ -1,12 +1,12 @@
--- `engine_next::kind_from` meets its contract: below `from` nothing, else what `kind_at` says. Assumes nothing.
+-- `engine_due::kind_from` meets its contract: below `from` nothing, else what `kind_at` says. Assumes nothing.
 use native.Mathlib.Omega.{arith}
 use mathlib.Core.Path.{_∙_}
 use denote.Ref.{now}
 use Rattle.engine_state.specs.State.{engineIn}
-use Rattle.engine_next.proofs.KindLaws.{kind-passed, kind-reached}
-use Rattle.engine_next.proofs.PlaceLaws.{Walked, walked}
-use Rattle.engine_next.proofs.kind_from.Statement.{statement}
-use Rattle.engine_next.proofs.kind_from.Tie as tie
+use Rattle.engine_due.proofs.KindLaws.{kind-passed, kind-reached}
+use Rattle.engine_due.proofs.PlaceLaws.{Walked, walked}
+use Rattle.engine_due.proofs.kind_from.Statement.{statement}
+use Rattle.engine_due.proofs.kind_from.Tie as tie
 
 known : (c : tie.Start) → Walked (now (c .args .state))
 known c = walked (now (c .args .state)) (c .pre .0)

@@ -1,8 +1,0 @@
--- `engine_next::is_covered` meets its contract. Assumes nothing.
-use native.Mathlib.Omega.{arith}
-use Rattle.engine_next.proofs.NextLaws.{covered-none, covered-late, covered-same}
-use Rattle.engine_next.proofs.is_covered.Statement.{statement}
-use Rattle.engine_next.proofs.is_covered.Tie as tie
-
-pub is-covered-spec : {M : Type 1} → statement M
-is-covered-spec = tie.close (tie.spec (λ c. covered-none _ _ _ (omega arith)) (λ c. covered-late _ _ _ (omega arith) (omega arith)) (λ c. covered-same _ _ _ (omega arith) (omega arith)))

@@ -3,7 +3,8 @@ ghost use mathlib.Core.Path.{_≡_};
 ghost use Rattle.engine_data.specs.Store.{lookState, storedState};
 ghost use Rattle.engine_open.specs.Opened.{meetState, openedState, closing, goneState};
 ghost use Rattle.engine_sync.specs.Syncs.{startRefusal, startedState, beginning, begunState, heldRefusal, endedState};
-ghost use Rattle.engine_tell.specs.Tell.{telling, letterBuffer, toldState, namedState, reportedState};
+ghost use Rattle.engine_tell.specs.Tell.{telling, letterBuffer, toldState};
+ghost use Rattle.engine_marks.specs.Marks.{namedState, reportedState};
 ghost use Rattle.engine_next.specs.Next.{nextState};
 ghost use Rattle.engine_answers.specs.EngineAnswers.{senderOf, isYes, waitsOf, doneBy, syncAnswer, lookAnswer, meetingAnswer, closedAnswer, letterAnswer, nextAnswer};
 use answer_table::DoneAnswer;
@@ -98,13 +99,13 @@ pub fn tell(state: &mut [u8], id: u64, out: &mut [u8]) -> LetterAnswer
 pub fn named(state: &mut [u8], id: u64, well: u64) -> DoneAnswer
     ensures { λ r. ⌜ (r ≡ doneBy (heldRefusal (now (state .entry)))) × (now (state .exit) ≡ namedState (now (state .entry)) id (isYes well)) ⌝ }
 {
-    engine_answers::done_by(engine_tell::named(state, id, well != 0))
+    engine_answers::done_by(engine_marks::named(state, id, well != 0))
 }
 
 pub fn reported(state: &mut [u8], id: u64) -> DoneAnswer
     ensures { λ r. ⌜ (r ≡ doneBy (heldRefusal (now (state .entry)))) × (now (state .exit) ≡ reportedState (now (state .entry)) id) ⌝ }
 {
-    engine_answers::done_by(engine_tell::reported(state, id))
+    engine_answers::done_by(engine_marks::reported(state, id))
 }
 
 pub fn close(state: &mut [u8], id: u64, spoilt: u64) -> ClosedAnswer

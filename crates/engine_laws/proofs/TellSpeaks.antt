@@ -16,9 +16,11 @@ use Rattle.engine_state.specs.Layout.{syncedOctet, changedField}
 use Rattle.engine_state.specs.State.{snapshotIn, engineIn, engineOf, changedState, closedState}
 use Rattle.engine_state.proofs.StateLaws.{Held, known-held}
 use Rattle.engine_open.specs.Opened.{closing, goneBy, goneState}
-use Rattle.engine_tell.specs.Tell.{slotState, telling, toldBy, toldState, markedState, namedState, reportedState}
+use Rattle.engine_open_slot.specs.OpenSlot.{slotState}
+use Rattle.engine_tell.specs.Tell.{telling, toldBy, toldState}
 use Rattle.engine_tell.specs.declared.Letter.{Letter}
 use Rattle.engine_tell.specs.declared.Told.the-variants as told
+use Rattle.engine_marks.specs.Marks.{markedState, namedState, reportedState}
 use Rattle.engine_laws.specs.Speaks.{endOf, Holds}
 use Rattle.engine_laws.proofs.StandsLaws.{stands, stands-holds, six, set-number}
 use Rattle.engine_laws.proofs.LeaveLaws.{Leaves, stands-leaves, slot-leaves, closed-leaves}

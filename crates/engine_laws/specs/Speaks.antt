@@ -12,9 +12,10 @@ use Rattle.engine_state.specs.State.{snapshotIn, engineOf}
 use Rattle.engine_data.specs.Store.{storedState}
 use Rattle.engine_open.specs.Opened.{openedState, goneState}
 use Rattle.engine_sync.specs.Syncs.{startRefusal, startedState, begunState, endedState}
-use Rattle.engine_tell.specs.Tell.{telling, toldState, namedState, reportedState}
+use Rattle.engine_tell.specs.Tell.{telling, toldState}
 use Rattle.engine_tell.specs.declared.Letter.{Letter}
 use Rattle.engine_tell.specs.declared.Told.the-variants as told
+use Rattle.engine_marks.specs.Marks.{namedState, reportedState}
 
 -- how the shell's word on a write stands in the model: of one that failed any octets may be in the file
 unfoldable pub endOf : Bool → (ℕ → Bool) → Ended

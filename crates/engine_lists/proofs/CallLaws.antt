@@ -25,10 +25,11 @@ use Rattle.engine_state.specs.State.{numberIn, heldState, engineIn}
 use Rattle.engine_data.specs.Store.{storedState}
 use Rattle.engine_open.specs.Opened.{openedState}
 use Rattle.engine_sync.specs.Syncs.{startedState, begunState}
-use Rattle.engine_tell.specs.Tell.{telling, toldBy, toldState, namedState}
+use Rattle.engine_tell.specs.Tell.{telling, toldBy, toldState}
 use Rattle.engine_tell.specs.declared.Letter.{Letter}
 use Rattle.engine_tell.specs.declared.Told.{Told}
 use Rattle.engine_tell.specs.declared.Told.the-variants as told
+use Rattle.engine_marks.specs.Marks.{namedState}
 use Rattle.engine_laws.specs.Speaks.{endOf, Words, Holds, Speaks}
 use Rattle.engine_laws.proofs.Theorems.{holds-known, every-call-speaks}
 use Rattle.engine_lists.specs.Calls.{Program, Call, savedAfter, stateAfter, copyAfter, heard, historyAfter, after, Memory, Fits}

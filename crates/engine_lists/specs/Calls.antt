@@ -16,9 +16,10 @@ use Rattle.engine_state.specs.State.{numberIn, engineIn}
 use Rattle.engine_data.specs.Store.{storedState}
 use Rattle.engine_open.specs.Opened.{openedState, goneState}
 use Rattle.engine_sync.specs.Syncs.{startedState, begunState, endedState}
-use Rattle.engine_tell.specs.Tell.{telling, toldState, namedState, reportedState}
+use Rattle.engine_tell.specs.Tell.{telling, toldState}
 use Rattle.engine_tell.specs.declared.Told.{Told}
 use Rattle.engine_tell.specs.declared.Told.the-variants as told
+use Rattle.engine_marks.specs.Marks.{namedState, reportedState}
 use Rattle.engine_laws.specs.Speaks.{Words}
 
 pub record Program : Type 0 where

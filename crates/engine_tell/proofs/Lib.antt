@@ -1,3 +1,1 @@
-pub mod OpenLaws
 pub mod TellLaws
-pub mod NameLaws

@@ -20,11 +20,12 @@ use Rattle.engine_model.specs.Snapshots.{isOpen, slotOf, answeredSlot}
 use Rattle.engine_state.specs.Layout.{syncedOctet}
 use Rattle.engine_state.specs.State.{snapshotIn, heldState}
 use Rattle.engine_state.proofs.StateLaws.{rest-is, open-told}
+use Rattle.engine_open_slot.specs.OpenSlot.{syncedIn, sameNow, slotState}
+use Rattle.engine_open_slot.proofs.OpenLaws.{lent}
 use Rattle.engine_tell.specs.declared.Letter.{Letter}
 use Rattle.engine_tell.specs.declared.Told.{Told}
 use Rattle.engine_tell.specs.declared.Told.the-variants as told
-use Rattle.engine_tell.specs.Tell.{syncedIn, sameNow, slotState, unasked, toldAs, telling, letterBuffer, answeredState, toldBy, toldState}
-use Rattle.engine_tell.proofs.OpenLaws.{lent}
+use Rattle.engine_tell.specs.Tell.{unasked, toldAs, telling, letterBuffer, answeredState, toldBy, toldState}
 
 -- where a STATUS is written, the Id is open
 pub written-open : (a : List ℕ) (i k : ℕ) (u : Bool) (out : List ℕ) (n : ℕ) → judged a ≡ true → areaStatusWritten a i k u out ≡ written.Size n

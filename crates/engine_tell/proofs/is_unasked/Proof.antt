@@ -4,9 +4,9 @@ use mathlib.Core.Path.{_≡_, sym, _∙_}
 use mathlib.Core.Bool.{true}
 use borrow.Author.Tests.{not-true, not-false}
 use denote.Ref.{now}
-use Rattle.engine_tell.specs.Tell.{sameNow}
 use Rattle.engine_state.proofs.StateLaws.{Held, held-known}
-use Rattle.engine_tell.proofs.OpenLaws.{same-open, open-now}
+use Rattle.engine_open_slot.specs.OpenSlot.{sameNow}
+use Rattle.engine_open_slot.proofs.OpenLaws.{same-open, open-now}
 use Rattle.engine_tell.proofs.TellLaws.{unasked-other, unasked-same}
 use Rattle.engine_tell.proofs.is_unasked.Statement.{statement}
 use Rattle.engine_tell.proofs.is_unasked.Tie as tie

@@ -4,9 +4,9 @@ use mathlib.Core.Path.{_≡_, sym, _∙_}
 use mathlib.Core.Bool.{true}
 use borrow.Author.Tests.{not-true, not-false}
 use denote.Ref.{now}
-use Rattle.engine_tell.specs.Tell.{OpenIn, sameNow}
 use Rattle.engine_state.proofs.StateLaws.{Held, held-known}
-use Rattle.engine_tell.proofs.OpenLaws.{same-open, open-now}
+use Rattle.engine_open_slot.specs.OpenSlot.{OpenIn, sameNow}
+use Rattle.engine_open_slot.proofs.OpenLaws.{same-open, open-now}
 use Rattle.engine_tell.proofs.TellLaws.{answered-other, answered-same}
 use Rattle.engine_tell.proofs.put_answered.Statement.{statement}
 use Rattle.engine_tell.proofs.put_answered.Tie as tie

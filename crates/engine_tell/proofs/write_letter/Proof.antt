@@ -3,7 +3,7 @@ use borrow.Author.Needs.{needs}
 use native.Mathlib.Omega.{arith}
 use denote.Ref.{now}
 use Rattle.engine_state.proofs.StateLaws.{Held, held-known}
-use Rattle.engine_tell.proofs.OpenLaws.{open-synced}
+use Rattle.engine_open_slot.proofs.OpenLaws.{open-synced}
 use Rattle.engine_tell.proofs.TellLaws.{letter-buffer, letter-refused, letter-open, letter-sent}
 use Rattle.engine_tell.proofs.write_letter.Statement.{statement}
 use Rattle.engine_tell.proofs.write_letter.Tie as tie

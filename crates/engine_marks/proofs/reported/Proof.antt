@@ -1,4 +1,4 @@
--- `engine_tell::reported` meets its contract: nothing is written where it may not be so. Assumes nothing.
+-- `engine_marks::reported` meets its contract: nothing is written where it may not be so. Assumes nothing.
 use borrow.Author.Needs.{needs}
 use mathlib.Core.Path.{_≡_, sym, _∙_}
 use mathlib.Core.Bool.{true, _&&_}
@@ -7,11 +7,11 @@ use denote.Ref.{now}
 use Rattle.engine_model.specs.Engine.{mayReport}
 use Rattle.engine_state.specs.State.{engineIn, heldState}
 use Rattle.engine_state.proofs.StateLaws.{Held, held-known}
-use Rattle.engine_tell.specs.Tell.{OpenIn, sameNow}
-use Rattle.engine_tell.proofs.OpenLaws.{same-open, open-now}
-use Rattle.engine_tell.proofs.NameLaws.{report-known, reported-unheld, reported-not, reported-done}
-use Rattle.engine_tell.proofs.reported.Statement.{statement}
-use Rattle.engine_tell.proofs.reported.Tie as tie
+use Rattle.engine_open_slot.specs.OpenSlot.{OpenIn, sameNow}
+use Rattle.engine_open_slot.proofs.OpenLaws.{same-open, open-now}
+use Rattle.engine_marks.proofs.NameLaws.{report-known, reported-unheld, reported-not, reported-done}
+use Rattle.engine_marks.proofs.reported.Statement.{statement}
+use Rattle.engine_marks.proofs.reported.Tie as tie
 
 returns : tie.Need-returns
 returns c =

@@ -1,9 +1,9 @@
--- `engine_tell::slot_of` meets its contract: the slot stands at the place of its transfer. Assumes nothing.
+-- `engine_open_slot::slot_of` meets its contract: the slot stands at the place of its transfer. Assumes nothing.
 use borrow.Author.Needs.{needs}
 use denote.Ref.{now}
-use Rattle.engine_tell.proofs.OpenLaws.{place-low, slot-is}
-use Rattle.engine_tell.proofs.slot_of.Statement.{statement}
-use Rattle.engine_tell.proofs.slot_of.Tie as tie
+use Rattle.engine_open_slot.proofs.OpenLaws.{place-low, slot-is}
+use Rattle.engine_open_slot.proofs.slot_of.Statement.{statement}
+use Rattle.engine_open_slot.proofs.slot_of.Tie as tie
 
 returns : tie.Need-returns
 returns c =

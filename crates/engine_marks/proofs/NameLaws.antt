@@ -2,9 +2,8 @@
 -- Assumes nothing.
 use Prim.Native.Nat.{ℕ}
 use mathlib.Core.Path.{_≡_, refl, sym, ap, _∙_}
-use mathlib.Core.Bool.{Bool, true, false, cond, _&&_}
+use mathlib.Core.Bool.{Bool, true, false, _&&_}
 use mathlib.Core.List.{List}
-use lib.ListN.{drop}
 use lib.Dec.{eqb}
 use Rattle.refusals.proofs.TestLaws.{and-iff}
 use Rattle.engine_slots.specs.declared.Slot.{Slot}
@@ -14,8 +13,9 @@ use Rattle.engine_state.specs.Layout.{syncedOctet}
 use Rattle.engine_state.specs.State.{snapshotIn, engineIn, heldState, changedState}
 use Rattle.engine_state.proofs.StateLaws.{rest-is}
 use Rattle.engine_sync.specs.Syncs.{heldRefusal}
-use Rattle.engine_tell.specs.Tell.{syncedIn, sameNow, slotState, markedState, namedState, reportedState}
-use Rattle.engine_tell.proofs.OpenLaws.{lent}
+use Rattle.engine_open_slot.specs.OpenSlot.{syncedIn, sameNow, slotState}
+use Rattle.engine_open_slot.proofs.OpenLaws.{lent}
+use Rattle.engine_marks.specs.Marks.{markedState, namedState, reportedState}
 
 not-both : (a b c : Bool) → a && c ≡ false → false ≡ a && b && c
 not-both true true c e = sym e

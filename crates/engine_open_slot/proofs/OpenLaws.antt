@@ -1,27 +1,24 @@
 -- The slot of an Id that is open in what is now, or in what is synced, and where it is.
 -- Assumes nothing.
 use Prim.Native.Nat.{ℕ, _-_, _<_}
-use mathlib.Core.Path.{_≡_, refl, sym, ap, subst, _∙_}
-use mathlib.Core.Bool.{Bool, true, false, false≢true, cond, _&&_}
+use mathlib.Core.Path.{_≡_, sym, ap, subst, _∙_}
+use mathlib.Core.Bool.{true, _&&_}
 use mathlib.Core.List.{List}
-use mathlib.Core.Option.{Option, none, some}
 use native.Mathlib.Omega.{arith}
 use lib.ListN.{length, take, drop, length-drop}
 use lib.Dec.{eqb}
 use Rattle.refusals.proofs.TestLaws.{and-iff}
-use Rattle.runs.specs.Runs.{Run}
-use Rattle.transfer.specs.declared.Key.{Key}
 use Rattle.area.specs.Layout.{transferPlaces}
-use Rattle.area.specs.Places.{readTable, placeOf, placeIn, KeptAt}
+use Rattle.area.specs.Places.{readTable, placeIn, KeptAt}
 use Rattle.area.specs.declared.Place.{Place}
 use Rattle.area.proofs.KeptLaws.{place-open, kept-known}
 use Rattle.engine_slots.specs.declared.Slot.{Slot}
 use Rattle.engine_slots.specs.Slots.{slotAt, setSlot}
-use Rattle.engine_model.specs.Snapshots.{Snapshot, isSome, isOpen, fileOf, slotOf, keyIn, received, completeOf, isComplete, sameFile}
+use Rattle.engine_model.specs.Snapshots.{isOpen, fileOf, slotOf, sameFile}
 use Rattle.engine_state.specs.Layout.{syncedOctet}
 use Rattle.engine_state.specs.State.{snapshotIn}
 use Rattle.engine_state.proofs.StateLaws.{rest-is, Held, open-told, slot-known}
-use Rattle.engine_tell.specs.Tell.{OpenIn, syncedIn, sameNow, slotState}
+use Rattle.engine_open_slot.specs.OpenSlot.{OpenIn, syncedIn, sameNow, slotState}
 
 -- what is synced, as it is lent
 abbrev pub lent : List ℕ → List ℕ
@@ -44,15 +41,6 @@ module _ (a : List ℕ) (i : ℕ) (o : OpenIn a i) (x : Place) (e : x ≡ placeI
   slot-put r b f = f ∙ ap (λ (p : ℕ). setSlot a p r) (kept .place)
 
 -- ---- where it is open
-
-complete-key : (k : Option Key) (rs : List Run) → completeOf k rs ≡ true → isSome k ≡ true
-unfolding completeOf
-complete-key none rs e = absurd (false≢true e)
-complete-key (some k) rs e = refl
-
-pub complete-open : (x : Snapshot) (i : ℕ) → isComplete x i ≡ true → isOpen x i ≡ true
-unfolding isComplete isOpen
-complete-open x i e = complete-key (keyIn x i) (received x i) e
 
 module _ (s : List ℕ) (i : ℕ) where
   pub same-open : sameNow s i ≡ true → (isOpen (snapshotIn s) i ≡ true) × (isOpen (snapshotIn (syncedIn s)) i ≡ true)

@@ -1,9 +1,9 @@
--- `engine_tell::put_marked` meets its contract: the slot, and that something is to be saved. Assumes nothing.
+-- `engine_marks::put_marked` meets its contract: the slot, and that something is to be saved. Assumes nothing.
 use borrow.Author.Needs.{needs}
 use denote.Ref.{now}
-use Rattle.engine_tell.proofs.NameLaws.{marked-put}
-use Rattle.engine_tell.proofs.put_marked.Statement.{statement}
-use Rattle.engine_tell.proofs.put_marked.Tie as tie
+use Rattle.engine_marks.proofs.NameLaws.{marked-put}
+use Rattle.engine_marks.proofs.put_marked.Statement.{statement}
+use Rattle.engine_marks.proofs.put_marked.Tie as tie
 
 returns : tie.Need-returns
 returns c =

@@ -1,4 +1,4 @@
--- `engine_tell::may_report` meets its contract: it may have its name, and has it in what is synced. Assumes nothing.
+-- `engine_marks::may_report` meets its contract: it may have its name, and has it in what is synced. Assumes nothing.
 use borrow.Author.Needs.{needs}
 use native.Mathlib.Omega.{arith}
 use mathlib.Core.Path.{_≡_, sym, _∙_}
@@ -6,12 +6,13 @@ use mathlib.Core.Bool.{true}
 use borrow.Author.Tests.{not-true, not-false}
 use denote.Ref.{now}
 use Rattle.engine_model.specs.Engine.{mayName}
+use Rattle.engine_model.proofs.FitLaws.{complete-open}
 use Rattle.engine_state.specs.State.{engineIn}
 use Rattle.engine_state.proofs.StateLaws.{Held, held-known}
-use Rattle.engine_tell.proofs.OpenLaws.{complete-open, open-synced}
-use Rattle.engine_tell.proofs.NameLaws.{name-known, report-not, report-is}
-use Rattle.engine_tell.proofs.may_report.Statement.{statement}
-use Rattle.engine_tell.proofs.may_report.Tie as tie
+use Rattle.engine_open_slot.proofs.OpenLaws.{open-synced}
+use Rattle.engine_marks.proofs.NameLaws.{name-known, report-not, report-is}
+use Rattle.engine_marks.proofs.may_report.Statement.{statement}
+use Rattle.engine_marks.proofs.may_report.Tie as tie
 
 returns : tie.Need-returns
 returns c =

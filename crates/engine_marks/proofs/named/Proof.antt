@@ -1,4 +1,4 @@
--- `engine_tell::named` meets its contract: nothing is written where it may not be so. Assumes nothing.
+-- `engine_marks::named` meets its contract: nothing is written where it may not be so. Assumes nothing.
 use borrow.Author.Needs.{needs}
 use mathlib.Core.Path.{_≡_, sym, _∙_}
 use mathlib.Core.Bool.{true}
@@ -7,11 +7,11 @@ use denote.Ref.{now}
 use Rattle.engine_model.specs.Engine.{mayName}
 use Rattle.engine_state.specs.State.{engineIn, heldState}
 use Rattle.engine_state.proofs.StateLaws.{Held, held-known}
-use Rattle.engine_tell.specs.Tell.{OpenIn}
-use Rattle.engine_tell.proofs.OpenLaws.{same-open, open-now}
-use Rattle.engine_tell.proofs.NameLaws.{name-known, named-unheld, named-not, named-badly, named-well}
-use Rattle.engine_tell.proofs.named.Statement.{statement}
-use Rattle.engine_tell.proofs.named.Tie as tie
+use Rattle.engine_open_slot.specs.OpenSlot.{OpenIn}
+use Rattle.engine_open_slot.proofs.OpenLaws.{same-open, open-now}
+use Rattle.engine_marks.proofs.NameLaws.{name-known, named-unheld, named-not, named-badly, named-well}
+use Rattle.engine_marks.proofs.named.Statement.{statement}
+use Rattle.engine_marks.proofs.named.Tie as tie
 
 returns : tie.Need-returns
 returns c =

@@ -1,9 +1,9 @@
--- `engine_tell::put_slot` meets its contract: the slot stands at the place of its transfer. Assumes nothing.
+-- `engine_open_slot::put_slot` meets its contract: the slot stands at the place of its transfer. Assumes nothing.
 use borrow.Author.Needs.{needs}
 use denote.Ref.{now}
-use Rattle.engine_tell.proofs.OpenLaws.{place-low, slot-put}
-use Rattle.engine_tell.proofs.put_slot.Statement.{statement}
-use Rattle.engine_tell.proofs.put_slot.Tie as tie
+use Rattle.engine_open_slot.proofs.OpenLaws.{place-low, slot-put}
+use Rattle.engine_open_slot.proofs.put_slot.Statement.{statement}
+use Rattle.engine_open_slot.proofs.put_slot.Tie as tie
 
 returns : tie.Need-returns
 returns c =

@@ -58,10 +58,10 @@ test-extra: lib
 	host/test-extra
 
 lib:
-	rt staticlib saratoga
+	host/in-memory rt staticlib saratoga
 
 engine:
-	rt staticlib saratoga_engine
+	host/in-memory rt staticlib saratoga_engine
 
 # Exported is what the header declares, and nothing else. The soname changes where a struct or a function of the header changes.
 SONAME = libsaratoga.so.0
@@ -168,7 +168,7 @@ settings: lib
 	$(CC) -std=c99 -Wall -Wextra -pedantic -O2 -Iinclude $(SETTINGS_SOURCES) $(ARCHIVE) -o target/settings/saratoga-settings
 
 replay-program:
-	@rt check replay >&2
+	@host/in-memory rt check replay >&2
 
 # The program that a user runs, in the folders in which it is installed; it starts the proved one.
 FRONT_FLAGS = -std=c99 -Wall -Wextra -pedantic -O2 -DVERSION='"$(VERSION)"'

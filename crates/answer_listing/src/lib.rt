@@ -1,4 +1,6 @@
 // What is told of the transfer table in a lent area: its transfers listed and looked up by Id, their holes, and their STATUS.
+#![tactic(auto)]
+
 ghost use Rattle.std.specs.Prelude.{◌≡◌};
 ghost use Rattle.area.specs.Operations.{area_status_written, area_status_buffer};
 ghost use Rattle.area_listing.specs.Listing.{listed_area};
@@ -11,7 +13,7 @@ use area_listing::Listed;
 
 // struct saratoga_listed.
 #[repr(C)]
-#[derive(Drop)]
+#[derive(Clone, Copy)]
 pub struct ListedAnswer {
     pub number: u64,
     pub code: u64,

@@ -1,4 +1,6 @@
 // The bitmap receiver: one transfer, with one mark for each of its octets, and a record that C hands in and gets back.
+#![tactic(auto)]
+
 ghost use Rattle.std.specs.Prelude.{◌≡◌};
 ghost use Rattle.bitmap.specs.Open.{open_marks};
 ghost use Rattle.bitmap_extend.specs.Record.{record_marks};
@@ -15,7 +17,7 @@ use transfer::Key;
 
 // struct saratoga_bitmap.
 #[repr(C)]
-#[derive(Drop)]
+#[derive(Clone, Copy)]
 pub struct Bitmap {
     pub id: u64,
     pub width: u64,
@@ -27,7 +29,7 @@ pub struct Bitmap {
 
 // struct saratoga_bitmap_opened.
 #[repr(C)]
-#[derive(Drop)]
+#[derive(Clone, Copy)]
 pub struct BitmapOpenedAnswer {
     pub number: u64,
     pub code: u64,
@@ -38,7 +40,7 @@ pub struct BitmapOpenedAnswer {
 
 // struct saratoga_bitmap_recorded: what recording in a table answers, and the record where it was accepted.
 #[repr(C)]
-#[derive(Drop)]
+#[derive(Clone, Copy)]
 pub struct BitmapRecordedAnswer {
     pub answer: RecordedAnswer,
     pub transfer: Bitmap,

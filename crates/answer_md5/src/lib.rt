@@ -1,4 +1,6 @@
 // An MD5 in parts, and the verdict on METADATA.
+#![tactic(auto)]
+
 ghost use Rattle.std.specs.Prelude.{◌≡◌};
 ghost use Rattle.md5_state.specs.State.{state_refusal};
 ghost use Rattle.md5_feed.specs.Feed.{begin_state, add_state};
@@ -13,7 +15,7 @@ use md5_verdict::Verdict;
 
 // struct saratoga_verdict.
 #[repr(C)]
-#[derive(Drop)]
+#[derive(Clone, Copy)]
 pub struct VerdictAnswer {
     pub number: u64,
     pub code: u64,

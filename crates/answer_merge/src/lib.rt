@@ -1,4 +1,6 @@
 // Merging as C is answered: an Id of a second area into a first.
+#![tactic(auto)]
+
 ghost use Rattle.std.specs.Prelude.{◌≡◌};
 ghost use Rattle.area_merge.specs.Merge.{merge_area};
 ghost use Rattle.answer_merge.specs.MergeAnswers.{merged_answer};
@@ -7,7 +9,7 @@ use table_merge::Merged;
 
 // struct saratoga_merged.
 #[repr(C)]
-#[derive(Drop)]
+#[derive(Clone, Copy)]
 pub struct MergedAnswer {
     pub number: u64,
     pub code: u64,

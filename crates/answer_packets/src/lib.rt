@@ -1,4 +1,6 @@
 // What C is answered of a packet that was read, by its case, and of one hole of a STATUS.
+#![tactic(auto)]
+
 ghost use Rattle.std.specs.Prelude.{◌≡◌};
 ghost use Rattle.packet_status.specs.Status.{read_hole};
 ghost use Rattle.answer_packets.specs.PacketAnswers.{no_part, no_metadata, no_data, no_status, no_beacon, state_number, beacon_packet, metadata_packet, data_packet, success_packet, failure_packet, refused_packet};
@@ -14,7 +16,7 @@ use refusals::Refusal;
 
 // A part of the packet: its place and its length, in octets.
 #[repr(C)]
-#[derive(Drop)]
+#[derive(Clone, Copy)]
 pub struct Part {
     pub at: usize,
     pub len: usize,
@@ -22,7 +24,7 @@ pub struct Part {
 
 // What METADATA alone has.
 #[repr(C)]
-#[derive(Drop)]
+#[derive(Clone, Copy)]
 pub struct MetadataPart {
     pub checksum: Part,
     pub properties: u64,
@@ -34,7 +36,7 @@ pub struct MetadataPart {
 
 // What DATA alone has.
 #[repr(C)]
-#[derive(Drop)]
+#[derive(Clone, Copy)]
 pub struct DataPart {
     pub offset: u64,
     pub payload: Part,
@@ -42,7 +44,7 @@ pub struct DataPart {
 
 // What STATUS alone has.
 #[repr(C)]
-#[derive(Drop)]
+#[derive(Clone, Copy)]
 pub struct StatusPart {
     pub status: u64,
     pub progress: u64,
@@ -53,7 +55,7 @@ pub struct StatusPart {
 
 // What BEACON alone has.
 #[repr(C)]
-#[derive(Drop)]
+#[derive(Clone, Copy)]
 pub struct BeaconPart {
     pub largest_width: usize,
     pub bundles: u64,
@@ -67,7 +69,7 @@ pub struct BeaconPart {
 
 // struct saratoga_packet, part by part; `ptype` is its field `type`. Parts of 64-bit fields lie in memory as the fields do.
 #[repr(C)]
-#[derive(Drop)]
+#[derive(Clone, Copy)]
 pub struct PacketAnswer {
     pub number: u64,
     pub code: u64,

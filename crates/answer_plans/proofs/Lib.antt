@@ -1,4 +1,2 @@
-pub mod Walking
-pub mod Passing
 pub mod CheckAnswerLaws
 pub mod PlanChecked

@@ -1,5 +1,6 @@
 // What to send again: the plan for a STATUS, and the check of a list of pieces, whoever made it.
-// Two functions have a list of pieces, and are proved by a walk of their MIR, by hand: each is one loop that moves whole pieces.
+#![tactic(auto)]
+
 ghost use Rattle.std.specs.Prelude.{◌≡◌, length};
 ghost use Rattle.packet_status.specs.Status.{hole_list};
 ghost use Rattle.plan.specs.Pieces.{plan_of};
@@ -11,7 +12,7 @@ use plan_check::Check;
 
 // struct saratoga_planned.
 #[repr(C)]
-#[derive(Drop)]
+#[derive(Clone, Copy)]
 pub struct PlannedAnswer {
     pub number: u64,
     pub code: u64,
@@ -20,7 +21,7 @@ pub struct PlannedAnswer {
 
 // struct saratoga_checked.
 #[repr(C)]
-#[derive(Drop)]
+#[derive(Clone, Copy)]
 pub struct CheckedAnswer {
     pub number: u64,
     pub code: u64,

@@ -1,4 +1,6 @@
 // What C is answered of a plant's settings, read and written.
+#![tactic(auto)]
+
 ghost use Rattle.std.specs.Prelude.{◌≡◌};
 ghost use Rattle.answers.specs.Answers.{written_answer};
 ghost use Rattle.settings_reader.specs.ReadSettings.{read_settings};
@@ -11,7 +13,7 @@ use settings_reader::SettingsRead;
 
 // struct saratoga_settings.
 #[repr(C)]
-#[derive(Drop)]
+#[derive(Clone, Copy)]
 pub struct SettingsAnswer {
     pub number: u64,
     pub code: u64,

@@ -1,4 +1,6 @@
 // The transfer table in a lent area: made fresh, opened, recorded, closed.
+#![tactic(auto)]
+
 ghost use Rattle.std.specs.Prelude.{◌≡◌};
 ghost use Rattle.area.specs.Operations.{fresh_area, open_area, record_area, close_area};
 ghost use Rattle.answers.specs.Answers.{recorded_answer};
@@ -9,7 +11,7 @@ use table::{Finished, Opened};
 
 // struct saratoga_done.
 #[repr(C)]
-#[derive(Drop)]
+#[derive(Clone, Copy)]
 pub struct DoneAnswer {
     pub number: u64,
     pub code: u64,
@@ -17,7 +19,7 @@ pub struct DoneAnswer {
 
 // struct saratoga_opened.
 #[repr(C)]
-#[derive(Drop)]
+#[derive(Clone, Copy)]
 pub struct OpenedAnswer {
     pub number: u64,
     pub code: u64,

@@ -1,4 +1,6 @@
 // What C is answered of BEACON, METADATA, DATA and failure STATUS that are written.
+#![tactic(auto)]
+
 ghost use Rattle.std.specs.Prelude.{◌≡◌};
 ghost use Rattle.beacon_writer.specs.WriteBeacon.{beacon_written, beacon_buffer};
 ghost use Rattle.packet_data.specs.WriteData.{data_written, data_buffer};

@@ -1,5 +1,7 @@
 // What C gets of a written packet, of a hole and of a recording: answers that more than one of its functions gives.
 // Every struct has fields of 64 bits alone. `number` is 0 where the call is accepted.
+#![tactic(auto)]
+
 ghost use Rattle.std.specs.Prelude.{◌≡◌};
 ghost use Rattle.answers.specs.Answers.{hole_answer, written_answer, recorded_answer};
 
@@ -9,7 +11,7 @@ use table::Recorded;
 
 // struct saratoga_hole.
 #[repr(C)]
-#[derive(Drop)]
+#[derive(Clone, Copy)]
 pub struct HoleAnswer {
     pub number: u64,
     pub code: u64,
@@ -19,7 +21,7 @@ pub struct HoleAnswer {
 
 // struct saratoga_written.
 #[repr(C)]
-#[derive(Drop)]
+#[derive(Clone, Copy)]
 pub struct WrittenAnswer {
     pub number: u64,
     pub code: u64,
@@ -28,7 +30,7 @@ pub struct WrittenAnswer {
 
 // struct saratoga_recorded.
 #[repr(C)]
-#[derive(Drop)]
+#[derive(Clone, Copy)]
 pub struct RecordedAnswer {
     pub number: u64,
     pub code: u64,

@@ -106,13 +106,13 @@ demand3 a b la lb cs s σ =
       none_refused = r.none_refused;
       first = r.first;
       second = r.second;
-      first_held = r.first-kept.held;
-      second_held = r.second-kept.held;
+      first_held = r.first_kept.held;
+      second_held = r.second_kept.held;
       same_end = r.same_end;
-      same_status = same_status _ _ r.first r.second _ _ r.first-kept.held r.second-kept.held r.same_end;
-      first_carries = carries _ r.first _ r.first-kept.held r.same_end.first_keeps;
-      second_carries = carries _ r.second _ r.second-kept.held r.same_end.second_keeps;
-      valid = r.first-kept.valid;
+      same_status = same_status _ _ r.first r.second _ _ r.first_kept.held r.second_kept.held r.same_end;
+      first_carries = carries _ r.first _ r.first_kept.held r.same_end.first_keeps;
+      second_carries = carries _ r.second _ r.second_kept.held r.same_end.second_keeps;
+      valid = r.first_kept.valid;
       brought = r.brought;
     }
 

@@ -1,5 +1,6 @@
 // The lent area that holds a transfer table between calls: its layout, definitions and laws. docs/AREA.md has the layout. The code that reads
 // it is in area_at, area_judge and area_find.
+#![tactic(auto)]
 
 // Places for transfers, and for the runs of each.
 pub const TRANSFERS: usize = 16;
@@ -34,7 +35,7 @@ pub const STAMPS_AT: usize = STOPS_AT + TRANSFERS * RUNS;
 pub const AREA_OCTETS: usize = (STAMPS_AT + TRANSFERS * STAMP_WORDS) * 8;
 
 // Where an Id is kept, or would be put, and whether it is open.
-#[derive(Drop)]
+#[derive(Clone, Copy)]
 pub struct Place {
     pub at: usize,
     pub open: bool,

@@ -1,4 +1,6 @@
 // The words of a lent area by their places: where they stand, and what is read from them. docs/AREA.md has the layout.
+#![tactic(auto)]
+
 ghost use Rattle.std.specs.Prelude.{◌≡◌, ◌+◌, ◌*◌, ◌≤◌, ◌<◌, length};
 ghost use Rattle.words.specs.Words.{word_at};
 ghost use Rattle.run_rows.specs.Rows.{runs_in, RowsFit};

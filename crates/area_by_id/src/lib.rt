@@ -1,4 +1,6 @@
 // One transfer of a lent area by its Id: how it stands, and its holes, without a STATUS.
+#![tactic(auto)]
+
 ghost use Rattle.std.specs.Prelude.{◌≡◌};
 ghost use Rattle.area_by_id.specs.ById.{found_area, hole_area};
 

@@ -1,4 +1,6 @@
 // Closing in a lent area: 22 before all, and the change in place.
+#![tactic(auto)]
+
 ghost use Rattle.std.specs.Prelude.{◌≡◌};
 ghost use Rattle.area.specs.Operations.{close_area};
 

@@ -1,4 +1,6 @@
 // Where an Id is kept in a lent area that holds a table.
+#![tactic(auto)]
+
 ghost use Rattle.std.specs.Prelude.{◌≡◌, true, ◌+◌, ◌<◌};
 ghost use Rattle.area.specs.Places.{read_table, place_in};
 ghost use Rattle.area.specs.Judge.{judged};

@@ -1,4 +1,6 @@
 // Making a table fresh in a lent area that is long enough.
+#![tactic(auto)]
+
 ghost use Rattle.std.specs.Prelude.{◌≡◌, ◌+◌, ◌*◌, ◌≤◌, length};
 ghost use Rattle.area.specs.Operations.{fresh_area};
 ghost use Rattle.area_fresh.specs.Fresh.{no_numbers, WordsPut};
@@ -11,7 +13,7 @@ const HEADS: usize = area::TRANSFERS * area::HEAD_WORDS;
 const STAMPS: usize = area::TRANSFERS * area::STAMP_WORDS;
 
 // The numbers of a table, in the order of the layout.
-#[derive(Drop)]
+#[derive(Clone, Copy)]
 struct Numbers {
     count: u64,
     heads: [u64; HEADS],

@@ -1,4 +1,6 @@
 // A transfer with nothing received put into a lent area: each later one moves up by a place. Used places alone are read and written.
+#![tactic(auto)]
+
 ghost use Rattle.std.specs.Prelude.{◌≡◌, true, ◌≤◌, ◌<◌, length};
 ghost use Rattle.transfer.specs.Transfers.{empty};
 ghost use Rattle.area.specs.Layout.{transfer_places, head_words, area_octets};

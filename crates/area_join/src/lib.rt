@@ -1,4 +1,6 @@
 // The run that a packet's offsets make with those that stand at their place, and what is told of it, decided before anything is written.
+#![tactic(auto)]
+
 ghost use Rattle.std.specs.Prelude.{◌≡◌, ◌≤◌};
 ghost use Rattle.run_rows.specs.Rows.{runs_in, RowsFit};
 ghost use Rattle.area_locate.specs.Locate.{Found};
@@ -10,7 +12,7 @@ use run_rows::Rows;
 use transfer::{Reached, Receipt};
 
 // Of the `count` runs there, those from i up to j are to give way to one.
-#[derive(Drop)]
+#[derive(Clone, Copy)]
 pub struct Cuts {
     pub number: u64,
     pub count: usize,
@@ -19,7 +21,7 @@ pub struct Cuts {
 }
 
 // That run, from `lo` to `hi`; the edge and completeness with it; and whether it brings something new.
-#[derive(Drop)]
+#[derive(Clone, Copy)]
 pub struct Joined {
     pub lo: u64,
     pub hi: u64,

@@ -1,4 +1,6 @@
 // Whether a lent area holds a transfer table, judged by its used places alone.
+#![tactic(auto)]
+
 ghost use Rattle.std.specs.Prelude.{◌≡◌, ◌+◌, ◌≤◌, ◌<◌, length};
 ghost use Rattle.area.specs.Layout.{transfer_places, area_octets};
 ghost use Rattle.area.specs.Places.{transfer_at, transfers_from};

@@ -1,4 +1,6 @@
 // What is open in a lent area, one transfer after the other, read where it is.
+#![tactic(auto)]
+
 ghost use Rattle.std.specs.Prelude.{◌≡◌};
 ghost use Rattle.area.specs.Places.{transfer_at};
 ghost use Rattle.area.specs.Used.{UsedPlace};
@@ -8,7 +10,7 @@ use refusals::Refusal;
 
 // A transfer that is open. `width` counts octets, `runs` its runs, and `received` the offsets that they have; `stamped` tells whether it
 // keeps a timestamp.
-#[derive(Drop)]
+#[derive(Clone, Copy)]
 pub struct Listing {
     pub id: u64,
     pub width: u64,
@@ -20,7 +22,7 @@ pub struct Listing {
     pub stamped: bool,
 }
 
-#[derive(Drop)]
+#[derive(Clone, Copy)]
 pub enum Listed {
     Open(Listing),
     Refused(Refusal),

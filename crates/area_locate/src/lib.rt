@@ -1,6 +1,8 @@
 // Where a packet's offsets go, the first steps by which a recording is decided: the area is only read. The steps hand each other plain
 // structs, and the number of a refusal goes through them: as small functions the compiler puts them into both callers (docs/PROVING.md,
 // "Code that runs fast").
+#![tactic(auto)]
+
 ghost use Rattle.std.specs.Prelude.{◌≡◌, true, ◌<◌};
 ghost use Rattle.packet_data.specs.Data.{data_refusal, data_of};
 ghost use Rattle.area.specs.Judge.{judged};
@@ -9,7 +11,7 @@ ghost use Rattle.area_locate.specs.Locate.{unread_as, Located};
 use packet_data::Data;
 
 // Where the offsets of a packet go: at `place`, whose transfer has `length` octets, from `from` on, with `to` the first after them.
-#[derive(Drop)]
+#[derive(Clone, Copy)]
 pub struct Target {
     pub number: u64,
     pub place: usize,

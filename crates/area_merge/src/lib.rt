@@ -1,4 +1,6 @@
 // Merging an Id of a second area into a first: 22 for either area before all, and nothing is written before the last refusal is judged.
+#![tactic(auto)]
+
 ghost use Rattle.std.specs.Prelude.{◌≡◌, true};
 ghost use Rattle.area.specs.Places.{read_table};
 ghost use Rattle.area.specs.Judge.{judged};

@@ -1,4 +1,6 @@
 // METADATA of an Id that is open in a lent area: what its transfer answers.
+#![tactic(auto)]
+
 ghost use Rattle.std.specs.Prelude.{◌≡◌, true};
 ghost use Rattle.table.specs.Open.{open_key};
 ghost use Rattle.area.specs.Places.{read_table, KeptAt};

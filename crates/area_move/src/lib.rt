@@ -1,4 +1,6 @@
 // A transfer of a lent area copied from place to place. Used places alone are read and written.
+#![tactic(auto)]
+
 ghost use Rattle.std.specs.Prelude.{◌≤◌, ◌<◌, length};
 ghost use Rattle.words.specs.Words.{word_at};
 ghost use Rattle.area.specs.Layout.{transfer_places, run_places, area_octets, count_field, stamped_field, head_at};

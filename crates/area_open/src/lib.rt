@@ -1,4 +1,6 @@
 // Opening by METADATA in a lent area: 22 before all.
+#![tactic(auto)]
+
 ghost use Rattle.std.specs.Prelude.{◌≡◌};
 ghost use Rattle.area.specs.Operations.{open_area};
 

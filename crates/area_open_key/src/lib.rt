@@ -1,4 +1,6 @@
 // An Id opened in a lent area that holds a table, in place.
+#![tactic(auto)]
+
 ghost use Rattle.std.specs.Prelude.{◌≡◌, true};
 ghost use Rattle.table.specs.Open.{open_key};
 ghost use Rattle.area.specs.Places.{read_table};

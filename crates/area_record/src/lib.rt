@@ -1,4 +1,6 @@
 // DATA recorded in a lent area, in place: what is done is decided first, the area only read, and then applied.
+#![tactic(auto)]
+
 ghost use Rattle.std.specs.Prelude.{◌≡◌};
 ghost use Rattle.area.specs.Operations.{record_area};
 

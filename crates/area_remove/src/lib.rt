@@ -1,4 +1,6 @@
 // A transfer taken out of a lent area: each later one moves down by a place. Used places alone are read and written.
+#![tactic(auto)]
+
 ghost use Rattle.std.specs.Prelude.{◌≡◌, true, ◌<◌, length};
 ghost use Rattle.area.specs.Places.{read_table, remove_at};
 ghost use Rattle.area.specs.Judge.{judged};

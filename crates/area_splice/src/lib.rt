@@ -1,5 +1,7 @@
 // Runs of a transfer in a lent area, spliced in place: the two rows of its runs where they stand, and their number; nothing is copied out.
 // And the timestamp that a packet brings, kept as it came.
+#![tactic(auto)]
+
 ghost use Rattle.std.specs.Prelude.{◌≡◌, ◌≤◌, ◌<◌, length, take, drop};
 ghost use Rattle.area.specs.Layout.{transfer_places, run_places, area_octets};
 ghost use Rattle.area_splice.specs.Splice.{runs_after, spliced_area, Brings, stamped_area};

@@ -1,4 +1,6 @@
 // STATUS written from the lent area, read where it is.
+#![tactic(auto)]
+
 ghost use Rattle.std.specs.Prelude.{◌≡◌};
 ghost use Rattle.timestamp.specs.Timestamps.{kept_octets};
 ghost use Rattle.area.specs.Places.{stamp_at};

@@ -1,4 +1,6 @@
 // The runs at a place of one area joined with those at a place of another: nothing is written before the number of joined runs is known.
+#![tactic(auto)]
+
 ghost use Rattle.std.specs.Prelude.{◌≡◌, true, ◌+◌, ◌*◌, ◌≤◌, ◌<◌, length};
 ghost use Rattle.area.specs.Layout.{transfer_places, run_places, area_octets};
 ghost use Rattle.area.specs.Places.{read_table};

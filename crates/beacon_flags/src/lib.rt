@@ -1,9 +1,11 @@
 // The flags that BEACON alone has.
+#![tactic(auto)]
+
 ghost use Rattle.std.specs.Prelude.{◌≡◌};
 ghost use Rattle.beacon_flags.specs.Flags.{Splits, free_octets, willingness_of, flags_refusal};
 
 // Whether a peer sends, or receives, files.
-#[derive(Drop)]
+#[derive(Clone, Copy)]
 pub enum Willingness {
     Cannot,
     NotNow,
@@ -11,7 +13,7 @@ pub enum Willingness {
 }
 
 // The flags of BEACON that no other packet has. `sending` and `receiving` are pairings of two bits.
-#[derive(Drop)]
+#[derive(Clone, Copy)]
 pub struct BeaconFlags {
     pub bundles: u64,
     pub streams: u64,

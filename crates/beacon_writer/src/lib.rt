@@ -1,4 +1,6 @@
 // BEACON packets written.
+#![tactic(auto)]
+
 ghost use Rattle.std.specs.Prelude.{◌≡◌, ◌+◌, ◌<◌, ◌^◌, length};
 ghost use Rattle.octets.specs.Put.{put};
 ghost use Rattle.packet_beacon.specs.Beacon.{endpoint_at};

@@ -1,5 +1,6 @@
 // The bitmap receiver: one transfer, whose record travels by value, with one mark for each octet in 8,192 lent octets. Here are definitions
 // and laws of how marks are judged, and of opening; the code, recording and STATUS stand in crates above.
+#![tactic(auto)]
 
 use refusals::Refusal;
 use timestamp::Kept;
@@ -12,28 +13,28 @@ pub const LONGEST: u64 = 65535;
 pub const ROW_OCTETS: usize = 2 * marks::RUNS * 8;
 
 // The record of a transfer: its key, and the timestamp that it keeps.
-#[derive(Drop)]
+#[derive(Clone, Copy)]
 pub struct Held {
     pub key: Key,
     pub kept: Kept,
 }
 
 // A transfer that was opened, and how far it has come.
-#[derive(Drop)]
+#[derive(Clone, Copy)]
 pub struct Opening {
     pub held: Held,
     pub reached: Reached,
 }
 
 // What opening answers.
-#[derive(Drop)]
+#[derive(Clone, Copy)]
 pub enum Opened {
     New(Opening),
     Refused(Refusal),
 }
 
 // Refusal 20 or 22 of the marks, or 0; and then how many runs they have.
-#[derive(Drop)]
+#[derive(Clone, Copy)]
 pub struct Judged {
     pub number: u64,
     pub runs: usize,

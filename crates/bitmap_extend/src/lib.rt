@@ -1,4 +1,6 @@
 // The offsets of a packet of DATA marked, and what is told of it.
+#![tactic(auto)]
+
 ghost use Rattle.std.specs.Prelude.{◌≡◌, ◌≤◌, ◌<◌, max, length};
 ghost use Rattle.transfer.specs.Record.{stop_of, extended, runs_refusal};
 ghost use Rattle.marks.specs.Marks.{mark_octets};

@@ -1,4 +1,6 @@
 // The record that recording in marks hands back.
+#![tactic(auto)]
+
 ghost use Rattle.std.specs.Prelude.{◌≡◌};
 ghost use Rattle.timestamp.specs.Timestamps.{renewed, kept_octets, kept_from};
 ghost use Rattle.packet_data.specs.Data.{data_refusal, data_of};

@@ -1,4 +1,6 @@
 // Whether marks are those of a transfer, and the runs that they have.
+#![tactic(auto)]
+
 ghost use Rattle.std.specs.Prelude.{◌≡◌, length};
 ghost use Rattle.marks.specs.Walk.{run_rows};
 ghost use Rattle.bitmap.specs.State.{openable};

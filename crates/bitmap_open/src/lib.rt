@@ -1,4 +1,6 @@
 // Opening by METADATA in marks.
+#![tactic(auto)]
+
 ghost use Rattle.std.specs.Prelude.{◌≡◌};
 ghost use Rattle.bitmap.specs.State.{unstamped};
 ghost use Rattle.bitmap.specs.Open.{open_marks};

@@ -1,4 +1,6 @@
 // Recording DATA in the marks of one transfer.
+#![tactic(auto)]
+
 ghost use Rattle.std.specs.Prelude.{◌≡◌};
 ghost use Rattle.bitmap_extend.specs.Record.{data_refused, record_marks};
 ghost use Rattle.bitmap_held.specs.Held.{record_held};
@@ -9,7 +11,7 @@ use table::Recorded;
 use transfer::Key;
 
 // What recording tells, and the record that it hands back.
-#[derive(Drop)]
+#[derive(Clone, Copy)]
 pub struct Recording {
     pub told: Recorded,
     pub held: Held,

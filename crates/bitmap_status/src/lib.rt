@@ -1,4 +1,6 @@
 // STATUS of one transfer by its marks, which are only read.
+#![tactic(auto)]
+
 ghost use Rattle.std.specs.Prelude.{◌≡◌};
 ghost use Rattle.bitmap_status.specs.WriteStatus.{marks_written, marks_buffer};
 

@@ -47,13 +47,13 @@ module _ (b : List ℕ) (u : List Transfer) (held : table_of b ≡ some u) (k : 
   recorded a m packet octets only h =
       let t = h.table in
       let f = follows (keys u) k found short t h.keeps m.marks packet (held_valid a t h.holds) h.agree octets (λ d e j q. only d e (u, j, held, q)) in
-      rw h.held-is (
+      rw h.held_is (
         ap (λ (o : OnArea Recorded). o.answer) (record_held_lem a packet t h.holds) ∙ f.same,
         record {
           table = (record_packet t packet).table;
           holds = record_leaves a t h.holds packet octets;
           keeps = f.keeps;
-          held_is = f.goes_on;
+          held_is = f.goes_on_lem;
           agree = f.agree;
         },
       )
@@ -88,10 +88,10 @@ module _ (b : List ℕ) (u : List Transfer) (held : table_of b ≡ some u) (k : 
       record {
         same_answer = λ skip unasked buffer.
             from_held _ (λ x. status_written x k.id skip unasked buffer) a t h.holds
-            ∙ rw (f, h.agree.same_runs, h.agree.same-stamp, h.held-is) (sym (status_of_lem c s skip unasked buffer fit low).0);
+            ∙ rw (f, h.agree.same_runs, h.agree.same_stamp, h.held_is) (sym (status_of_lem c s skip unasked buffer fit low).0);
         same_buffer = λ skip unasked buffer.
             from_held buffer (λ x. status_buffer x k.id skip unasked buffer) a t h.holds
-            ∙ rw (f, h.agree.same_runs, h.agree.same-stamp, h.held-is) (sym (status_of_lem c s skip unasked buffer fit low).1);
+            ∙ rw (f, h.agree.same_runs, h.agree.same_stamp, h.held_is) (sym (status_of_lem c s skip unasked buffer fit low).1);
       }
 
   alike : (a : List ℕ) (m : Bitmap) (ps : List (List ℕ)) → AllOctets ps → NoneForAnother b k.id ps → Together a m → Alike a k.id m ps

@@ -56,7 +56,7 @@ module _ (ks : List Key) (k : Key) (found : find k.id ks ≡ some k) (short : k.
     pub long : mark_octets ≤ length s
 
   pub found_in : (t : List Transfer) (c : Kept) (s : List ℕ) → Agree t c s → find k.id (keys t) ≡ some k
-  found_in t c s h = ap (find k.id) h.are-open ∙ found
+  found_in t c s h = ap (find k.id) h.are_open ∙ found
 
   -- a valid table's transfer: neither 20 nor 22 is given
   pub no_fault : (t : List Transfer) (c : Kept) (s : List ℕ) → Valid t → Agree t c s → state_refusal k s ≡ 0
@@ -98,7 +98,7 @@ module _ (ks : List Key) (k : Key) (found : find k.id ks ≡ some k) (short : k.
       -- of an Id that is not open
       of_none : find d.id ks ≡ none → (d.id ≡ k.id → ⊥) → Same number (record_data t d stamp)
       unfolding record_data record_refusal record_as data_judged by-marks.record_as goes_on
-      of_none e n = rw (h.are-open, e, ← another_id k d n) (record { same = refl; keeps = c; goes_on_lem = refl; agree = h })
+      of_none e n = rw (h.are_open, e, ← another_id k d n) (record { same = refl; keeps = c; goes_on_lem = refl; agree = h })
 
       -- of the transfer: both judge it by the same key and the same runs
       module _ (e : d.id ≡ k.id) where
@@ -114,11 +114,11 @@ module _ (ks : List Key) (k : Key) (found : find k.id ks ≡ some k) (short : k.
             let l : mark_octets ≤ length s = h.long in
             let u = set_runs d.id runs stamp t in
             record {
-              are_open = keys_set d.id runs stamp t ∙ h.are-open;
+              are_open = keys_set d.id runs stamp t ∙ h.are_open;
               same_runs = ap (runs_of u) (sym e) ∙ runs_set_same d.id runs stamp t k is_open ∙ sym (marks_extended s d payload stop l);
               same_stamp =
                   ap (stamp_of u) (sym e) ∙ stamp_set_same d.id runs stamp t k is_open
-                  ∙ ap (renewed stamp) (ap (stamp_of t) e ∙ h.same-stamp) ∙ sym (after_octets (held_with c) stamp is);
+                  ∙ ap (renewed stamp) (ap (stamp_of t) e ∙ h.same_stamp) ∙ sym (after_octets (held_with c) stamp is);
               long = rw (length_marks d.offset d.length s (omega arith)) l;
             }
 

@@ -1,4 +1,6 @@
 // How many octets a descriptor and a timestamp have, and a descriptor at a place.
+#![tactic(auto)]
+
 ghost use Rattle.std.specs.Prelude.{◌≡◌, ◌+◌, ◌*◌, ◌<◌, ◌^◌};
 ghost use Rattle.octets.specs.Numbers.{Width};
 ghost use Rattle.header.specs.FirstWord.{descriptor_octets, timestamp_octets};

@@ -1,11 +1,13 @@
 // The directory entry that ends a METADATA packet (section 5 of the draft): read and written.
+#![tactic(auto)]
+
 ghost use Rattle.std.specs.Prelude.{◌≡◌, ◌+◌, ◌<◌, ◌≤◌, ◌^◌, length};
 ghost use Rattle.octets.specs.Put.{put};
 ghost use Rattle.directory_entry.specs.Entry.{entry_refusal, entry_of};
 ghost use Rattle.directory_entry.specs.WriteEntry.{entry_excess, entry_write_refusal, entry_octets, entry_size};
 
 // The fields of an entry. The path is `length` octets from the place `path` of the packet on, without its closing zero octet.
-#[derive(Drop)]
+#[derive(Clone, Copy)]
 pub struct Entry {
     pub properties: u64,
     pub size: u64,

@@ -1,4 +1,6 @@
 // The engine's answers as C gets them: structs of numbers, as include/saratoga_engine.h has them.
+#![tactic(auto)]
+
 ghost use Rattle.std.specs.Prelude.{◌≡◌};
 ghost use Rattle.engine_answers.specs.EngineAnswers.{stretch_answer, bare_look, look_answer, bare_meeting, meeting_answer, closed_answer, letter_answer, bare_next, page_next, next_answer, done_by, sync_answer};
 
@@ -11,7 +13,7 @@ use engine_tell::Told;
 
 // struct saratoga_look.
 #[repr(C)]
-#[derive(Drop)]
+#[derive(Clone, Copy)]
 pub struct LookAnswer {
     pub number: u64,
     pub code: u64,
@@ -25,7 +27,7 @@ pub struct LookAnswer {
 
 // struct saratoga_meeting.
 #[repr(C)]
-#[derive(Drop)]
+#[derive(Clone, Copy)]
 pub struct MeetingAnswer {
     pub number: u64,
     pub code: u64,
@@ -38,7 +40,7 @@ pub struct MeetingAnswer {
 
 // struct saratoga_closed.
 #[repr(C)]
-#[derive(Drop)]
+#[derive(Clone, Copy)]
 pub struct ClosedAnswer {
     pub number: u64,
     pub code: u64,
@@ -48,7 +50,7 @@ pub struct ClosedAnswer {
 
 // struct saratoga_letter.
 #[repr(C)]
-#[derive(Drop)]
+#[derive(Clone, Copy)]
 pub struct LetterAnswer {
     pub number: u64,
     pub code: u64,
@@ -60,7 +62,7 @@ pub struct LetterAnswer {
 
 // struct saratoga_next.
 #[repr(C)]
-#[derive(Drop)]
+#[derive(Clone, Copy)]
 pub struct NextAnswer {
     pub number: u64,
     pub code: u64,
@@ -72,7 +74,7 @@ pub struct NextAnswer {
 
 // struct saratoga_sync.
 #[repr(C)]
-#[derive(Drop)]
+#[derive(Clone, Copy)]
 pub struct SyncAnswer {
     pub number: u64,
     pub code: u64,

@@ -1,4 +1,6 @@
 // The engine's calls as C makes them: numbers in, and answers of numbers. include/saratoga_engine.h says what each is for.
+#![tactic(auto)]
+
 ghost use Rattle.std.specs.Prelude.{◌≡◌};
 ghost use Rattle.engine_data.specs.Store.{look_state, stored_state};
 ghost use Rattle.engine_open.specs.Opened.{meet_state, opened_state, closing, gone_state};

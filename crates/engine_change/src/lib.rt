@@ -1,4 +1,6 @@
 // METADATA that was met: the state is changed by it.
+#![tactic(auto)]
+
 ghost use Rattle.std.specs.Prelude.{◌≡◌, true, false, suc, ◌≤◌, ◌<◌, length};
 ghost use Rattle.words.specs.Words.{word_at};
 ghost use Rattle.area.specs.Layout.{transfer_places};

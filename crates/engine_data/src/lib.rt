@@ -1,4 +1,6 @@
 // DATA: what is to be done for it from an offset on, and recording what was done.
+#![tactic(auto)]
+
 ghost use Rattle.std.specs.Prelude.{◌≡◌, ◌<◌, ◌≤◌, max};
 ghost use Rattle.packet_data.specs.Data.{read_data};
 ghost use Rattle.transfer.specs.Record.{stop_of};

@@ -1,4 +1,6 @@
 // The digest of all octets of METADATA, as two numbers.
+#![tactic(auto)]
+
 ghost use Rattle.std.specs.Prelude.{◌≡◌};
 ghost use Rattle.engine_model.specs.Meetings.{digest_of};
 

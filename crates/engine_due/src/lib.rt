@@ -1,4 +1,6 @@
 // What is due for one transfer, at a time.
+#![tactic(auto)]
+
 ghost use Rattle.std.specs.Prelude.{◌≡◌, true, ◌<◌, length};
 ghost use Rattle.words.specs.Words.{word_at};
 ghost use Rattle.area.specs.Layout.{id_field, head_at};
@@ -11,7 +13,7 @@ use engine_slots::Slot;
 
 // How long it waits: between two syncs that nobody waits for, until a page that was reported is closed, and until a transfer that is not
 // heard is (0: for ever).
-#[derive(Drop)]
+#[derive(Clone, Copy)]
 pub struct Waits {
     pub interval: u64,
     pub linger: u64,

@@ -94,7 +94,7 @@ module _ (h : List Event) (t : ℕ) (r : Sender) (p : Packet) (d : Data) (k : Ke
 
     over : stop_of d ≤ a → look_data (now_of g) r p.octets from ≡ look.Over
     unfolding look_from
-    over l = looked ∙ rw (n.at-is, le-ltb a (stop_of d) l) refl
+    over l = looked ∙ rw (n.at_is, le-ltb a (stop_of d) l) refl
 
     module _ (some_left : a < stop_of d) where
       abbrev end : Reach
@@ -116,7 +116,7 @@ module _ (h : List Event) (t : ℕ) (r : Sender) (p : Packet) (d : Data) (k : Ke
 
       looks : look_data (now_of g) r p.octets from ≡ look_as end.received x
       unfolding look_from look_reach
-      looks = looked ∙ rw (n.at-is, lt-ltb a (stop_of d) some_left) refl
+      looks = looked ∙ rw (n.at_is, lt-ltb a (stop_of d) some_left) refl
 
       -- it ends where the packet does; or it joins a run that there is
       room : length (insert a end.stop cur) ≤ 64
@@ -158,7 +158,7 @@ module _ (h : List Event) (t : ℕ) (r : Sender) (p : Packet) (d : Data) (k : Ke
           ap (λ (u : List Transfer). runs_of u d.id) table_then ∙ runs_set_same d.id (insert d.offset end.stop rs) z (now_of h).table k found
 
       after_offset : d.offset < end.stop
-      after_offset = omega (arith, n.at-is, reached.some_octets)
+      after_offset = omega (arith, n.at_is, reached.some_octets)
 
       next : Next later end.stop end.stop
       next =

@@ -1,4 +1,6 @@
 // What is kept of a page: that it has its name, that it was reported.
+#![tactic(auto)]
+
 ghost use Rattle.std.specs.Prelude.{◌≡◌, true, ◌&&◌, ◌≤◌, length};
 ghost use Rattle.engine_model.specs.Snapshots.{named_slot, reported_slot};
 ghost use Rattle.engine_model.specs.Engine.{may_report};

@@ -1,4 +1,6 @@
 // Whether a page may get its name, and whether it may be reported, by what is on disk.
+#![tactic(auto)]
+
 ghost use Rattle.std.specs.Prelude.{◌≡◌, true};
 ghost use Rattle.engine_model.specs.Engine.{may_name, may_report};
 ghost use Rattle.engine_state.specs.State.{engine_in, held_state};

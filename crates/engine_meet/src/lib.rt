@@ -1,4 +1,6 @@
 // METADATA: what is to be done for it. Nothing changes here.
+#![tactic(auto)]
+
 ghost use Rattle.std.specs.Prelude.{◌≡◌, true, ◌≤◌, length, eqb, not, ◌&&◌};
 ghost use Rattle.header.specs.FirstWord.{bits};
 ghost use Rattle.packet_metadata.specs.Metadata.{metadata_refusal, read_metadata};

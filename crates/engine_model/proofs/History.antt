@@ -97,7 +97,7 @@ claimed_later h x i f r c =
       ended = c.ended;
       split = ap (λ (l : List Event). x ∷ l) c.split;
       of_id = c.of_id;
-      is_open = c.is_open;
+      is_open_lem = c.is_open_lem;
       of_file = c.of_file;
       same = c.same;
     }

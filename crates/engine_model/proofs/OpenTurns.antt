@@ -47,7 +47,7 @@ claims h t r p x u i y e id o s d =
       ended = x;
       split = refl;
       of_id = id;
-      is_open = ap (λ (w : World). is_open w.engine.now i) e ∙ o;
+      is_open_lem = ap (λ (w : World). is_open w.engine.now i) e ∙ o;
       of_file = ap (λ (w : World). file_of w.engine.now i) e ∙ ap (λ (z : Slot). z.file) s;
       same = ap (λ (w : World). (slot_of w.engine.now i).digest) e ∙ ap (λ (z : Slot). z.digest) s ∙ d;
     }

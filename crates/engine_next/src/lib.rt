@@ -1,4 +1,6 @@
 // What is to be done next, at a time.
+#![tactic(auto)]
+
 ghost use Rattle.std.specs.Prelude.{◌≡◌, true};
 ghost use Rattle.area.specs.Places.{read_table};
 ghost use Rattle.engine_state.specs.State.{engine_in, held_state};
@@ -9,7 +11,7 @@ use engine_slots::Slot;
 use refusals::Refusal;
 
 // The page of an Id: its file, and its length.
-#[derive(Drop)]
+#[derive(Clone, Copy)]
 pub struct Page {
     pub id: u64,
     pub file: u64,
@@ -17,7 +19,7 @@ pub struct Page {
 }
 
 // What is to be done: the STATUS of an Id is due; a page gets its name; a page is reported; an Id is closed; a sync begins; nothing.
-#[derive(Drop)]
+#[derive(Clone, Copy)]
 pub enum Next {
     Refused(Refusal),
     Answer(u64),

@@ -31,7 +31,7 @@ use Rattle.engine_change.proofs.MadeLaws.{OpenFor, kept_known, ended_known, id_r
 
 -- the Id that was read
 pub open_read_lem : (s p : List ℕ) (m : Metadata) → OpenFor s p → m ≡ metadata_of p → is_open (snapshot_in s) m.id ≡ true
-open_read_lem s p m k e = ap (λ (x : Metadata). is_open (snapshot_in s) x.id) e ∙ k.is_open
+open_read_lem s p m k e = ap (λ (x : Metadata). is_open (snapshot_in s) x.id) e ∙ k.is_open_lem
 
 id_told : (s p : List ℕ) (m : Metadata) → OpenFor s p → m ≡ metadata_of p → m.id ≡ metadata_id (read_metadata p)
 id_told s p m k e = ap (λ (x : Metadata). x.id) e ∙ sym (id_read_lem p k.fine)

@@ -1,4 +1,6 @@
 // METADATA once what it asks for was done, and closing.
+#![tactic(auto)]
+
 ghost use Rattle.std.specs.Prelude.{◌≡◌, ◌&&◌, not};
 ghost use Rattle.engine_open.specs.Opened.{meet_state, opened_state, closing, gone_state};
 
@@ -6,7 +8,7 @@ use engine_slots::{Meeting, Sender};
 use refusals::Refusal;
 
 // What closing answers: refused; nothing yet, since the page is complete and not reported; or the file of what was closed.
-#[derive(Drop)]
+#[derive(Clone, Copy)]
 pub enum Closed {
     Refused(Refusal),
     Wait,

@@ -1,4 +1,6 @@
 // The slot of an Id that is open: read, and put back.
+#![tactic(auto)]
+
 ghost use Rattle.std.specs.Prelude.{◌≡◌};
 ghost use Rattle.engine_model.specs.Snapshots.{slot_of};
 ghost use Rattle.engine_state.specs.State.{snapshot_in};

@@ -1,5 +1,7 @@
 // A stretch of DATA that was written, or compared and is equal, recorded, and its transfer heard; or one that differs, and its transfer ended unless its page
 // is busy.
+#![tactic(auto)]
+
 ghost use Rattle.std.specs.Prelude.{◌≡◌, true, cond, ◌||◌, ◌≤◌};
 ghost use Rattle.packet_data.specs.Data.{data_of};
 ghost use Rattle.engine_model.specs.Snapshots.{is_busy, heard_at};

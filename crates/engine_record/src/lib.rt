@@ -1,4 +1,6 @@
 // A stretch of DATA recorded in a lent area, in place, by its fields: what a whole packet is recorded by, of a part of it.
+#![tactic(auto)]
+
 ghost use Rattle.std.specs.Prelude.{◌≡◌, true, ◌<◌};
 ghost use Rattle.transfer.specs.Record.{stamp_in};
 ghost use Rattle.table.specs.Record.{record_data};

@@ -1,4 +1,6 @@
 // What the engine keeps of a transfer beside the library's table: a slot of words for each, after the area and in the table's order.
+#![tactic(auto)]
+
 ghost use Rattle.std.specs.Prelude.{◌≡◌, cond, ◌≤◌, ◌<◌, length, take, drop, eqb};
 ghost use Rattle.area.specs.Layout.{transfer_places};
 ghost use Rattle.words.specs.Words.{word_at, put_word};
@@ -8,7 +10,7 @@ ghost use Rattle.engine_slots.specs.Slots.{slot_at, numbers_of, put_words, set_s
 use refusals::Refusal;
 
 // Who sends: an address and a port, as the shell tells them.
-#[derive(Drop)]
+#[derive(Clone, Copy)]
 pub struct Sender {
     pub high: u64,
     pub low: u64,
@@ -16,7 +18,7 @@ pub struct Sender {
 }
 
 // The two halves of the digest of METADATA.
-#[derive(Drop)]
+#[derive(Clone, Copy)]
 pub struct Digest {
     pub first: u64,
     pub second: u64,
@@ -25,7 +27,7 @@ pub struct Digest {
 // The file that its octets go to; whose packets are taken; the digest of its METADATA; 1 where the page has its name; 1 where it was
 // reported; the number of the sync that covers the first question since the last answer (0: no answer is due), and 1 where it was asked
 // for; when it was last heard; the number of the sync that covers the latest question.
-#[derive(Drop)]
+#[derive(Clone, Copy)]
 pub struct Slot {
     pub file: u64,
     pub owner: Sender,
@@ -39,7 +41,7 @@ pub struct Slot {
 }
 
 // A stretch of a file: its octets from `from` up to `to`, which stand in the packet from `start` on.
-#[derive(Drop)]
+#[derive(Clone, Copy)]
 pub struct Stretch {
     pub id: u64,
     pub file: u64,
@@ -50,7 +52,7 @@ pub struct Stretch {
 
 // What is to be done for DATA from an offset on: nothing, since it is refused or another's; nothing more; a stretch that was received is
 // compared with its file; or a stretch that was not is written.
-#[derive(Drop)]
+#[derive(Clone, Copy)]
 pub enum Look {
     Refused(Refusal),
     Stranger,
@@ -60,7 +62,7 @@ pub enum Look {
 }
 
 // The files of a transfer that is opened. `ends` is 1 where another transfer of the Id ends for it, whose file is `old`.
-#[derive(Drop)]
+#[derive(Clone, Copy)]
 pub struct Files {
     pub id: u64,
     pub file: u64,
@@ -70,7 +72,7 @@ pub struct Files {
 
 // What is to be done for METADATA: nothing; nothing yet, since the page of the open transfer is complete and not reported; nothing, since
 // it is the METADATA of the open transfer; the sender has ended the transfer, whose file is told; or files are made.
-#[derive(Drop)]
+#[derive(Clone, Copy)]
 pub enum Meeting {
     Refused(Refusal),
     Wait,

@@ -1,4 +1,6 @@
 // The engine's state in one lent area: judged, its numbers read and written, an Id taken out of what is now.
+#![tactic(auto)]
+
 ghost use Rattle.std.specs.Prelude.{◌≡◌, true, ◌≤◌, ◌<◌, length, drop};
 ghost use Rattle.area.specs.Places.{read_table, KeptAt};
 ghost use Rattle.area.specs.Judge.{judged};

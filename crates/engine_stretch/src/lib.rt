@@ -1,4 +1,6 @@
 // How far octets are alike, all received or none, over the rows of a transfer's runs.
+#![tactic(auto)]
+
 ghost use Rattle.std.specs.Prelude.{◌≡◌, min};
 ghost use Rattle.run_rows.specs.Rows.{runs_in, RowsFit};
 ghost use Rattle.engine_stretch.specs.Stretch.{reach_from};
@@ -6,7 +8,7 @@ ghost use Rattle.engine_stretch.specs.Stretch.{reach_from};
 use run_rows::Rows;
 
 // Whether the octets are received, and the first offset after those that are alike.
-#[derive(Drop)]
+#[derive(Clone, Copy)]
 pub struct Reach {
     pub received: bool,
     pub stop: u64,

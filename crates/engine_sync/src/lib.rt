@@ -1,4 +1,6 @@
 // Starting from what was saved, and syncs: beginning one, and how it ended.
+#![tactic(auto)]
+
 ghost use Rattle.std.specs.Prelude.{◌≡◌, ◌≤◌, length};
 ghost use Rattle.engine_slots.specs.Layout.{snapshot_octets};
 ghost use Rattle.engine_model.specs.Snapshots.{is_some};
@@ -8,7 +10,7 @@ ghost use Rattle.engine_state.specs.State.{engine_in};
 ghost use Rattle.engine_sync.specs.Syncs.{start_refusal, three_of, numbered, started_state, beginning, begun_as, begun_state, held_refusal, good_state, bad_state, ended_state};
 
 // The refusal, 22 or 0; and the number of the sync that began, 0 for none.
-#[derive(Drop)]
+#[derive(Clone, Copy)]
 pub struct Begun {
     pub number: u64,
     pub sync: u64,

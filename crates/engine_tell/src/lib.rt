@@ -1,4 +1,6 @@
 // What is told: a STATUS of what is synced.
+#![tactic(auto)]
+
 ghost use Rattle.std.specs.Prelude.{◌≡◌, true, cond, ltb};
 ghost use Rattle.engine_model.specs.Snapshots.{answered_slot};
 ghost use Rattle.engine_state.specs.State.{held_state};
@@ -8,13 +10,13 @@ use engine_slots::{Sender, Slot};
 use refusals::{Refusal, Written};
 
 // A STATUS: its octets in the lent buffer, and to whom it goes.
-#[derive(Drop)]
+#[derive(Clone, Copy)]
 pub struct Letter {
     pub size: usize,
     pub to: Sender,
 }
 
-#[derive(Drop)]
+#[derive(Clone, Copy)]
 pub enum Told {
     Refused(Refusal),
     Sent(Letter),

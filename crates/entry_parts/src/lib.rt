@@ -1,10 +1,12 @@
 // The properties and the path of a directory entry.
+#![tactic(auto)]
+
 ghost use Rattle.std.specs.Prelude.{◌≡◌, ◌+◌, ◌<◌};
 ghost use Rattle.entry_parts.specs.Properties.{PropertiesOf, property_refusal, size_octets};
 ghost use Rattle.entry_parts.specs.Path.{zero_at, path_refusal, path_write_refusal};
 
 // The fields of the properties: bits 6 and 7, bit 10, and bits 8 and 9.
-#[derive(Drop)]
+#[derive(Clone, Copy)]
 pub struct Properties {
     pub special: u64,
     pub bundle: u64,

@@ -1,4 +1,6 @@
 // A failure STATUS written.
+#![tactic(auto)]
+
 ghost use Rattle.std.specs.Prelude.{◌≡◌};
 ghost use Rattle.failure_status.specs.WriteFailure.{failure_write_refusal, failure_written, failure_buffer};
 

@@ -1,4 +1,6 @@
 // The first word of a packet by shifts and masks, and the Id behind it.
+#![tactic(auto)]
+
 ghost use Rattle.std.specs.Prelude.{◌≡◌, ◌<◌, ◌≤◌, ◌^◌, length};
 ghost use Rattle.header.specs.FirstWord.{Splits, word_for};
 ghost use Rattle.header.specs.Start.{word_of, id_of};

@@ -1,8 +1,9 @@
 // The first word of a packet, what all packets begin with, and a descriptor at a place: definitions and laws. The code is in first_word,
 // descriptors and packet_start.
+#![tactic(auto)]
 
 // The fields of a packet's first word. What some of them mean depends on the packet's type.
-#[derive(Drop)]
+#[derive(Clone, Copy)]
 pub struct Head {
     pub mark: u64,
     pub ptype: u64,

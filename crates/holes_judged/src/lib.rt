@@ -1,4 +1,6 @@
 // Whether the holes of a STATUS are such as it may list.
+#![tactic(auto)]
+
 ghost use Rattle.std.specs.Prelude.{◌≡◌, ◌+◌, ◌*◌, ◌<◌, ◌≤◌, length};
 ghost use Rattle.octets.specs.Numbers.{Width};
 ghost use Rattle.hole_list.specs.HoleList.{holes_of, holes_after, starts_well, holes_well, points_to_last};

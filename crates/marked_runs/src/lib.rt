@@ -1,4 +1,6 @@
 // The runs that marks stand for, found by walking them.
+#![tactic(auto)]
+
 ghost use Rattle.std.specs.Prelude.{◌≡◌, not, ◌*◌, ◌-◌, ◌%◌, ◌≤◌, ◌<◌, length};
 ghost use Rattle.marks.specs.Marks.{mark_octets, mark_count, marked};
 ghost use Rattle.marks.specs.Walk.{AllAre, FirstWith, RunsFound, blank_octet, blank_word};

@@ -1,4 +1,6 @@
 // One mark for each offset of a transfer, in 8,192 octets: mark n is bit n, the highest bit of each octet first.
+#![tactic(auto)]
+
 ghost use Rattle.std.specs.Prelude.{◌≡◌, not, ◌*◌, ◌-◌, ◌%◌, ◌^◌, ◌≤◌, ◌<◌, length};
 ghost use Rattle.marks.specs.Marks.{mark_octets, mark_count, with_mark, with_marks, cleared};
 

@@ -1,4 +1,6 @@
 // The blocks of a message, one after the other.
+#![tactic(auto)]
+
 ghost use Rattle.std.specs.Prelude.{◌≡◌};
 ghost use Rattle.md5_blocks.specs.Md5.{run};
 

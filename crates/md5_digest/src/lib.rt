@@ -1,4 +1,6 @@
 // Ending a message: the padding, and the digest.
+#![tactic(auto)]
+
 ghost use Rattle.std.specs.Prelude.{◌≡◌, ◌≤◌, length};
 ghost use Rattle.md5_state.specs.State.{state_octets, last_words};
 ghost use Rattle.md5_digest.specs.End.{end_refusal, digest_written, digest_buffer};

@@ -1,4 +1,6 @@
 // A message in parts: beginning, and adding a part.
+#![tactic(auto)]
+
 ghost use Rattle.std.specs.Prelude.{◌≡◌, ◌≤◌, length};
 ghost use Rattle.octets.specs.Put.{put};
 ghost use Rattle.md5_state.specs.State.{state_octets, state_refusal, fed};

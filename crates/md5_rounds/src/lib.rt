@@ -1,4 +1,6 @@
 // The four rounds of MD5, and the words after a block. The 64 steps stand here one by one, with their numbers as literals.
+#![tactic(auto)]
+
 ghost use Rattle.std.specs.Prelude.{◌≡◌};
 ghost use Rattle.md5_rounds.specs.Rounds.{first, second, third, fourth, round_of, summed, compressed};
 

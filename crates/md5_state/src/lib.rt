@@ -1,4 +1,6 @@
 // The state between two parts of a message: what is read of it, and storing it.
+#![tactic(auto)]
+
 ghost use Rattle.std.specs.Prelude.{◌≡◌, ◌++◌, ◌≤◌, length};
 ghost use Rattle.octets.specs.Numbers.{be_digits};
 ghost use Rattle.octets.specs.Put.{put};

@@ -1,4 +1,6 @@
 // One step of MD5: the four words after it, by value.
+#![tactic(auto)]
+
 ghost use Rattle.std.specs.Prelude.{◌≡◌, ◌<◌};
 ghost use Rattle.md5_steps.specs.Steps.{mix_f, mix_g, mix_h, mix_i, rotl, turned, step};
 

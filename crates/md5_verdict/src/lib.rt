@@ -1,4 +1,6 @@
 // The verdict on METADATA: whether what was added to an MD5 is the file that the packet's checksum is of.
+#![tactic(auto)]
+
 ghost use Rattle.std.specs.Prelude.{◌≡◌, ◌≤◌, length};
 ghost use Rattle.md5_state.specs.State.{state_octets, digest_of};
 ghost use Rattle.md5_verdict.specs.Verdict.{same_octets, checksum_type, checksum_of, verdict_refusal, check_md5};
@@ -6,7 +8,7 @@ ghost use Rattle.md5_verdict.specs.Verdict.{same_octets, checksum_type, checksum
 use refusals::Refusal;
 
 // What checking answers.
-#[derive(Drop)]
+#[derive(Clone, Copy)]
 pub enum Verdict {
     NotChecked,
     Agrees,

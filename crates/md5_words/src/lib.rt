@@ -1,4 +1,6 @@
 // Words of 32 bits, the lowest octet first: read from octets, four or sixteen at once, and four of them written.
+#![tactic(auto)]
+
 ghost use Rattle.std.specs.Prelude.{◌≡◌, ◌+◌, ◌*◌, ◌^◌, ◌≤◌, ◌<◌, length};
 ghost use Rattle.octets.specs.Put.{put};
 ghost use Rattle.md5_words.specs.Words.{word_at, words_at, word_octets};

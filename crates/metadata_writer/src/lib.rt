@@ -1,4 +1,6 @@
 // METADATA packets written.
+#![tactic(auto)]
+
 ghost use Rattle.std.specs.Prelude.{◌≡◌, ◌+◌, ◌<◌, ◌^◌, length};
 ghost use Rattle.octets.specs.Put.{put};
 ghost use Rattle.packet_metadata.specs.WriteMetadata.{metadata_excess, checksum_refusal, metadata_size, metadata_write_refusal, metadata_octets, metadata_written, metadata_buffer, MetadataFits};

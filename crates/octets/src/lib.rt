@@ -1,10 +1,12 @@
 // Plain octets: numbers of d octets written into a buffer, and copies into one. Nothing here knows of Saratoga.
+#![tactic(auto)]
+
 ghost use Rattle.std.specs.Prelude.{◌≡◌, ◌+◌, ◌*◌, ◌^◌, ◌≤◌, ◌<◌, ltb, length};
 ghost use Rattle.octets.specs.Numbers.{be_digits};
 ghost use Rattle.octets.specs.Put.{put};
 
 // What the octets of a descriptor tell: whether all of them above the last eight are zero, and the number where they are, else 0.
-#[derive(Drop)]
+#[derive(Clone, Copy)]
 pub struct Number {
     pub small: bool,
     pub value: u64,

@@ -1,4 +1,6 @@
 // Numbers of d octets read, the highest octet first.
+#![tactic(auto)]
+
 ghost use Rattle.std.specs.Prelude.{◌≡◌, ◌+◌, ◌*◌, ◌≤◌, length, take, drop};
 ghost use Rattle.octets.specs.Numbers.{be_value, Width, number_in};
 

@@ -1,4 +1,6 @@
 // What storing in place needs: numbers with the lowest octet first, and moves inside a buffer.
+#![tactic(auto)]
+
 ghost use Rattle.std.specs.Prelude.{◌≡◌, ◌+◌, ◌*◌, ◌≤◌, ◌<◌, length, take, drop};
 ghost use Rattle.octets.specs.Numbers.{le_value, le_digits};
 ghost use Rattle.octets.specs.Put.{put};

@@ -91,9 +91,9 @@ module _ (s : List ℕ) where
     by_start (start_refusal s) refl,
     (λ p. rw (
       (header.start_none_iff s).1 p.0,
-      ne_eqb type 0 p.1.not-beacon,
-      ne_eqb type 2 p.1.not-metadata,
-      ne_eqb type 3 p.1.not-data,
-      ne_eqb type 4 p.1.not-status,
+      ne_eqb type 0 p.1.not_beacon,
+      ne_eqb type 2 p.1.not_metadata,
+      ne_eqb type 3 p.1.not_data,
+      ne_eqb type 4 p.1.not_status,
     )),
   )

@@ -1,4 +1,6 @@
 // Reading a packet of any type.
+#![tactic(auto)]
+
 ghost use Rattle.std.specs.Prelude.{◌≡◌};
 ghost use Rattle.packet.specs.Read.{of_beacon, of_metadata, of_data, of_status, read_packet};
 
@@ -9,7 +11,7 @@ use packet_status::{FailureStatus, StatusRead, SuccessStatus};
 use refusals::Refusal;
 
 // What a packet holds, by its type, or why it is refused.
-#[derive(Drop)]
+#[derive(Clone, Copy)]
 pub enum Read {
     Beacon(Beacon),
     Metadata(Metadata),

@@ -1,4 +1,6 @@
 // BEACON packets read: who is on the air, what it can and will do, and how much room it has.
+#![tactic(auto)]
+
 ghost use Rattle.std.specs.Prelude.{◌≡◌, ◌+◌, ◌≤◌, length};
 ghost use Rattle.beacon_flags.specs.Flags.{free_octets};
 ghost use Rattle.header.specs.Start.{word_of};
@@ -10,7 +12,7 @@ use refusals::Refusal;
 
 // The fields of a BEACON packet. `largest` counts the octets of the largest descriptor, and `width` those of the free space, 0
 // where there is none; the endpoint is `length` octets from `start` on.
-#[derive(Drop)]
+#[derive(Clone, Copy)]
 pub struct Beacon {
     pub flags: u64,
     pub largest: usize,
@@ -24,7 +26,7 @@ pub struct Beacon {
     pub length: usize,
 }
 
-#[derive(Drop)]
+#[derive(Clone, Copy)]
 pub enum BeaconRead {
     Accepted(Beacon),
     Refused(Refusal),

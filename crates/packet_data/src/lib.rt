@@ -1,11 +1,13 @@
 // DATA packets read, the payload handed back as a part of the packet.
+#![tactic(auto)]
+
 ghost use Rattle.std.specs.Prelude.{◌≡◌, ◌+◌, length};
 ghost use Rattle.packet_data.specs.Data.{offset_at, payload_at, data_refusal, data_of, read_data, payload_of};
 
 use refusals::Refusal;
 
 // The fields of a DATA packet. `width` and `timestamp` count octets; the payload is `length` octets from `start` on.
-#[derive(Drop)]
+#[derive(Clone, Copy)]
 pub struct Data {
     pub flags: u64,
     pub id: u64,
@@ -18,7 +20,7 @@ pub struct Data {
     pub length: usize,
 }
 
-#[derive(Drop)]
+#[derive(Clone, Copy)]
 pub enum DataRead {
     Accepted(Data),
     Refused(Refusal),

@@ -1,4 +1,6 @@
 // METADATA packets read.
+#![tactic(auto)]
+
 ghost use Rattle.std.specs.Prelude.{◌≡◌, ◌+◌, ◌<◌};
 ghost use Rattle.packet_metadata.specs.Checksum.{pair_allowed, pair_refusal, checksum_octets};
 ghost use Rattle.packet_metadata.specs.Metadata.{metadata_refusal, metadata_of, read_metadata};
@@ -7,7 +9,7 @@ use directory_entry::Entry;
 use refusals::Refusal;
 
 // The fields of a METADATA packet. `width` and `checksum` count octets; the checksum stands from place 8 on.
-#[derive(Drop)]
+#[derive(Clone, Copy)]
 pub struct Metadata {
     pub flags: u64,
     pub id: u64,
@@ -16,7 +18,7 @@ pub struct Metadata {
     pub entry: Entry,
 }
 
-#[derive(Drop)]
+#[derive(Clone, Copy)]
 pub enum MetadataRead {
     Accepted(Metadata),
     Refused(Refusal),

@@ -1,4 +1,6 @@
 // What every packet is refused with for its beginning.
+#![tactic(auto)]
+
 ghost use Rattle.std.specs.Prelude.{◌≡◌};
 ghost use Rattle.header.specs.Start.{start_octets, start_refusal, type_refusal, file_refusal};
 

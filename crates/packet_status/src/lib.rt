@@ -1,4 +1,6 @@
 // STATUS packets: which are refused.
+#![tactic(auto)]
+
 ghost use Rattle.std.specs.Prelude.{◌≡◌, ◌≤◌, length};
 ghost use Rattle.packet_status.specs.Status.{DescriptorsFine, list_refusal, success_refusal, status_refusal};
 
@@ -6,7 +8,7 @@ use refusals::Refusal;
 use runs::Hole;
 
 // The fields of a success STATUS. `width` and `timestamp` count octets; `count` holes stand from the place `holes` on.
-#[derive(Drop)]
+#[derive(Clone, Copy)]
 pub struct SuccessStatus {
     pub flags: u64,
     pub id: u64,
@@ -19,21 +21,21 @@ pub struct SuccessStatus {
 }
 
 // The fields of a failure STATUS; `status` is its code.
-#[derive(Drop)]
+#[derive(Clone, Copy)]
 pub struct FailureStatus {
     pub flags: u64,
     pub id: u64,
     pub status: u64,
 }
 
-#[derive(Drop)]
+#[derive(Clone, Copy)]
 pub enum StatusRead {
     Success(SuccessStatus),
     Failure(FailureStatus),
     Refused(Refusal),
 }
 
-#[derive(Drop)]
+#[derive(Clone, Copy)]
 pub enum HoleRead {
     Accepted(Hole),
     Refused(Refusal),

@@ -1,4 +1,6 @@
 // What to send again: the pieces that fill the holes of a STATUS, and which STATUS can be planned for.
+#![tactic(auto)]
+
 ghost use Rattle.std.specs.Prelude.{◌≡◌, ◌-◌, ◌<◌, not, length, eqb};
 ghost use Rattle.packet_status.specs.Status.{hole_list};
 ghost use Rattle.refusals.specs.Refusals.{when};
@@ -6,21 +8,21 @@ ghost use Rattle.plan.specs.Planning.{allowed, resend_refusal, judged_of};
 
 // Octets to send: the first one's offset, and how many. struct saratoga_piece.
 #[repr(C)]
-#[derive(Drop)]
+#[derive(Clone, Copy)]
 pub struct Piece {
     pub offset: u64,
     pub length: u64,
 }
 
 // The refusal of a STATUS or of a largest payload, 0 for none, and the number of holes to fill.
-#[derive(Drop)]
+#[derive(Clone, Copy)]
 pub struct Judged {
     pub number: u64,
     pub holes: usize,
 }
 
 // The refusal of a plan, 0 for none; how many pieces it has, and of how many holes.
-#[derive(Drop)]
+#[derive(Clone, Copy)]
 pub struct Plan {
     pub number: u64,
     pub count: u64,
@@ -29,7 +31,7 @@ pub struct Plan {
 
 // How far a plan or a check has come: the octets from `offset` to `end` are next, then the holes from the index `next` on, of
 // `count`. Where nothing is left, `offset` is `end`.
-#[derive(Drop)]
+#[derive(Clone, Copy)]
 pub struct Cursor {
     pub offset: u64,
     pub end: u64,

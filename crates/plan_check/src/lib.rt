@@ -1,5 +1,7 @@
 // The check of a list of pieces, one after the other.
 // A list of pieces is walked by what C calls (crate saratoga); here is what there is to compute, on numbers and on a Piece by value.
+#![tactic(auto)]
+
 ghost use Rattle.std.specs.Prelude.{◌≡◌};
 ghost use Rattle.packet_status.specs.Status.{hole_list};
 ghost use Rattle.plan.specs.Pieces.{piece};
@@ -9,7 +11,7 @@ ghost use Rattle.plan_check.specs.Checking.{fits, check_start, check_step, passe
 use plan::{Cursor, Piece};
 
 // A check under way: the refusal, 0 for none; whether all pieces so far are fine; and how far they have come.
-#[derive(Drop)]
+#[derive(Clone, Copy)]
 pub struct Check {
     pub number: u64,
     pub fine: bool,

@@ -1,5 +1,7 @@
 // What to send again, piece by piece: how many pieces there are, and each of them in turn. A list of pieces is walked by what C calls
 // (answer_plans); here is what there is to compute, on numbers and on a Piece by value.
+#![tactic(auto)]
+
 ghost use Rattle.std.specs.Prelude.{◌≡◌, ◌+◌, ◌-◌, ◌<◌, ◌≤◌, min, not, length};
 ghost use Rattle.header.specs.FirstWord.{descriptor_octets};
 ghost use Rattle.header.specs.Start.{word_of};

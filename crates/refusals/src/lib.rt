@@ -1,18 +1,20 @@
 // The refusals: their numbers, the status code of each, and what a writer answers. Not only packets are refused, so this knows of none.
+#![tactic(auto)]
+
 ghost use Rattle.std.specs.Prelude.{◌≡◌};
 ghost use Rattle.refusals.specs.Refusals.{◌▹◌, code_of, refusal_of};
 ghost use Rattle.refusals.specs.Tests.{bit};
 ghost use Rattle.refusals.specs.Writing.{room_refusal};
 
 // A refusal: its number, and the status code to send (0: nothing to send).
-#[derive(Drop)]
+#[derive(Clone, Copy)]
 pub struct Refusal {
     pub number: u64,
     pub code: u64,
 }
 
 // What a writer answers: the size of the packet that it wrote, or why it wrote nothing.
-#[derive(Drop)]
+#[derive(Clone, Copy)]
 pub enum Written {
     Size(usize),
     Refused(Refusal),

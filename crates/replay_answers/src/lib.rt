@@ -1,4 +1,6 @@
 // The answer of each operation as a line, by its cases.
+#![tactic(auto)]
+
 ghost use Rattle.std.specs.Prelude.{◌≤◌, length};
 ghost use Rattle.text.specs.Added.{Added};
 ghost use Rattle.replay_answers.specs.AnswerLines.{fresh_text, close_text, opening_text, open_text, recording_text, record_text, read_text, status_text, sent_text};

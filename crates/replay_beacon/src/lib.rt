@@ -1,4 +1,6 @@
 // The line of a BEACON.
+#![tactic(auto)]
+
 ghost use Rattle.std.specs.Prelude.{◌≤◌, length};
 ghost use Rattle.text.specs.Added.{Added};
 ghost use Rattle.replay_beacon.specs.BeaconLine.{state_text, flags_text, states_text, free_text, beacon_line};

@@ -1,4 +1,6 @@
 // The record `K`: the line of the check of a list of pieces, which is read from octets.
+#![tactic(auto)]
+
 ghost use Rattle.std.specs.Prelude.{◌≡◌, ◌+◌, ◌*◌, ◌≤◌, length};
 ghost use Rattle.packet_status.specs.Status.{hole_list};
 ghost use Rattle.plan.specs.Planning.{Readable};

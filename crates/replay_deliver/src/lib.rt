@@ -1,5 +1,7 @@
 // What a link program does with a packet off the link: METADATA opens, DATA is recorded, STATUS and BEACON are read, and
 // what is to be sent is a second line.
+#![tactic(auto)]
+
 ghost use Rattle.std.specs.Prelude.{◌≡◌, ◌≤◌, length};
 ghost use Rattle.area.specs.Operations.{open_area, record_area};
 ghost use Rattle.packet.specs.Read.{read_packet};

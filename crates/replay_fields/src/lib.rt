@@ -1,5 +1,7 @@
 // The parts of a line: a name with a number in decimal, with octets in hex, or with the last octets of a number in hex; and a pair of
 // numbers in a list.
+#![tactic(auto)]
+
 ghost use Rattle.std.specs.Prelude.{◌≡◌, ◌≤◌, min, length, take, drop};
 ghost use Rattle.text.specs.Added.{Added};
 ghost use Rattle.replay_fields.specs.Fields.{field, octets_field, number_field, pair_text, in_list, bits_of, flag_of, reached_text};

@@ -1,4 +1,6 @@
 // What `replay` does for a record, by its kind, where the kind takes the chosen table alone, or none, and no buffer for STATUS.
+#![tactic(auto)]
+
 ghost use Rattle.std.specs.Prelude.{◌≡◌};
 ghost use Rattle.text.specs.Added.{Added};
 ghost use Rattle.replay_kinds.specs.ByKind.{no_table_lines, one_table_lines, one_table_after};

@@ -1,4 +1,6 @@
 // The line of each answer. Each starts with the number of its record.
+#![tactic(auto)]
+
 ghost use Rattle.std.specs.Prelude.{◌≤◌, length};
 ghost use Rattle.text.specs.Added.{Added};
 ghost use Rattle.replay_lines.specs.Lines.{plain_line, refused_line, close_line, octets_line, unknown_line, opened_line, record_line};

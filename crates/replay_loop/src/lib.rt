@@ -1,24 +1,31 @@
-// The records of a pass, read from a file one by one, and the answer to each written to standard output.
+// The records of a pass, read one by one, and the answer to each written.
+#![tactic(auto)]
+
+ghost use Rattle.std.specs.Prelude.{◌≡◌, IsTrue};
+ghost use Rattle.std.specs.Io.KnownBytes.{Appends};
+ghost use Rattle.replay_merge.specs.MergeLines.{chosen_after};
+ghost use Rattle.replay_steps.specs.Records.{record_lines, chosen_of, other_of, zero_after, one_after};
 ghost use Rattle.replay_steps.specs.Room.{Room};
 
-use libc::STDOUT_FILENO;
 use replay_input::Input;
+use std::io::{Read, Write};
 
 // Whether to go on, and which table is chosen then.
-#[derive(Drop)]
+#[derive(Clone, Copy)]
 struct Next {
     on: bool,
     chosen: u8,
 }
 
 // The last line, of a record inside which the input ends.
-fn cut_short(number: u64, out: &mut [u8]) {
+fn cut_short<W: Write>(output: &mut W, number: u64, out: &mut [u8]) {
     let size = replay_steps::cut_short(number, out);
-    io::write_all(STDOUT_FILENO, &out[..size]);
+    let _ = output.write_all(&out[..size]);
 }
 
 // Writes the lines of one record, and goes on where they were written.
-fn tell(
+fn tell<W: Write>(
+    output: &mut W,
     number: u64,
     chosen: u8,
     zero: &mut [u8],
@@ -29,17 +36,23 @@ fn tell(
     out: &mut [u8],
 ) -> Next
     requires { Room body.now lent.old out.old }
+    ensures written { IsTrue result.on → Appends (W.contents output.old) (W.contents output.new)
+        (record_lines number kind body.now (chosen_of chosen zero.old one.old) (other_of chosen zero.old one.old) lent.old) }
+    ensures zero { zero.new ≡ zero_after chosen kind body.now zero.old one.old }
+    ensures one { one.new ≡ one_after chosen kind body.now zero.old one.old }
+    ensures chosen { result.chosen ≡ chosen_after kind body.now chosen }
 {
     let size = replay_steps::answer(zero, one, chosen, number, kind, body, lent, out);
     Next {
-        on: io::write_all(STDOUT_FILENO, &out[..size]),
+        on: output.write_all(&out[..size]).is_ok(),
         chosen: replay_merge::chosen_after(kind, body, chosen),
     }
 }
 
 // Answers one record.
-fn step(
-    fd: i32,
+fn step<R: Read, W: Write>(
+    input: &mut R,
+    output: &mut W,
     number: u64,
     chosen: u8,
     zero: &mut [u8],
@@ -51,19 +64,32 @@ fn step(
     requires { Room body.old lent.old out.old }
 {
     let end = Next { on: false, chosen };
-    match replay_input::next(fd, body) {
+    match replay_input::next(input, body) {
         Input::End => end,
         Input::CutShort => {
-            cut_short(number, out);
+            cut_short(output, number, out);
             end
         }
-        Input::Record(kind, n) => { tell(number, chosen, zero, one, kind, &body[..n], lent, out) }
+        Input::Record(kind, n) => {
+            tell(
+                output,
+                number,
+                chosen,
+                zero,
+                one,
+                kind,
+                &body[..n],
+                lent,
+                out,
+            )
+        }
     }
 }
 
 // A proved loop has to end, and nothing says that the input does. So the records are counted, up to a number that no input reaches.
-pub fn replay(
-    fd: i32,
+pub fn replay<R: Read, W: Write>(
+    input: &mut R,
+    output: &mut W,
     zero: &mut [u8],
     one: &mut [u8],
     body: &mut [u8],
@@ -74,13 +100,24 @@ pub fn replay(
 {
     area_fresh::fresh(zero);
     area_fresh::fresh(one);
-    let mut number = 1;
     let mut next = Next {
         on: true,
         chosen: 0,
     };
-    while number < u64::MAX && next.on {
-        next = step(fd, number, next.chosen, zero, one, body, lent, out);
-        number += 1;
+    for number in 1..u64::MAX {
+        if !next.on {
+            break;
+        }
+        next = step(
+            input,
+            output,
+            number,
+            next.chosen,
+            zero,
+            one,
+            body,
+            lent,
+            out,
+        );
     }
 }

@@ -1,4 +1,6 @@
 // The records `T` and `M`: which of two tables is chosen, and the other's transfer merged into the chosen one's.
+#![tactic(auto)]
+
 ghost use Rattle.std.specs.Prelude.{◌≡◌, ◌≤◌, length};
 ghost use Rattle.text.specs.Added.{Added};
 ghost use Rattle.replay_merge.specs.MergeLines.{names_table, table_line, choose_lines, chosen_after, merged_line, merge_text, merge_lines, merge_after};

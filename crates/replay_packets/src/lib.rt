@@ -1,4 +1,6 @@
 // The lines of METADATA, of DATA and of a failure STATUS that was read. Each starts with the number of its record.
+#![tactic(auto)]
+
 ghost use Rattle.std.specs.Prelude.{◌≤◌, length};
 ghost use Rattle.text.specs.Added.{Added};
 ghost use Rattle.replay_packets.specs.PacketLines.{head_text, entry_text, metadata_line, data_line, failure_line};

@@ -1,4 +1,6 @@
 // The record `L`: the line of a plan. No list of pieces is held: it is put piece by piece, as crate planner makes it.
+#![tactic(auto)]
+
 ghost use Rattle.std.specs.Prelude.{◌≡◌, ◌+◌, ◌≤◌, length};
 ghost use Rattle.packet_status.specs.Status.{hole_list};
 ghost use Rattle.plan.specs.Pieces.{plan_of};

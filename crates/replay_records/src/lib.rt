@@ -1,4 +1,6 @@
 // A function for each kind of record that is one operation of the receiver: it calls the operation, and its answer becomes a line.
+#![tactic(auto)]
+
 ghost use Rattle.std.specs.Prelude.{◌≡◌};
 ghost use Rattle.area.specs.Operations.{open_area, record_area};
 ghost use Rattle.packet.specs.Read.{read_packet};

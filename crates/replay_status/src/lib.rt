@@ -1,4 +1,6 @@
 // STATUS that is written, or is to be sent, as a line: the octets that are left in a lent buffer.
+#![tactic(auto)]
+
 ghost use Rattle.std.specs.Prelude.{◌≤◌, length};
 ghost use Rattle.text.specs.Added.{Added};
 ghost use Rattle.replay_status.specs.StatusLines.{failure_sent, wanted_sent, written_line, status_lines};

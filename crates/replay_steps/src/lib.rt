@@ -1,4 +1,6 @@
 // What `replay` does for each record, by its kind.
+#![tactic(auto)]
+
 ghost use Rattle.std.specs.Prelude.{◌≡◌, ◌≤◌, length, take};
 ghost use Rattle.text.specs.Added.{Added};
 ghost use Rattle.replay_steps.specs.Records.{cut_line, record_lines, area_after, chosen_of, other_of, zero_after, one_after};

@@ -1,4 +1,6 @@
 // The line of a success STATUS that was read, with its holes.
+#![tactic(auto)]
+
 ghost use Rattle.std.specs.Prelude.{◌≡◌, ◌≤◌, length};
 ghost use Rattle.packet_status.specs.Status.{read_status, read_hole};
 ghost use Rattle.text.specs.Added.{Added};

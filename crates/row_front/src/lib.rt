@@ -1,4 +1,6 @@
 // What stands before the holes in a STATUS of one transfer whose runs are kept in two rows of words.
+#![tactic(auto)]
+
 ghost use Rattle.std.specs.Prelude.{◌≡◌, ◌≤◌, length};
 ghost use Rattle.octets.specs.Put.{put};
 ghost use Rattle.run_rows.specs.Rows.{runs_in, RowsFit};

@@ -1,4 +1,6 @@
 // STATUS of one transfer whose runs are kept in two rows of words.
+#![tactic(auto)]
+
 ghost use Rattle.std.specs.Prelude.{◌≡◌};
 ghost use Rattle.octets.specs.Numbers.{Width};
 ghost use Rattle.run_rows.specs.Rows.{runs_in, RowsFine};

@@ -1,4 +1,6 @@
 // The union of the runs of two pairs of rows, in one buffer each, by a walk over both at once. It is left in two arrays.
+#![tactic(auto)]
+
 ghost use Rattle.std.specs.Prelude.{◌≡◌, ◌+◌, ◌<◌, max};
 ghost use Rattle.run_rows.specs.Rows.{runs_in, RowsFit, RowsFine};
 ghost use Rattle.run_union.specs.Union.{union};
@@ -7,7 +9,7 @@ ghost use Rattle.row_union.specs.Joined.{Ahead, RowsPast, Stepped, Put, Joined};
 use run_rows::Rows;
 
 // A run that was taken, how many runs of each pair of rows are passed after it, and where the next one of each starts.
-#[derive(Drop)]
+#[derive(Clone, Copy)]
 pub struct Next {
     pub start: u64,
     pub stop: u64,

@@ -1,4 +1,6 @@
 // Where a stretch goes among runs that are kept in two rows of words: what it overlaps or touches, and the run that they make.
+#![tactic(auto)]
+
 ghost use Rattle.std.specs.Prelude.{◌≡◌, ◌+◌, ◌*◌, ◌≤◌, ◌<◌, length};
 ghost use Rattle.runs.specs.Splice.{low_of, high_of, adds_at};
 ghost use Rattle.run_rows.specs.Rows.{runs_in, RowsFit, CutTo, CutBelow};

@@ -1,4 +1,6 @@
 // Whether two rows of words hold the runs of a transfer.
+#![tactic(auto)]
+
 ghost use Rattle.std.specs.Prelude.{◌≡◌, ◌+◌, ◌<◌, length};
 ghost use Rattle.run_rows.specs.Rows.{runs_in, RowsFit};
 ghost use Rattle.run_judge.specs.Judge.{runs_test};

@@ -1,4 +1,6 @@
 // Runs kept in a buffer as two rows of words, read where they are.
+#![tactic(auto)]
+
 ghost use Rattle.std.specs.Prelude.{◌≡◌, ◌+◌, ◌<◌, length, get_or};
 ghost use Rattle.runs.specs.Holes.{edge, hole, holes, progress, complete};
 ghost use Rattle.runs.specs.Received.{received};
@@ -8,7 +10,7 @@ use runs::Hole;
 
 // Where the runs of one transfer are kept: their starts are the `count` words from word `starts` on, their stops those from
 // word `stops` on.
-#[derive(Drop)]
+#[derive(Clone, Copy)]
 pub struct Rows {
     pub starts: usize,
     pub stops: usize,

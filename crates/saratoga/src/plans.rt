@@ -1,5 +1,4 @@
 // What to send again: the plan for a STATUS, and the check of a list of pieces, whoever made it.
-// Two functions have a list of pieces, and are proved by a walk of their MIR, by hand.
 ghost use Rattle.std.specs.Prelude.{◌≡◌, length};
 ghost use Rattle.packet_status.specs.Status.{hole_list};
 ghost use Rattle.plan.specs.Pieces.{plan_of};

@@ -1,5 +1,7 @@
 // The engine's public face: what C calls. include/saratoga_engine.h declares it. Each function is one call of the function below it that has
 // the same contract.
+#![tactic(auto)]
+
 ghost use Rattle.std.specs.Prelude.{◌≡◌};
 ghost use Rattle.engine_data.specs.Store.{look_state, stored_state};
 ghost use Rattle.engine_open.specs.Opened.{meet_state, opened_state, closing, gone_state};

@@ -1,10 +1,12 @@
 // What a plant's settings may be: which versions, keys and values are refused (R18.4, R18.5).
+#![tactic(auto)]
+
 ghost use Rattle.std.specs.Prelude.{◌≡◌};
 ghost use Rattle.settings.specs.Settings.{version_refusal, highest_key, key_refusal, range_refusal, value_refusal};
 
 // A plant's settings: the largest payload; the seconds between unasked STATUS where it is `timed`; the Id of the partner dish where it
 // is `paired`.
-#[derive(Drop)]
+#[derive(Clone, Copy)]
 pub struct Settings {
     pub version: u64,
     pub largest: u64,

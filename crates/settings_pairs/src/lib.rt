@@ -1,9 +1,11 @@
 // One pair of a settings file, read: a key and its value (R18.6).
+#![tactic(auto)]
+
 ghost use Rattle.std.specs.Prelude.{◌≡◌, ◌≤◌, length, drop};
 ghost use Rattle.settings_pairs.specs.Pairs.{pair_in};
 
 // A pair that was read: its refusal, 1 or 25, or 0 and then key, value and how many octets it has.
-#[derive(Drop)]
+#[derive(Clone, Copy)]
 pub struct Pair {
     pub refusal: u64,
     pub key: u64,

@@ -1,4 +1,6 @@
 // A plant's settings file, read: a version, a count, then pairs of a key and a value with rising keys (R18.6).
+#![tactic(auto)]
+
 ghost use Rattle.std.specs.Prelude.{◌≡◌, ◌≤◌, length, drop};
 ghost use Rattle.settings_reader.specs.ReadSettings.{no_settings, with_pair, settings_from, read_settings};
 
@@ -6,7 +8,7 @@ use refusals::Refusal;
 use settings::Settings;
 
 // What the reader answers.
-#[derive(Drop)]
+#[derive(Clone, Copy)]
 pub enum SettingsRead {
     Accepted(Settings),
     Refused(Refusal),

@@ -1,4 +1,6 @@
 // A plant's settings file, written: which settings are refused, and the octets of the others (R18.8).
+#![tactic(auto)]
+
 ghost use Rattle.std.specs.Prelude.{◌≡◌, ◌+◌, ◌≤◌, length};
 ghost use Rattle.octets.specs.Put.{put};
 ghost use Rattle.settings_writer.specs.WriteSettings.{option_refusal, settings_refusal, settings_write_refusal, pair_octets, option_octets, pair_count, settings_octets, settings_written, settings_buffer};

@@ -1,4 +1,6 @@
 // The fields of a STATUS packet, and the holes of its list one by one.
+#![tactic(auto)]
+
 ghost use Rattle.std.specs.Prelude.{◌≡◌, ◌≤◌, length};
 ghost use Rattle.header.specs.FirstWord.{descriptor_octets, status_of};
 ghost use Rattle.header.specs.Start.{word_of};

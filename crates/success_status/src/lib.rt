@@ -1,4 +1,6 @@
 // A success STATUS as a packet: its fields, its size, and what stands before its holes, the timestamp included.
+#![tactic(auto)]
+
 ghost use Rattle.std.specs.Prelude.{◌≡◌, ◌^◌, ◌≤◌, ◌<◌, length};
 ghost use Rattle.octets.specs.Put.{put};
 ghost use Rattle.timestamp.specs.Timestamps.{kept_octets};
@@ -7,7 +9,7 @@ ghost use Rattle.success_status.specs.SuccessStatus.{front_size, status_size, wi
 use timestamp::Kept;
 
 // The fields of a success STATUS that is to be written. `width` counts octets, `partial` is bit 14 and `unasked` bit 15.
-#[derive(Drop)]
+#[derive(Clone, Copy)]
 pub struct Fields {
     pub id: u64,
     pub width: usize,

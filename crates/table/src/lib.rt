@@ -1,9 +1,11 @@
 // The transfer table: open transfers by Id. What opening, recording, closing and STATUS answer; specs/ says what each means.
+#![tactic(auto)]
+
 use refusals::Refusal;
 use transfer::{Reached, Receipt};
 
 // What opening answers.
-#[derive(Drop)]
+#[derive(Clone, Copy)]
 pub enum Opened {
     New(Reached),
     AlreadyOpen(Reached),
@@ -11,14 +13,14 @@ pub enum Opened {
 }
 
 // What recording answers.
-#[derive(Drop)]
+#[derive(Clone, Copy)]
 pub enum Recorded {
     Accepted(Receipt),
     Refused(Refusal),
 }
 
 // What closing, and making a table fresh, answer.
-#[derive(Drop)]
+#[derive(Clone, Copy)]
 pub enum Finished {
     Done,
     Refused(Refusal),

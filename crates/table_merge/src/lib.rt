@@ -1,4 +1,6 @@
 // Merging an Id of a second table into a first: what it answers, and what it compares; specs/ says what it means.
+#![tactic(auto)]
+
 ghost use Rattle.std.specs.Prelude.{◌≡◌};
 ghost use Rattle.std.proofs.Math.Option.{some};
 ghost use Rattle.table_merge.specs.Merge.{keys_refusal};
@@ -7,7 +9,7 @@ use refusals::Refusal;
 use transfer::{Key, Reached};
 
 // What merging answers.
-#[derive(Drop)]
+#[derive(Clone, Copy)]
 pub enum Merged {
     Joined(Reached),
     Refused(Refusal),

@@ -1,5 +1,7 @@
 // Lines of text in a buffer: words, numbers in decimal and octets in hex, each put after what stands there already.
 // A line that has no room is cut at the buffer's end. Nothing here knows of Saratoga.
+#![tactic(auto)]
+
 ghost use Rattle.std.specs.Prelude.{◌≡◌, [], ◌∷◌, ◌<◌, ◌≤◌, length, drop};
 ghost use Rattle.octets.specs.Numbers.{be_digits};
 ghost use Rattle.text.specs.Added.{Added};

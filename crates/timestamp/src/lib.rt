@@ -1,10 +1,12 @@
 // A timestamp of 16 octets that is kept, or none: as two numbers, read from octets and put into a buffer.
+#![tactic(auto)]
+
 ghost use Rattle.std.specs.Prelude.{◌≡◌, true, ◌+◌, ◌≤◌, length};
 ghost use Rattle.octets.specs.Put.{put};
 ghost use Rattle.timestamp.specs.Timestamps.{kept_octets, stamp_from};
 
 // Whether a timestamp is kept, and then its first eight octets and its last eight, each as a number.
-#[derive(Drop)]
+#[derive(Clone, Copy)]
 pub struct Kept {
     pub stamped: bool,
     pub high: u64,

@@ -1,4 +1,6 @@
 // The key of one transfer: what METADATA opens, and what DATA is refused with by it.
+#![tactic(auto)]
+
 ghost use Rattle.std.specs.Prelude.{◌≡◌, []};
 ghost use Rattle.transfer.specs.Transfers.{key_of, length_test, reached};
 ghost use Rattle.transfer.specs.Record.{key_refusal};

@@ -1,4 +1,6 @@
 // STATUS of one transfer, wherever its runs are kept: what is refused, how many holes are written, and which fields stand before them.
+#![tactic(auto)]
+
 ghost use Rattle.std.specs.Prelude.{◌≡◌, cond, ◌||◌, ◌-◌, ◌≤◌, ◌<◌, min};
 ghost use Rattle.octets.specs.Numbers.{Width};
 ghost use Rattle.success_status.specs.SuccessStatus.{front_size};

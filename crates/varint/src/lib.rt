@@ -1,10 +1,12 @@
 // Numbers of 64 bits in groups of seven bits, the lowest group first, each in its one form (R18.1). Nothing here knows of settings.
+#![tactic(auto)]
+
 ghost use Rattle.std.specs.Prelude.{◌≡◌, ◌+◌, ◌≤◌, length, drop};
 ghost use Rattle.octets.specs.Put.{put};
 ghost use Rattle.varint.specs.Varint.{varint_octets, octet_refusal, varint_in};
 
 // A number that was read: its refusal, 1 or 25, or 0 and then its value and how many octets it has.
-#[derive(Drop)]
+#[derive(Clone, Copy)]
 pub struct Varint {
     pub refusal: u64,
     pub value: u64,

@@ -1,4 +1,6 @@
 // Words of 8 octets, the lowest first, one after the other in a buffer: one read, one written, a row of them spliced or moved in place.
+#![tactic(auto)]
+
 ghost use Rattle.std.specs.Prelude.{◌≡◌, ◌+◌, ◌*◌, ◌-◌, ◌≤◌, length};
 ghost use Rattle.words.specs.Words.{word_at, put_word, spliced_row, moved_words};
 

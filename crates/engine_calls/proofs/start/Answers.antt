@@ -1,0 +1,9 @@
+-- `engine_calls::start` meets its contract: what `start` answers, in numbers. Assumes nothing.
+use mathlib.Core.Path.{ap, ◌∙◌}
+use borrow.Author.Rules.{rules}
+use Rattle.engine_answers.specs.EngineAnswers.{done_by}
+use Rattle.engine_calls.proofs.start.Goals as goal
+
+pub returns : goal.returns
+returns c =
+    (c.done_by.ensures ∙ ap done_by c.start.ensures.0, c.start.ensures.1)

@@ -1,7 +1,0 @@
--- `first_word::word` meets its contract. Assumes nothing.
-use borrow.Author.Rules.{rules}
-use Rattle.first_word.proofs.word.Statement.{statement}
-use Rattle.first_word.proofs.word.Tie as tie
-
-pub word_spec : {M : Type 1} → statement M
-word_spec = tie.close (tie.spec (λ c κs. search rules) (λ c. search rules))

@@ -1,7 +1,0 @@
--- `refusals::refuse` meets its contract. Assumes nothing.
-use borrow.Author.Rules.{rules}
-use Rattle.refusals.proofs.refuse.Statement.{statement}
-use Rattle.refusals.proofs.refuse.Tie as tie
-
-pub refuse_spec : {M : Type 1} → statement M
-refuse_spec = tie.close (tie.spec (λ c κs. search rules) (λ c. rw c.code_of_lem.ensures))

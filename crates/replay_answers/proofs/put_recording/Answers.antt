@@ -1,0 +1,20 @@
+-- `replay_answers::put_recording` meets its contract: a line for each case. Assumes nothing.
+use mathlib.Core.Path.{sym, ap}
+use Rattle.text.proofs.AddedLaws.{added_as}
+use Rattle.replay_answers.specs.AnswerLines.{recording_text}
+use borrow.Author.Rules.{rules}
+use Rattle.replay_answers.proofs.put_recording.Goals as goal
+
+pub returns-in-Accepted : goal.returns-in-Accepted
+unfolding recording_text
+returns-in-Accepted c =
+    let a = c.args in
+    added_as (ap (recording_text a.number a.d) (sym c.in-Accepted.is))
+    c.put_recorded.ensures
+
+pub returns-in-Refused : goal.returns-in-Refused
+unfolding recording_text
+returns-in-Refused c =
+    let a = c.args in
+    added_as (ap (recording_text a.number a.d) (sym c.in-Refused.is))
+    c.put_refused.ensures

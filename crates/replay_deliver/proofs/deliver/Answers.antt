@@ -1,0 +1,48 @@
+-- `replay_deliver::deliver` meets its contract: what each type of packet gets. Assumes nothing.
+use mathlib.Core.Path.{refl, sym, ◌∙◌}
+use borrow.Author.Rules.{rules}
+use Rattle.replay_deliver.specs.Deliver.{deliver_lines, deliver_area}
+use Rattle.replay_deliver.proofs.CaseLaws.{of_packet}
+use Rattle.replay_deliver.proofs.deliver.Goals as goal
+
+pub returns-in-Beacon : goal.returns-in-Beacon
+unfolding deliver_lines deliver_area
+returns-in-Beacon c =
+    let a = c.args in
+    of_packet a.number a.p.now a.area.now a.lent.now (sym c.in-Beacon.is ∙ c.read_packet-r.ensures)
+    (c.put_beacon.ensures, refl)
+
+pub returns-in-Metadata : goal.returns-in-Metadata
+unfolding deliver_lines deliver_area
+returns-in-Metadata c =
+    let a = c.args in
+    of_packet a.number a.p.now a.area.now a.lent.now (sym c.in-Metadata.is ∙ c.read_packet-r.ensures)
+    c.«open».ensures
+
+pub returns-in-Data : goal.returns-in-Data
+unfolding deliver_lines deliver_area
+returns-in-Data c =
+    let a = c.args in
+    of_packet a.number a.p.now a.area.now a.lent.now (sym c.in-Data.is ∙ c.read_packet-r.ensures)
+    c.«record».ensures
+
+pub returns-in-Success : goal.returns-in-Success
+unfolding deliver_lines deliver_area
+returns-in-Success c =
+    let a = c.args in
+    of_packet a.number a.p.now a.area.now a.lent.now (sym c.in-Success.is ∙ c.read_packet-r.ensures)
+    (c.put_success.ensures, refl)
+
+pub returns-in-Failure : goal.returns-in-Failure
+unfolding deliver_lines deliver_area
+returns-in-Failure c =
+    let a = c.args in
+    of_packet a.number a.p.now a.area.now a.lent.now (sym c.in-Failure.is ∙ c.read_packet-r.ensures)
+    (c.put_failure.ensures, refl)
+
+pub returns-in-Refused : goal.returns-in-Refused
+unfolding deliver_lines deliver_area
+returns-in-Refused c =
+    let a = c.args in
+    of_packet a.number a.p.now a.area.now a.lent.now (sym c.in-Refused.is ∙ c.read_packet-r.ensures)
+    (c.put_refusal.ensures, refl)

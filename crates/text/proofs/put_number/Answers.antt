@@ -1,0 +1,20 @@
+-- `text::put_number` meets its contract. Assumes nothing.
+use mathlib.Core.Path.{◌≡◌, sym, ap, ◌∙◌}
+use lib.ListN.{take}
+use lib.Seq.{length-take-le}
+use native.Mathlib.Omega.{arith}
+use Rattle.octets.specs.Numbers.{be_digits}
+use Rattle.octets.proofs.PutLaws.{take_put}
+use Rattle.octets.proofs.NumberLaws.{length_digits}
+use Rattle.text.specs.Hex.{hex_of}
+use Rattle.text.proofs.AddedLaws.{added_as}
+use borrow.Author.Rules.{rules}
+use Rattle.text.proofs.put_number.Goals as goal
+
+pub returns : goal.returns
+returns c =
+    let a = c.args in
+    let w = c.write_number in
+    let e : take a.d w.new.out ≡ be_digits a.d a.v =
+    ap (take a.d) w.ensures ∙ take_put a.d (be_digits a.d a.v) _ (length_digits a.d a.v) in
+    added_as (ap hex_of e) c.put_hex.ensures

@@ -14,7 +14,7 @@
 # make bench-engine  the engine: nanoseconds a call, packets a second with and without writes, and its share of a packet's time in the link program
 # make bench-link   the link program and saratoga-send beside uftp on loopback, some 15 minutes and 2 GB of disk; SIZE=octets, RATES=100,0,
 #               LOSSES=0,1,5 and REPEATS=N optional
-# make bench-descriptors    reading a descriptor now, at earlier commits and in plain C, in time and instructions; needs the history
+# make bench-descriptors    reading a descriptor, beside plain C, in time and instructions
 # make link     builds the link program, target/link/saratoga-link (docs/LINK.md)
 # make merge    builds the program that merges two plants' directories, target/merge/saratoga-merge (docs/LINK.md)
 # make gigabyte a page of a gigabyte through the link program, its MD5 against Python's; half a minute, two gigabytes of disk
@@ -57,11 +57,14 @@ test:
 test-extra: lib
 	host/test-extra
 
+# rt writes to the crate's out/
 lib:
-	host/in-memory rt staticlib saratoga
+	host/archive saratoga
+	@install -D -m 644 crates/saratoga/out/libsaratoga.a $(ARCHIVE)
 
 engine:
-	host/in-memory rt staticlib saratoga_engine
+	host/archive saratoga_engine
+	@install -D -m 644 crates/saratoga_engine/out/libsaratoga_engine.a $(ENGINE)
 
 # Exported is what the header declares, and nothing else. The soname changes where a struct or a function of the header changes.
 SONAME = libsaratoga.so.0
@@ -167,8 +170,10 @@ settings: lib
 	mkdir -p target/settings
 	$(CC) -std=c99 -Wall -Wextra -pedantic -O2 -Iinclude $(SETTINGS_SOURCES) $(ARCHIVE) -o target/settings/saratoga-settings
 
+# rt builds a program only to run it: here on nothing
 replay-program:
-	@host/in-memory rt check replay >&2
+	@cd crates/replay && rt run </dev/null >&2
+	@install -D -m 755 crates/replay/out/replay target/bin/replay
 
 # The program that a user runs, in the folders in which it is installed; it starts the proved one.
 FRONT_FLAGS = -std=c99 -Wall -Wextra -pedantic -O2 -DVERSION='"$(VERSION)"'
@@ -233,4 +238,4 @@ uninstall:
 	if [ -d "$(AT)/share/saratoga" ]; then rmdir "$(AT)/share/saratoga"; fi
 
 clean:
-	rm -rf target
+	rm -rf target crates/*/out

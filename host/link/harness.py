@@ -80,7 +80,7 @@ def compiled(source, out, *options):
 
 def run(program, place, *options, octets=b"", **environment):
     """Lines, messages and exit status of the program."""
-    done = subprocess.run([program, "-d", place, *options], input=octets, capture_output=True, check=False, timeout=20,
+    done = subprocess.run([program, "-d", place, *options], input=octets, capture_output=True, check=False, timeout=120,
                           env=dict(os.environ, **environment))
     return done.stdout.decode().splitlines(), done.stderr.decode(), done.returncode
 

@@ -130,7 +130,7 @@ def wrong_engines(builder):
 def main():
     begun = time.monotonic()
     for archive in (LIBRARY,) if STAND_IN else (LIBRARY, ENGINE):
-        check(os.path.exists(archive), f"{archive} is missing; run first: rt staticlib {os.path.basename(archive)[3:-2]}")
+        check(os.path.exists(archive), f"{archive} is missing; run first: make lib engine")
     with tempfile.TemporaryDirectory() as place:
         builder = Builder(place, "-O2")
         simulated(builder, place)

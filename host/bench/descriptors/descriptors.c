@@ -1,5 +1,5 @@
 /*
- * Measures octets_read::read_number beside two earlier ones and plain C (readers.h), on the same octets in one run, for
+ * Measures octets_read::read_number beside plain C (readers.h), on the same octets in one run, for
  * host/bench/descriptors/run. First it compares: all must read the same numbers; otherwise it ends with status 1.
  *
  *     descriptors                 compares and measures: case, reader, nanoseconds a call
@@ -16,7 +16,7 @@
 #include "readers.h"
 
 enum { OCTETS = 16384, CALLS = 1024, COMPARED = 1000000, WIDEST = 16 };
-enum reader { LOOP, BEFORE, NOW, PLAIN, READERS };
+enum reader { NOW, PLAIN, READERS };
 
 typedef uint64_t read_function(const uint8_t *octets, size_t octets_len, size_t at, size_t width);
 
@@ -25,8 +25,6 @@ static const struct {
     read_function *read;
     size_t widest;
 } readers[READERS] = {
-    {"loop", descriptor_loop, 8},
-    {"before", descriptor_before, 16},
     {"now", descriptor_now, 16},
     {"plain", descriptor_plain, 16},
 };

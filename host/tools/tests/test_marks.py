@@ -257,7 +257,7 @@ class Passes(unittest.TestCase):
         self.assertIn("absorbed 1;", replay.step(b"D", data(7, 16, 4, b"a"))[0])
 
 
-@unittest.skipUnless(os.path.exists(PROVED), "target/bin/replay isn't there; rt check replay makes it")
+@unittest.skipUnless(os.path.exists(PROVED), "target/bin/replay isn't there; make replay-program makes it")
 class BesideReplay(unittest.TestCase):
     def packet(self, chance, ident, width, length):
         offset = chance.choice([0, length, max(0, length - 5), chance.randrange(length + 3), chance.randrange(length + 1)])

@@ -16,7 +16,7 @@ PASS = record(b"F") + record(b"C", b"\0\0\0\7")
 LINES = b"1 fresh\n2 refused 12 code=6\n"
 
 
-@unittest.skipUnless(os.path.exists(PROVED), "target/bin/replay isn't there; rt check replay makes it")
+@unittest.skipUnless(os.path.exists(PROVED), "target/bin/replay isn't there; make replay-program makes it")
 class Replay(unittest.TestCase):
     @classmethod
     def setUpClass(cls):

@@ -21,8 +21,8 @@ SOURCES = [os.path.join(PLACE, name + ".c") for name in (
     "metrics", "log", "config", "hook", "notify")]
 POWERCUT, NOSPACE = os.path.join(PLACE, "powercut.c"), os.path.join(PLACE, "nospace.c")
 WRAPPED = ["-Wl," + ",".join(f"--wrap={name}" for name in (
-    "openat", "openat64", "pwrite", "pwrite64", "renameat", "fsync"))]
-FAILS = "-Wl,--wrap=sendmsg,--wrap=unlinkat"
+    "openat", "openat64", "pwrite", "pwrite64", "renameat", "unlinkat", "fsync"))]
+FAILS = "-Wl,--wrap=sendmsg"
 AREA_MAGIC, AREA_HEAD, AREA_WORDS, SLOT_WORDS, PLACES = b"saratoga-area 3\n", 48, 2161, 12, 16
 ENDINGS = ("part", "page", "differs", "meta", "sheet", "aside", "hook")
 

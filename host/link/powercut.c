@@ -1,6 +1,6 @@
 /*
  * For the test of link.c: a disk that forgets what was not forced to it. The linker puts these functions in the place
- * of openat, pwrite, renameat and fsync (--wrap). They do what those do, and note in the directory POWERCUT_DISK what a
+ * of openat, pwrite, renameat, unlinkat and fsync (--wrap). They do what those do, and note in the directory POWERCUT_DISK what a
  * power cut would leave:
  *
  *     octets-INODE   a file's octets when it was last forced to disk; none where it never was
@@ -27,6 +27,7 @@
 int __real_openat(int directory, const char *name, int flags, ...);
 ssize_t __real_pwrite(int fd, const void *octets, size_t count, off_t offset);
 int __real_renameat(int directory, const char *name, int other, const char *new_name);
+int __real_unlinkat(int directory, const char *name, int flags);
 
 /* Writes the lines that the program keeps: output.c. */
 void flush_output(void);
@@ -68,6 +69,15 @@ static uint64_t inode(int directory, const char *name)
     return fstatat(directory, name, &seen, 0) == 0 ? (uint64_t)seen.st_ino : 0;
 }
 
+/*
+ * Keeps a file open whose name goes to another one or away. On disk the name stands for it until the directory is forced to disk, so its
+ * inode must go to no new file before: another thread may make one at once.
+ */
+static void keep(int directory, const char *name)
+{
+    need(__real_openat(directory, name, O_RDONLY | O_NOFOLLOW | O_NONBLOCK | O_CLOEXEC) >= 0 || errno == ENOENT, name);
+}
+
 static int opened(int directory, const char *name, int flags, mode_t mode)
 {
     if ((flags & O_CREAT) == 0)
@@ -98,6 +108,7 @@ int __wrap_openat64(int directory, const char *name, int flags, ...);
 ssize_t __wrap_pwrite(int fd, const void *octets, size_t count, off_t offset);
 ssize_t __wrap_pwrite64(int fd, const void *octets, size_t count, off_t offset);
 int __wrap_renameat(int directory, const char *name, int other, const char *new_name);
+int __wrap_unlinkat(int directory, const char *name, int flags);
 int __wrap_fsync(int fd);
 
 int __wrap_openat(int directory, const char *name, int flags, ...)
@@ -131,6 +142,7 @@ static int renamed(int directory, const char *name, int other, const char *new_n
 {
     call();
     uint64_t number = inode(directory, name);
+    keep(other, new_name);
     int status = __real_renameat(directory, name, other, new_name);
     if (status == 0) {
         FILE *changes = note("changes", "a");
@@ -145,6 +157,17 @@ int __wrap_renameat(int directory, const char *name, int other, const char *new_
     pthread_mutex_lock(&one_at_a_time);
     int status = renamed(directory, name, other, new_name);
     pthread_mutex_unlock(&one_at_a_time);
+    return status;
+}
+
+/* Not a call at which the power goes: whether the name is still there is seen at the next one. */
+int __wrap_unlinkat(int directory, const char *name, int flags)
+{
+    pthread_mutex_lock(&one_at_a_time);
+    keep(directory, name);
+    int status = __real_unlinkat(directory, name, flags), error = errno;
+    pthread_mutex_unlock(&one_at_a_time);
+    errno = error;
     return status;
 }
 

@@ -9,7 +9,8 @@ ghost use Rattle.answers.specs.Answers.{is_unasked, written_answer, hole_answer}
 ghost use Rattle.answer_listing.specs.ListedAnswers.{listed_answer};
 
 use answers::{HoleAnswer, WrittenAnswer};
-use area_listing::Listed;
+use area_listing::Listing;
+use refusals::Refusal;
 
 // struct saratoga_listed.
 #[repr(C)]
@@ -27,11 +28,11 @@ pub struct ListedAnswer {
     pub stamped: u64,
 }
 
-fn listed_answer(a: Listed) -> ListedAnswer
+fn listed_answer(a: Result<Listing, Refusal>) -> ListedAnswer
     ensures { result ≡ listed_answer a }
 {
     match a {
-        Listed::Open(x) => ListedAnswer {
+        Ok(x) => ListedAnswer {
             number: 0,
             code: 0,
             id: x.id,
@@ -43,7 +44,7 @@ fn listed_answer(a: Listed) -> ListedAnswer
             received: x.received,
             stamped: refusals::bit_of(x.stamped),
         },
-        Listed::Refused(r) => ListedAnswer {
+        Err(r) => ListedAnswer {
             number: r.number,
             code: r.code,
             id: 0,

@@ -10,8 +10,9 @@ ghost use Rattle.answers.specs.Answers.{is_unasked, written_answer};
 ghost use Rattle.answer_marks.specs.BitmapAnswers.{key_from, held_from, bitmap_of, no_bitmap, bitmap_opened_answer, bitmap_recorded_answer};
 
 use answers::{RecordedAnswer, WrittenAnswer};
-use bitmap::{Held, Opened};
+use bitmap::{Held, Opening};
 use bitmap_record::Recording;
+use refusals::Refusal;
 use timestamp::Kept;
 use transfer::Key;
 
@@ -50,28 +51,28 @@ pub struct BitmapRecordedAnswer {
 fn held_from(b: Bitmap) -> Held
     ensures { result ≡ held_from b }
 {
-    let key = Key {
-        id: b.id,
-        width: b.width as usize,
-        length: b.length,
-    };
-    let kept = Kept {
-        stamped: b.stamped != 0,
-        high: b.stamp_high,
-        low: b.stamp_low,
-    };
-    Held { key, kept }
+    Held {
+        key: Key {
+            id: b.id,
+            width: b.width as usize,
+            length: b.length,
+        },
+        kept: Kept {
+            stamped: b.stamped != 0,
+            high: b.stamp_high,
+            low: b.stamp_low,
+        },
+    }
 }
 
 fn bitmap_of(held: Held) -> Bitmap
     ensures { result ≡ bitmap_of held }
 {
-    let stamped = refusals::bit_of(held.kept.stamped);
     Bitmap {
         id: held.key.id,
         width: held.key.width as u64,
         length: held.key.length,
-        stamped,
+        stamped: refusals::bit_of(held.kept.stamped),
         stamp_high: held.kept.high,
         stamp_low: held.kept.low,
     }
@@ -91,18 +92,18 @@ fn no_bitmap() -> Bitmap
     }
 }
 
-fn bitmap_opened_answer(a: Opened) -> BitmapOpenedAnswer
+fn bitmap_opened_answer(a: Result<Opening, Refusal>) -> BitmapOpenedAnswer
     ensures { result ≡ bitmap_opened_answer a }
 {
     match a {
-        Opened::New(x) => BitmapOpenedAnswer {
+        Ok(x) => BitmapOpenedAnswer {
             number: 0,
             code: 0,
             edge: x.reached.edge,
             complete: refusals::bit_of(x.reached.complete),
             transfer: bitmap_of(x.held),
         },
-        Opened::Refused(refusal) => BitmapOpenedAnswer {
+        Err(refusal) => BitmapOpenedAnswer {
             number: refusal.number,
             code: refusal.code,
             edge: 0,
@@ -115,24 +116,23 @@ fn bitmap_opened_answer(a: Opened) -> BitmapOpenedAnswer
 fn bitmap_recorded_answer(r: Recording) -> BitmapRecordedAnswer
     ensures { result ≡ bitmap_recorded_answer r.held r.told }
 {
-    let told = r.told;
-    let held = r.held;
-    let answer = answers::recorded_answer(told);
-    let transfer = bitmap_of(held);
-    BitmapRecordedAnswer { answer, transfer }
+    BitmapRecordedAnswer {
+        answer: answers::recorded_answer(r.told),
+        transfer: bitmap_of(r.held),
+    }
 }
 
 pub fn open(marks: &mut [u8], packet: &[u8]) -> BitmapOpenedAnswer
-    ensures { (result ≡ bitmap_opened_answer (open_marks marks.old packet.now).answer)
-        × (marks.new ≡ (open_marks marks.old packet.now).marks) }
+    ensures answer { result ≡ bitmap_opened_answer (open_marks marks.old packet.now).answer }
+    ensures marks { marks.new ≡ (open_marks marks.old packet.now).marks }
 {
     bitmap_opened_answer(bitmap_open::open(marks, packet))
 }
 
 pub fn record(b: Bitmap, marks: &mut [u8], packet: &[u8]) -> BitmapRecordedAnswer
-    ensures { (result ≡ bitmap_recorded_answer (record_held (held_from b) marks.old packet.now)
-        (record_marks (key_from b) marks.old packet.now).answer)
-        × (marks.new ≡ (record_marks (key_from b) marks.old packet.now).marks) }
+    ensures answer { result ≡ bitmap_recorded_answer (record_held (held_from b) marks.old packet.now)
+        (record_marks (key_from b) marks.old packet.now).answer }
+    ensures marks { marks.new ≡ (record_marks (key_from b) marks.old packet.now).marks }
 {
     bitmap_recorded_answer(bitmap_record::record(held_from(b), marks, packet))
 }
@@ -144,8 +144,8 @@ pub fn write_status(
     unasked: u64,
     out: &mut [u8],
 ) -> WrittenAnswer
-    ensures { (result ≡ written_answer (marks_written (held_from b) marks.now skip (is_unasked unasked) out.old))
-        × (out.new ≡ marks_buffer (held_from b) marks.now skip (is_unasked unasked) out.old) }
+    ensures answer { result ≡ written_answer (marks_written (held_from b) marks.now skip (is_unasked unasked) out.old) }
+    ensures buffer { out.new ≡ marks_buffer (held_from b) marks.now skip (is_unasked unasked) out.old }
 {
     answers::written_answer(bitmap_status::write_status(
         held_from(b),

@@ -2,6 +2,7 @@
 #![tactic(auto)]
 
 ghost use Rattle.std.specs.Prelude.{◌≡◌};
+ghost use Rattle.refusals.specs.Faults.{refused};
 ghost use Rattle.md5_state.specs.State.{state_refusal};
 ghost use Rattle.md5_feed.specs.Feed.{begin_state, add_state};
 ghost use Rattle.md5_digest.specs.End.{digest_written, digest_buffer};
@@ -12,6 +13,7 @@ ghost use Rattle.answer_md5.specs.Md5Answers.{feed_answer, verdict_answer};
 use answer_table::DoneAnswer;
 use answers::WrittenAnswer;
 use md5_verdict::Verdict;
+use refusals::{Fault, Refusal};
 
 // struct saratoga_verdict.
 #[repr(C)]
@@ -22,36 +24,29 @@ pub struct VerdictAnswer {
     pub verdict: u64,
 }
 
-fn feed_answer(n: u64) -> DoneAnswer
-    ensures { result ≡ feed_answer n }
+#[tactic(auto, unfolding(refusals::specs::Refusals::code_of))]
+fn feed_answer(a: Result<(), Fault>) -> DoneAnswer
+    ensures { result ≡ feed_answer (refused a) }
 {
-    let refusal = refusals::refuse(n);
-    DoneAnswer {
-        number: n,
-        code: refusal.code,
+    match a {
+        Ok(()) => DoneAnswer { number: 0, code: 0 },
+        Err(fault) => DoneAnswer {
+            number: fault.number(),
+            code: Refusal::from(fault).code,
+        },
     }
 }
 
-fn verdict_answer(v: Verdict) -> VerdictAnswer
-    ensures { result ≡ verdict_answer v }
+fn verdict_answer(a: Result<Verdict, Refusal>) -> VerdictAnswer
+    ensures { result ≡ verdict_answer a }
 {
-    match v {
-        Verdict::NotChecked => VerdictAnswer {
+    match a {
+        Ok(verdict) => VerdictAnswer {
             number: 0,
             code: 0,
-            verdict: 0,
+            verdict: verdict as u64,
         },
-        Verdict::Agrees => VerdictAnswer {
-            number: 0,
-            code: 0,
-            verdict: 1,
-        },
-        Verdict::Differs => VerdictAnswer {
-            number: 0,
-            code: 0,
-            verdict: 2,
-        },
-        Verdict::Refused(refusal) => VerdictAnswer {
+        Err(refusal) => VerdictAnswer {
             number: refusal.number,
             code: refusal.code,
             verdict: 0,

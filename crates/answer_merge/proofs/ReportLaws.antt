@@ -14,8 +14,6 @@ use Rattle.transfer.specs.declared.Key.{Key}
 use Rattle.transfer.specs.Transfers.{Transfer}
 use Rattle.table.specs.Tables.{keys, find}
 use Rattle.table_merge.specs.Merge.{merge_as, merge_table, joined_runs, merge_refusal, merge_accepted}
-use Rattle.table_merge.specs.declared.Merged.{Merged}
-use Rattle.table_merge.specs.declared.Merged.TheVariants.{Joined, Refused}
 use Rattle.area.specs.Judge.{table_of}
 use Rattle.area.specs.Operations.{OnArea}
 use Rattle.area.proofs.OperationLaws.{on_cases}
@@ -23,11 +21,14 @@ use Rattle.area_merge.specs.Merge.{merge_found, merge_area}
 use Rattle.area_merge.proofs.MergingLaws.{area_merge_told}
 use Rattle.answer_merge.specs.MergeAnswers.{merged_answer}
 use Rattle.answer_merge.specs.Reported.{MergeReported}
+use Rattle.std.specs.Prelude.{Result, Ok, Err}
+use Rattle.refusals.specs.declared.Refusal.{Refusal}
+use Rattle.transfer.specs.declared.Reached.{Reached}
 
-abbrev Zero : Merged → Type 0
+abbrev Zero : Result Reached Refusal → Type 0
 Zero r = ((merged_answer r).number ≡ 0) ↔ (merge_accepted r ≡ true)
 
-refused : (n : ℕ) → Zero (Refused (refusal_of (suc n)))
+refused : (n : ℕ) → Zero (Err (refusal_of (suc n)))
 refused n = ((λ e. absurd (omega arith)), (λ e. absurd (false≢true e)))
 
 by_number : (n : ℕ) (k : Option Key) (rs : List Run) (s : List ℕ) (t : List Transfer) (id : ℕ) → Zero (merge_as n k rs s t id).answer
@@ -45,13 +46,13 @@ module _ (a b : List ℕ) (id : ℕ) where
   pub merge_number_iff : ((merged_answer (merge_area a b id).answer).number ≡ 0) ↔ (merge_accepted (merge_area a b id).answer ≡ true)
   unfolding merge_area
   merge_number_iff =
-      on_cases (Refused (refusal_of 22)) (λ t. merge_found t (table_of b) id) a (λ (x : OnArea Merged). Zero x.answer) (refused 21)
+      on_cases (Err (refusal_of 22)) (λ t. merge_found t (table_of b) id) a (λ (x : OnArea (Result Reached Refusal)). Zero x.answer) (refused 21)
       (λ t h. by_second t (table_of b) id)
 
   pub merge_reports : merge_accepted (merge_area a b id).answer ≡ true
       → MergeReported a b (merge_area a b id).area id (merged_answer (merge_area a b id).answer)
   merge_reports = go (merge_area a b id).answer refl
     where
-      go : (r : Merged) → (merge_area a b id).answer ≡ r → merge_accepted r ≡ true → MergeReported a b (merge_area a b id).area id (merged_answer r)
-      go (Joined x) e h = record { told = x; merging = area_merge_told a b id x e; same_edge = refl; complete_iff = bit_iff x.complete }
-      go (Refused r) e h = absurd (false≢true h)
+      go : (r : Result Reached Refusal) → (merge_area a b id).answer ≡ r → merge_accepted r ≡ true → MergeReported a b (merge_area a b id).area id (merged_answer r)
+      go (Ok x) e h = record { told = x; merging = area_merge_told a b id x e; same_edge = refl; complete_iff = bit_iff x.complete }
+      go (Err r) e h = absurd (false≢true h)

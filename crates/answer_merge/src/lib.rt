@@ -5,7 +5,8 @@ ghost use Rattle.std.specs.Prelude.{◌≡◌};
 ghost use Rattle.area_merge.specs.Merge.{merge_area};
 ghost use Rattle.answer_merge.specs.MergeAnswers.{merged_answer};
 
-use table_merge::Merged;
+use refusals::Refusal;
+use transfer::Reached;
 
 // struct saratoga_merged.
 #[repr(C)]
@@ -17,17 +18,17 @@ pub struct MergedAnswer {
     pub complete: u64,
 }
 
-fn merged_answer(a: Merged) -> MergedAnswer
+fn merged_answer(a: Result<Reached, Refusal>) -> MergedAnswer
     ensures { result ≡ merged_answer a }
 {
     match a {
-        Merged::Joined(x) => MergedAnswer {
+        Ok(x) => MergedAnswer {
             number: 0,
             code: 0,
             edge: x.edge,
             complete: refusals::bit_of(x.complete),
         },
-        Merged::Refused(refused) => MergedAnswer {
+        Err(refused) => MergedAnswer {
             number: refused.number,
             code: refused.code,
             edge: 0,

@@ -1,7 +1,7 @@
 -- R3.10: what C gets of a packet that was read: the number and the values of each case.
 -- A field that the packet's type lacks is 0. Places count octets from the packet's start.
 -- Assumes nothing.
-use Rattle.std.specs.Prelude.{ℕ}
+use Rattle.std.specs.Prelude.{ℕ, Result, Ok, Err}
 use Rattle.refusals.specs.declared.Refusal.{Refusal}
 use Rattle.packet_beacon.specs.declared.Beacon.{Beacon}
 use Rattle.beacon_flags.specs.declared.Willingness.{Willingness}
@@ -10,8 +10,8 @@ use Rattle.packet_metadata.specs.declared.Metadata.{Metadata}
 use Rattle.packet_data.specs.declared.Data.{Data}
 use Rattle.packet_status.specs.declared.SuccessStatus.{SuccessStatus}
 use Rattle.packet_status.specs.declared.FailureStatus.{FailureStatus}
-use Rattle.packet.specs.declared.Read.{Read}
-use Rattle.packet.specs.declared.Read.TheVariants as read
+use Rattle.packet.specs.declared.Packet.{Packet}
+use Rattle.packet.specs.declared.Packet.TheVariants as read
 use Rattle.answer_packets.specs.declared.Part.{Part}
 use Rattle.answer_packets.specs.declared.MetadataPart.{MetadataPart}
 use Rattle.answer_packets.specs.declared.DataPart.{DataPart}
@@ -176,10 +176,10 @@ refused_packet r =
     }
 
 -- by the case of the answer
-abbrev pub packet_answer : Read → PacketAnswer
-packet_answer (read.Beacon b) = beacon_packet b
-packet_answer (read.Metadata m) = metadata_packet m
-packet_answer (read.Data d) = data_packet d
-packet_answer (read.Success s) = success_packet s
-packet_answer (read.Failure f) = failure_packet f
-packet_answer (read.Refused r) = refused_packet r
+abbrev pub packet_answer : Result Packet Refusal → PacketAnswer
+packet_answer (Ok (read.Beacon b)) = beacon_packet b
+packet_answer (Ok (read.Metadata m)) = metadata_packet m
+packet_answer (Ok (read.Data d)) = data_packet d
+packet_answer (Ok (read.Success s)) = success_packet s
+packet_answer (Ok (read.Failure f)) = failure_packet f
+packet_answer (Err r) = refused_packet r

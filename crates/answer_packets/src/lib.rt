@@ -3,7 +3,7 @@
 
 ghost use Rattle.std.specs.Prelude.{◌≡◌};
 ghost use Rattle.packet_status.specs.Status.{read_hole};
-ghost use Rattle.answer_packets.specs.PacketAnswers.{no_part, no_metadata, no_data, no_status, no_beacon, state_number, beacon_packet, metadata_packet, data_packet, success_packet, failure_packet, refused_packet};
+ghost use Rattle.answer_packets.specs.PacketAnswers.{state_number, beacon_packet, metadata_packet, data_packet, success_packet, failure_packet, refused_packet};
 ghost use Rattle.answers.specs.Answers.{hole_answer};
 
 use answers::HoleAnswer;
@@ -16,7 +16,7 @@ use refusals::Refusal;
 
 // A part of the packet: its place and its length, in octets.
 #[repr(C)]
-#[derive(Clone, Copy)]
+#[derive(Clone, Copy, Default)]
 pub struct Part {
     pub at: usize,
     pub len: usize,
@@ -24,7 +24,7 @@ pub struct Part {
 
 // What METADATA alone has.
 #[repr(C)]
-#[derive(Clone, Copy)]
+#[derive(Clone, Copy, Default)]
 pub struct MetadataPart {
     pub checksum: Part,
     pub properties: u64,
@@ -36,7 +36,7 @@ pub struct MetadataPart {
 
 // What DATA alone has.
 #[repr(C)]
-#[derive(Clone, Copy)]
+#[derive(Clone, Copy, Default)]
 pub struct DataPart {
     pub offset: u64,
     pub payload: Part,
@@ -44,7 +44,7 @@ pub struct DataPart {
 
 // What STATUS alone has.
 #[repr(C)]
-#[derive(Clone, Copy)]
+#[derive(Clone, Copy, Default)]
 pub struct StatusPart {
     pub status: u64,
     pub progress: u64,
@@ -55,7 +55,7 @@ pub struct StatusPart {
 
 // What BEACON alone has.
 #[repr(C)]
-#[derive(Clone, Copy)]
+#[derive(Clone, Copy, Default)]
 pub struct BeaconPart {
     pub largest_width: usize,
     pub bundles: u64,
@@ -69,7 +69,7 @@ pub struct BeaconPart {
 
 // struct saratoga_packet, part by part; `ptype` is its field `type`. Parts of 64-bit fields lie in memory as the fields do.
 #[repr(C)]
-#[derive(Clone, Copy)]
+#[derive(Clone, Copy, Default)]
 pub struct PacketAnswer {
     pub number: u64,
     pub code: u64,
@@ -82,61 +82,6 @@ pub struct PacketAnswer {
     pub data: DataPart,
     pub status: StatusPart,
     pub beacon: BeaconPart,
-}
-
-fn no_part() -> Part
-    ensures { result ≡ no_part }
-{
-    Part { at: 0, len: 0 }
-}
-
-fn no_metadata() -> MetadataPart
-    ensures { result ≡ no_metadata }
-{
-    MetadataPart {
-        checksum: no_part(),
-        properties: 0,
-        size: 0,
-        mtime: 0,
-        ctime: 0,
-        path: no_part(),
-    }
-}
-
-fn no_data() -> DataPart
-    ensures { result ≡ no_data }
-{
-    DataPart {
-        offset: 0,
-        payload: no_part(),
-    }
-}
-
-fn no_status() -> StatusPart
-    ensures { result ≡ no_status }
-{
-    StatusPart {
-        status: 0,
-        progress: 0,
-        in_response_to: 0,
-        holes_at: 0,
-        hole_count: 0,
-    }
-}
-
-fn no_beacon() -> BeaconPart
-    ensures { result ≡ no_beacon }
-{
-    BeaconPart {
-        largest_width: 0,
-        bundles: 0,
-        streams: 0,
-        send: 0,
-        receive: 0,
-        free_width: 0,
-        free_space: 0,
-        endpoint: no_part(),
-    }
 }
 
 // The number of a state.
@@ -153,14 +98,12 @@ fn state_number(w: Willingness) -> u64
 fn beacon_part(b: Beacon) -> BeaconPart
     ensures { result ≡ (beacon_packet b).beacon }
 {
-    let send = b.send;
-    let receive = b.receive;
     BeaconPart {
         largest_width: b.largest,
         bundles: b.bundles,
         streams: b.streams,
-        send: state_number(send),
-        receive: state_number(receive),
+        send: state_number(b.send),
+        receive: state_number(b.receive),
         free_width: b.width,
         free_space: b.free,
         endpoint: Part {
@@ -174,17 +117,10 @@ pub fn beacon_packet(b: Beacon) -> PacketAnswer
     ensures { result ≡ beacon_packet b }
 {
     PacketAnswer {
-        number: 0,
-        code: 0,
         ptype: 0,
         flags: b.flags,
-        id: 0,
-        width: 0,
-        timestamp: no_part(),
-        metadata: no_metadata(),
-        data: no_data(),
-        status: no_status(),
         beacon: beacon_part(b),
+        ..PacketAnswer::default()
     }
 }
 
@@ -192,13 +128,10 @@ pub fn metadata_packet(m: Metadata) -> PacketAnswer
     ensures { result ≡ metadata_packet m }
 {
     PacketAnswer {
-        number: 0,
-        code: 0,
         ptype: 2,
         flags: m.flags,
         id: m.id,
         width: m.width,
-        timestamp: no_part(),
         metadata: MetadataPart {
             checksum: Part {
                 at: 8,
@@ -213,9 +146,7 @@ pub fn metadata_packet(m: Metadata) -> PacketAnswer
                 len: m.entry.length,
             },
         },
-        data: no_data(),
-        status: no_status(),
-        beacon: no_beacon(),
+        ..PacketAnswer::default()
     }
 }
 
@@ -223,8 +154,6 @@ pub fn data_packet(d: Data) -> PacketAnswer
     ensures { result ≡ data_packet d }
 {
     PacketAnswer {
-        number: 0,
-        code: 0,
         ptype: 3,
         flags: d.flags,
         id: d.id,
@@ -233,7 +162,6 @@ pub fn data_packet(d: Data) -> PacketAnswer
             at: 8,
             len: d.timestamp,
         },
-        metadata: no_metadata(),
         data: DataPart {
             offset: d.offset,
             payload: Part {
@@ -241,8 +169,7 @@ pub fn data_packet(d: Data) -> PacketAnswer
                 len: d.length,
             },
         },
-        status: no_status(),
-        beacon: no_beacon(),
+        ..PacketAnswer::default()
     }
 }
 
@@ -250,8 +177,6 @@ pub fn success_packet(s: SuccessStatus) -> PacketAnswer
     ensures { result ≡ success_packet s }
 {
     PacketAnswer {
-        number: 0,
-        code: 0,
         ptype: 4,
         flags: s.flags,
         id: s.id,
@@ -260,8 +185,6 @@ pub fn success_packet(s: SuccessStatus) -> PacketAnswer
             at: 8,
             len: s.timestamp,
         },
-        metadata: no_metadata(),
-        data: no_data(),
         status: StatusPart {
             status: 0,
             progress: s.progress,
@@ -269,7 +192,7 @@ pub fn success_packet(s: SuccessStatus) -> PacketAnswer
             holes_at: s.holes,
             hole_count: s.count,
         },
-        beacon: no_beacon(),
+        ..PacketAnswer::default()
     }
 }
 
@@ -277,23 +200,14 @@ pub fn failure_packet(f: FailureStatus) -> PacketAnswer
     ensures { result ≡ failure_packet f }
 {
     PacketAnswer {
-        number: 0,
-        code: 0,
         ptype: 4,
         flags: f.flags,
         id: f.id,
-        width: 0,
-        timestamp: no_part(),
-        metadata: no_metadata(),
-        data: no_data(),
         status: StatusPart {
             status: f.status,
-            progress: 0,
-            in_response_to: 0,
-            holes_at: 0,
-            hole_count: 0,
+            ..StatusPart::default()
         },
-        beacon: no_beacon(),
+        ..PacketAnswer::default()
     }
 }
 
@@ -303,15 +217,7 @@ pub fn refused_packet(refusal: Refusal) -> PacketAnswer
     PacketAnswer {
         number: refusal.number,
         code: refusal.code,
-        ptype: 0,
-        flags: 0,
-        id: 0,
-        width: 0,
-        timestamp: no_part(),
-        metadata: no_metadata(),
-        data: no_data(),
-        status: no_status(),
-        beacon: no_beacon(),
+        ..PacketAnswer::default()
     }
 }
 

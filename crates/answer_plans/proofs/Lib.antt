@@ -1,2 +1,3 @@
 pub mod CheckAnswerLaws
 pub mod PlanChecked
+pub mod StoringLaws

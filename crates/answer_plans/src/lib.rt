@@ -1,14 +1,16 @@
 // What to send again: the plan for a STATUS, and the check of a list of pieces, whoever made it.
 #![tactic(auto)]
 
-ghost use Rattle.std.specs.Prelude.{◌≡◌, length};
+ghost use Rattle.std.specs.Prelude.{◌≡◌, length, IfOk};
 ghost use Rattle.packet_status.specs.Status.{hole_list};
 ghost use Rattle.plan.specs.Pieces.{plan_of};
-ghost use Rattle.plan.specs.Planning.{resend_refusal, plan_refusal, planned_of, records_after};
-ghost use Rattle.answer_plans.specs.PlanAnswers.{planned_answer, checked_answer, CheckAnswer};
+ghost use Rattle.plan.specs.Planning.{resend_refusal, plan_refusal, planned_of, told_plan, records_after};
+ghost use Rattle.plan_check.specs.Checking.{check_start, check_all, passed};
+ghost use Rattle.refusals.specs.Faults.{refused};
+ghost use Rattle.answer_plans.specs.PlanAnswers.{planned_answer, CheckAnswer};
 
 use plan::{Piece, Plan};
-use plan_check::Check;
+use refusals::{Fault, Refusal};
 
 // struct saratoga_planned.
 #[repr(C)]
@@ -28,32 +30,24 @@ pub struct CheckedAnswer {
     pub passes: u64,
 }
 
-fn planned_answer(p: Plan) -> PlannedAnswer
-    ensures { result ≡ planned_answer p }
+#[tactic(auto, unfolding(refusals::specs::Refusals::code_of))]
+fn planned_answer(p: Result<Plan, Fault>) -> PlannedAnswer
+    ensures { result ≡ planned_answer (told_plan p) }
 {
-    let refusal = refusals::refuse(p.number);
-    PlannedAnswer {
-        number: p.number,
-        code: refusal.code,
-        count: p.count,
-    }
-}
-
-fn checked_answer(k: Check) -> CheckedAnswer
-    ensures { result ≡ checked_answer k }
-{
-    let refusal = refusals::refuse(k.number);
-    if plan_check::check_passed(k) {
-        return CheckedAnswer {
-            number: k.number,
-            code: refusal.code,
-            passes: 1,
-        };
-    }
-    CheckedAnswer {
-        number: k.number,
-        code: refusal.code,
-        passes: 0,
+    match p {
+        Ok(p) => PlannedAnswer {
+            number: 0,
+            code: 0,
+            count: p.count,
+        },
+        Err(fault) => {
+            let refusal = Refusal::from(fault);
+            PlannedAnswer {
+                number: refusal.number,
+                code: refusal.code,
+                count: 0,
+            }
+        }
     }
 }
 
@@ -63,31 +57,56 @@ pub fn plan_count(status: &[u8], largest: u64) -> PlannedAnswer
     planned_answer(planner::count_plan(status, largest))
 }
 
+// Stores the plan's pieces, where there is room for all.
+#[tactic(auto, using(crate::proofs::StoringLaws::all_stored))]
+fn store_plan(status: &[u8], largest: u64, pieces: &mut [Piece]) -> Result<Plan, Fault>
+    ensures told { told_plan result ≡ planned_of (plan_refusal largest (length pieces.old) status.now) largest (hole_list status.now) }
+    ensures left { pieces.new ≡ records_after (plan_refusal largest (length pieces.old) status.now) (plan_of largest (hole_list status.now)) pieces.old }
+{
+    let p = planner::plan_within(status, largest, pieces.len())?;
+    let mut c = planner::cursor_at(status, p.holes, 0);
+    for i in 0..p.count as usize {
+        pieces[i] = planner::piece_at(c, largest);
+        c = planner::next_cursor(status, c, largest);
+    }
+    Ok(p)
+}
+
 pub fn plan(status: &[u8], largest: u64, pieces: &mut [Piece]) -> PlannedAnswer
     ensures { (result ≡ planned_answer (planned_of (plan_refusal largest (length pieces.old) status.now) largest (hole_list status.now)))
         × (pieces.new ≡ records_after (plan_refusal largest (length pieces.old) status.now) (plan_of largest (hole_list status.now)) pieces.old) }
 {
-    let p = planner::plan_within(status, largest, pieces.len());
-    let n = p.count as usize;
-    let mut c = planner::cursor_at(status, p.holes, 0);
-    let mut i: usize = 0;
-    while i < n {
-        pieces[i] = planner::piece_at(c, largest);
-        c = planner::next_cursor(status, c, largest);
-        i = i + 1;
+    planned_answer(store_plan(status, largest, pieces))
+}
+
+// Whether a list of pieces passes, or why it is not checked.
+fn pieces_pass(status: &[u8], largest: u64, pieces: &[Piece]) -> Result<bool, Fault>
+    ensures number { refused result ≡ resend_refusal largest status.now }
+    ensures passes { IfOk result (λ b. b ≡ passed (check_all (hole_list status.now) largest (check_start (resend_refusal largest status.now) (hole_list status.now)) pieces.now)) }
+{
+    let mut k = plan_check::check_start(status, largest)?;
+    for p in pieces {
+        k = plan_check::check_step(status, k, largest, *p);
     }
-    planned_answer(p)
+    Ok(plan_check::check_passed(k))
 }
 
 pub fn check_plan(status: &[u8], largest: u64, pieces: &[Piece]) -> CheckedAnswer
     ensures { CheckAnswer largest status.now pieces.now result }
 {
-    let n = pieces.len();
-    let mut k = plan_check::check_start(status, largest);
-    let mut i: usize = 0;
-    while i < n {
-        k = plan_check::check_step(status, k, largest, pieces[i]);
-        i = i + 1;
+    match pieces_pass(status, largest, pieces) {
+        Ok(passes) => CheckedAnswer {
+            number: 0,
+            code: 0,
+            passes: refusals::bit_of(passes),
+        },
+        Err(fault) => {
+            let refusal = Refusal::from(fault);
+            CheckedAnswer {
+                number: refusal.number,
+                code: refusal.code,
+                passes: 0,
+            }
+        }
     }
-    checked_answer(k)
 }

@@ -1,11 +1,10 @@
 -- R1.5, R18.7: what C gets of settings that were read, and the settings that it hands over to be written.
 -- Assumes nothing.
-use Rattle.std.specs.Prelude.{ℕ, not, eqb}
+use Rattle.std.specs.Prelude.{ℕ, not, eqb, Result, Ok, Err}
 use Rattle.refusals.specs.Tests.{bit}
 use Rattle.settings.specs.declared.Settings.{Settings}
-use Rattle.settings_reader.specs.declared.SettingsRead.{SettingsRead}
-use Rattle.settings_reader.specs.declared.SettingsRead.TheVariants.{Accepted, Refused}
 use Rattle.answer_settings.specs.declared.SettingsAnswer.{SettingsAnswer}
+use Rattle.refusals.specs.declared.Refusal.{Refusal}
 
 -- R1.9: `timed` and `paired` are no for 0 and yes for any other number
 abbrev pub settings_of : ℕ → ℕ → ℕ → ℕ → ℕ → ℕ → Settings
@@ -18,8 +17,8 @@ settings_of version largest timed interval paired partner = record {
   partner = partner;
 }
 
-abbrev pub settings_answer : SettingsRead → SettingsAnswer
-settings_answer (Accepted s) = record {
+abbrev pub settings_answer : Result Settings Refusal → SettingsAnswer
+settings_answer (Ok s) = record {
   number = 0;
   code = 0;
   version = s.version;
@@ -29,7 +28,7 @@ settings_answer (Accepted s) = record {
   has_partner = bit s.paired;
   partner = s.partner;
 }
-settings_answer (Refused r) = record {
+settings_answer (Err r) = record {
   number = r.number;
   code = r.code;
   version = 0;

@@ -8,8 +8,8 @@ ghost use Rattle.settings_writer.specs.WriteSettings.{settings_written, settings
 ghost use Rattle.answer_settings.specs.SettingsAnswers.{settings_of, settings_answer};
 
 use answers::WrittenAnswer;
+use refusals::Refusal;
 use settings::Settings;
-use settings_reader::SettingsRead;
 
 // struct saratoga_settings.
 #[repr(C)]
@@ -46,11 +46,11 @@ fn settings_of(
     }
 }
 
-fn settings_answer(a: SettingsRead) -> SettingsAnswer
+fn settings_answer(a: Result<Settings, Refusal>) -> SettingsAnswer
     ensures { result ≡ settings_answer a }
 {
     match a {
-        SettingsRead::Accepted(s) => SettingsAnswer {
+        Ok(s) => SettingsAnswer {
             number: 0,
             code: 0,
             version: s.version,
@@ -60,7 +60,7 @@ fn settings_answer(a: SettingsRead) -> SettingsAnswer
             has_partner: refusals::bit_of(s.paired),
             partner: s.partner,
         },
-        SettingsRead::Refused(r) => SettingsAnswer {
+        Err(r) => SettingsAnswer {
             number: r.number,
             code: r.code,
             version: 0,

@@ -7,7 +7,8 @@ ghost use Rattle.answers.specs.Answers.{recorded_answer};
 ghost use Rattle.answer_table.specs.TableAnswers.{done_answer, opened_answer};
 
 use answers::RecordedAnswer;
-use table::{Finished, Opened};
+use refusals::Refusal;
+use table::Opened;
 
 // struct saratoga_done.
 #[repr(C)]
@@ -28,37 +29,37 @@ pub struct OpenedAnswer {
     pub already_open: u64,
 }
 
-fn done_answer(a: Finished) -> DoneAnswer
+fn done_answer(a: Result<(), Refusal>) -> DoneAnswer
     ensures { result ≡ done_answer a }
 {
     match a {
-        Finished::Done => DoneAnswer { number: 0, code: 0 },
-        Finished::Refused(refusal) => DoneAnswer {
+        Ok(()) => DoneAnswer { number: 0, code: 0 },
+        Err(refusal) => DoneAnswer {
             number: refusal.number,
             code: refusal.code,
         },
     }
 }
 
-fn opened_answer(a: Opened) -> OpenedAnswer
+fn opened_answer(a: Result<Opened, Refusal>) -> OpenedAnswer
     ensures { result ≡ opened_answer a }
 {
     match a {
-        Opened::New(x) => OpenedAnswer {
+        Ok(Opened::New(x)) => OpenedAnswer {
             number: 0,
             code: 0,
             edge: x.edge,
             complete: refusals::bit_of(x.complete),
             already_open: 0,
         },
-        Opened::AlreadyOpen(x) => OpenedAnswer {
+        Ok(Opened::AlreadyOpen(x)) => OpenedAnswer {
             number: 0,
             code: 0,
             edge: x.edge,
             complete: refusals::bit_of(x.complete),
             already_open: 1,
         },
-        Opened::Refused(refused) => OpenedAnswer {
+        Err(refused) => OpenedAnswer {
             number: refused.number,
             code: refused.code,
             edge: 0,

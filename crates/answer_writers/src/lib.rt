@@ -9,6 +9,7 @@ ghost use Rattle.failure_status.specs.WriteFailure.{failure_written, failure_buf
 ghost use Rattle.answers.specs.Answers.{written_answer};
 
 use answers::WrittenAnswer;
+use metadata_writer::Fields;
 
 pub fn write_beacon(flags: u64, free: u64, endpoint: &[u8], out: &mut [u8]) -> WrittenAnswer
     ensures { (result ≡ written_answer (beacon_written flags free endpoint.now out.old))
@@ -31,9 +32,15 @@ pub fn write_metadata(
     ensures { (result ≡ written_answer (metadata_written flags id checksum.now properties size mtime ctime path.now out.old))
         × (out.new ≡ metadata_buffer flags id checksum.now properties size mtime ctime path.now out.old) }
 {
-    answers::written_answer(metadata_writer::write_metadata(
-        out, flags, id, checksum, properties, size, mtime, ctime, path,
-    ))
+    let fields = Fields {
+        flags,
+        id,
+        properties,
+        size,
+        mtime,
+        ctime,
+    };
+    answers::written_answer(metadata_writer::write_metadata(out, fields, checksum, path))
 }
 
 pub fn write_data(

@@ -1,13 +1,14 @@
 // What C gets of a written packet, of a hole and of a recording: answers that more than one of its functions gives.
 // Every struct has fields of 64 bits alone. `number` is 0 where the call is accepted.
+// written_answer, hole_answer and recorded_answer are no From: it would be the same body, and the crates above and docs/PROVED.md name these.
 #![tactic(auto)]
 
 ghost use Rattle.std.specs.Prelude.{◌≡◌};
 ghost use Rattle.answers.specs.Answers.{hole_answer, written_answer, recorded_answer};
 
-use packet_status::HoleRead;
-use refusals::Written;
-use table::Recorded;
+use refusals::Refusal;
+use runs::Hole;
+use transfer::Receipt;
 
 // struct saratoga_hole.
 #[repr(C)]
@@ -41,16 +42,16 @@ pub struct RecordedAnswer {
 }
 
 // What C gets of a written packet.
-pub fn written_answer(a: Written) -> WrittenAnswer
+pub fn written_answer(a: Result<usize, Refusal>) -> WrittenAnswer
     ensures { result ≡ written_answer a }
 {
     match a {
-        Written::Size(size) => WrittenAnswer {
+        Ok(size) => WrittenAnswer {
             number: 0,
             code: 0,
             size,
         },
-        Written::Refused(refusal) => WrittenAnswer {
+        Err(refusal) => WrittenAnswer {
             number: refusal.number,
             code: refusal.code,
             size: 0,
@@ -59,17 +60,17 @@ pub fn written_answer(a: Written) -> WrittenAnswer
 }
 
 // What C gets of a hole.
-pub fn hole_answer(a: HoleRead) -> HoleAnswer
+pub fn hole_answer(a: Result<Hole, Refusal>) -> HoleAnswer
     ensures { result ≡ hole_answer a }
 {
     match a {
-        HoleRead::Accepted(h) => HoleAnswer {
+        Ok(h) => HoleAnswer {
             number: 0,
             code: 0,
             start: h.start,
             end: h.end,
         },
-        HoleRead::Refused(r) => HoleAnswer {
+        Err(r) => HoleAnswer {
             number: r.number,
             code: r.code,
             start: 0,
@@ -79,11 +80,11 @@ pub fn hole_answer(a: HoleRead) -> HoleAnswer
 }
 
 // What C gets of a recording.
-pub fn recorded_answer(a: Recorded) -> RecordedAnswer
+pub fn recorded_answer(a: Result<Receipt, Refusal>) -> RecordedAnswer
     ensures { result ≡ recorded_answer a }
 {
     match a {
-        Recorded::Accepted(x) => RecordedAnswer {
+        Ok(x) => RecordedAnswer {
             number: 0,
             code: 0,
             edge: x.reached.edge,
@@ -91,7 +92,7 @@ pub fn recorded_answer(a: Recorded) -> RecordedAnswer
             absorbed: x.absorbed,
             adds: x.adds,
         },
-        Recorded::Refused(refused) => RecordedAnswer {
+        Err(refused) => RecordedAnswer {
             number: refused.number,
             code: refused.code,
             edge: 0,

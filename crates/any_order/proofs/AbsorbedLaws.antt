@@ -13,10 +13,8 @@ use lib.Dec.{eqb}
 use Rattle.refusals.specs.Refusals.{refusal_of}
 use Rattle.packet_metadata.specs.Metadata.{read_metadata}
 use Rattle.packet_metadata.specs.declared.Metadata.{Metadata}
-use Rattle.packet_metadata.specs.declared.MetadataRead.TheVariants as metadata-read
 use Rattle.packet_data.specs.Data.{read_data}
 use Rattle.packet_data.specs.declared.Data.{Data}
-use Rattle.packet_data.specs.declared.DataRead.TheVariants as data-read
 use Rattle.transfer.specs.declared.Key.{Key}
 use Rattle.transfer.specs.declared.Reached.{Reached}
 use Rattle.transfer.specs.declared.Receipt.{Receipt}
@@ -30,9 +28,6 @@ use Rattle.table.specs.Record.{grown, record_packet}
 use Rattle.table.specs.Close.{close_id}
 use Rattle.table.specs.declared.Opened.{Opened}
 use Rattle.table.specs.declared.Opened.TheVariants as opened
-use Rattle.table.specs.declared.Recorded.{Recorded}
-use Rattle.table.specs.declared.Recorded.TheVariants as recorded
-use Rattle.table.specs.declared.Finished.TheVariants as finished
 use Rattle.table.proofs.TableLaws.{runs_add_same, runs_set_same, runs_set_other}
 use Rattle.table.proofs.FineLaws.{runs_canonical}
 use Rattle.table.proofs.OpenLaws.{open_cases}
@@ -47,20 +42,22 @@ use Rattle.any_order.specs.Order.{Packet, opening, recording, id_in}
 use Rattle.any_order.specs.Demand3.{call_area}
 use Rattle.any_order.specs.Absorbed.{AnyCall, call, closing, left_by, after_all, counted, counted_by, counted_over, recordings_taken, absorbed_sum, KeptOpen, SumOverStretch, SumFromOpening}
 use Rattle.any_order.proofs.CallLaws.{open_runs, id_is, left}
+use Rattle.std.specs.Prelude.{Result, Ok, Err}
+use Rattle.refusals.specs.declared.Refusal.{Refusal}
 
 -- ---- a recording, on a table
 
 -- the number f of what an answer tells, where the Id of the packet is i
-abbrev counts : ℕ → (Receipt → ℕ) → Packet → Recorded → ℕ
+abbrev counts : ℕ → (Receipt → ℕ) → Packet → Result Receipt Refusal → ℕ
 counts i f p r = cond (eqb (id_in p) i) (counted i f r) 0
 
-abbrev Balanced : ℕ → Packet → Recorded → ℕ → ℕ → Type 0
+abbrev Balanced : ℕ → Packet → Result Receipt Refusal → ℕ → ℕ → Type 0
 Balanced i p r after before = counts i (λ x. x.absorbed) p r + after ≡ counts i (λ x. 1) p r + before
 
-balanced_none : (i : ℕ) (p : Packet) (r : Recorded) (n : ℕ) → (id_in p ≡ i → ⊥) → Balanced i p r n n
+balanced_none : (i : ℕ) (p : Packet) (r : Result Receipt Refusal) (n : ℕ) → (id_in p ≡ i → ⊥) → Balanced i p r n n
 balanced_none i p r n other = rw (ne_eqb (id_in p) i other)
 
-refused_balanced : (i : ℕ) (p : Packet) (r : Recorded) (n : ℕ) → counted i (λ x. x.absorbed) r ≡ 0 → counted i (λ x. 1) r ≡ 0 → Balanced i p r n n
+refused_balanced : (i : ℕ) (p : Packet) (r : Result Receipt Refusal) (n : ℕ) → counted i (λ x. x.absorbed) r ≡ 0 → counted i (λ x. 1) r ≡ 0 → Balanced i p r n n
 refused_balanced i p r n e f = go (eqb (id_in p) i)
   where
     go : (b : Bool) → cond b (counted i (λ x. x.absorbed) r) 0 + n ≡ cond b (counted i (λ x. 1) r) 0 + n
@@ -71,11 +68,11 @@ record_balanced : (t : List Transfer) (p : Packet) (i : ℕ) → Valid t
     → Balanced i p (record_packet t p.octets).answer (length (runs_of (record_packet t p.octets).table i)) (length (runs_of t i))
 unfolding counted
 record_balanced t p i v =
-    record_cases (λ (o : Outcome Recorded). Balanced i p o.answer (length (runs_of o.table i)) (length (runs_of t i))) t p.octets
-    (λ n. refused_balanced i p (recorded.Refused (refusal_of (suc n))) (length (runs_of t i)) refl refl)
+    record_cases (λ (o : Outcome (Result Receipt Refusal)). Balanced i p o.answer (length (runs_of o.table i)) (length (runs_of t i))) t p.octets
+    (λ n. refused_balanced i p (Err (refusal_of (suc n))) (length (runs_of t i)) refl refl)
     (λ d k e f j l. taken d k e f (ℕ_discrete d.id i))
   where
-    taken : (d : Data) (k : Key) → read_data p.octets ≡ data-read.Accepted d → find d.id (keys t) ≡ some k → Dec (d.id ≡ i)
+    taken : (d : Data) (k : Key) → read_data p.octets ≡ Ok d → find d.id (keys t) ≡ some k → Dec (d.id ≡ i)
         → Balanced i p (recorded_as t p.octets d k).answer (length (runs_of (left t p d) i)) (length (runs_of t i))
     taken d k e f (yes q) =
         let same : id_in p ≡ i = id_is p d e ∙ q in
@@ -103,20 +100,20 @@ held_kept {A} refused operation a i valid same =
 open_held : (a : List ℕ) (p : Packet) (i : ℕ) → runs_held (open_area a p.octets).area i ≡ runs_held a i
 unfolding open_area
 open_held a p i =
-    held_kept (opened.Refused (refusal_of 22)) (λ t. open_packet t p.octets) a i (λ t v. open_valid t p.octets p.are_octets v) (λ t. open_runs t p i)
+    held_kept (Err (refusal_of 22)) (λ t. open_packet t p.octets) a i (λ t v. open_valid t p.octets p.are_octets v) (λ t. open_runs t p i)
 
 close_held : (a : List ℕ) (j i : ℕ) → (j ≡ i → ⊥) → runs_held (close_area a j).area i ≡ runs_held a i
 unfolding close_area
 close_held a j i other =
-    held_kept (finished.Refused (refusal_of 22)) (λ t. close_id t j) a i (λ t v. close_valid t j v) (λ t. (close_other t j i other).runs)
+    held_kept (Err (refusal_of 22)) (λ t. close_id t j) a i (λ t v. close_valid t j v) (λ t. (close_other t j i other).runs)
 
 record_held_balanced : (a : List ℕ) (p : Packet) (i : ℕ)
     → Balanced i p (record_area a p.octets).answer (runs_held (record_area a p.octets).area i) (runs_held a i)
 unfolding record_area counted
 record_held_balanced a p i =
-    on_cases (recorded.Refused (refusal_of 22)) (λ t. record_packet t p.octets) a
-    (λ (o : OnArea Recorded). Balanced i p o.answer (runs_held o.area i) (runs_held a i))
-    (refused_balanced i p (recorded.Refused (refusal_of 22)) (runs_held a i) refl refl)
+    on_cases (Err (refusal_of 22)) (λ t. record_packet t p.octets) a
+    (λ (o : OnArea (Result Receipt Refusal)). Balanced i p o.answer (runs_held o.area i) (runs_held a i))
+    (refused_balanced i p (Err (refusal_of 22)) (runs_held a i) refl refl)
     (λ t h.
     let v = held_valid a t h in
     let u = (record_packet t p.octets).table in
@@ -146,20 +143,20 @@ sum_over_stretch i a (c ∷ cs) k =
 
 -- ---- from an opening as new: it holds no run
 
-new_table : (t : List Transfer) (packet : List ℕ) (m : Metadata) (x : Reached) → read_metadata packet ≡ metadata-read.Accepted m
-    → (open_packet t packet).answer ≡ opened.New x → runs_of (open_packet t packet).table m.id ≡ []
+new_table : (t : List Transfer) (packet : List ℕ) (m : Metadata) (x : Reached) → read_metadata packet ≡ Ok m
+    → (open_packet t packet).answer ≡ Ok (opened.New x) → runs_of (open_packet t packet).table m.id ≡ []
 new_table t packet m x r =
-    open_cases (λ (o : Outcome Opened). o.answer ≡ opened.New x → runs_of o.table m.id ≡ []) t packet
+    open_cases (λ (o : Outcome (Result Opened Refusal)). o.answer ≡ Ok (opened.New x) → runs_of o.table m.id ≡ []) t packet
     (λ z q. absurd (let y : ◌≡◌ {A = ℕ} 0 1 = cc in omega arith))
     (λ n e f q. absurd (let y : ◌≡◌ {A = ℕ} 0 1 = cc in omega arith))
     (λ n e f w l q. let y : n ≡ m = cc in rw (← y) (runs_add_same (key_of n) t f))
 
-new_held : (a : List ℕ) (p : Packet) (m : Metadata) (x : Reached) → read_metadata p.octets ≡ metadata-read.Accepted m
-    → (open_area a p.octets).answer ≡ opened.New x → runs_held (open_area a p.octets).area m.id ≡ 0
+new_held : (a : List ℕ) (p : Packet) (m : Metadata) (x : Reached) → read_metadata p.octets ≡ Ok m
+    → (open_area a p.octets).answer ≡ Ok (opened.New x) → runs_held (open_area a p.octets).area m.id ≡ 0
 unfolding open_area
 new_held a p m x r =
-    on_cases (opened.Refused (refusal_of 22)) (λ t. open_packet t p.octets) a
-    (λ (o : OnArea Opened). o.answer ≡ opened.New x → runs_held o.area m.id ≡ 0)
+    on_cases (Err (refusal_of 22)) (λ t. open_packet t p.octets) a
+    (λ (o : OnArea (Result Opened Refusal)). o.answer ≡ Ok (opened.New x) → runs_held o.area m.id ≡ 0)
     (λ q. absurd (let y : ◌≡◌ {A = ℕ} 0 1 = cc in omega arith))
     (λ t h q.
     let u = (open_packet t p.octets).table in

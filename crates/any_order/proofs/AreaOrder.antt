@@ -14,10 +14,6 @@ use Rattle.table.specs.Open.{open_packet, open_accepted}
 use Rattle.table.specs.Record.{record_packet, record_accepted}
 use Rattle.table.specs.WriteStatus.{status_written, status_buffer}
 use Rattle.table.specs.declared.Opened.{Opened}
-use Rattle.table.specs.declared.Opened.TheVariants as opened
-use Rattle.table.specs.declared.Recorded.{Recorded}
-use Rattle.table.specs.declared.Recorded.TheVariants as recorded
-use Rattle.table.specs.declared.Finished.{Finished}
 use Rattle.area.specs.Layout.{area_octets}
 use Rattle.area.specs.Stored.{stored_in}
 use Rattle.area.specs.Judge.{table_of}
@@ -32,6 +28,9 @@ use Rattle.table.proofs.ValidLaws.{fresh_valid}
 use Rattle.any_order.proofs.CallLaws.{call_valid}
 use Rattle.any_order.proofs.KeptOrder.{kept_order}
 use Rattle.any_order.proofs.Sorting.{sort_sorts}
+use Rattle.std.specs.Prelude.{Result, Err, ⊤}
+use Rattle.refusals.specs.declared.Refusal.{Refusal}
+use Rattle.transfer.specs.declared.Receipt.{Receipt}
 
 -- ---- the calls
 
@@ -40,11 +39,11 @@ call_stored : (a : List ℕ) (t : List Transfer) (c : Call) → table_of a ≡ s
     → ((call_area a c).0 ≡ (call_table t c).0) × ((call_area a c).1 ≡ stored_in a (call_table t c).1)
 unfolding call_area call_table open_area record_area
 call_stored a t (opening p) e =
-    let o = on_held (opened.Refused (refusal_of 22)) (λ u. open_packet u p.octets) a t e in
-    (ap (λ (x : OnArea Opened). open_accepted x.answer) o, ap (λ (x : OnArea Opened). x.area) o)
+    let o = on_held (Err (refusal_of 22)) (λ u. open_packet u p.octets) a t e in
+    (ap (λ (x : OnArea (Result Opened Refusal)). open_accepted x.answer) o, ap (λ (x : OnArea (Result Opened Refusal)). x.area) o)
 call_stored a t (recording p) e =
-    let o = on_held (recorded.Refused (refusal_of 22)) (λ u. record_packet u p.octets) a t e in
-    (ap (λ (x : OnArea Recorded). record_accepted x.answer) o, ap (λ (x : OnArea Recorded). x.area) o)
+    let o = on_held (Err (refusal_of 22)) (λ u. record_packet u p.octets) a t e in
+    (ap (λ (x : OnArea (Result Receipt Refusal)). record_accepted x.answer) o, ap (λ (x : OnArea (Result Receipt Refusal)). x.area) o)
 
 record Keeps (a : List ℕ) (t : List Transfer) : Type 0 where
   long : area_octets ≤ length a
@@ -63,7 +62,7 @@ call_keeps a t c h =
 made_keeps : (a : List ℕ) → area_octets ≤ length a → Keeps (made a) []
 made_keeps a l =
     record {
-      long = let e = ap (λ (x : OnArea Finished). length x.area) (fresh_done a l) in omega (arith, length_fresh a l);
+      long = let e = ap (λ (x : OnArea (Result ⊤ Refusal)). length x.area) (fresh_done a l) in omega (arith, length_fresh a l);
       valid = fresh_valid;
       held = fresh_leaves a l;
     }
@@ -88,9 +87,9 @@ same_status a b t u done redone e f h =
       same_length = λ id k unasked buffer.
           ap length (status_held b u f id k unasked buffer).1
           ∙ h.alike.same_length id k unasked buffer ∙ ap length (sym (status_held a t e id k unasked buffer).1);
-      same_octets_lem = λ id k unasked buffer n w.
+      same_octets = λ id k unasked buffer n w.
           ap (λ (l : List ℕ). get_or l n 0) (status_held b u f id k unasked buffer).1
-          ∙ h.alike.same_octets_lem id k unasked buffer n w ∙ ap (λ (l : List ℕ). get_or l n 0) (sym (status_held a t e id k unasked buffer).1);
+          ∙ h.alike.same_octets id k unasked buffer n w ∙ ap (λ (l : List ℕ). get_or l n 0) (sym (status_held a t e id k unasked buffer).1);
       same_refused = λ id k unasked buffer r w.
           (status_held b u f id k unasked buffer).1
           ∙ h.alike.same_refused id k unasked buffer r (sym (status_held a t e id k unasked buffer).0 ∙ w) ∙ sym (status_held a t e id k unasked buffer).1;
@@ -120,8 +119,8 @@ demand3 a b la lb cs s σ =
 pub demand3_by_transfer : Demand3ByTransfer
 demand3_by_transfer a b la lb cs =
     record {
-      first_made = ap (λ (x : OnArea Finished). x.answer) (fresh_done a la);
-      second_made = ap (λ (x : OnArea Finished). x.answer) (fresh_done b lb);
+      first_made = ap (λ (x : OnArea (Result ⊤ Refusal)). x.answer) (fresh_done a la);
+      second_made = ap (λ (x : OnArea (Result ⊤ Refusal)). x.answer) (fresh_done b lb);
       ends = λ s τ. demand3 a b la lb cs s τ.sorted;
       some_order = sort_sorts (taken call_area (made a) cs);
     }

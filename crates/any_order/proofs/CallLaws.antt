@@ -11,11 +11,8 @@ use native.Mathlib.Decide.{ℕ_discrete}
 use lib.ListN.{length}
 use Rattle.packet_metadata.specs.Metadata.{read_metadata}
 use Rattle.packet_metadata.specs.declared.Metadata.{Metadata}
-use Rattle.packet_metadata.specs.declared.MetadataRead.TheVariants as metadata-read
 use Rattle.packet_data.specs.Data.{read_data}
 use Rattle.packet_data.specs.declared.Data.{Data}
-use Rattle.packet_data.specs.declared.DataRead.{DataRead}
-use Rattle.packet_data.specs.declared.DataRead.TheVariants as data-read
 use Rattle.runs.specs.Runs.{insert}
 use Rattle.transfer.specs.declared.Key.{Key}
 use Rattle.timestamp.specs.Timestamps.{stamped, renewed}
@@ -38,7 +35,9 @@ use Rattle.any_order.proofs.FillLaws.{one, one_same, one_other}
 use Rattle.any_order.proofs.LastLaws.{stamps_same, stamps_other}
 use Rattle.table.specs.Outcome.{Outcome}
 use Rattle.table.specs.declared.Opened.{Opened}
-use Rattle.table.specs.declared.Recorded.{Recorded}
+use Rattle.std.specs.Prelude.{Result, Ok}
+use Rattle.refusals.specs.declared.Refusal.{Refusal}
+use Rattle.transfer.specs.declared.Receipt.{Receipt}
 
 abbrev pub opened : List Transfer → Packet → List Transfer
 opened t p = (open_packet t p.octets).table
@@ -65,13 +64,13 @@ call_valid t (recording p) v = record_valid t p.octets p.are_octets v
 -- an opening: no runs change, what was open stays so, and what it brings is open
 pub open_runs : (t : List Transfer) (p : Packet) (i : ℕ) → runs_of (opened t p) i ≡ runs_of t i
 open_runs t p i =
-    open_cases (λ (o : Outcome Opened). runs_of o.table i ≡ runs_of t i) t p.octets (λ r. refl) (λ m e f. refl)
+    open_cases (λ (o : Outcome (Result Opened Refusal)). runs_of o.table i ≡ runs_of t i) t p.octets (λ r. refl) (λ m e f. refl)
     (λ m e f w l. runs_add i (key_of m) t f)
 
 -- nor does a timestamp
 pub open_stamp : (t : List Transfer) (p : Packet) (i : ℕ) → stamp_of (opened t p) i ≡ stamp_of t i
 open_stamp t p i =
-    open_cases (λ (o : Outcome Opened). stamp_of o.table i ≡ stamp_of t i) t p.octets (λ r. refl) (λ m e f. refl)
+    open_cases (λ (o : Outcome (Result Opened Refusal)). stamp_of o.table i ≡ stamp_of t i) t p.octets (λ r. refl) (λ m e f. refl)
     (λ m e f w l. stamp_add i (key_of m) t f)
 
 find_later : (t : List Transfer) (j k : Key) (i : ℕ) → find j.id (keys t) ≡ none → find i (keys t) ≡ some k → find i (keys (add j t)) ≡ some k
@@ -82,12 +81,12 @@ find_later t j k i n e = find_add_other i j t (λ q. absent (ap (λ (x : ℕ). f
 
 pub open_finds : (t : List Transfer) (p : Packet) (i : ℕ) (k : Key) → find i (keys t) ≡ some k → find i (keys (opened t p)) ≡ some k
 open_finds t p i k e =
-    open_cases (λ (o : Outcome Opened). find i (keys o.table) ≡ some k) t p.octets (λ r. e) (λ m q f. e) (λ m q f w l. find_later t (key_of m) k i f e)
+    open_cases (λ (o : Outcome (Result Opened Refusal)). find i (keys o.table) ≡ some k) t p.octets (λ r. e) (λ m q f. e) (λ m q f w l. find_later t (key_of m) k i f e)
 
 pub open_brings : (t : List Transfer) (p : Packet) (k : Key) → Opens t p → Brings p k → find k.id (keys (opened t p)) ≡ some k
 open_brings t p k a (m, e, q) =
     rw (← q)
-    (open_cases (λ (o : Outcome Opened). open_accepted o.answer ≡ true → find m.id (keys o.table) ≡ some (key_of m)) t p.octets
+    (open_cases (λ (o : Outcome (Result Opened Refusal)). open_accepted o.answer ≡ true → find m.id (keys o.table) ≡ some (key_of m)) t p.octets
     (λ r z. absurd (let y : ◌≡◌ {A = ℕ} 0 1 = cc in omega arith))
     (λ n f g z. let y : n ≡ m = cc in rw y at g)
     (λ n f g w l z. let y : n ≡ m = cc in
@@ -96,10 +95,10 @@ open_brings t p k a (m, e, q) =
 
 pub open_only : (t : List Transfer) (p : Packet) (k : Key) → find k.id (keys (opened t p)) ≡ some k → (find k.id (keys t) ≡ some k) ⊎ Brings p k
 open_only t p k =
-    open_cases (λ (o : Outcome Opened). find k.id (keys o.table) ≡ some k → (find k.id (keys t) ≡ some k) ⊎ Brings p k) t p.octets
+    open_cases (λ (o : Outcome (Result Opened Refusal)). find k.id (keys o.table) ≡ some k → (find k.id (keys t) ≡ some k) ⊎ Brings p k) t p.octets
     (λ r z. inl z) (λ m e f z. inl z) (λ m e f w l z. go m e f z (ℕ_discrete m.id k.id))
   where
-    go : (m : Metadata) → read_metadata p.octets ≡ metadata-read.Accepted m → find m.id (keys t) ≡ none
+    go : (m : Metadata) → read_metadata p.octets ≡ Ok m → find m.id (keys t) ≡ none
         → find k.id (keys (add (key_of m) t)) ≡ some k → Dec (m.id ≡ k.id) → (find k.id (keys t) ≡ some k) ⊎ Brings p k
     go m e f z (yes q) =
         let y : find k.id (keys (add (key_of m) t)) ≡ some (key_of m) =
@@ -109,14 +108,14 @@ open_only t p k =
 
 -- a recording: judged by the keys and by room alone, it keeps the keys and adds its run
 abbrev pub Fit : List Key → Packet → Type 0
-Fit ks p = (d : Data) × (k : Key) × (read_data p.octets ≡ data-read.Accepted d) × (find d.id ks ≡ some k) × (data_judged (some k) d ≡ 0)
+Fit ks p = (d : Data) × (k : Key) × (read_data p.octets ≡ Ok d) × (find d.id ks ≡ some k) × (data_judged (some k) d ≡ 0)
 
-grown_is : (t : List Transfer) (p : Packet) (d : Data) → read_data p.octets ≡ data-read.Accepted d
+grown_is : (t : List Transfer) (p : Packet) (d : Data) → read_data p.octets ≡ Ok d
     → insert (offset_in p) (stop_in p) (runs_of t (id_in p)) ≡ grown t d
 unfolding grown extended id_read offset_read stop_read
-grown_is t p d e = ap (λ (r : DataRead). insert (offset_read r) (stop_read r) (runs_of t (id_read r))) e
+grown_is t p d e = ap (λ (r : Result Data Refusal). insert (offset_read r) (stop_read r) (runs_of t (id_read r))) e
 
-pub id_is : (p : Packet) (d : Data) → read_data p.octets ≡ data-read.Accepted d → id_in p ≡ d.id
+pub id_is : (p : Packet) (d : Data) → read_data p.octets ≡ Ok d → id_in p ≡ d.id
 unfolding id_read
 id_is p d e = ap id_read e
 
@@ -128,20 +127,20 @@ pub fit_later : (t : List Transfer) (o p : Packet) → Fit (keys t) p → Fit (k
 fit_later t o p (d, k, e, f, j) = (d, k, e, open_finds t o d.id k f, j)
 
 pub rec_keys : (t : List Transfer) (p : Packet) → keys (recorded t p) ≡ keys t
-rec_keys t p = record_cases (λ (o : Outcome Recorded). keys o.table ≡ keys t) t p.octets (λ r. refl) (λ d k e f j l. keys_set d.id (grown t d) (stamp_in p.octets d) t)
+rec_keys t p = record_cases (λ (o : Outcome (Result Receipt Refusal)). keys o.table ≡ keys t) t p.octets (λ r. refl) (λ d k e f j l. keys_set d.id (grown t d) (stamp_in p.octets d) t)
 
 -- an accepted recording leaves a table that has what is asked of the Id i, where that is the packet's own Id, and where it is another
 abbrev pub left : List Transfer → Packet → Data → List Transfer
 left t p d = set_runs d.id (grown t d) (stamp_in p.octets d) t
 
 rec_left : (P : List Transfer → Type 0) (t : List Transfer) (p : Packet) (i : ℕ) → Records t p
-    → ((d : Data) (k : Key) → read_data p.octets ≡ data-read.Accepted d → find d.id (keys t) ≡ some k → id_in p ≡ i → d.id ≡ i → P (left t p d))
+    → ((d : Data) (k : Key) → read_data p.octets ≡ Ok d → find d.id (keys t) ≡ some k → id_in p ≡ i → d.id ≡ i → P (left t p d))
     → ((d : Data) → (id_in p ≡ i → ⊥) → (d.id ≡ i → ⊥) → P (left t p d)) → P (recorded t p)
 rec_left P t p i a own other =
-    record_cases (λ (o : Outcome Recorded). record_accepted o.answer ≡ true → P o.table) t p.octets
+    record_cases (λ (o : Outcome (Result Receipt Refusal)). record_accepted o.answer ≡ true → P o.table) t p.octets
     (λ r z. absurd (let y : ◌≡◌ {A = ℕ} 0 1 = cc in omega arith)) (λ d k e f j l z. go d k e f (ℕ_discrete d.id i)) a
   where
-    go : (d : Data) (k : Key) → read_data p.octets ≡ data-read.Accepted d → find d.id (keys t) ≡ some k → Dec (d.id ≡ i) → P (left t p d)
+    go : (d : Data) (k : Key) → read_data p.octets ≡ Ok d → find d.id (keys t) ≡ some k → Dec (d.id ≡ i) → P (left t p d)
     go d k e f (yes q) = own d k e f (id_is p d e ∙ q) q
     go d k e f (no n) = other d (λ q. n (sym (id_is p d e) ∙ q)) n
 
@@ -184,14 +183,14 @@ rec_stamped t p i a =
 
 pub rec_fit : (t : List Transfer) (p : Packet) → Records t p → Fit (keys t) p
 rec_fit t p =
-    record_cases (λ (o : Outcome Recorded). record_accepted o.answer ≡ true → Fit (keys t) p) t p.octets
+    record_cases (λ (o : Outcome (Result Receipt Refusal)). record_accepted o.answer ≡ true → Fit (keys t) p) t p.octets
     (λ r z. absurd (let y : ◌≡◌ {A = ℕ} 0 1 = cc in omega arith)) (λ d k e f j l z. (d, k, e, f, j))
 
 pub rec_room : (t : List Transfer) (p : Packet) → Records t p → length (insert (offset_in p) (stop_in p) (runs_of t (id_in p))) ≤ 64
 rec_room t p =
-    record_cases (λ (o : Outcome Recorded). record_accepted o.answer ≡ true → length (insert (offset_in p) (stop_in p) (runs_of t (id_in p))) ≤ 64)
+    record_cases (λ (o : Outcome (Result Receipt Refusal)). record_accepted o.answer ≡ true → length (insert (offset_in p) (stop_in p) (runs_of t (id_in p))) ≤ 64)
     t p.octets (λ r z. absurd (let y : ◌≡◌ {A = ℕ} 0 1 = cc in omega arith)) (λ d k e f j l z. rw (grown_is t p d e) l)
 
 pub rec_takes : (t : List Transfer) (p : Packet) → Fit (keys t) p → length (insert (offset_in p) (stop_in p) (runs_of t (id_in p))) ≤ 64 → Records t p
 rec_takes t p (d, k, e, f, j) n =
-    ap (λ (o : Outcome Recorded). record_accepted o.answer) (record_taken t p.octets d k e f j (rw (grown_is t p d e) at n))
+    ap (λ (o : Outcome (Result Receipt Refusal)). record_accepted o.answer) (record_taken t p.octets d k e f j (rw (grown_is t p d e) at n))

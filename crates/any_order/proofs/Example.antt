@@ -10,7 +10,6 @@ use lib.ListN.{length, replicate}
 use lib.Dec.{eqb}
 use Rattle.octets.specs.Put.{put}
 use Rattle.refusals.specs.Refusals.{refusal_of}
-use Rattle.refusals.specs.declared.Written.TheVariants.{Size, Refused}
 use Rattle.octets.specs.Numbers.{be_digits, Octets, upper_zero}
 use Rattle.header.specs.Start.{start_refusal, type_refusal, file_refusal}
 use Rattle.header.specs.Descriptor.{descriptor_refusal}
@@ -36,6 +35,7 @@ use Rattle.table.specs.WriteStatus.{written_for, buffer_for, status_written, sta
 use Rattle.any_order.specs.Order.{Packet, Call, opening, recording, openings, recordings, taken, after, id_read, offset_read, id_in, place, sort, sort_calls}
 use Rattle.any_order.specs.Absorbed.{counted}
 use Rattle.any_order.specs.TableDemand3.{call_table}
+use Rattle.std.specs.Prelude.{Ok, Err}
 
 -- ---- packets
 
@@ -139,16 +139,16 @@ abbrev status_with : ℕ → List ℕ
 status_with n =
     68 ∷ 8 ∷ 0 ∷ 0 ∷ 0 ∷ 0 ∷ 0 ∷ 7 ∷ (replicate 16 n ++ (0 ∷ 10 ∷ 0 ∷ 30 ∷ 0 ∷ 10 ∷ 0 ∷ 20 ∷ replicate 8 255))
 
-says : (status_written (ends 5) 7 0 false (replicate 40 255) ≡ Size 32) × (status_buffer (ends 5) 7 0 false (replicate 40 255) ≡ status_with 5)
+says : (status_written (ends 5) 7 0 false (replicate 40 255) ≡ Ok 32) × (status_buffer (ends 5) 7 0 false (replicate 40 255) ≡ status_with 5)
 unfolding keys find runs_of stamp_of edge_from holes_from progress complete stamped put skips_too_many least_room size_refusal hole_room holes_sent partial_sent width_bits status_flags front_octets pairs status_octets last_offset response_sent status_packet transfer_written transfer_buffer written_for buffer_for status_written status_buffer
 says = (refl, refl)
 
-says_sorted : (status_written (ends 0) 7 0 false (replicate 40 255) ≡ Size 32) × (status_buffer (ends 0) 7 0 false (replicate 40 255) ≡ status_with 0)
+says_sorted : (status_written (ends 0) 7 0 false (replicate 40 255) ≡ Ok 32) × (status_buffer (ends 0) 7 0 false (replicate 40 255) ≡ status_with 0)
 unfolding keys find runs_of stamp_of edge_from holes_from progress complete stamped put skips_too_many least_room size_refusal hole_room holes_sent partial_sent width_bits status_flags front_octets pairs status_octets last_offset response_sent status_packet transfer_written transfer_buffer written_for buffer_for status_written status_buffer
 says_sorted = (refl, refl)
 
 -- in 31 octets there is no room: 20 counts the timestamp
-no_room : status_written (ends 5) 7 0 false (replicate 31 255) ≡ Refused (refusal_of 20)
+no_room : status_written (ends 5) 7 0 false (replicate 31 255) ≡ Err (refusal_of 20)
 unfolding keys find runs_of stamp_of edge_from holes_from progress complete stamped put skips_too_many least_room size_refusal hole_room holes_sent partial_sent width_bits status_flags front_octets pairs status_octets last_offset response_sent status_packet transfer_written transfer_buffer written_for buffer_for status_written status_buffer
 no_room = refl
 

@@ -9,7 +9,6 @@ use mathlib.Core.Option.{some}
 use native.Mathlib.Omega.{arith}
 use lib.ListN.{length, take, drop, get_or}
 use Rattle.refusals.specs.declared.Refusal.{Refusal}
-use Rattle.refusals.specs.declared.Written.TheVariants.{Refused}
 use Rattle.transfer.specs.declared.Key.{Key}
 use Rattle.timestamp.specs.Timestamps.{stamped}
 use Rattle.transfer.specs.Transfers.{Transfer}
@@ -28,6 +27,7 @@ use Rattle.any_order.proofs.CallLaws.{call_kept}
 use Rattle.any_order.proofs.AlongLaws.{Moves, valid_along, found_only, found_all, ends, ends_stamp, ends_stamped}
 use Rattle.any_order.proofs.SortedLaws.{Led, sorted_leads, sorted_any}
 use Rattle.any_order.proofs.Sorting.{sort_sorts}
+use Rattle.std.specs.Prelude.{Err}
 
 nothing_open : (k : Key) → find k.id (keys []) ≡ some k → ⊥
 unfolding keys find
@@ -106,7 +106,7 @@ module _ (cs s : List Call) (σ : Sorted (accepted cs) s) where
     octets n (inr h) =
         same_outside (ending cs) (ending s) (ending_valid cs) (ending_valid s) id (ap (find id) end_keys) (end_runs id) (end_stamped id) k unasked buffer n h
 
-    refused : (r : Refusal) → status_written (ending cs) id k unasked buffer ≡ Refused r → second ≡ first
+    refused : (r : Refusal) → status_written (ending cs) id k unasked buffer ≡ Err r → second ≡ first
     refused r e =
         refused_buffer (ending s) (ending_valid s) id k unasked buffer r (answers ∙ e)
         ∙ sym (refused_buffer (ending cs) (ending_valid cs) id k unasked buffer r e)
@@ -122,7 +122,7 @@ module _ (cs s : List Call) (σ : Sorted (accepted cs) s) where
             both_or_neither = end_stamped;
             same_answer = answers;
             same_length = lengths;
-            same_octets_lem = octets;
+            same_octets = octets;
             same_refused = refused;
           };
           first_keeps = keeps_last cs;

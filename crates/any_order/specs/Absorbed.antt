@@ -1,17 +1,15 @@
 -- R10.6: the numbers of absorbed runs that the recordings of one Id tell, added up over a list of calls on an area.
 -- Assumes nothing.
-use Rattle.std.specs.Prelude.{ℕ, ◌+◌, ◌-◌, ◌≤◌, ◌≡◌, cond, List, [], ◌∷◌, eqb}
+use Rattle.std.specs.Prelude.{ℕ, ◌+◌, ◌-◌, ◌≤◌, ◌≡◌, cond, List, [], ◌∷◌, eqb, Result, Ok, Err}
 use Rattle.packet_metadata.specs.Metadata.{read_metadata}
 use Rattle.packet_metadata.specs.declared.Metadata.{Metadata}
-use Rattle.packet_metadata.specs.declared.MetadataRead.TheVariants as metadata-read
 use Rattle.transfer.specs.declared.Reached.{Reached}
 use Rattle.transfer.specs.declared.Receipt.{Receipt}
 use Rattle.table.specs.declared.Opened.TheVariants as opened
-use Rattle.table.specs.declared.Recorded.{Recorded}
-use Rattle.table.specs.declared.Recorded.TheVariants as recorded
 use Rattle.area.specs.Operations.{open_area, record_area, close_area, runs_held}
 use Rattle.any_order.specs.Order.{Packet, Call, opening, recording, id_in}
 use Rattle.any_order.specs.Demand3.{call_area}
+use Rattle.refusals.specs.declared.Refusal.{Refusal}
 
 -- a call on an area: an opening or a recording, as R10.1 has them, of any Id and with any octets; or a closing
 pub data AnyCall : Type 0 where
@@ -30,9 +28,9 @@ after_all a (c ∷ cs) = after_all (left_by a c) cs
 
 -- ---- the recordings of the Id i that are accepted, each counted with a number f of what it tells; all else counts nothing
 module _ (i : ℕ) (f : Receipt → ℕ) where
-  unfoldable pub counted : Recorded → ℕ
-  counted (recorded.Accepted x) = f x
-  counted (recorded.Refused r) = 0
+  unfoldable pub counted : Result Receipt Refusal → ℕ
+  counted (Ok x) = f x
+  counted (Err r) = 0
 
   unfoldable pub counted_by : List ℕ → AnyCall → ℕ
   counted_by a (call (opening p)) = 0
@@ -74,6 +72,6 @@ pub record AddsUp (i : ℕ) (a : List ℕ) (cs : List AnyCall) : Type 0 where
 
 -- R10.6: a call opens the transfer as new, with the METADATA m, and any calls follow
 abbrev pub SumFromOpening : Type 0
-SumFromOpening = (a : List ℕ) (p : Packet) (m : Metadata) (x : Reached) → read_metadata p.octets ≡ metadata-read.Accepted m
-    → (open_area a p.octets).answer ≡ opened.New x
+SumFromOpening = (a : List ℕ) (p : Packet) (m : Metadata) (x : Reached) → read_metadata p.octets ≡ Ok m
+    → (open_area a p.octets).answer ≡ Ok (opened.New x)
     → (cs : List AnyCall) → KeptOpen m.id cs → AddsUp m.id (open_area a p.octets).area cs

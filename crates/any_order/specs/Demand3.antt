@@ -1,15 +1,13 @@
 -- R10.1 to R10.5 and R10.8, stated on areas: a list of openings and recordings, and the accepted ones of it in the sorted order. Order shows
 -- in one field alone, the timestamp.
 -- Assumes nothing.
-use Rattle.std.specs.Prelude.{ℕ, ◌≤◌, ◌≡◌, Bool, true, List, length, take, drop, get_or}
+use Rattle.std.specs.Prelude.{ℕ, ◌≤◌, ◌≡◌, Bool, true, List, length, take, drop, get_or, Ok, Err}
 use Rattle.std.proofs.Math.Option.{some}
 use Rattle.refusals.specs.declared.Refusal.{Refusal}
-use Rattle.refusals.specs.declared.Written.TheVariants.{Size, Refused}
 use Rattle.transfer.specs.Transfers.{Transfer}
 use Rattle.table.specs.Tables.{Valid}
 use Rattle.table.specs.Open.{open_accepted}
 use Rattle.table.specs.Record.{record_accepted}
-use Rattle.table.specs.declared.Finished.TheVariants.{Done}
 use Rattle.area.specs.Layout.{area_octets}
 use Rattle.area.specs.Judge.{table_of}
 use Rattle.area.specs.Operations.{fresh_area, open_area, record_area, area_status_written, area_status_buffer}
@@ -29,17 +27,17 @@ pub record SameStatus (a b : List ℕ) (t : List Transfer) (done : List Call) : 
   -- and leave the same octets, except octets 8 to 23 where a timestamp is kept
   pub same_length : (id k : ℕ) (unasked : Bool) (buffer : List ℕ)
       → length (area_status_buffer b id k unasked buffer) ≡ length (area_status_buffer a id k unasked buffer)
-  pub same_octets_lem : (id k : ℕ) (unasked : Bool) (buffer : List ℕ) (n : ℕ) → Elsewhere t id n
+  pub same_octets : (id k : ℕ) (unasked : Bool) (buffer : List ℕ) (n : ℕ) → Elsewhere t id n
       → get_or (area_status_buffer b id k unasked buffer) n 0 ≡ get_or (area_status_buffer a id k unasked buffer) n 0
   -- all of them where it is refused, and where no accepted recording of the Id had bit 12 set
-  pub same_refused : (id k : ℕ) (unasked : Bool) (buffer : List ℕ) (r : Refusal) → area_status_written a id k unasked buffer ≡ Refused r
+  pub same_refused : (id k : ℕ) (unasked : Bool) (buffer : List ℕ) (r : Refusal) → area_status_written a id k unasked buffer ≡ Err r
       → area_status_buffer b id k unasked buffer ≡ area_status_buffer a id k unasked buffer
   pub same_buffer : (id k : ℕ) (unasked : Bool) (buffer : List ℕ) → NoStamp id done
       → area_status_buffer b id k unasked buffer ≡ area_status_buffer a id k unasked buffer
 
 -- R10.8, R7.10: a STATUS from an area carries the last timestamp of the accepted calls `done`, in octets 8 to 23
 abbrev pub Carries : List ℕ → List Call → Type 0
-Carries a done = (id k : ℕ) (unasked : Bool) (buffer : List ℕ) (size : ℕ) → area_status_written a id k unasked buffer ≡ Size size
+Carries a done = (id k : ℕ) (unasked : Bool) (buffer : List ℕ) (size : ℕ) → area_status_written a id k unasked buffer ≡ Ok size
     → any_stamp id (recordings done) ≡ true → take 16 (drop 8 (area_status_buffer a id k unasked buffer)) ≡ last_stamp id (recordings done)
 
 -- the list cs made on the area a, and the list s on the area b
@@ -72,8 +70,8 @@ Demand3 = (a b : List ℕ) → area_octets ≤ length a → area_octets ≤ leng
 
 -- R10.2: both fresh tables are made, and the sorted order goes transfer by transfer and, inside each, by rising offset
 pub record ByTransfer (a b : List ℕ) (cs : List Call) : Type 0 where
-  pub first_made : (fresh_area a).answer ≡ Done
-  pub second_made : (fresh_area b).answer ≡ Done
+  pub first_made : (fresh_area a).answer ≡ Ok tt
+  pub second_made : (fresh_area b).answer ≡ Ok tt
   pub ends : (s : List Call) → TransferByTransfer (taken call_area (made a) cs) s → AreasEnd (made a) (made b) cs s
   -- and there is such an order
   pub some_order : TransferByTransfer (taken call_area (made a) cs) (sort_calls (taken call_area (made a) cs))

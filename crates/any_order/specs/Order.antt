@@ -1,19 +1,18 @@
 -- R10.1, R10.2: a list of openings and recordings, which of them are accepted and what they leave, and the accepted ones put in order.
 -- Assumes nothing.
-use Rattle.std.specs.Prelude.{ℕ, ◌≤◌, ◌<◌, ◌≡◌, Bool, true, false, cond, ◌&&◌, ◌||◌, ◌⊎◌, take, drop, ltb, leb, eqb}
+use Rattle.std.specs.Prelude.{ℕ, ◌≤◌, ◌<◌, ◌≡◌, Bool, true, false, cond, ◌&&◌, ◌||◌, ◌⊎◌, take, drop, ltb, leb, eqb, Result, Ok, Err}
 use mathlib.Core.List.{List, [], ◌∷◌, ◌++◌, map, Permᴰ}
 use Rattle.octets.specs.Numbers.{Octets}
 use Rattle.header.specs.FirstWord.{bits}
 use Rattle.header.specs.Start.{word_of}
 use Rattle.packet_metadata.specs.Metadata.{read_metadata}
 use Rattle.packet_metadata.specs.declared.Metadata.{Metadata}
-use Rattle.packet_metadata.specs.declared.MetadataRead.TheVariants as metadata-read
 use Rattle.packet_data.specs.Data.{read_data}
-use Rattle.packet_data.specs.declared.DataRead.{DataRead}
-use Rattle.packet_data.specs.declared.DataRead.TheVariants as data-read
 use Rattle.transfer.specs.declared.Key.{Key}
 use Rattle.transfer.specs.Transfers.{key_of}
 use Rattle.transfer.specs.Record.{stop_of}
+use Rattle.refusals.specs.declared.Refusal.{Refusal}
+use Rattle.packet_data.specs.declared.Data.{Data}
 
 -- a packet has any octets
 pub record Packet : Type 0 where
@@ -51,17 +50,17 @@ module _ {A : Type 0} (call : A → Call → Bool × A) where
 
 -- the Id of a recording, its offset, and the first offset after those that it brings. A packet that the reader refuses brings no
 -- offset
-unfoldable pub id_read : DataRead → ℕ
-id_read (data-read.Accepted d) = d.id
-id_read (data-read.Refused r) = 0
+unfoldable pub id_read : Result Data Refusal → ℕ
+id_read (Ok d) = d.id
+id_read (Err r) = 0
 
-unfoldable pub offset_read : DataRead → ℕ
-offset_read (data-read.Accepted d) = d.offset
-offset_read (data-read.Refused r) = 0
+unfoldable pub offset_read : Result Data Refusal → ℕ
+offset_read (Ok d) = d.offset
+offset_read (Err r) = 0
 
-unfoldable pub stop_read : DataRead → ℕ
-stop_read (data-read.Accepted d) = stop_of d
-stop_read (data-read.Refused r) = 0
+unfoldable pub stop_read : Result Data Refusal → ℕ
+stop_read (Ok d) = stop_of d
+stop_read (Err r) = 0
 
 abbrev pub id_in : Packet → ℕ
 id_in p = id_read (read_data p.octets)
@@ -109,7 +108,7 @@ last_stamp i (p ∷ ps) = let later = last_stamp i ps in cond (any_stamp i ps) l
 
 -- an opening brings an Id, a width w and a length L
 abbrev pub Brings : Packet → Key → Type 0
-Brings p k = (m : Metadata) × (read_metadata p.octets ≡ metadata-read.Accepted m) × (key_of m ≡ k)
+Brings p k = (m : Metadata) × (read_metadata p.octets ≡ Ok m) × (key_of m ≡ k)
 
 -- R10.4: some opening brings the Id with this width and length
 abbrev pub Brought : Key → List Packet → Type 0

@@ -1,10 +1,9 @@
 -- R10.1 to R10.5 and R10.8, stated on tables: a list of openings and recordings, and the accepted ones of it in the sorted order. Order shows
 -- in one field alone, the timestamp.
 -- Assumes nothing.
-use Rattle.std.specs.Prelude.{ℕ, ◌≤◌, ◌<◌, ◌≡◌, Bool, true, false, List, [], ◌∷◌, ◌++◌, ◌⊎◌, ◌↔◌, length, take, drop, get_or}
+use Rattle.std.specs.Prelude.{ℕ, ◌≤◌, ◌<◌, ◌≡◌, Bool, true, false, List, [], ◌∷◌, ◌++◌, ◌⊎◌, ◌↔◌, length, take, drop, get_or, Ok, Err}
 use Rattle.std.proofs.Math.Option.{some}
 use Rattle.refusals.specs.declared.Refusal.{Refusal}
-use Rattle.refusals.specs.declared.Written.TheVariants.{Size, Refused}
 use Rattle.runs.specs.Runs.{Member}
 use Rattle.transfer.specs.declared.Key.{Key}
 use Rattle.timestamp.specs.Timestamps.{stamped}
@@ -45,10 +44,10 @@ pub record Alike (t u : List Transfer) : Type 0 where
   -- R10.5: and leave as many octets, each of them the same except those of the timestamp
   pub same_length : (id k : ℕ) (unasked : Bool) (buffer : List ℕ)
       → length (status_buffer u id k unasked buffer) ≡ length (status_buffer t id k unasked buffer)
-  pub same_octets_lem : (id k : ℕ) (unasked : Bool) (buffer : List ℕ) (n : ℕ) → Elsewhere t id n
+  pub same_octets : (id k : ℕ) (unasked : Bool) (buffer : List ℕ) (n : ℕ) → Elsewhere t id n
       → get_or (status_buffer u id k unasked buffer) n 0 ≡ get_or (status_buffer t id k unasked buffer) n 0
   -- where it is refused, those of the timestamp too
-  pub same_refused : (id k : ℕ) (unasked : Bool) (buffer : List ℕ) (r : Refusal) → status_written t id k unasked buffer ≡ Refused r
+  pub same_refused : (id k : ℕ) (unasked : Bool) (buffer : List ℕ) (r : Refusal) → status_written t id k unasked buffer ≡ Err r
       → status_buffer u id k unasked buffer ≡ status_buffer t id k unasked buffer
 
 -- ---- what each table at the end keeps, by the order of its own list
@@ -70,7 +69,7 @@ pub record KeepsLast (t : List Transfer) (done : List Call) : Type 0 where
   pub whether : (i : ℕ) → stamped (stamp_of t i) ≡ any_stamp i (recordings done)
   pub sixteen : (i : ℕ) → any_stamp i (recordings done) ≡ true → length (stamp_of t i) ≡ 16
   -- R7.10: a STATUS that is written carries it as its octets 8 to 23
-  pub carried : (id k : ℕ) (unasked : Bool) (buffer : List ℕ) (size : ℕ) → status_written t id k unasked buffer ≡ Size size
+  pub carried : (id k : ℕ) (unasked : Bool) (buffer : List ℕ) (size : ℕ) → status_written t id k unasked buffer ≡ Ok size
       → any_stamp id (recordings done) ≡ true → take 16 (drop 8 (status_buffer t id k unasked buffer)) ≡ last_stamp id (recordings done)
 
 -- ---- the demand

@@ -21,10 +21,6 @@ use Rattle.table.specs.Record.{record_packet}
 use Rattle.table.specs.Close.{close_id}
 use Rattle.table.specs.declared.Opened.{Opened}
 use Rattle.table.specs.declared.Opened.TheVariants as opened
-use Rattle.table.specs.declared.Recorded.{Recorded}
-use Rattle.table.specs.declared.Recorded.TheVariants as recorded
-use Rattle.table.specs.declared.Finished.{Finished}
-use Rattle.table.specs.declared.Finished.TheVariants as finished
 use Rattle.table.proofs.ValidLaws.{open_valid, record_valid, close_valid}
 use Rattle.table.proofs.OtherLaws.{open_refused, record_refused, close_refused}
 use Rattle.area.specs.Layout.{area_octets}
@@ -35,6 +31,8 @@ use Rattle.area.specs.Operations.{OnArea, leaves, on_found, on_table, from_found
 use Rattle.area.proofs.JudgeLaws.{held_valid}
 use Rattle.area.proofs.StoredLaws.{stored_held, held_stored, stored_past, length_stored}
 use Rattle.area.proofs.AreaLaws.{held_long, stored_octets, judged_held, judged_unheld, length_fresh, fresh_past, fresh_octets, fresh_held}
+use Rattle.std.specs.Prelude.{Result, Ok, Err, ⊤}
+use Rattle.transfer.specs.declared.Receipt.{Receipt}
 
 -- ---- any operation, by what the area holds
 
@@ -67,7 +65,7 @@ module _ {A : Type 0} (refused : A) (operation : List Transfer → Outcome A) (a
 -- recording, on an area that holds a table
 pub record_held_lem : (a packet : List ℕ) (t : List Transfer) → table_of a ≡ some t → record_area a packet ≡ leaves a (record_packet t packet)
 unfolding record_area
-record_held_lem a packet t e = on_held (recorded.Refused (refusal_of 22)) (λ u. record_packet u packet) a t e
+record_held_lem a packet t e = on_held (Err (refusal_of 22)) (λ u. record_packet u packet) a t e
 
 module _ {A : Type 0} (refused : A) (answer : List Transfer → A) (a : List ℕ) where
   pub from_held : (t : List Transfer) → table_of a ≡ some t → from_table refused answer a ≡ answer t
@@ -103,17 +101,17 @@ module _ (a : List ℕ) (o : Octets a) where
       on_cases refused operation a (λ (x : OnArea A). Refused x.answer → x.area ≡ a) (λ r. refl)
       (λ t e r. ap (stored_in a) (same t r) ∙ held_stored a t o e)
 
-  pub open_refused_same : (packet : List ℕ) (r : Refusal) → (open_area a packet).answer ≡ opened.Refused r → (open_area a packet).area ≡ a
+  pub open_refused_same : (packet : List ℕ) (r : Refusal) → (open_area a packet).answer ≡ Err r → (open_area a packet).area ≡ a
   unfolding open_area
-  open_refused_same packet r = same_stored (λ (x : Opened). x ≡ opened.Refused r) _ (λ t. open_packet t packet) (λ t e. open_refused t packet r e)
+  open_refused_same packet r = same_stored (λ (x : Result Opened Refusal). x ≡ Err r) _ (λ t. open_packet t packet) (λ t e. open_refused t packet r e)
 
-  pub record_refused_same : (packet : List ℕ) (r : Refusal) → (record_area a packet).answer ≡ recorded.Refused r → (record_area a packet).area ≡ a
+  pub record_refused_same : (packet : List ℕ) (r : Refusal) → (record_area a packet).answer ≡ Err r → (record_area a packet).area ≡ a
   unfolding record_area
-  record_refused_same packet r = same_stored (λ (x : Recorded). x ≡ recorded.Refused r) _ (λ t. record_packet t packet) (λ t e. record_refused t packet r e)
+  record_refused_same packet r = same_stored (λ (x : Result Receipt Refusal). x ≡ Err r) _ (λ t. record_packet t packet) (λ t e. record_refused t packet r e)
 
-  pub close_refused_same : (id : ℕ) (r : Refusal) → (close_area a id).answer ≡ finished.Refused r → (close_area a id).area ≡ a
+  pub close_refused_same : (id : ℕ) (r : Refusal) → (close_area a id).answer ≡ Err r → (close_area a id).area ≡ a
   unfolding close_area
-  close_refused_same id r = same_stored (λ (x : Finished). x ≡ finished.Refused r) _ (λ t. close_id t id) (λ t e. close_refused t id r e)
+  close_refused_same id r = same_stored (λ (x : Result ⊤ Refusal). x ≡ Err r) _ (λ t. close_id t id) (λ t e. close_refused t id r e)
 
 -- ---- what any call leaves: an area of the same length, the same past the layout
 pub record Kept (a b : List ℕ) : Type 0 where
@@ -157,16 +155,16 @@ module _ (a : List ℕ) (o : Octets a) where
       (le_or_lt area_octets (length a))
 
 -- ---- R8.3: what making an area fresh or any accepted call leaves is an image of the table that its rule gives
-pub fresh_refused : (a : List ℕ) → length a < area_octets → fresh_area a ≡ record { answer = finished.Refused (refusal_of 20); area = a }
+pub fresh_refused : (a : List ℕ) → length a < area_octets → fresh_area a ≡ record { answer = Err (refusal_of 20); area = a }
 unfolding fresh_area
 fresh_refused a h = rw (lt-ltb (length a) area_octets h)
 
-pub fresh_done : (a : List ℕ) → area_octets ≤ length a → fresh_area a ≡ record { answer = finished.Done; area = fresh_in a }
+pub fresh_done : (a : List ℕ) → area_octets ≤ length a → fresh_area a ≡ record { answer = Ok tt; area = fresh_in a }
 unfolding fresh_area
 fresh_done a h = rw (le-ltb (length a) area_octets h)
 
 pub fresh_leaves : (a : List ℕ) → area_octets ≤ length a → table_of (fresh_area a).area ≡ some []
-fresh_leaves a h = ap (λ (f : OnArea Finished). table_of f.area) (fresh_done a h) ∙ fresh_held a h
+fresh_leaves a h = ap (λ (f : OnArea (Result ⊤ Refusal)). table_of f.area) (fresh_done a h) ∙ fresh_held a h
 
 module _ (a : List ℕ) (t : List Transfer) (h : table_of a ≡ some t) where
   on_leaves : {A : Type 0} (refused : A) (operation : List Transfer → Outcome A) → Valid (operation t).table

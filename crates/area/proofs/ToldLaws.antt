@@ -14,10 +14,8 @@ use Rattle.octets.specs.Numbers.{Octets}
 use Rattle.refusals.specs.Refusals.{refusal_of}
 use Rattle.packet_metadata.specs.Metadata.{read_metadata}
 use Rattle.packet_metadata.specs.declared.Metadata.{Metadata}
-use Rattle.packet_metadata.specs.declared.MetadataRead.TheVariants as metadata-read
 use Rattle.packet_data.specs.Data.{read_data}
 use Rattle.packet_data.specs.declared.Data.{Data}
-use Rattle.packet_data.specs.declared.DataRead.TheVariants as data-read
 use Rattle.transfer.specs.declared.Reached.{Reached}
 use Rattle.transfer.specs.declared.Receipt.{Receipt}
 use Rattle.transfer.specs.Transfers.{Transfer}
@@ -28,8 +26,6 @@ use Rattle.table.specs.Tables.{Valid, runs_of}
 use Rattle.table.specs.Told.{Told}
 use Rattle.table.specs.declared.Opened.{Opened}
 use Rattle.table.specs.declared.Opened.TheVariants as opened
-use Rattle.table.specs.declared.Recorded.{Recorded}
-use Rattle.table.specs.declared.Recorded.TheVariants as recorded
 use Rattle.table.proofs.ValidLaws.{record_valid}
 use Rattle.table.proofs.ToldLaws.{open_told, Recording, record_told}
 use Rattle.table.proofs.RepeatLaws.{Known, with_one, record_repeat}
@@ -40,6 +36,8 @@ use Rattle.area.proofs.JudgeLaws.{held_valid}
 use Rattle.area.proofs.StoredLaws.{held_stored, stored_held}
 use Rattle.area.proofs.AreaLaws.{stored_octets, held_once}
 use Rattle.area.proofs.OperationLaws.{on_cases, record_held_lem, open_leaves, record_leaves, runs_held_lem}
+use Rattle.std.specs.Prelude.{Result, Ok, Err}
+use Rattle.refusals.specs.declared.Refusal.{Refusal}
 
 -- the area holds a table, and x tells of the Id's transfer in it
 pub record AreaTold (a : List ℕ) (id : ℕ) (x : Reached) : Type 0 where
@@ -53,7 +51,7 @@ pub record AreaRecording (a b packet : List ℕ) (x : Receipt) : Type 0 where
   pub before : List Transfer
   pub held : table_of a ≡ some before
   pub brought : Data
-  pub read : read_data packet ≡ data-read.Accepted brought
+  pub read : read_data packet ≡ Ok brought
   pub told : AreaTold b brought.id x.reached
   pub number : x.absorbed ≡ absorbed_in before brought
   pub counted : runs_held b brought.id + x.absorbed ≡ runs_held a brought.id + 1
@@ -63,11 +61,11 @@ pub record AreaRecording (a b packet : List ℕ) (x : Receipt) : Type 0 where
   pub same : (x.adds ≡ 0) ↔ (runs_of after brought.id ≡ runs_of before brought.id)
 
 module _ (a packet : List ℕ) (x : Receipt) where
-  pub area_record_told : Octets packet → (record_area a packet).answer ≡ recorded.Accepted x → AreaRecording a (record_area a packet).area packet x
+  pub area_record_told : Octets packet → (record_area a packet).answer ≡ Ok x → AreaRecording a (record_area a packet).area packet x
   area_record_told octets = by_table
     where
-      Goal : OnArea Recorded → Type 0
-      Goal o = o.answer ≡ recorded.Accepted x → AreaRecording a (record_area a packet).area packet x
+      Goal : OnArea (Result Receipt Refusal) → Type 0
+      Goal o = o.answer ≡ Ok x → AreaRecording a (record_area a packet).area packet x
 
       recording : (t : List Transfer) → table_of a ≡ some t → Recording t (record_packet t packet).table packet x
           → AreaRecording a (record_area a packet).area packet x
@@ -91,21 +89,21 @@ module _ (a packet : List ℕ) (x : Receipt) where
       by_table : Goal (record_area a packet)
       by_table =
           unfold record_area in
-          on_cases (recorded.Refused (refusal_of 22)) (λ t. record_packet t packet) a Goal
+          on_cases (Err (refusal_of 22)) (λ t. record_packet t packet) a Goal
           (λ e. absurd (let z : ◌≡◌ {A = ℕ} 0 1 = cc in omega arith))
           (λ t h e. recording t h (record_told t packet x (held_valid a t h) e))
 
   -- where the packet brings no timestamp: it tells that nothing was added exactly when every octet of the area is as before
-  module _ (d : Data) (read : read_data packet ≡ data-read.Accepted d) (none : d.timestamp ≡ 0) where
-    without : (y : Data) → read_data packet ≡ data-read.Accepted y → stamp_in packet y ≡ []
+  module _ (d : Data) (read : read_data packet ≡ Ok d) (none : d.timestamp ≡ 0) where
+    without : (y : Data) → read_data packet ≡ Ok y → stamp_in packet y ≡ []
     unfolding stamp_in
     without y e = let is : y ≡ d = cc in ap (λ (z : Data). take z.timestamp (drop 8 packet)) is ∙ ap (λ (n : ℕ). take n (drop 8 packet)) none
 
-    pub area_record_adds : Octets a → Octets packet → (record_area a packet).answer ≡ recorded.Accepted x → (x.adds ≡ 0) ↔ ((record_area a packet).area ≡ a)
+    pub area_record_adds : Octets a → Octets packet → (record_area a packet).answer ≡ Ok x → (x.adds ≡ 0) ↔ ((record_area a packet).area ≡ a)
     area_record_adds o octets = by_table
       where
-        Goal : OnArea Recorded → Type 0
-        Goal y = y.answer ≡ recorded.Accepted x → (x.adds ≡ 0) ↔ (y.area ≡ a)
+        Goal : OnArea (Result Receipt Refusal) → Type 0
+        Goal y = y.answer ≡ Ok x → (x.adds ≡ 0) ↔ (y.area ≡ a)
 
         stays : (t : List Transfer) → table_of a ≡ some t → Goal (leaves a (record_packet t packet))
         stays t h e =
@@ -120,22 +118,22 @@ module _ (a packet : List ℕ) (x : Receipt) where
         by_table : Goal (record_area a packet)
         by_table =
             unfold record_area in
-            on_cases (recorded.Refused (refusal_of 22)) (λ t. record_packet t packet) a Goal (λ e. absurd (let z : ◌≡◌ {A = ℕ} 0 1 = cc in omega arith)) stays
+            on_cases (Err (refusal_of 22)) (λ t. record_packet t packet) a Goal (λ e. absurd (let z : ◌≡◌ {A = ℕ} 0 1 = cc in omega arith)) stays
 
 module _ (a packet : List ℕ) (x : Reached) where
   -- and so does an opening, of a transfer that is new or that was open already
-  pub area_open_told : Octets packet → ((open_area a packet).answer ≡ opened.New x) ⊎ ((open_area a packet).answer ≡ opened.AlreadyOpen x)
-      → (m : Metadata) × (read_metadata packet ≡ metadata-read.Accepted m) × AreaTold (open_area a packet).area m.id x
+  pub area_open_told : Octets packet → ((open_area a packet).answer ≡ Ok (opened.New x)) ⊎ ((open_area a packet).answer ≡ Ok (opened.AlreadyOpen x))
+      → (m : Metadata) × (read_metadata packet ≡ Ok m) × AreaTold (open_area a packet).area m.id x
   area_open_told octets = by_table
     where
-      Goal : OnArea Opened → Type 0
-      Goal o = (o.answer ≡ opened.New x) ⊎ (o.answer ≡ opened.AlreadyOpen x)
-          → (m : Metadata) × (read_metadata packet ≡ metadata-read.Accepted m) × AreaTold (open_area a packet).area m.id x
+      Goal : OnArea (Result Opened Refusal) → Type 0
+      Goal o = (o.answer ≡ Ok (opened.New x)) ⊎ (o.answer ≡ Ok (opened.AlreadyOpen x))
+          → (m : Metadata) × (read_metadata packet ≡ Ok m) × AreaTold (open_area a packet).area m.id x
 
       by_table : Goal (open_area a packet)
       by_table =
           unfold open_area in
-          on_cases (opened.Refused (refusal_of 22)) (λ t. open_packet t packet) a Goal
+          on_cases (Err (refusal_of 22)) (λ t. open_packet t packet) a Goal
           (λ e. absurd (⊎_elim (λ p. let z : ◌≡◌ {A = ℕ} 0 1 = cc in omega arith) (λ p. let z : ◌≡◌ {A = ℕ} 0 1 = cc in omega arith) e))
           (λ t h e.
           let r = open_told t packet x (held_valid a t h) e in
@@ -143,14 +141,14 @@ module _ (a packet : List ℕ) (x : Reached) where
 
 -- ---- R6.7: recording an accepted packet again changes no octet, the transfer has come as far, one
 -- run is absorbed, and nothing is added
-abbrev repeated : OnArea Recorded → OnArea Recorded
+abbrev repeated : OnArea (Result Receipt Refusal) → OnArea (Result Receipt Refusal)
 repeated o = record { answer = with_one o.answer; area = o.area }
 
 pub area_record_repeat : (a packet : List ℕ) → Octets a → Octets packet → record_accepted (record_area a packet).answer ≡ true
     → record_area (record_area a packet).area packet ≡ repeated (record_area a packet)
 area_record_repeat a packet o octets = by_table
   where
-    Goal : OnArea Recorded → Type 0
+    Goal : OnArea (Result Receipt Refusal) → Type 0
     Goal x = record_accepted x.answer ≡ true → record_area x.area packet ≡ repeated x
 
     again : (t : List Transfer) → table_of a ≡ some t → Goal (leaves a (record_packet t packet))
@@ -158,7 +156,7 @@ area_record_repeat a packet o octets = by_table
         let u = (record_packet t packet).table in
         let b = stored_in a u in
         let on : record_area a packet ≡ leaves a (record_packet t packet) = record_held_lem a packet t h in
-        let held : table_of b ≡ some u = ap (λ (x : OnArea Recorded). table_of x.area) (sym on) ∙ record_leaves a t h packet octets in
+        let held : table_of b ≡ some u = ap (λ (x : OnArea (Result Receipt Refusal)). table_of x.area) (sym on) ∙ record_leaves a t h packet octets in
         let same : record_packet u packet ≡ record { answer = with_one (record_packet t packet).answer; table = u } = record_repeat t packet octets (held_valid a t h) e in
         let next : record_area b packet ≡ leaves b (record_packet u packet) = record_held_lem b packet u held in
         next
@@ -168,4 +166,4 @@ area_record_repeat a packet o octets = by_table
     by_table : Goal (record_area a packet)
     by_table =
         unfold record_area in
-        on_cases (recorded.Refused (refusal_of 22)) (λ t. record_packet t packet) a Goal (λ e. absurd (let z : ◌≡◌ {A = ℕ} 0 1 = cc in omega arith)) again
+        on_cases (Err (refusal_of 22)) (λ t. record_packet t packet) a Goal (λ e. absurd (let z : ◌≡◌ {A = ℕ} 0 1 = cc in omega arith)) again

@@ -1,10 +1,8 @@
 -- R6.13, R8.3, R8.4: fresh, opening, recording, closing and STATUS on areas: 22 first, then what the table's own rule gives.
 -- Assumes nothing.
-use Rattle.std.specs.Prelude.{ℕ, List, Bool, cond, length, ltb}
+use Rattle.std.specs.Prelude.{ℕ, List, Bool, cond, length, ltb, Result, Ok, Err, ⊤}
 use Rattle.std.proofs.Math.Option.{Option, none, some}
 use Rattle.refusals.specs.Refusals.{refusal_of}
-use Rattle.refusals.specs.declared.Written.{Written}
-use Rattle.refusals.specs.declared.Written.TheVariants as written
 use Rattle.transfer.specs.Transfers.{Transfer}
 use Rattle.table.specs.Tables.{runs_of}
 use Rattle.table.specs.Outcome.{Outcome}
@@ -14,13 +12,11 @@ use Rattle.table.specs.Close.{close_id}
 use Rattle.table.specs.WriteStatus.{status_written, status_buffer}
 use Rattle.table.specs.declared.Opened.{Opened}
 use Rattle.table.specs.declared.Opened.TheVariants as opened
-use Rattle.table.specs.declared.Recorded.{Recorded}
-use Rattle.table.specs.declared.Recorded.TheVariants as recorded
-use Rattle.table.specs.declared.Finished.{Finished}
-use Rattle.table.specs.declared.Finished.TheVariants as finished
 use Rattle.area.specs.Layout.{area_octets}
 use Rattle.area.specs.Judge.{table_of}
 use Rattle.area.specs.Stored.{stored_in, fresh_in}
+use Rattle.refusals.specs.declared.Refusal.{Refusal}
+use Rattle.transfer.specs.declared.Receipt.{Receipt}
 
 -- an answer, and the area at exit
 pub record OnArea (A : Type 0) : Type 0 where
@@ -41,21 +37,21 @@ on_found refused operation a (some t) = leaves a (operation t)
 unfoldable pub on_table : {A : Type 0} → A → (List Transfer → Outcome A) → List ℕ → OnArea A
 on_table refused operation a = on_found refused operation a (table_of a)
 
-unfoldable pub open_area : List ℕ → List ℕ → OnArea Opened
-open_area a packet = on_table (opened.Refused (refusal_of 22)) (λ t. open_packet t packet) a
+unfoldable pub open_area : List ℕ → List ℕ → OnArea (Result Opened Refusal)
+open_area a packet = on_table (Err (refusal_of 22)) (λ t. open_packet t packet) a
 
-unfoldable pub record_area : List ℕ → List ℕ → OnArea Recorded
-record_area a packet = on_table (recorded.Refused (refusal_of 22)) (λ t. record_packet t packet) a
+unfoldable pub record_area : List ℕ → List ℕ → OnArea (Result Receipt Refusal)
+record_area a packet = on_table (Err (refusal_of 22)) (λ t. record_packet t packet) a
 
-unfoldable pub close_area : List ℕ → ℕ → OnArea Finished
-close_area a id = on_table (finished.Refused (refusal_of 22)) (λ t. close_id t id) a
+unfoldable pub close_area : List ℕ → ℕ → OnArea (Result ⊤ Refusal)
+close_area a id = on_table (Err (refusal_of 22)) (λ t. close_id t id) a
 
 -- R8.4, R6.3: refused only with 20, where the area is shorter
-unfoldable pub fresh_area : List ℕ → OnArea Finished
+unfoldable pub fresh_area : List ℕ → OnArea (Result ⊤ Refusal)
 fresh_area a =
     cond (ltb (length a) area_octets)
-    (record { answer = finished.Refused (refusal_of 20); area = a })
-    (record { answer = finished.Done; area = fresh_in a })
+    (record { answer = Err (refusal_of 20); area = a })
+    (record { answer = Ok tt; area = fresh_in a })
 
 -- ---- operations that read the table alone
 
@@ -67,8 +63,8 @@ unfoldable pub from_table : {A : Type 0} → A → (List Transfer → A) → Lis
 from_table refused answer a = from_found refused answer (table_of a)
 
 -- STATUS: the writer's answer, and the buffer that is lent beside the area
-unfoldable pub area_status_written : List ℕ → ℕ → ℕ → Bool → List ℕ → Written
-area_status_written a id k unasked old = from_table (written.Refused (refusal_of 22)) (λ t. status_written t id k unasked old) a
+unfoldable pub area_status_written : List ℕ → ℕ → ℕ → Bool → List ℕ → Result ℕ Refusal
+area_status_written a id k unasked old = from_table (Err (refusal_of 22)) (λ t. status_written t id k unasked old) a
 
 unfoldable pub area_status_buffer : List ℕ → ℕ → ℕ → Bool → List ℕ → List ℕ
 area_status_buffer a id k unasked old = from_table old (λ t. status_buffer t id k unasked old) a

@@ -22,8 +22,8 @@ use Rattle.area.proofs.OperationLaws.{from_held}
 use Rattle.area_listing.specs.Listing.{listing_of, listed_area, Counts}
 use Rattle.area_by_id.specs.ById.{found_for, found_in, found_area}
 use Rattle.area_listing.specs.declared.Listing.{Listing}
-use Rattle.area_listing.specs.declared.Listed.TheVariants.{Open, Refused}
 use Rattle.area_listing.proofs.ListingLaws.{listed_past, listed_open}
+use Rattle.std.specs.Prelude.{Ok, Err}
 
 listing_counts : (x : Transfer) → TransferFine x → Counts x.runs (listing_of x)
 unfolding listing_of
@@ -38,7 +38,7 @@ listing_counts x f =
 
 module _ (a : List ℕ) (t : List Transfer) (held : table_of a ≡ some t) (l : Listing) where
   -- the transfer with this index
-  pub listed_counts : (i : ℕ) → listed_area a i ≡ Open l → Counts (nth t i).runs l
+  pub listed_counts : (i : ℕ) → listed_area a i ≡ Ok l → Counts (nth t i).runs l
   listed_counts i e =
       ⊎_elim
       (λ (p : length t ≤ i). let z = sym (listed_past a t held i p) ∙ e in absurd (let y : ◌≡◌ {A = ℕ} 0 1 = cc in omega arith))
@@ -49,11 +49,11 @@ module _ (a : List ℕ) (t : List Transfer) (held : table_of a ≡ some t) (l : 
       (le_or_lt (length t) i)
 
   -- the transfer with this Id
-  pub found_counts : (id : ℕ) → found_area a id ≡ Open l → Counts (runs_of t id) l
+  pub found_counts : (id : ℕ) → found_area a id ≡ Ok l → Counts (runs_of t id) l
   unfolding found_area found_in found_for
-  found_counts id e = go (find id (keys t)) refl (sym (from_held (Refused _) (λ t. found_in t id) a t held) ∙ e)
+  found_counts id e = go (find id (keys t)) refl (sym (from_held (Err _) (λ t. found_in t id) a t held) ∙ e)
     where
-      go : (o : Option Key) → find id (keys t) ≡ o → found_for o (runs_of t id) (stamp_of t id) ≡ Open l → Counts (runs_of t id) l
+      go : (o : Option Key) → find id (keys t) ≡ o → found_for o (runs_of t id) (stamp_of t id) ≡ Ok l → Counts (runs_of t id) l
       go none f z = absurd (let y : ◌≡◌ {A = ℕ} 0 1 = cc in omega arith)
       go (some k) f z =
           let x : Transfer = transfer_of k (runs_of t id) (stamp_of t id) in

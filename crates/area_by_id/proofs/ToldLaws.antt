@@ -24,10 +24,10 @@ use Rattle.area.proofs.ToldLaws.{AreaTold}
 use Rattle.area_listing.specs.Listing.{listing_of, listed_area, Counts}
 use Rattle.area_by_id.specs.ById.{found_for, found_in, found_area}
 use Rattle.area_listing.specs.declared.Listing.{Listing}
-use Rattle.area_listing.specs.declared.Listed.TheVariants.{Open, Refused}
 use Rattle.area_listing.proofs.ListingLaws.{least_at, listed_unheld, listed_past, listed_open}
 use Rattle.area_by_id.proofs.ByIdLaws.{found_unheld}
 use Rattle.area_by_id.proofs.CountLaws.{found_counts}
+use Rattle.std.specs.Prelude.{Ok, Err}
 
 -- the area holds a table in which the Id is open, and l tells of its transfer
 pub record Stands (a : List ℕ) (id : ℕ) (l : Listing) : Type 0 where
@@ -40,11 +40,11 @@ pub record Stands (a : List ℕ) (id : ℕ) (l : Listing) : Type 0 where
 
 module _ (a : List ℕ) (l : Listing) where
   -- by its Id
-  pub found_stands : (id : ℕ) → found_area a id ≡ Open l → Stands a id l
+  pub found_stands : (id : ℕ) → found_area a id ≡ Ok l → Stands a id l
   unfolding found_area found_in found_for listing_of reached
   found_stands id e = by_table (table_of a) refl
     where
-      by_key : (t : List Transfer) → table_of a ≡ some t → (o : Option Key) → find id (keys t) ≡ o → found_for o (runs_of t id) (stamp_of t id) ≡ Open l → Stands a id l
+      by_key : (t : List Transfer) → table_of a ≡ some t → (o : Option Key) → find id (keys t) ≡ o → found_for o (runs_of t id) (stamp_of t id) ≡ Ok l → Stands a id l
       by_key t h none f z = absurd (let y : ◌≡◌ {A = ℕ} 0 1 = cc in omega arith)
       by_key t h (some k) f z =
           let x : Transfer = transfer_of k (runs_of t id) (stamp_of t id) in
@@ -62,7 +62,7 @@ module _ (a : List ℕ) (l : Listing) where
 
       by_table : (o : Option (List Transfer)) → table_of a ≡ o → Stands a id l
       by_table none h = let z = sym (found_unheld a id h) ∙ e in absurd (let y : ◌≡◌ {A = ℕ} 0 1 = cc in omega arith)
-      by_table (some t) h = by_key t h (find id (keys t)) refl (sym (from_held (Refused _) (λ t. found_in t id) a t h) ∙ e)
+      by_table (some t) h = by_key t h (find id (keys t)) refl (sym (from_held (Err _) (λ t. found_in t id) a t h) ∙ e)
 
 -- the transfer at an index is the one that is found by its Id
 nth_found : (k : ℕ) (t : List Transfer) (i : ℕ) → FineFrom k t → i < length t
@@ -80,10 +80,10 @@ pub listed_found : (a : List ℕ) (t : List Transfer) → table_of a ≡ some t 
 unfolding found_area found_in found_for
 listed_found a t h i p =
     let r = nth_found 0 t i (held_valid a t h).fine p in
-    listed_open a t h i p ∙ sym (from_held (Refused (refusal_of 22)) (λ u. found_in u (nth t i).key.id) a t h ∙ rw (r.0, r.1, r.2))
+    listed_open a t h i p ∙ sym (from_held (Err (refusal_of 22)) (λ u. found_in u (nth t i).key.id) a t h ∙ rw (r.0, r.1, r.2))
 
 -- by its index
-pub listed_stands : (a : List ℕ) (l : Listing) (i : ℕ) → listed_area a i ≡ Open l → Stands a l.id l
+pub listed_stands : (a : List ℕ) (l : Listing) (i : ℕ) → listed_area a i ≡ Ok l → Stands a l.id l
 listed_stands a l i e = by_table (table_of a) refl
   where
     by_table : (o : Option (List Transfer)) → table_of a ≡ o → Stands a l.id l

@@ -4,38 +4,39 @@
 ghost use Rattle.std.specs.Prelude.{◌≡◌};
 ghost use Rattle.area_by_id.specs.ById.{found_area, hole_area};
 
-use area_listing::Listed;
-use packet_status::HoleRead;
+use area_listing::Listing;
+use refusals::{Fault, Refusal};
+use runs::Hole;
 
 // The open transfer with this Id.
-pub fn find(area: &[u8], id: u64) -> Listed
+pub fn find(area: &[u8], id: u64) -> Result<Listing, Refusal>
     ensures { result ≡ found_area area.now id }
 {
     if !area_judge::judge(area) {
-        return Listed::Refused(refusals::refuse(22));
+        return Err(Fault::NoTable.into());
     }
     let place = area_find::find_place(area, id);
     if !place.open {
-        return Listed::Refused(refusals::refuse(12));
+        return Err(Fault::NotOpen.into());
     }
-    Listed::Open(area_listing::listing_at(area, place.at))
+    Ok(area_listing::listing_at(area, place.at))
 }
 
 // Hole `index` of its received set, from the lowest.
-pub fn transfer_hole(area: &[u8], id: u64, index: u64) -> HoleRead
+pub fn transfer_hole(area: &[u8], id: u64, index: u64) -> Result<Hole, Refusal>
     ensures { result ≡ hole_area area.now id index }
 {
     if !area_judge::judge(area) {
-        return HoleRead::Refused(refusals::refuse(22));
+        return Err(Fault::NoTable.into());
     }
     let kept = area_find::find_place(area, id);
     if !kept.open {
-        return HoleRead::Refused(refusals::refuse(12));
+        return Err(Fault::NotOpen.into());
     }
     let rows = area_at::rows_at(area, kept.at);
     let holes = run_rows::hole_count(area, rows);
     if holes as u64 <= index {
-        return HoleRead::Refused(refusals::refuse(19));
+        return Err(Fault::NoSuchHole.into());
     }
-    HoleRead::Accepted(run_rows::hole_at(area, rows, index as usize))
+    Ok(run_rows::hole_at(area, rows, index as usize))
 }

@@ -79,11 +79,11 @@ module _ (a : List ℕ) (id n i : ℕ) (s : Search a id n i) where
     unfolding place_in
     search_here h = let p = here_at h in rw p (λ k. record { at = i; «open» = sym here_open k })
 
-  pub search_end : n ≤ i → record { at = i; «open» = false } ≡ place_in id (read_table a)
+  pub search_end : n ≤ i → record { at = n; «open» = false } ≡ place_in id (read_table a)
   unfolding place_in open_at place_of transfers_from
   search_end h =
       let l : length (read_table a) ≡ word_at a 0 = length_transfers a 0 (word_at a 0) in
       let c : n ≡ word_at a 0 = s.count in
       let z : n - i ≡ 0 = omega arith in
-      let p : place_of id (read_table a) ≡ i = s.place ∙ ap (λ (m : ℕ). i + place_of id (transfers_from a i m)) z ∙ omega arith in
-      rw (p, le-ltb i (length (read_table a)) (omega (arith, s.inside)))
+      let p : place_of id (read_table a) ≡ n = s.place ∙ ap (λ (m : ℕ). i + place_of id (transfers_from a i m)) z ∙ omega (arith, s.inside) in
+      rw (p, le-ltb n (length (read_table a)) (omega (arith, s.inside)))

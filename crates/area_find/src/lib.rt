@@ -13,8 +13,7 @@ pub fn find_place(area: &[u8], id: u64) -> Place
     ensures { result ≡ place_in id (read_table area.now) }
 {
     let n = area_at::open_count(area) as usize;
-    let mut i: usize = 0;
-    while i < n {
+    for i in 0..n {
         let here = area_at::head(area, i, area::ID);
         if id <= here {
             return Place {
@@ -22,7 +21,6 @@ pub fn find_place(area: &[u8], id: u64) -> Place
                 open: here == id,
             };
         }
-        i += 1;
     }
-    Place { at: i, open: false }
+    Place { at: n, open: false }
 }

@@ -5,7 +5,7 @@ ghost use Rattle.std.specs.Prelude.{◌≡◌, ◌+◌, ◌*◌, ◌≤◌, leng
 ghost use Rattle.area.specs.Operations.{fresh_area};
 ghost use Rattle.area_fresh.specs.Fresh.{no_numbers, WordsPut};
 
-use table::Finished;
+use refusals::{Fault, Refusal};
 
 // The numbers of all heads, and those of all timestamps.
 const HEADS: usize = area::TRANSFERS * area::HEAD_WORDS;
@@ -40,19 +40,17 @@ fn put_words(area: &mut [u8], k: usize, ws: &[u64])
     requires { (k + length ws.now) * 8 ≤ length area.old }
     ensures { WordsPut area.old area.new k ws.now (length ws.now) }
 {
-    let mut i = 0;
-    while i < ws.len() {
+    for i in 0..ws.len() {
         words::put_word(area, k + i, ws[i]);
-        i += 1;
     }
 }
 
 // A table with no transfer, stored whole in an area that is long enough.
-pub fn fresh(area: &mut [u8]) -> Finished
+pub fn fresh(area: &mut [u8]) -> Result<(), Refusal>
     ensures { (result ≡ (fresh_area area.old).answer) × (area.new ≡ (fresh_area area.old).area) }
 {
     if area.len() < area::AREA_OCTETS {
-        return Finished::Refused(refusals::refuse(20));
+        return Err(Fault::NoRoom.into());
     }
     let n = no_numbers();
     words::put_word(area, 0, n.count);
@@ -60,5 +58,5 @@ pub fn fresh(area: &mut [u8]) -> Finished
     put_words(area, area_at::starts_at(0), &n.starts);
     put_words(area, area_at::stops_at(0), &n.stops);
     put_words(area, area_at::stamp_at(0), &n.stamps);
-    Finished::Done
+    Ok(())
 }

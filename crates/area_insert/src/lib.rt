@@ -29,10 +29,8 @@ pub fn insert_at(area: &mut [u8], place: usize, key: Key)
     ensures { area.new ≡ stored_in area.old (insert_at place (empty key) (read_table area.old)) }
 {
     let n = area_at::open_count(area) as usize;
-    let mut q = n;
-    while place < q {
-        area_move::copy_transfer(area, q - 1, q);
-        q -= 1;
+    for q in (place..n).rev() {
+        area_move::copy_transfer(area, q, q + 1);
     }
     put_head(area, place, key);
     words::put_word(area, 0, (n + 1) as u64);

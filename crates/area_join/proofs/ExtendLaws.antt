@@ -21,7 +21,6 @@ use Rattle.timestamp.specs.Timestamps.{Stamp}
 use Rattle.transfer.specs.declared.Key.{Key}
 use Rattle.transfer.specs.declared.Reached.{Reached}
 use Rattle.transfer.specs.Transfers.{Transfer, TransferFine, reached}
-use Rattle.table.specs.declared.Recorded.TheVariants.{Accepted, Refused}
 use Rattle.area.specs.Layout.{transfer_places, run_places, area_octets, run_at}
 use Rattle.area.specs.Places.{rows_at, read_table, nth, HoldsHalves, with_runs}
 use Rattle.area.specs.Judge.{judged}
@@ -35,6 +34,7 @@ use Rattle.area_splice.proofs.OverlayLaws.{stores_is}
 use Rattle.area_splice.proofs.SplicedAreaLaws.{spliced_stores}
 use Rattle.area_splice.proofs.StampedAreaLaws.{stamped_stores}
 use Rattle.area_locate.specs.Record.{runs_given, offsets_given}
+use Rattle.std.specs.Prelude.{Ok, Err}
 
 -- ---- an area that holds a table, and a place of it
 module _ (a : List ℕ) (p : ℕ) (e : judged a ≡ true) (there : p < length (read_table a)) where
@@ -106,7 +106,7 @@ module _ (a : List ℕ) (p : ℕ) (e : judged a ≡ true) (there : p < length (r
 
       -- refused, since there would be too many
       pub extend_over : (k : Key) → run_places < runs_after r.count i j
-          → (y : List ℕ) → record { answer = Refused (refusal_of 16); area = a } ≡ offsets_given a p k from to y
+          → (y : List ℕ) → record { answer = Err (refusal_of 16); area = a } ≡ offsets_given a p k from to y
       unfolding runs_given
       extend_over k h y = rw (lt-ltb run_places (length new) (omega (arith, length_new)))
 
@@ -129,7 +129,7 @@ module _ (a : List ℕ) (p : ℕ) (e : judged a ≡ true) (there : p < length (r
         pub extend_taken : (k : Key) (e : ℕ) (m : Bool) (x : ℕ) → x ≡ adds_at from to (runs_in a r) i j
             → ◌≡◌ {A = Reached} (record { edge = e; complete = m }) (reached k (spliced (runs_in a r) i j (run lo hi)))
             → record {
-              answer = Accepted (record { reached = record { edge = e; complete = m }; absorbed = j - i; adds = x });
+              answer = Ok (record { reached = record { edge = e; complete = m }; absorbed = j - i; adds = x });
               area = stamped_area (spliced_area a p r.count i j lo hi) p y;
             } ≡ offsets_given a p k from to y
         unfolding runs_given
@@ -137,4 +137,4 @@ module _ (a : List ℕ) (p : ℕ) (e : judged a ≡ true) (there : p < length (r
             let told : ◌≡◌ {A = Reached} (record { edge = e; complete = m }) (reached k new) =
             d ∙ ap (λ (l : List Run). reached k (spliced l i j (run lo hi))) runs_here ∙ ap (reached k) (sym (inserted lo hi f g)) in
             rw (le-ltb run_places (length new) (omega (arith, length_new)), between_absorbed, z ∙ sym between_adds)
-            (ap₂ (λ (q : Reached) (c : List ℕ). record { answer = Accepted (record { reached = q; absorbed = j - i; adds = adds from to rs }); area = c }) told stored)
+            (ap₂ (λ (q : Reached) (c : List ℕ). record { answer = Ok (record { reached = q; absorbed = j - i; adds = adds from to rs }); area = c }) told stored)

@@ -1,3 +1,2 @@
 pub mod ExtendLaws
 pub mod AheadLaws
-pub mod CutLaws

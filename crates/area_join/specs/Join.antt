@@ -1,11 +1,13 @@
 -- R6.6, R6.9: the steps that find the runs which give way to one, and that run, the area only read, and what each of them finds. Trying
 -- answers what was found, recording applies it.
 -- Assumes nothing.
-use Rattle.std.specs.Prelude.{ℕ, ◌-◌, ◌≤◌, ◌<◌, ◌≡◌, List, length}
+use Rattle.std.specs.Prelude.{ℕ, ◌-◌, ◌≤◌, ◌<◌, ◌≡◌, List, length, Result, Ok}
+use Rattle.std.specs.Result.{MatchResult}
+use Rattle.refusals.specs.Faults.{number_of}
+use Rattle.refusals.specs.declared.Fault.{Fault}
 use Rattle.run_rows.specs.Rows.{CutTo, CutBelow}
 use Rattle.timestamp.specs.Timestamps.{Stamp}
 use Rattle.transfer.specs.declared.Receipt.{Receipt}
-use Rattle.table.specs.declared.Recorded.TheVariants.{Accepted}
 use Rattle.area.specs.Layout.{transfer_places, run_places, area_octets, run_at}
 use Rattle.area.specs.Places.{rows_at}
 use Rattle.area_splice.specs.Splice.{runs_after, spliced_area, stamped_area}
@@ -22,10 +24,9 @@ pub record Places (a : List ℕ) (t : Target) (c : Cuts) : Type 0 where
   pub lower : CutBelow a (run_at 1 t.place 0) c.j t.from c.i
   pub room : runs_after c.count c.i c.j ≤ run_places
 
-pub record CutAt (a : List ℕ) (t : Target) (c : Cuts) : Type 0 where
-  pub through : (t.number ≡ 0 → ⊥) → c.number ≡ t.number
-  pub refused : t.number ≡ 0 → (c.number ≡ 0 → ⊥) → (y : List ℕ) → refused_by c.number a ≡ given a t y
-  pub places : t.number ≡ 0 → c.number ≡ 0 → Places a t c
+-- the two places, or 16
+abbrev pub CutAt : List ℕ → Target → Result Cuts Fault → Type 0
+CutAt a t r = MatchResult r (λ c. Places a t c) (λ f. (y : List ℕ) → refused_by (number_of f) a ≡ given a t y)
 
 -- ---- the run that is joined, and what is told: the runs between the two places are absorbed
 
@@ -48,4 +49,4 @@ pub record SpliceFits (a : List ℕ) (t : Target) (c : Cuts) : Type 0 where
 -- and once it is made, and the timestamp y that the packet brings is kept, this is recording
 pub record Joins (a : List ℕ) (t : Target) (c : Cuts) (s : Joined) : Type 0 where
   pub fits : SpliceFits a t c
-  pub is : (y : List ℕ) → Stamp y → record { answer = Accepted (told_by c s); area = recorded_area a t c s y } ≡ given a t y
+  pub is : (y : List ℕ) → Stamp y → record { answer = Ok (told_by c s); area = recorded_area a t c s y } ≡ given a t y

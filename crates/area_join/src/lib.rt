@@ -8,13 +8,13 @@ ghost use Rattle.area_join.specs.Ahead.{edge_with, progress_with};
 ghost use Rattle.area_join.specs.Join.{Places, CutAt, Joins, told_by};
 
 use area_locate::Target;
+use refusals::Fault;
 use run_rows::Rows;
 use transfer::{Reached, Receipt};
 
 // Of the `count` runs there, those from i up to j are to give way to one.
 #[derive(Clone, Copy)]
 pub struct Cuts {
-    pub number: u64,
     pub count: usize,
     pub i: usize,
     pub j: usize,
@@ -30,38 +30,19 @@ pub struct Joined {
     pub adds: u64,
 }
 
-fn uncut(number: u64) -> Cuts
-    ensures { result.number ≡ number }
-{
-    Cuts {
-        number,
-        count: 0,
-        i: 0,
-        j: 0,
-    }
-}
-
 // 16 where they would be too many; or those that the offsets overlap or touch.
-pub fn cut(area: &[u8], t: Target) -> Cuts
-    requires { t.number ≡ 0 → Found area.now t }
+pub fn cut(area: &[u8], t: Target) -> Result<Cuts, Fault>
+    requires { Found area.now t }
     ensures { CutAt area.now t result }
 {
-    if t.number != 0 {
-        return uncut(t.number);
-    }
     let rows = area_at::rows_at(area, t.place);
     let count = rows.count;
     let j = run_cuts::cut_to(area, rows.starts, count, t.to);
     let i = run_cuts::cut_below(area, rows.stops, j, t.from);
     if area::RUNS < i + 1 + (count - j) {
-        return uncut(16);
+        return Err(Fault::TooManyRuns);
     }
-    Cuts {
-        number: 0,
-        count,
-        i,
-        j,
-    }
+    Ok(Cuts { count, i, j })
 }
 
 // The edge, where the runs up to j gave way to one that stops at `hi`.

@@ -34,18 +34,15 @@ fn transfers_ok(area: &[u8], n: usize) -> bool
     ensures { result ≡ fine_test 0 (transfers_from area.now 0 n) }
 {
     let mut least: u64 = 0;
-    let mut i: usize = 0;
-    while i < n {
+    for i in 0..n {
         let id = area_at::head(area, i, area::ID);
         if id < least {
             return false;
         }
-        if transfer_ok(area, i) {
-            least = id + 1;
-            i += 1;
-        } else {
+        if !transfer_ok(area, i) {
             return false;
         }
+        least = id + 1;
     }
     true
 }

@@ -28,12 +28,12 @@ use Rattle.area.proofs.AreaLaws.{judged_held}
 use Rattle.area.proofs.OperationLaws.{from_held}
 use Rattle.area_listing.specs.Listing.{listing_of, listed_in, listed_area}
 use Rattle.area_listing.specs.declared.Listing.{Listing}
-use Rattle.area_listing.specs.declared.Listed.TheVariants.{Open, Refused}
+use Rattle.std.specs.Prelude.{Ok, Err}
 
 -- 22 where the area holds no table
-pub listed_unheld : (a : List ℕ) (i : ℕ) → table_of a ≡ none → listed_area a i ≡ Refused (refusal_of 22)
+pub listed_unheld : (a : List ℕ) (i : ℕ) → table_of a ≡ none → listed_area a i ≡ Err (refusal_of 22)
 unfolding listed_area from_table from_found
-listed_unheld a i e = ap (from_found (Refused (refusal_of 22)) (λ t. listed_in t i)) e
+listed_unheld a i e = ap (from_found (Err (refusal_of 22)) (λ t. listed_in t i)) e
 
 -- ---- in rising order of Id
 
@@ -50,12 +50,12 @@ rising k (x ∷ t) (suc i) (suc j) f h l = rising (suc x.key.id) t i j f.2 (omeg
 
 module _ (a : List ℕ) (t : List Transfer) (held : table_of a ≡ some t) where
   -- R6.11: 12 for an index at or past the number open
-  pub listed_past : (i : ℕ) → length t ≤ i → listed_area a i ≡ Refused (refusal_of 12)
+  pub listed_past : (i : ℕ) → length t ≤ i → listed_area a i ≡ Err (refusal_of 12)
   unfolding listed_area listed_in
   listed_past i h = from_held _ (λ t. listed_in t i) a t held ∙ rw (le-ltb i (length t) h)
 
   -- below it, the transfer with that index
-  pub listed_open : (i : ℕ) → i < length t → listed_area a i ≡ Open (listing_of (nth t i))
+  pub listed_open : (i : ℕ) → i < length t → listed_area a i ≡ Ok (listing_of (nth t i))
   unfolding listed_area listed_in
   listed_open i h = from_held _ (λ t. listed_in t i) a t held ∙ rw (lt-ltb i (length t) h)
 
@@ -65,13 +65,13 @@ module _ (a : List ℕ) (t : List Transfer) (held : table_of a ≡ some t) where
 -- ---- as the code finds it: by the words of the area
 
 module _ (a : List ℕ) (i : ℕ) (yes : judged a ≡ true) where
-  pub listed_past_count : word_at a 0 ≤ i → listed_area a i ≡ Refused (refusal_of 12)
+  pub listed_past_count : word_at a 0 ≤ i → listed_area a i ≡ Err (refusal_of 12)
   listed_past_count h = listed_past a (read_table a) (judged_held a yes) i (omega (arith, length_transfers a 0 (word_at a 0)))
 
-  pub listed_at : i < word_at a 0 → listed_area a i ≡ Open (listing_of (transfer_at a i))
+  pub listed_at : i < word_at a 0 → listed_area a i ≡ Ok (listing_of (transfer_at a i))
   listed_at h =
       listed_open a (read_table a) (judged_held a yes) i (omega (arith, length_transfers a 0 (word_at a 0)))
-      ∙ ap (λ (x : Transfer). Open (listing_of x)) (transfer_at_lem a i h)
+      ∙ ap (λ (x : Transfer). Ok (listing_of x)) (transfer_at_lem a i h)
 
 pub listing_is : (a : List ℕ) (i : ℕ) (key : Key) (rows : Rows) (e : ℕ) (c : Bool) (n : ℕ) (b : Bool) → key ≡ key_at a i → rows ≡ rows_at a i
     → e ≡ edge (runs_in a rows) → c ≡ complete key.length (runs_in a rows) → n ≡ received (runs_in a rows) → b ≡ stamped (stamp_at a i)

@@ -1,7 +1,7 @@
 -- R6.11: what is open in an area, for a program that takes the area up again: one transfer after the other, by index. A table's transfers
 -- stand in rising order of Id, so the index counts from the lowest Id.
 -- Assumes nothing.
-use Rattle.std.specs.Prelude.{ℕ, ◌<◌, ◌≡◌, true, cond, List, ◌↔◌, length, ltb}
+use Rattle.std.specs.Prelude.{ℕ, ◌<◌, ◌≡◌, true, cond, List, ◌↔◌, length, ltb, Result, Ok, Err}
 use Rattle.timestamp.specs.Timestamps.{stamped}
 use Rattle.refusals.specs.Refusals.{refusal_of}
 use Rattle.runs.specs.Runs.{Run, Member}
@@ -11,8 +11,7 @@ use Rattle.transfer.specs.Transfers.{Transfer}
 use Rattle.area.specs.Places.{nth}
 use Rattle.area.specs.Operations.{from_table}
 use Rattle.area_listing.specs.declared.Listing.{Listing}
-use Rattle.area_listing.specs.declared.Listed.{Listed}
-use Rattle.area_listing.specs.declared.Listed.TheVariants.{Open, Refused}
+use Rattle.refusals.specs.declared.Refusal.{Refusal}
 
 -- a transfer's key, with its width in octets, the edge, whether it is complete, the number of its runs, how many offsets they have, and
 -- whether it keeps a timestamp
@@ -29,12 +28,12 @@ listing_of x = record {
 }
 
 -- the transfer with this index; 12 for an index at or past the number open
-unfoldable pub listed_in : List Transfer → ℕ → Listed
-listed_in t i = cond (ltb i (length t)) (Open (listing_of (nth t i))) (Refused (refusal_of 12))
+unfoldable pub listed_in : List Transfer → ℕ → Result Listing Refusal
+listed_in t i = cond (ltb i (length t)) (Ok (listing_of (nth t i))) (Err (refusal_of 12))
 
 -- 22 before all
-unfoldable pub listed_area : List ℕ → ℕ → Listed
-listed_area a i = from_table (Refused (refusal_of 22)) (λ t. listed_in t i) a
+unfoldable pub listed_area : List ℕ → ℕ → Result Listing Refusal
+listed_area a i = from_table (Err (refusal_of 22)) (λ t. listed_in t i) a
 
 -- what the number of received offsets must tell of a transfer that has received rs: it counts the offsets below the length that were
 -- received, and is the length exactly when that is all of them, and exactly when the transfer is told complete

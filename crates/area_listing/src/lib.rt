@@ -6,7 +6,7 @@ ghost use Rattle.area.specs.Places.{transfer_at};
 ghost use Rattle.area.specs.Used.{UsedPlace};
 ghost use Rattle.area_listing.specs.Listing.{listing_of, listed_area};
 
-use refusals::Refusal;
+use refusals::{Fault, Refusal};
 
 // A transfer that is open. `width` counts octets, `runs` its runs, and `received` the offsets that they have; `stamped` tells whether it
 // keeps a timestamp.
@@ -20,12 +20,6 @@ pub struct Listing {
     pub runs: usize,
     pub received: u64,
     pub stamped: bool,
-}
-
-#[derive(Clone, Copy)]
-pub enum Listed {
-    Open(Listing),
-    Refused(Refusal),
 }
 
 // The transfer at place i.
@@ -52,14 +46,14 @@ pub fn listing_at(area: &[u8], i: usize) -> Listing
 }
 
 // Lists what is open, one transfer a call, in rising order of Id.
-pub fn transfer(area: &[u8], index: u64) -> Listed
+pub fn transfer(area: &[u8], index: u64) -> Result<Listing, Refusal>
     ensures { result ≡ listed_area area.now index }
 {
     if !area_judge::judge(area) {
-        return Listed::Refused(refusals::refuse(22));
+        return Err(Fault::NoTable.into());
     }
     if area_at::open_count(area) <= index {
-        return Listed::Refused(refusals::refuse(12));
+        return Err(Fault::NotOpen.into());
     }
-    Listed::Open(listing_at(area, index as usize))
+    Ok(listing_at(area, index as usize))
 }

@@ -18,11 +18,10 @@ use Rattle.transfer.specs.Transfers.{Transfer}
 use Rattle.transfer.specs.Record.{runs_refusal}
 use Rattle.table.specs.Tables.{keys, find}
 use Rattle.table_merge.specs.Merge.{keys_refusal, joined_runs, merge_refusal, merge_as, merge_table}
-use Rattle.table_merge.specs.declared.Merged.TheVariants.{Refused}
 use Rattle.area.specs.Layout.{run_places}
 use Rattle.area.specs.Places.{key_at, read_table, nth, place_in, KeptAt}
 use Rattle.area.specs.Judge.{judged, table_of}
-use Rattle.area.specs.Operations.{leaves}
+use Rattle.area.specs.Operations.{OnArea, leaves}
 use Rattle.area.specs.declared.Place.{Place}
 use Rattle.area.proofs.JudgeLaws.{judged_passed}
 use Rattle.area.proofs.StoredLaws.{held_stored}
@@ -32,26 +31,29 @@ use Rattle.area.proofs.KeptLaws.{place_free, kept_placed, kept_found, kept_runs,
 use Rattle.area.proofs.OperationLaws.{on_judged, on_unjudged}
 use Rattle.area_union.specs.Join.{runs_joined, places_joined}
 use Rattle.area_merge.specs.Merge.{merge_found, merge_area}
+use Rattle.std.specs.Prelude.{Result, Err}
+use Rattle.refusals.specs.declared.Refusal.{Refusal}
+use Rattle.transfer.specs.declared.Reached.{Reached}
 
 -- refused, and so the area stays
 refused : (a : List ℕ) (e : judged a ≡ true) (n : ℕ) → Octets a
-    → record { answer = Refused (refusal_of n); area = a } ≡ leaves a (record { answer = Refused (refusal_of n); table = read_table a })
-refused a e n o = ap (λ (l : List ℕ). record { answer = Refused (refusal_of n); area = l }) (sym (held_stored a (read_table a) o (judged_held a e)))
+    → ◌≡◌ {A = OnArea (Result Reached Refusal)} (record { answer = Err (refusal_of n); area = a }) (leaves a (record { answer = Err (refusal_of n); table = read_table a }))
+refused a e n o = ap (λ (l : List ℕ). record { answer = Err (refusal_of n); area = l }) (sym (held_stored a (read_table a) o (judged_held a e)))
 
 -- ---- 22
 
-pub merge_unheld : (a b : List ℕ) (id : ℕ) → judged a ≡ false → record { answer = Refused (refusal_of 22); area = a } ≡ merge_area a b id
+pub merge_unheld : (a b : List ℕ) (id : ℕ) → judged a ≡ false → record { answer = Err (refusal_of 22); area = a } ≡ merge_area a b id
 unfolding merge_area
 merge_unheld a b id e = sym (on_unjudged _ (λ t. merge_found t (table_of b) id) a e)
 
 pub merge_unheld_second : (a b : List ℕ) (id : ℕ) → judged a ≡ true → judged b ≡ false → Octets a
-    → record { answer = Refused (refusal_of 22); area = a } ≡ merge_area a b id
+    → record { answer = Err (refusal_of 22); area = a } ≡ merge_area a b id
 unfolding merge_area merge_found
-merge_unheld_second a b id e f o = rw (on_judged (Refused (refusal_of 22)) (λ t. merge_found t (table_of b) id) a e, judged_unheld b f) (refused a e 22 o)
+merge_unheld_second a b id e f o = rw (on_judged (Err (refusal_of 22)) (λ t. merge_found t (table_of b) id) a e, judged_unheld b f) (refused a e 22 o)
 
 pub merge_held : (a b : List ℕ) (id : ℕ) → judged a ≡ true → judged b ≡ true → leaves a (merge_table (read_table a) (read_table b) id) ≡ merge_area a b id
 unfolding merge_area merge_found
-merge_held a b id e f = rw (on_judged (Refused (refusal_of 22)) (λ t. merge_found t (table_of b) id) a e, judged_held b f)
+merge_held a b id e f = rw (on_judged (Err (refusal_of 22)) (λ t. merge_found t (table_of b) id) a e, judged_held b f)
 
 -- ---- two tables; p and q are the places of the Id
 
@@ -63,12 +65,12 @@ module _ (a b : List ℕ) (id : ℕ) (e : judged a ≡ true) (f : judged b ≡ t
   u = read_table b
 
   -- 12
-  pub first_missing : (q : Place) → q ≡ place_in id t → q.«open» ≡ false → record { answer = Refused (refusal_of 12); area = a } ≡ leaves a (merge_table t u id)
+  pub first_missing : (q : Place) → q ≡ place_in id t → q.«open» ≡ false → record { answer = Err (refusal_of 12); area = a } ≡ leaves a (merge_table t u id)
   unfolding merge_table merge_refusal keys_refusal merge_as
   first_missing q is s = rw (free_missing (judged_passed a e).1.fine (place_free id t q is s)) (refused a e 12 o)
 
   module _ (p : ℕ) (s : KeptAt id t p) where
-    pub second_missing : (q : Place) → q ≡ place_in id u → q.«open» ≡ false → record { answer = Refused (refusal_of 12); area = a } ≡ leaves a (merge_table t u id)
+    pub second_missing : (q : Place) → q ≡ place_in id u → q.«open» ≡ false → record { answer = Err (refusal_of 12); area = a } ≡ leaves a (merge_table t u id)
     unfolding merge_table merge_refusal keys_refusal merge_as
     second_missing q is v = rw (kept_found s, free_missing (judged_passed b f).1.fine (place_free id u q is v)) (refused a e 12 o)
 
@@ -81,12 +83,12 @@ module _ (a b : List ℕ) (id : ℕ) (e : judged a ≡ true) (f : judged b ≡ t
       found_second = kept_found v ∙ ap some (ap (λ (x : Transfer). x.key) (kept_transfer b id q v) ∙ sym given_is)
 
       -- 13 and 18
-      pub other_key : (n : ℕ) → n ≡ keys_refusal (some j) (some k) → (n ≡ 0 → ⊥) → record { answer = Refused (refusal_of n); area = a } ≡ leaves a (merge_table t u id)
+      pub other_key : (n : ℕ) → n ≡ keys_refusal (some j) (some k) → (n ≡ 0 → ⊥) → record { answer = Err (refusal_of n); area = a } ≡ leaves a (merge_table t u id)
       unfolding merge_table merge_refusal
       other_key n is d = rw (found, found_second, ← is) (go n d)
         where
           go : (n : ℕ) → (n ≡ 0 → ⊥)
-              → record { answer = Refused (refusal_of n); area = a } ≡ leaves a (merge_as (n ▹ runs_refusal (joined_runs t u id)) (some j) (joined_runs t u id) [] t id)
+              → record { answer = Err (refusal_of n); area = a } ≡ leaves a (merge_as (n ▹ runs_refusal (joined_runs t u id)) (some j) (joined_runs t u id) [] t id)
           go zero d = absurd (d refl)
           go (suc n) d = unfold merge_as in refused a e (suc n) o
 

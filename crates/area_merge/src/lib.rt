@@ -8,34 +8,32 @@ ghost use Rattle.area.specs.Operations.{leaves};
 ghost use Rattle.table_merge.specs.Merge.{merge_table};
 ghost use Rattle.area_merge.specs.Merge.{merge_area};
 
-use table_merge::Merged;
+use refusals::{Fault, Refusal};
+use transfer::Reached;
 
 // 12 where the Id is not open in the first or not in the second, then 13 and 18, and then the joined runs.
-fn merge_tables(area: &mut [u8], other: &[u8], id: u64) -> Merged
+fn merge_tables(area: &mut [u8], other: &[u8], id: u64) -> Result<Reached, Refusal>
     requires { (judged area.old ≡ true) × (judged other.now ≡ true) }
     ensures { (result ≡ (leaves area.old (merge_table (read_table area.old) (read_table other.now) id)).answer)
         × (area.new ≡ (leaves area.old (merge_table (read_table area.old) (read_table other.now) id)).area) }
 {
     let place = area_find::find_place(area, id);
     if !place.open {
-        return Merged::Refused(refusals::refuse(12));
+        return Err(Fault::NotOpen.into());
     }
     let source = area_find::find_place(other, id);
     if !source.open {
-        return Merged::Refused(refusals::refuse(12));
+        return Err(Fault::NotOpen.into());
     }
     let at = place.at;
     let from = source.at;
     let key = area_at::key_at(area, at);
-    let refusal = table_merge::keys_refusal(key, area_at::key_at(other, from));
-    if refusal != 0 {
-        return Merged::Refused(refusals::refuse(refusal));
-    }
+    table_merge::keys_refusal(key, area_at::key_at(other, from))?;
     area_union::join_places(area, at, key, other, from)
 }
 
 // The Id of the second area merged into the first. The second is only read.
-pub fn merge(area: &mut [u8], other: &[u8], id: u64) -> Merged
+pub fn merge(area: &mut [u8], other: &[u8], id: u64) -> Result<Reached, Refusal>
     ensures { (result ≡ (merge_area area.old other.now id).answer)
         × (area.new ≡ (merge_area area.old other.now id).area) }
 {
@@ -43,7 +41,7 @@ pub fn merge(area: &mut [u8], other: &[u8], id: u64) -> Merged
         if area_judge::judge(other) {
             return merge_tables(area, other, id);
         }
-        return Merged::Refused(refusals::refuse(22));
+        return Err(Fault::NoTable.into());
     }
-    Merged::Refused(refusals::refuse(22))
+    Err(Fault::NoTable.into())
 }

@@ -6,21 +6,22 @@ ghost use Rattle.table.specs.Open.{open_key};
 ghost use Rattle.area.specs.Places.{read_table, KeptAt};
 ghost use Rattle.area.specs.Judge.{judged};
 
+use refusals::{Fault, Refusal};
 use table::Opened;
 use transfer::Key;
 
 // What the open transfer at place i answers to METADATA of its Id: already open, or refusal 18.
-pub fn met(area: &[u8], i: usize, key: Key) -> Opened
+pub fn met(area: &[u8], i: usize, key: Key) -> Result<Opened, Refusal>
     requires { (judged area.now ≡ true) × KeptAt key.id (read_table area.now) i }
     ensures { result ≡ (open_key (read_table area.now) 0 key).answer }
 {
     let held = area_at::key_at(area, i);
     if held.width != key.width {
-        return Opened::Refused(refusals::refuse(18));
+        return Err(Fault::OtherFile.into());
     }
     if held.length != key.length {
-        return Opened::Refused(refusals::refuse(18));
+        return Err(Fault::OtherFile.into());
     }
     let rows = area_at::rows_at(area, i);
-    Opened::AlreadyOpen(area_at::reached_in(area, rows, key))
+    Ok(Opened::AlreadyOpen(area_at::reached_in(area, rows, key)))
 }

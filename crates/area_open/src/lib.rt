@@ -4,21 +4,18 @@
 ghost use Rattle.std.specs.Prelude.{◌≡◌};
 ghost use Rattle.area.specs.Operations.{open_area};
 
+use refusals::{Fault, Refusal};
 use table::Opened;
 
 // Opens by a packet that has to be METADATA. That the area holds no table counts before what the packet is.
-pub fn open(area: &mut [u8], packet: &[u8]) -> Opened
+pub fn open(area: &mut [u8], packet: &[u8]) -> Result<Opened, Refusal>
     ensures { (result ≡ (open_area area.old packet.now).answer)
         × (area.new ≡ (open_area area.old packet.now).area) }
 {
-    let held = area_judge::judge(area);
-    let unread = packet_metadata::metadata_refusal(packet);
-    if !held {
-        return Opened::Refused(refusals::refuse(22));
+    if !area_judge::judge(area) {
+        return Err(Fault::NoTable.into());
     }
-    if unread != 0 {
-        return Opened::Refused(refusals::refuse(unread));
-    }
+    packet_metadata::metadata_refusal(packet)?;
     let fields = packet_metadata::metadata_fields(packet);
     let unwanted = transfer_key::new_refusal(fields.flags);
     area_open_key::open_key(area, unwanted, transfer_key::key_of(fields))

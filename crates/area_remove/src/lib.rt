@@ -12,10 +12,8 @@ pub fn remove_at(area: &mut [u8], place: usize)
     ensures { area.new ≡ stored_in area.old (remove_at place (read_table area.old)) }
 {
     let n = area_at::open_count(area) as usize;
-    let mut q = place;
-    while q + 1 < n {
+    for q in place..n - 1 {
         area_move::copy_transfer(area, q + 1, q);
-        q += 1;
     }
     words::put_word(area, 0, (n - 1) as u64);
 }

@@ -6,8 +6,6 @@ use mathlib.Core.Bool.{Bool, true, false}
 use mathlib.Core.List.{List}
 use mathlib.Core.Option.{none, some}
 use Rattle.refusals.specs.Refusals.{refusal_of}
-use Rattle.refusals.specs.declared.Written.{Written}
-use Rattle.refusals.specs.declared.Written.TheVariants.{Refused}
 use Rattle.run_rows.specs.Rows.{runs_in}
 use Rattle.run_rows.specs.declared.Rows.{Rows}
 use Rattle.transfer.specs.declared.Key.{Key}
@@ -23,6 +21,8 @@ use Rattle.area.proofs.JudgeLaws.{judged_passed}
 use Rattle.area.proofs.OperationLaws.{from_held, from_judged}
 use Rattle.area.proofs.KeptLaws.{place_free, free_missing}
 use Rattle.area.proofs.UsedLaws.{key_found, runs_found, stamp_found}
+use Rattle.std.specs.Prelude.{Result, Err}
+use Rattle.refusals.specs.declared.Refusal.{Refusal}
 
 module _ (a : List ℕ) (id k : ℕ) (unasked : Bool) (old : List ℕ) where
   -- the answer and the buffer of an area that holds t are those of t: what table's laws say of them, holds of the area's
@@ -37,14 +37,14 @@ module _ (a : List ℕ) (id k : ℕ) (unasked : Bool) (old : List ℕ) where
 
   -- 22
   pub status_unheld : table_of a ≡ none
-      → (Refused (refusal_of 22) ≡ area_status_written a id k unasked old) × (old ≡ area_status_buffer a id k unasked old)
+      → (Err (refusal_of 22) ≡ area_status_written a id k unasked old) × (old ≡ area_status_buffer a id k unasked old)
   unfolding area_status_written area_status_buffer from_table from_found
   status_unheld e = (rw e, rw e)
 
   module _ (yes : judged a ≡ true) (p : Place) (is : p ≡ place_in id (read_table a)) where
     -- 12
     pub status_missing : p.«open» ≡ false
-        → (Refused (refusal_of 12) ≡ area_status_written a id k unasked old) × (old ≡ area_status_buffer a id k unasked old)
+        → (Err (refusal_of 12) ≡ area_status_written a id k unasked old) × (old ≡ area_status_buffer a id k unasked old)
     unfolding area_status_written area_status_buffer
     status_missing e =
         let m = status_twelve (read_table a) id k unasked old (free_missing (judged_passed a yes).1.fine (place_free id (read_table a) p is e)) in (
@@ -55,7 +55,7 @@ module _ (a : List ℕ) (id k : ℕ) (unasked : Bool) (old : List ℕ) where
     -- where it is open, the transfer's
     module _ (yes-open : p.«open» ≡ true) (key : Key) (rows : Rows) (key_is : key ≡ key_at a p.at) (rows_are : rows ≡ rows_at a p.at)
         (s : List ℕ) (stamp_is : s ≡ stamp_at a p.at) where
-      pub status_found : (x : Written) (y : List ℕ) → x ≡ transfer_written key (runs_in a rows) s k unasked old
+      pub status_found : (x : Result ℕ Refusal) (y : List ℕ) → x ≡ transfer_written key (runs_in a rows) s k unasked old
           → y ≡ transfer_buffer key (runs_in a rows) s k unasked old
           → (x ≡ area_status_written a id k unasked old) × (y ≡ area_status_buffer a id k unasked old)
       unfolding area_status_written area_status_buffer status_written status_buffer written_for buffer_for

@@ -7,7 +7,7 @@ ghost use Rattle.area.specs.Places.{stamp_at};
 ghost use Rattle.area.specs.Operations.{area_status_written, area_status_buffer};
 ghost use Rattle.area.specs.Used.{UsedPlace};
 
-use refusals::Written;
+use refusals::{Fault, Refusal};
 use timestamp::Kept;
 
 // The timestamp that the transfer at place i keeps.
@@ -20,16 +20,22 @@ fn kept_at(area: &[u8], i: usize) -> Kept
 }
 
 // Writes STATUS of an open Id into a lent buffer.
-pub fn write_status(area: &[u8], id: u64, skip: u64, unasked: bool, out: &mut [u8]) -> Written
+pub fn write_status(
+    area: &[u8],
+    id: u64,
+    skip: u64,
+    unasked: bool,
+    out: &mut [u8],
+) -> Result<usize, Refusal>
     ensures { (result ≡ area_status_written area.now id skip unasked out.old)
         × (out.new ≡ area_status_buffer area.now id skip unasked out.old) }
 {
     if !area_judge::judge(area) {
-        return Written::Refused(refusals::refuse(22));
+        return Err(Fault::NoTable.into());
     }
     let place = area_find::find_place(area, id);
     if !place.open {
-        return Written::Refused(refusals::refuse(12));
+        return Err(Fault::NotOpen.into());
     }
     let at = place.at;
     let key = area_at::key_at(area, at);

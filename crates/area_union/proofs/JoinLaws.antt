@@ -19,8 +19,6 @@ use Rattle.row_union.specs.Joined as Row-union
 use Rattle.transfer.specs.declared.Key.{Key}
 use Rattle.transfer.specs.declared.Reached.{Reached}
 use Rattle.transfer.specs.Transfers.{Transfer, TransferFine, reached}
-use Rattle.table_merge.specs.declared.Merged.{Merged}
-use Rattle.table_merge.specs.declared.Merged.TheVariants.{Joined, Refused}
 use Rattle.area.specs.Layout.{transfer_places, run_places, area_octets, run_at}
 use Rattle.area.specs.Places.{rows_at, read_table, nth}
 use Rattle.area.specs.Judge.{judged}
@@ -30,14 +28,16 @@ use Rattle.area.proofs.JudgeLaws.{judged_passed, fine_at}
 use Rattle.area_union.specs.Put.{RunsPut}
 use Rattle.area_union.specs.Join.{runs_joined, places_joined}
 use Rattle.area_union.proofs.StoredLaws.{put_stored}
+use Rattle.std.specs.Prelude.{Result, Ok, Err}
+use Rattle.refusals.specs.declared.Refusal.{Refusal}
 
 -- an answer with its area, part by part
-pub both : {x y : Merged} {l : List ℕ} {o : OnArea Merged} → x ≡ y → record { answer = y; area = l } ≡ o → (x ≡ o.answer) × (l ≡ o.area)
-both e f = (e ∙ ap (λ (r : OnArea Merged). r.answer) f, ap (λ (r : OnArea Merged). r.area) f)
+pub both : {x y : Result Reached Refusal} {l : List ℕ} {o : OnArea (Result Reached Refusal)} → x ≡ y → record { answer = y; area = l } ≡ o → (x ≡ o.answer) × (l ≡ o.area)
+both e f = (e ∙ ap (λ (r : OnArea (Result Reached Refusal)). r.answer) f, ap (λ (r : OnArea (Result Reached Refusal)). r.area) f)
 
 -- and of one that equals another
-pub both_as : {x : Merged} {l : List ℕ} {m o : OnArea Merged} → (x ≡ m.answer) × (l ≡ m.area) → m ≡ o → (x ≡ o.answer) × (l ≡ o.area)
-both_as h f = (h.0 ∙ ap (λ (r : OnArea Merged). r.answer) f, h.1 ∙ ap (λ (r : OnArea Merged). r.area) f)
+pub both_as : {x : Result Reached Refusal} {l : List ℕ} {m o : OnArea (Result Reached Refusal)} → (x ≡ m.answer) × (l ≡ m.area) → m ≡ o → (x ≡ o.answer) × (l ≡ o.area)
+both_as h f = (h.0 ∙ ap (λ (r : OnArea (Result Reached Refusal)). r.answer) f, h.1 ∙ ap (λ (r : OnArea (Result Reached Refusal)). r.area) f)
 
 -- ---- the rows at a place of an area that holds a table
 
@@ -66,7 +66,7 @@ module _ (a : List ℕ) (p : ℕ) (e : judged a ≡ true) (there : p < length (r
   all_are : Row-union.Joined starts stops n all
   all_are = subst (λ (l : List Run). Row-union.Joined starts stops n l) (ap₂ union (rows_runs a p e there r is) (rows_runs b q f other s of)) j
 
-  pub join_over : run_places < n → record { answer = Refused (refusal_of 16); area = a } ≡ places_joined a p k b q
+  pub join_over : run_places < n → record { answer = Err (refusal_of 16); area = a } ≡ places_joined a p k b q
   unfolding runs_joined
   join_over h = rw (lt-ltb run_places (length all) (omega (arith, all_are.count)))
 
@@ -92,9 +92,9 @@ module _ (a : List ℕ) (p : ℕ) (e : judged a ≡ true) (there : p < length (r
         (λ i l. let g : r.starts + i ≡ run_at 0 p i = omega (arith, first_row) in ap (word_at z) g ∙ put.starts_are i l ∙ all_are.kept.starts_are i l (omega arith))
         (λ i l. let g : r.stops + i ≡ run_at 1 p i = omega (arith, second_row) in ap (word_at z) g ∙ put.stops_are i l ∙ all_are.kept.stops_are i l (omega arith))
 
-    pub join_done : (g : Reached) → g ≡ reached k (runs_in z rows) → Octets a → Octets z → record { answer = Joined g; area = z } ≡ places_joined a p k b q
+    pub join_done : (g : Reached) → g ≡ reached k (runs_in z rows) → Octets a → Octets z → record { answer = Ok g; area = z } ≡ places_joined a p k b q
     unfolding runs_joined
     join_done g h o u =
         rw (le-ltb run_places (length all) (omega (arith, all_are.count)))
-        (ap₂ (λ (x : Reached) (l : List ℕ). record { answer = Joined x; area = l }) (h ∙ ap (reached k) runs_after)
+        (ap₂ (λ (x : Reached) (l : List ℕ). record { answer = Ok x; area = l }) (h ∙ ap (reached k) runs_after)
         (put_stored a e o p there all z starts stops n put all_are.kept all_are.count in-starts in-stops room u))

@@ -8,19 +8,17 @@ ghost use Rattle.area.specs.Judge.{judged};
 ghost use Rattle.area_union.specs.Put.{WordsPut, RunsPut};
 ghost use Rattle.area_union.specs.Join.{places_joined};
 
+use refusals::{Fault, Refusal};
 use run_rows::Rows;
-use table_merge::Merged;
-use transfer::Key;
+use transfer::{Key, Reached};
 
 // The first n words of ws from word k on.
 fn put_row(area: &mut [u8], k: usize, ws: &[u64], n: usize)
     requires { ((k + n) * 8 ≤ length area.old) × (n ≤ length ws.now) }
     ensures { WordsPut area.old area.new k ws.now n }
 {
-    let mut i = 0;
-    while i < n {
+    for i in 0..n {
         words::put_word(area, k + i, ws[i]);
-        i += 1;
     }
 }
 
@@ -35,7 +33,13 @@ fn put_runs(area: &mut [u8], place: usize, starts: &[u64], stops: &[u64], n: usi
 }
 
 // The runs at a place joined with those at a place of another area, or refused with 16 before anything is written.
-pub fn join_places(area: &mut [u8], at: usize, key: Key, other: &[u8], from: usize) -> Merged
+pub fn join_places(
+    area: &mut [u8],
+    at: usize,
+    key: Key,
+    other: &[u8],
+    from: usize,
+) -> Result<Reached, Refusal>
     requires { (judged area.old ≡ true) × (at < length (read_table area.old)) × (judged other.now ≡ true) × (from < length (read_table other.now)) }
     ensures { (result ≡ (places_joined area.old at key other.now from).answer)
         × (area.new ≡ (places_joined area.old at key other.now from).area) }
@@ -46,7 +50,7 @@ pub fn join_places(area: &mut [u8], at: usize, key: Key, other: &[u8], from: usi
     let mut stops: [u64; 64] = [0; 64];
     let n = row_union::join_rows(area, x, other, y, &mut starts, &mut stops);
     if area::RUNS < n {
-        return Merged::Refused(refusals::refuse(16));
+        return Err(Fault::TooManyRuns.into());
     }
     put_runs(area, at, &starts, &stops, n);
     let joined = Rows {
@@ -54,5 +58,5 @@ pub fn join_places(area: &mut [u8], at: usize, key: Key, other: &[u8], from: usi
         stops: x.stops,
         count: n,
     };
-    Merged::Joined(area_at::reached_in(area, joined, key))
+    Ok(area_at::reached_in(area, joined, key))
 }

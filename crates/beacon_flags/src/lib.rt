@@ -3,9 +3,12 @@
 
 ghost use Rattle.std.specs.Prelude.{◌≡◌};
 ghost use Rattle.beacon_flags.specs.Flags.{Splits, free_octets, willingness_of, flags_refusal};
+ghost use Rattle.refusals.specs.Faults.{refused};
+
+use refusals::Fault;
 
 // Whether a peer sends, or receives, files.
-#[derive(Clone, Copy)]
+#[derive(Clone, Copy, Debug, PartialEq, Eq)]
 pub enum Willingness {
     Cannot,
     NotNow,
@@ -43,13 +46,11 @@ pub fn split(w: u64) -> BeaconFlags
 pub fn state_of(pair: u64) -> Willingness
     ensures { result ≡ willingness_of pair }
 {
-    if pair == 0 {
-        return Willingness::Cannot;
+    match pair {
+        0 => Willingness::Cannot,
+        2 => Willingness::NotNow,
+        _ => Willingness::Willing,
     }
-    if pair == 2 {
-        return Willingness::NotNow;
-    }
-    Willingness::Willing
 }
 
 // The octets of the free space, by the first word or the flags.
@@ -63,19 +64,14 @@ pub fn free_octets(w: u64) -> usize
     0
 }
 
-// Refusal 26 of the first word or the flags; 0 for none.
-pub fn flags_refusal(w: u64) -> u64
-    ensures { result ≡ flags_refusal w }
+// Refusal 26 of the first word or the flags.
+#[tactic(auto, unfolding(crate::specs::Flags::flags_refusal))]
+pub fn flags_refusal(w: u64) -> Result<(), Fault>
+    ensures { refused result ≡ flags_refusal w }
 {
     let f = split(w);
-    if f.sending == 1 {
-        return 26;
+    if f.sending == 1 || f.receiving == 1 || f.last != 0 {
+        return Err(Fault::BeaconFlags);
     }
-    if f.receiving == 1 {
-        return 26;
-    }
-    if f.last != 0 {
-        return 26;
-    }
-    0
+    Ok(())
 }

@@ -6,13 +6,13 @@ use mathlib.Core.Logic.{◌⊎◌, ◌↔◌}
 use lib.ListN.{length}
 use Rattle.refusals.specs.Refusals.{refusal_of}
 use Rattle.refusals.specs.Writing.{room_refusal}
-use Rattle.refusals.specs.declared.Written.TheVariants as written
 use Rattle.refusals.proofs.LimitLaws as chains
 use Rattle.refusals.proofs.ReasonLaws.{Reasons, given, reaches, ◌▸◌, named, Alone, sole, ◌or◌, alone}
 use Rattle.beacon_flags.specs.Flags.{free_octets, flags_refusal}
 use Rattle.packet_beacon.specs.Beacon.{endpoint_at}
 use Rattle.beacon_writer.specs.WriteBeacon.{beacon_excess, beacon_write_refusal, beacon_refused, beacon_written}
 use Rattle.packet_beacon.proofs.LimitLaws.{FlagsWrong, flags_wrong}
+use Rattle.std.specs.Prelude.{Err}
 
 -- ---- lengths of endpoint and buffer
 
@@ -57,6 +57,6 @@ module _ (flags free : ℕ) where
 
 -- the answer: refused with the number that these laws speak of
 pub write_refused_iff : (flags free : ℕ) (endpoint old : List ℕ) (n : ℕ)
-    → (beacon_written flags free endpoint old ≡ written.Refused (refusal_of (suc n))) ↔ (beacon_refused flags free endpoint old ≡ suc n)
+    → (beacon_written flags free endpoint old ≡ Err (refusal_of (suc n))) ↔ (beacon_refused flags free endpoint old ≡ suc n)
 unfolding beacon_written
 write_refused_iff flags free endpoint old n = chains.written_iff (beacon_refused flags free endpoint old) n (endpoint_at flags + length endpoint)

@@ -13,7 +13,6 @@ use Rattle.octets.proofs.PutLaws.{refold}
 use Rattle.octets.proofs.NumberLaws.{value_digits, length_digits, part_digits, part_lt}
 use Rattle.octets.proofs.UpperLaws.{digits_small}
 use Rattle.refusals.specs.Writing.{room_refusal}
-use Rattle.refusals.specs.declared.Written.TheVariants.{Size}
 use Rattle.header.specs.FirstWord.{flags_of, descriptor_octets, mark_of, type_of, word_for}
 use Rattle.header.specs.Start.{word_of}
 use Rattle.header.proofs.DescriptorLaws.{descriptor_none}
@@ -22,10 +21,10 @@ use Rattle.header.proofs.FirstWordLaws.{mark_for, type_for, flags_for, octets_fo
 use Rattle.beacon_flags.specs.Flags.{bundles_of, streams_of, sending_pair, receiving_pair, free_octets, willingness_of}
 use Rattle.packet_beacon.specs.Beacon.{endpoint_at, free_space, endpoint_of, beacon_refusal, beacon_of, read_beacon}
 use Rattle.beacon_writer.specs.WriteBeacon.{beacon_excess, beacon_write_refusal, beacon_octets, beacon_written, beacon_buffer}
-use Rattle.packet_beacon.specs.declared.BeaconRead.TheVariants.{Accepted}
 use Rattle.beacon_flags.proofs.FlagLaws.{free_for, flags_none_for, free_flags, flags_none_flags}
 use Rattle.packet_beacon.proofs.BeaconLaws.{BeaconFine, beacon_fine}
 use Rattle.beacon_writer.proofs.WriteBeaconLaws.{Writable, writable}
+use Rattle.std.specs.Prelude.{Ok}
 
 -- fields that are not refused, in a buffer with room; a free space is handed over as a number of 64 bits
 module _ (f free : ℕ) (e : List ℕ) (room : ℕ) (held : free < 2 ^ 64) (ok : beacon_write_refusal f free (length e) room ≡ 0) where
@@ -76,7 +75,7 @@ module _ (f free : ℕ) (e : List ℕ) (room : ℕ) (held : free < 2 ^ 64) (ok :
         descriptor_none (free_octets f) 4 s (omega arith) small,
       )
 
-  pub beacon_read_written : read_beacon (beacon_octets f free e) ≡ Accepted (record {
+  pub beacon_read_written : read_beacon (beacon_octets f free e) ≡ Ok (record {
     flags = f;
     largest = descriptor_octets f;
     bundles = bundles_of f;
@@ -140,7 +139,7 @@ module _ (s : List ℕ) (os : Octets s) (ok : beacon_refusal s ≡ 0) where
 
   -- the fields as they were read, written into a buffer with room for the packet: its size, and the very packet
   module _ (old : List ℕ) (room : length s ≤ length old) where
-    pub beacon_written_read : beacon_written (flags_of w) (free_space s) (endpoint_of s) old ≡ Size (length s)
+    pub beacon_written_read : beacon_written (flags_of w) (free_space s) (endpoint_of s) old ≡ Ok (length s)
     unfolding beacon_written
     beacon_written_read =
         let t : endpoint_at w ≤ length s = read.there in

@@ -1,13 +1,13 @@
 -- R4.6: BEACON, written: which fields are refused, and the octets of the others.
 -- Assumes nothing.
-use Rattle.std.specs.Prelude.{ℕ, ◌+◌, ◌^◌, ◌<◌, ◌≤◌, not, List, ◌++◌, length, ltb}
+use Rattle.std.specs.Prelude.{ℕ, ◌+◌, ◌^◌, ◌<◌, ◌≤◌, not, List, ◌++◌, length, ltb, Result}
 use Rattle.octets.specs.Numbers.{be_digits}
 use Rattle.refusals.specs.Refusals.{◌▹◌, when}
 use Rattle.refusals.specs.Writing.{room_refusal, written_of, buffer_after}
-use Rattle.refusals.specs.declared.Written.{Written}
 use Rattle.header.specs.FirstWord.{word_for}
 use Rattle.beacon_flags.specs.Flags.{free_octets, flags_refusal}
 use Rattle.packet_beacon.specs.Beacon.{endpoint_at}
+use Rattle.refusals.specs.declared.Refusal.{Refusal}
 
 -- R4.3: 21 for a field over its bits; where no free space is given its field has no bits, and holds 0 alone
 unfoldable pub beacon_excess : ℕ → ℕ → ℕ
@@ -35,7 +35,7 @@ module _ (flags free : ℕ) (endpoint old : List ℕ) where
   abbrev pub beacon_refused : ℕ
   beacon_refused = beacon_write_refusal flags free (length endpoint) (length old)
 
-  unfoldable pub beacon_written : Written
+  unfoldable pub beacon_written : Result ℕ Refusal
   beacon_written = written_of beacon_refused (endpoint_at flags + length endpoint)
 
   unfoldable pub beacon_buffer : List ℕ

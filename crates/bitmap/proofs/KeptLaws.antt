@@ -1,6 +1,6 @@
 -- What opening leaves: marks that are the new transfer's, with nothing received; and all of them on refusal.
 -- Assumes nothing.
-use Prim.Native.Nat.{ℕ, zero, suc, ◌≤◌}
+use Prim.Native.Nat.{ℕ, zero, suc, ◌≤◌, ◌<◌}
 use mathlib.Core.Path.{◌≡◌, refl, ap, ◌∙◌}
 use mathlib.Core.List.{List, []}
 use native.Mathlib.Omega.{arith}
@@ -8,7 +8,6 @@ use lib.ListN.{length, drop}
 use lib.Dec.{ltb}
 use borrow.Author.Tests.{ltb-false}
 use Rattle.octets.specs.Numbers.{Octets}
-use Rattle.refusals.specs.Refusals.{when}
 use Rattle.refusals.proofs.RefusalLaws.{first_none, rest_none, failed}
 use Rattle.runs.specs.Holes.{edge_from}
 use Rattle.packet_metadata.specs.Metadata.{metadata_refusal, metadata_of, read_metadata}
@@ -22,6 +21,7 @@ use Rattle.marks.proofs.MarkLaws.{length_cleared, cleared_past, runs_cleared}
 use Rattle.bitmap.specs.State.{longest, marks_refusal, state_refusal}
 use Rattle.bitmap.specs.Open.{open_refusal, open_as, open_marks}
 use Rattle.bitmap.proofs.StateLaws.{known_state}
+use Rattle.bitmap.proofs.LimitLaws.{nine_iff}
 
 module _ (s packet : List ℕ) where
   open_as_same : (n : ℕ) (k : Key) → (n ≡ 0 → ⊥) → (open_as n s k).marks ≡ s
@@ -47,11 +47,9 @@ module _ (s packet : List ℕ) where
     opened_read = first_none (metadata_refusal packet) _ (rest_none (marks_refusal s) _ e)
 
     pub short : (key_of (metadata_of packet)).length ≤ longest
-    unfolding open_refusal
     short =
-        ltb-false longest (key_of (metadata_of packet)).length
-        (failed (ltb longest (key_of (metadata_of packet)).length) 8
-        (first_none (when (ltb longest (key_of (metadata_of packet)).length) 9) _ (rest_none (metadata_refusal packet) _ (rest_none (marks_refusal s) _ e))))
+        let f : longest < (key_of (metadata_of packet)).length → open_refusal s packet ≡ 9 = (nine_iff s packet long opened_read).1 in
+        grind (arith, e)
 
     -- nothing is received
     pub open_runs : marked_runs (open_marks s packet).marks ≡ []

@@ -29,7 +29,7 @@ use Rattle.marks.specs.MarkedRuns.{marked_runs}
 use Rattle.marks.proofs.MarkLaws.{marked_canonical, marked_member}
 use Rattle.bitmap.specs.State.{longest, openable, state_test, marks_refusal, state_refusal}
 use Rattle.bitmap.specs.Open.{open_refusal, open_as, open_marks}
-use Rattle.bitmap.specs.declared.Opened.TheVariants as opened
+use Rattle.std.specs.Prelude.{Err}
 
 -- ---- 20 and 22
 
@@ -116,8 +116,8 @@ twenty_three_iff s packet long read = rw (le-ltb (length s) mark_octets long, re
 
 -- ---- the answers
 
-pub open_refused_iff : (s packet : List ℕ) (n : ℕ) → ((open_marks s packet).answer ≡ opened.Refused (refusal_of (suc n))) ↔ (open_refusal s packet ≡ suc n)
+pub open_refused_iff : (s packet : List ℕ) (n : ℕ) → ((open_marks s packet).answer ≡ Err (refusal_of (suc n))) ↔ (open_refusal s packet ≡ suc n)
 unfolding open_marks open_as
 open_refused_iff s packet n =
-    refused_iff opened.Refused (λ m. (open_as m s (key_of (metadata_of packet))).answer) (λ m. refl)
+    refused_iff Err (λ m. (open_as m s (key_of (metadata_of packet))).answer) (λ m. refl)
     (λ r e. let z : ◌≡◌ {A = ℕ} 0 1 = cc in omega arith) (λ q r e. cc) (open_refusal s packet) n

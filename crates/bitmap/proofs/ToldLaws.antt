@@ -14,15 +14,15 @@ use Rattle.marks.specs.MarkedRuns.{marked_runs}
 use Rattle.bitmap.specs.State.{unstamped, longest}
 use Rattle.bitmap.specs.Open.{open_refusal, open_as, open_marks}
 use Rattle.bitmap.specs.declared.Opening.{Opening}
-use Rattle.bitmap.specs.declared.Opened.TheVariants.{New}
 use Rattle.bitmap.proofs.KeptLaws.{open_clears, long, short, open_runs}
+use Rattle.std.specs.Prelude.{Ok}
 
 -- what METADATA opens
 abbrev pub opens : List ℕ → Opening
 opens packet = let k = key_of (metadata_of packet) in record { held = unstamped k; reached = reached k [] }
 
 module _ (s packet : List ℕ) (e : open_refusal s packet ≡ 0) where
-  pub open_answers : (open_marks s packet).answer ≡ New (opens packet)
+  pub open_answers : (open_marks s packet).answer ≡ Ok (opens packet)
   unfolding open_marks open_as
   open_answers = rw e
 
@@ -36,11 +36,11 @@ pub record MarksOpened (s packet : List ℕ) (o : Opening) : Type 0 where
   pub enough : mark_octets ≤ length s
   pub held : (key_of (metadata_of packet)).length ≤ longest
 
-pub marks_opened : (s packet : List ℕ) (o : Opening) → (open_marks s packet).answer ≡ New o → MarksOpened s packet o
+pub marks_opened : (s packet : List ℕ) (o : Opening) → (open_marks s packet).answer ≡ Ok o → MarksOpened s packet o
 unfolding open_marks open_as
 marks_opened s packet o new = go (open_refusal s packet) refl new
   where
-    go : (n : ℕ) → open_refusal s packet ≡ n → (open_as n s (key_of (metadata_of packet))).answer ≡ New o → MarksOpened s packet o
+    go : (n : ℕ) → open_refusal s packet ≡ n → (open_as n s (key_of (metadata_of packet))).answer ≡ Ok o → MarksOpened s packet o
     go zero e q = record {
       opened = let y : opens packet ≡ o = cc in sym y;
       left = open_clears s packet e;

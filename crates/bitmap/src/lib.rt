@@ -2,7 +2,6 @@
 // and laws of how marks are judged, and of opening; the code, recording and STATUS stand in crates above.
 #![tactic(auto)]
 
-use refusals::Refusal;
 use timestamp::Kept;
 use transfer::{Key, Reached};
 
@@ -24,18 +23,4 @@ pub struct Held {
 pub struct Opening {
     pub held: Held,
     pub reached: Reached,
-}
-
-// What opening answers.
-#[derive(Clone, Copy)]
-pub enum Opened {
-    New(Opening),
-    Refused(Refusal),
-}
-
-// Refusal 20 or 22 of the marks, or 0; and then how many runs they have.
-#[derive(Clone, Copy)]
-pub struct Judged {
-    pub number: u64,
-    pub runs: usize,
 }

@@ -14,6 +14,7 @@ use Rattle.runs.specs.Holes.{edge, complete, progress}
 use Rattle.runs.specs.Splice.{adds_at}
 use Rattle.runs.proofs.EdgeLaws.{edge_inserted}
 use Rattle.run_rows.specs.Rows.{runs_in, CutTo, CutBelow}
+use Rattle.run_rows.specs.declared.Rows.{Rows}
 use Rattle.run_rows.proofs.RowsLaws.{length_runs}
 use Rattle.run_cuts.proofs.CutLaws.{absorbed_cut, adds_cut}
 use Rattle.packet_data.specs.declared.Data.{Data}
@@ -21,7 +22,6 @@ use Rattle.transfer.specs.declared.Key.{Key}
 use Rattle.transfer.specs.Transfers.{reached}
 use Rattle.transfer.specs.Record.{stop_of, extended, absorbed_by, adds_by, runs_refusal}
 use Rattle.transfer.proofs.ExtendLaws.{extended_count, few_runs}
-use Rattle.table.specs.declared.Recorded.TheVariants.{Accepted, Refused}
 use Rattle.marks.specs.Marks.{mark_octets, mark_count, marked, with_marks}
 use Rattle.marks.specs.MarkedRuns.{marked_runs}
 use Rattle.marks.specs.Walk.{run_rows, FirstWith}
@@ -30,6 +30,7 @@ use Rattle.marked_runs.proofs.FoundLaws.{progress_found}
 use Rattle.bitmap.specs.State.{longest}
 use Rattle.bitmap.specs.Judged.{RunsStand}
 use Rattle.bitmap_extend.specs.Record.{record_as}
+use Rattle.std.specs.Prelude.{Ok, Err}
 
 -- the runs of the marks that a packet leaves
 pub marks_extended : (s : List ℕ) (d : Data) → 0 < d.length → stop_of d ≤ longest → mark_octets ≤ length s
@@ -38,7 +39,13 @@ unfolding extended
 marks_extended s d p q h = runs_inserted s d.offset d.length p (omega arith) h
 
 module _ (k : Key) (s rows : List ℕ) (n : ℕ) (d : Data) (stand : RunsStand s rows n) (long : mark_octets ≤ length s) (some : 0 < d.length) (low : stop_of d ≤ longest)
-    (j i : ℕ) (u : CutTo rows 0 n (stop_of d) j) (v : CutBelow rows 64 j d.offset i) where
+    (at : Rows) (two : at ≡ run_rows n) (j i : ℕ) (to : CutTo rows at.starts n (stop_of d) j) (below : CutBelow rows at.stops j d.offset i) where
+  u : CutTo rows 0 n (stop_of d) j
+  u = rw two at to
+
+  v : CutBelow rows 64 j d.offset i
+  v = rw two at below
+
   -- the runs from i up to j are those that the packet absorbs
   absorbed_is : absorbed_by (marked_runs s) d ≡ j - i
   unfolding absorbed_by
@@ -58,28 +65,28 @@ module _ (k : Key) (s rows : List ℕ) (n : ℕ) (d : Data) (stand : RunsStand s
       omega (arith, extended_count (marked_runs s) d some (marked_canonical s), absorbed_is)
 
   pub extend_refused : 64 < i + 1 + (n - j)
-      → (Refused (refusal_of 16) ≡ (record_as (runs_refusal (extended (marked_runs s) d)) k s d).answer) × (s ≡ (record_as (runs_refusal (extended (marked_runs s) d)) k s d).marks)
+      → (Err (refusal_of 16) ≡ (record_as (runs_refusal (extended (marked_runs s) d)) k s d).answer) × (s ≡ (record_as (runs_refusal (extended (marked_runs s) d)) k s d).marks)
   unfolding record_as runs_refusal
   extend_refused h = let e = lt-ltb 64 (length (extended (marked_runs s) d)) (omega (arith, runs_left)) in (rw e, rw e)
 
   -- the edge and the progress then
   module _ (few : i + 1 + (n - j) ≤ 64) (x : List ℕ) (is : x ≡ with_marks d.offset (stop_of d - d.offset) s) (e p q : ℕ)
-      (edge-is : e ≡ edge (runs_in rows (run_rows n))) (next : q ≡ max e (stop_of d)) (first : FirstWith (marked x) false 0 mark_count p) where
+      (edge-is : e ≡ edge (runs_in rows at)) (next : q ≡ max e (stop_of d)) (first : FirstWith (marked x) false 0 mark_count p) where
     after : x ≡ with_marks d.offset d.length s
     after = let z : stop_of d - d.offset ≡ d.length = omega arith in is ∙ ap (λ (m : ℕ). with_marks d.offset m s) z
 
     edge_after : q ≡ edge (extended (marked_runs s) d)
     unfolding extended
-    edge_after = next ∙ ap (λ (m : ℕ). max m (stop_of d)) (edge-is ∙ ap edge stand.are) ∙ sym (edge_inserted d.offset (stop_of d) (marked_runs s) (omega arith) (marked_canonical s))
+    edge_after = next ∙ ap (λ (m : ℕ). max m (stop_of d)) (edge-is ∙ rw two (ap edge stand.are)) ∙ sym (edge_inserted d.offset (stop_of d) (marked_runs s) (omega arith) (marked_canonical s))
 
     progress_after : p ≡ progress (extended (marked_runs s) d)
     progress_after = progress_found x p first ∙ ap progress (ap marked_runs after ∙ marks_extended s d some low long)
 
-    pub extend_done : (m : ℕ) → m ≡ adds_at d.offset (stop_of d) (runs_in rows (run_rows n)) i j
-        → (Accepted (record { reached = record { edge = q; complete = leb k.length p }; absorbed = j - i; adds = m })
+    pub extend_done : (m : ℕ) → m ≡ adds_at d.offset (stop_of d) (runs_in rows at) i j
+        → (Ok (record { reached = record { edge = q; complete = leb k.length p }; absorbed = j - i; adds = m })
         ≡ (record_as (runs_refusal (extended (marked_runs s) d)) k s d).answer)
         × (x ≡ (record_as (runs_refusal (extended (marked_runs s) d)) k s d).marks)
     unfolding record_as reached complete
     extend_done m adds-told =
         let z = few_runs (extended (marked_runs s) d) (omega (arith, runs_left)) in
-        (rw (z, edge_after, progress_after, absorbed_is, adds-told ∙ sym adds_is), rw z after)
+        (rw (z, edge_after, progress_after, absorbed_is, (rw two at adds-told) ∙ sym adds_is), rw z after)

@@ -19,10 +19,10 @@ use Rattle.packet_data.specs.declared.Data.{Data}
 use Rattle.transfer.specs.declared.Key.{Key}
 use Rattle.transfer.specs.Record.{key_refusal, extended}
 use Rattle.transfer.proofs.LimitLaws.{key_refusal_not_12, sixteen_iff}
-use Rattle.table.specs.declared.Recorded.TheVariants as recorded
 use Rattle.marks.specs.MarkedRuns.{marked_runs}
 use Rattle.bitmap.specs.State.{state_refusal}
 use Rattle.bitmap_extend.specs.Record.{data_refused, record_refusal, record_as, record_marks}
+use Rattle.std.specs.Prelude.{Err}
 
 -- ---- 12: the packet is of another Id
 pub twelve_iff : (k : Key) (d : Data) → (data_refused k d ≡ 12) ↔ (d.id ≡ k.id → ⊥)
@@ -40,8 +40,8 @@ sixteen_after_iff k s packet fit read judged = rw (fit, read, judged) (sixteen_i
 -- ---- the answers
 
 pub record_refused_iff : (k : Key) (s packet : List ℕ) (n : ℕ)
-    → ((record_marks k s packet).answer ≡ recorded.Refused (refusal_of (suc n))) ↔ (record_refusal k s packet ≡ suc n)
+    → ((record_marks k s packet).answer ≡ Err (refusal_of (suc n))) ↔ (record_refusal k s packet ≡ suc n)
 unfolding record_marks record_as
 record_refused_iff k s packet n =
-    refused_iff recorded.Refused (λ m. (record_as m k s (data_of packet)).answer) (λ m. refl)
+    refused_iff Err (λ m. (record_as m k s (data_of packet)).answer) (λ m. refl)
     (λ r e. let z : ◌≡◌ {A = ℕ} 0 1 = cc in omega arith) (λ q r e. cc) (record_refusal k s packet) n

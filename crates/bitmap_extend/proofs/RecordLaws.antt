@@ -1,4 +1,4 @@
--- What recording does, refusal by refusal.
+-- What recording answers of a refusal, and what no refusal says of the packet.
 -- Assumes nothing.
 use Prim.Native.Nat.{ℕ, zero, suc, ◌≤◌, ◌<◌}
 use mathlib.Core.Path.{◌≡◌, refl, sym, ◌∙◌}
@@ -8,19 +8,20 @@ use native.Mathlib.Omega.{arith}
 use lib.Dec.{eqb}
 use borrow.Author.Tests.{eq-eqb, ne_eqb}
 use Rattle.refusals.specs.Refusals.{when, refusal_of}
+use Rattle.refusals.specs.Faults.{number_of}
+use Rattle.refusals.specs.declared.Fault.{Fault}
+use Rattle.refusals.proofs.FaultLaws.{fault_some}
 use Rattle.refusals.proofs.RefusalLaws.{stays, rest_none}
 use Rattle.packet_data.specs.Data.{data_refusal, data_of, read_data}
 use Rattle.packet_data.specs.declared.Data.{Data}
 use Rattle.transfer.specs.declared.Key.{Key}
-use Rattle.transfer.specs.Record.{stop_of, key_refusal, extended, runs_refusal}
+use Rattle.transfer.specs.Record.{stop_of, key_refusal}
 use Rattle.transfer.proofs.ExtendLaws.{key_stop}
 use Rattle.transfer.proofs.FieldLaws.{data_some}
-use Rattle.table.specs.declared.Recorded.{Recorded}
-use Rattle.table.specs.declared.Recorded.TheVariants.{Refused}
-use Rattle.marks.specs.MarkedRuns.{marked_runs}
 use Rattle.bitmap.specs.State.{longest, state_refusal}
 use Rattle.bitmap.proofs.StateLaws.{state_known}
 use Rattle.bitmap_extend.specs.Record.{data_refused, record_refusal, record_as, record_marks}
+use Rattle.std.specs.Prelude.{Err}
 
 -- ---- 12 to 15
 
@@ -33,40 +34,29 @@ module _ (k : Key) (d : Data) where
   unfolding data_refused
   same_id h = rw (eq-eqb d.id k.id h)
 
--- ---- all of them, in their order
+-- ---- all of them
 
+-- what a `?` answers of a fault, and the marks then
+pub record_fault : (f : Fault) (k : Key) (s : List ℕ) (d : Data) → record_as (number_of f) k s d ≡ record { answer = Err (refusal_of (number_of f)); marks = s }
+unfolding record_as
+record_fault f k s d = go (number_of f) (fault_some f)
+  where
+    go : (n : ℕ) → (n ≡ 0 → ⊥) → record_as n k s d ≡ record { answer = Err (refusal_of n); marks = s }
+    go zero h = absurd (h refl)
+    go (suc n) h = refl
+
+-- 12 to 15, of marks that are a transfer's and a packet that is DATA
 module _ (k : Key) (s packet : List ℕ) where
-  refused_as : (n m : ℕ) (d : Data) → n ≡ m → (n ≡ 0 → ⊥) → (Refused (refusal_of n) ≡ (record_as m k s d).answer) × (s ≡ (record_as m k s d).marks)
+  refused_as : (n m : ℕ) (d : Data) → n ≡ m → (n ≡ 0 → ⊥) → (Err (refusal_of n) ≡ (record_as m k s d).answer) × (s ≡ (record_as m k s d).marks)
   unfolding record_as
   refused_as n zero d e h = absurd (h e)
   refused_as n (suc m) d e h = (rw e, refl)
 
-  refused : (n : ℕ) → n ≡ record_refusal k s packet → (n ≡ 0 → ⊥) → (Refused (refusal_of n) ≡ (record_marks k s packet).answer) × (s ≡ (record_marks k s packet).marks)
-  unfolding record_marks
-  refused n e h = refused_as n (record_refusal k s packet) (data_of packet) e h
-
-  -- the marks are no transfer's
-  pub record_unfit : (n : ℕ) → n ≡ state_refusal k s → (n ≡ 0 → ⊥) → (Refused (refusal_of n) ≡ (record_marks k s packet).answer) × (s ≡ (record_marks k s packet).marks)
-  unfolding record_refusal
-  record_unfit n e h = refused n (e ∙ sym (stays (state_refusal k s) _ (λ z. h (e ∙ z)))) h
-
-  module _ (fit : state_refusal k s ≡ 0) where
-    -- the packet is no DATA
-    pub record_unread : (n : ℕ) → n ≡ data_refusal packet → (n ≡ 0 → ⊥) → (Refused (refusal_of n) ≡ (record_marks k s packet).answer) × (s ≡ (record_marks k s packet).marks)
-    unfolding record_refusal
-    record_unread n e h = refused n (e ∙ rw fit (sym (stays (data_refusal packet) _ (λ z. h (e ∙ z))))) h
-
-    module _ (read : data_refusal packet ≡ 0) (d : Data) (is : d ≡ data_of packet) where
-      -- it is not this transfer's
-      pub record_refused : (n : ℕ) → n ≡ data_refused k d → (n ≡ 0 → ⊥) → (Refused (refusal_of n) ≡ (record_marks k s packet).answer) × (s ≡ (record_marks k s packet).marks)
-      unfolding record_refusal
-      record_refused n e h = refused n (e ∙ rw (fit, read, ← is) (sym (stays (data_refused k d) _ (λ z. h (e ∙ z))))) h
-
-      -- it is: 16, or recorded
-      pub record_judged : data_refused k d ≡ 0 → (r : Recorded) (x : List ℕ) → r ≡ (record_as (runs_refusal (extended (marked_runs s) d)) k s d).answer
-          → x ≡ (record_as (runs_refusal (extended (marked_runs s) d)) k s d).marks → (r ≡ (record_marks k s packet).answer) × (x ≡ (record_marks k s packet).marks)
-      unfolding record_marks record_refusal
-      record_judged j r x e f = (e ∙ rw (fit, read, ← is, j), f ∙ rw (fit, read, ← is, j))
+  pub record_refused : state_refusal k s ≡ 0 → data_refusal packet ≡ 0 → (d : Data) → d ≡ data_of packet → (n : ℕ) → n ≡ data_refused k d → (n ≡ 0 → ⊥)
+      → (Err (refusal_of n) ≡ (record_marks k s packet).answer) × (s ≡ (record_marks k s packet).marks)
+  unfolding record_marks record_refusal
+  record_refused fit read d is n e h =
+      refused_as n _ (data_of packet) (e ∙ rw (fit, read, ← is) (sym (stays (data_refused k d) _ (λ z. h (e ∙ z))))) h
 
 -- what no refusal says of the packet
 pub judged_key : (k : Key) (d : Data) → data_refused k d ≡ 0 → key_refusal k d ≡ 0

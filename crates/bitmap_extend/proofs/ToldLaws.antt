@@ -13,15 +13,15 @@ use Rattle.transfer.specs.Transfers.{reached, Tells}
 use Rattle.transfer.specs.Record.{extended, absorbed_by, adds_by, receipt}
 use Rattle.transfer.proofs.ReachedLaws.{reached_tells}
 use Rattle.transfer.proofs.ExtendLaws.{extended_count, none_added, same_extended}
-use Rattle.table.specs.declared.Recorded.TheVariants.{Accepted}
 use Rattle.marks.specs.MarkedRuns.{marked_runs}
 use Rattle.marks.proofs.MarkLaws.{marks_known, marked_canonical, marked_member}
 use Rattle.bitmap_extend.specs.Record.{record_refusal, record_as, record_marks}
 use Rattle.bitmap_extend.proofs.KeptLaws.{record_sets, payload, record_runs}
+use Rattle.std.specs.Prelude.{Ok}
 
 module _ (k : Key) (s packet : List ℕ) (e : record_refusal k s packet ≡ 0) where
   pub record_answers : (record_marks k s packet).answer
-      ≡ Accepted (receipt k (extended (marked_runs s) (data_of packet)) (absorbed_by (marked_runs s) (data_of packet)) (adds_by (marked_runs s) (data_of packet)))
+      ≡ Ok (receipt k (extended (marked_runs s) (data_of packet)) (absorbed_by (marked_runs s) (data_of packet)) (adds_by (marked_runs s) (data_of packet)))
   unfolding record_marks record_as
   record_answers = rw e
 

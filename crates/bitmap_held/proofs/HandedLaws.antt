@@ -14,13 +14,13 @@ use Rattle.refusals.proofs.RefusalLaws.{first_none, rest_none}
 use Rattle.header.specs.FirstWord.{bits}
 use Rattle.header.specs.Start.{word_of}
 use Rattle.packet_data.specs.Data.{data_refusal, data_of, read_data}
-use Rattle.packet_data.specs.declared.DataRead.TheVariants as data-read
 use Rattle.transfer.specs.Record.{stamp_in}
 use Rattle.transfer.proofs.StampLaws.{stamp_known, renewed_by}
 use Rattle.bitmap.specs.State.{state_refusal}
 use Rattle.bitmap.specs.declared.Held.{Held}
 use Rattle.bitmap_extend.specs.Record.{record_refusal}
 use Rattle.bitmap_held.specs.Held.{held_after, no_held, held_as, record_held}
+use Rattle.std.specs.Prelude.{Ok}
 
 pub after_octets : (h : Held) (s : List ℕ) → Stamp s → kept_octets (held_after h s).kept ≡ renewed s (kept_octets h.kept)
 unfolding held_after
@@ -52,7 +52,7 @@ module _ (h : Held) (s packet : List ℕ) where
     unfolding record_refusal
     packet_read = first_none (data_refusal packet) _ (rest_none (state_refusal h.key s) _ e)
 
-    accepted : read_data packet ≡ data-read.Accepted (data_of packet)
+    accepted : read_data packet ≡ Ok (data_of packet)
     unfolding read_data
     accepted = rw packet_read
 

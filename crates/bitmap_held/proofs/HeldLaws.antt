@@ -21,12 +21,12 @@ use Rattle.packet_data.specs.declared.Data.{Data}
 use Rattle.packet_data.proofs.DataLaws.{data_fine}
 use Rattle.transfer.specs.Record.{stamp_in}
 use Rattle.transfer.specs.declared.Receipt.{Receipt}
-use Rattle.table.specs.declared.Recorded.TheVariants.{Accepted, Refused}
 use Rattle.bitmap.specs.declared.Held.{Held}
 use Rattle.bitmap_extend.specs.Record.{record_refusal, record_as, record_marks}
 use Rattle.bitmap_held.specs.Held.{held_after, no_held, record_held}
 use Rattle.bitmap_held.proofs.HandedLaws.{packet_read, held_zeros, held_handed}
 use Rattle.bitmap_extend.proofs.ToldLaws.{record_answers}
+use Rattle.std.specs.Prelude.{Ok, Err}
 
 kept_eq : (j k : Kept) → j.stamped ≡ k.stamped → j.high ≡ k.high → j.low ≡ k.low → j ≡ k
 kept_eq j k p q r = λ i. record { stamped = p i; high = q i; low = r i }
@@ -52,10 +52,9 @@ module _ (new old : Kept) where
     pub old_kept : old.stamped ≡ true → old.high < 256 ^ 8 → old.low < 256 ^ 8 → old ≡ kept_from (renewed (kept_octets new) (kept_octets old))
     old_kept e p q = rw left (kept_from_lem old e p q)
 
-    pub none_kept : old.stamped ≡ false → (h l : ℕ) → h ≡ 0 → l ≡ 0
-        → record { stamped = false; high = h; low = l } ≡ kept_from (renewed (kept_octets new) (kept_octets old))
+    pub none_kept : old.stamped ≡ false → record { stamped = false; high = 0; low = 0 } ≡ kept_from (renewed (kept_octets new) (kept_octets old))
     unfolding kept_from
-    none_kept e h l p q = rw (left, kept_none old e, none_stamped) (kept_eq (record { stamped = false; high = h; low = l }) (record { stamped = false; high = 0; low = 0 }) refl p q)
+    none_kept e = rw (left, kept_none old e, none_stamped) refl
 
 -- ---- the timestamp that a packet brings
 
@@ -81,22 +80,18 @@ module _ (s : List ℕ) (read : data_refusal s ≡ 0) where
       let h : payload_at (word_of s) < length s = (data_fine s read).more in
       room_for s (bits 32 (word_of s) 12 12) (omega arith) (ap (λ (x : Data). not (eqb x.timestamp 0)) (sym is) ∙ e)
 
-  pub held_kept : (h : Held) (d : Data) → d ≡ data_of s → (new kept : Kept) → kept_octets new ≡ stamp_from (not (eqb d.timestamp 0)) 8 s
-      → kept ≡ kept_from (renewed (kept_octets new) (kept_octets h.kept)) → record { key = h.key; kept = kept } ≡ held_after h (stamp_in s (data_of s))
-  unfolding held_after
-  held_kept h d is new kept e f =
-      let octets : kept_octets new ≡ stamp_in s (data_of s) = e ∙ ap (λ (x : Data). stamp_from (not (eqb x.timestamp 0)) 8 s) is ∙ sym brought in
-      ap (λ (k : Kept). record { key = h.key; kept = k }) (f ∙ ap (λ (o : List ℕ). kept_from (renewed o (kept_octets h.kept))) octets)
+  pub stamp_is : (d : Data) → d ≡ data_of s → stamp_in s (data_of s) ≡ stamp_from (not (eqb d.timestamp 0)) 8 s
+  stamp_is d is = rw is brought
 
 -- ---- by what is told
 
 module _ (h : Held) (s packet : List ℕ) where
-  accepted_as : (n : ℕ) (x : Receipt) → (record_as n h.key s (data_of packet)).answer ≡ Accepted x → n ≡ 0
+  accepted_as : (n : ℕ) (x : Receipt) → (record_as n h.key s (data_of packet)).answer ≡ Ok x → n ≡ 0
   unfolding record_as
   accepted_as zero x e = refl
   accepted_as (suc n) x e = absurd (let z : ◌≡◌ {A = ℕ} 0 1 = cc in omega arith)
 
-  module _ (x : Receipt) (e : (record_marks h.key s packet).answer ≡ Accepted x) where
+  module _ (x : Receipt) (e : (record_marks h.key s packet).answer ≡ Ok x) where
     accepted_none : record_refusal h.key s packet ≡ 0
     unfolding record_marks
     accepted_none = accepted_as (record_refusal h.key s packet) x e
@@ -107,6 +102,6 @@ module _ (h : Held) (s packet : List ℕ) where
     pub held_accepted : record_held h s packet ≡ held_after h (stamp_in packet (data_of packet))
     held_accepted = held_handed h s packet accepted_none
 
-  pub held_refused : (r : Refusal) → (record_marks h.key s packet).answer ≡ Refused r → record_held h s packet ≡ no_held
+  pub held_refused : (r : Refusal) → (record_marks h.key s packet).answer ≡ Err r → record_held h s packet ≡ no_held
   held_refused r e =
       held_zeros h s packet (λ z. let told = record_answers h.key s packet z in let y : ◌≡◌ {A = ℕ} 0 1 = cc in omega arith)

@@ -12,23 +12,25 @@ use timestamp::Kept;
 use transfer::Key;
 
 // The timestamp that is kept after a packet that brings `new`, or none. Where none is kept, both halves are 0.
+#[tactic(auto, using(crate::proofs::HeldLaws::new_kept, crate::proofs::HeldLaws::old_kept, crate::proofs::HeldLaws::none_kept))]
 fn kept_after(new: Kept, old: Kept) -> Kept
     ensures { result ≡ kept_from (renewed (kept_octets new) (kept_octets old)) }
 {
     if new.stamped {
-        return new;
-    }
-    if old.stamped {
-        return old;
-    }
-    Kept {
-        stamped: false,
-        high: 0,
-        low: 0,
+        new
+    } else if old.stamped {
+        old
+    } else {
+        Kept {
+            stamped: false,
+            high: 0,
+            low: 0,
+        }
     }
 }
 
 // The record after a packet that was accepted.
+#[tactic(auto, using(crate::proofs::HeldLaws::stamp_room, crate::proofs::HeldLaws::stamp_is), unfolding(crate::specs::Held::held_after))]
 pub fn held_after(held: Held, packet: &[u8]) -> Held
     requires { data_refusal packet.now ≡ 0 }
     ensures { result ≡ held_after held (stamp_in packet.now (data_of packet.now)) }
@@ -36,8 +38,10 @@ pub fn held_after(held: Held, packet: &[u8]) -> Held
     let d = packet_data::data_fields(packet);
     let new = timestamp::read_stamp(packet, 8, d.timestamp != 0);
     let kept = kept_after(new, held.kept);
-    let key = held.key;
-    Held { key, kept }
+    Held {
+        key: held.key,
+        kept,
+    }
 }
 
 // The record of no transfer.

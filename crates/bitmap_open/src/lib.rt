@@ -5,7 +5,8 @@ ghost use Rattle.std.specs.Prelude.{◌≡◌};
 ghost use Rattle.bitmap.specs.State.{unstamped};
 ghost use Rattle.bitmap.specs.Open.{open_marks};
 
-use bitmap::{Held, Opened, Opening};
+use bitmap::{Held, Opening};
+use refusals::{Fault, Refusal};
 use timestamp::Kept;
 use transfer::Key;
 
@@ -22,28 +23,23 @@ pub fn unstamped(key: Key) -> Held
 }
 
 // Opens by a packet that has to be METADATA, and always starts anew.
-pub fn open(marks: &mut [u8], packet: &[u8]) -> Opened
-    ensures { (result ≡ (open_marks marks.old packet.now).answer)
-        × (marks.new ≡ (open_marks marks.old packet.now).marks) }
+#[tactic(auto, using(bitmap::proofs::OpenLaws::open_fault), unfolding(bitmap::specs::Open::open_marks, bitmap::specs::Open::open_as, bitmap::specs::Open::open_refusal, bitmap::specs::State::marks_refusal))]
+pub fn open(marks: &mut [u8], packet: &[u8]) -> Result<Opening, Refusal>
+    ensures answer { result ≡ (open_marks marks.old packet.now).answer }
+    ensures marks { marks.new ≡ (open_marks marks.old packet.now).marks }
 {
     if marks.len() < marks::OCTETS {
-        return Opened::Refused(refusals::refuse(20));
+        return Err(Fault::NoRoom.into());
     }
-    let n = packet_metadata::metadata_refusal(packet);
-    if n != 0 {
-        return Opened::Refused(refusals::refuse(n));
-    }
+    packet_metadata::metadata_refusal(packet)?;
     let fields = packet_metadata::metadata_fields(packet);
-    let unwanted = transfer_key::new_refusal(fields.flags);
     let key = transfer_key::key_of(fields);
     if bitmap::LONGEST < key.length {
-        return Opened::Refused(refusals::refuse(9));
+        return Err(Fault::Size.into());
     }
-    if unwanted != 0 {
-        return Opened::Refused(refusals::refuse(unwanted));
-    }
+    transfer_key::new_refusal(fields.flags)?;
     marks::clear(marks);
     let held = unstamped(key);
     let reached = transfer_key::reached_new(key);
-    Opened::New(Opening { held, reached })
+    Ok(Opening { held, reached })
 }

@@ -5,7 +5,7 @@ use Prim.Native.Nat.{ℕ, zero, suc, ◌≤◌}
 use mathlib.Core.Path.{◌≡◌, refl, sym, ap, ap₂, ◌∙◌}
 use mathlib.Core.List.{List, [], ◌∷◌}
 use mathlib.Core.Option.{some}
-use lib.ListN.{length, take}
+use lib.ListN.{take}
 use Rattle.timestamp.specs.declared.Kept.{Kept}
 use Rattle.timestamp.proofs.KeptLaws.{kept_none}
 use Rattle.octets.specs.Numbers.{Octets}
@@ -14,7 +14,6 @@ use Rattle.transfer.specs.Transfers.{Transfer, reached}
 use Rattle.table.specs.Tables.{keys, find}
 use Rattle.table.specs.Record.{record_packet}
 use Rattle.table.specs.WriteStatus.{written_for, buffer_for, status_written, status_buffer}
-use Rattle.table.specs.declared.Recorded.{Recorded}
 use Rattle.table.proofs.FineLaws.{fine_found}
 use Rattle.area.specs.Judge.{table_of}
 use Rattle.area.specs.Operations.{OnArea, open_area, area_status_written, area_status_buffer}
@@ -29,6 +28,9 @@ use Rattle.bitmap_status.proofs.StatusLaws.{status_of_lem}
 use Rattle.both_receivers.specs.Both.{Bitmap, on_area, on_marks, answers, after, AllOctets, ForNoOther, NoneForAnother, SameStatus, Alike, BothReceivers}
 use Rattle.both_receivers.proofs.RecordLaws.{held_with, Agree, found_in, no_fault, follows}
 use Rattle.both_receivers.proofs.OpenLaws.{key_in, area_opened}
+use Rattle.std.specs.Prelude.{Result}
+use Rattle.refusals.specs.declared.Refusal.{Refusal}
+use Rattle.transfer.specs.declared.Receipt.{Receipt}
 
 -- the area b, that the opening left, holds u, in which the transfer is open
 module _ (b : List ℕ) (u : List Transfer) (held : table_of b ≡ some u) (k : Key) (found : find k.id (keys u) ≡ some k) (short : k.length ≤ longest) where
@@ -48,7 +50,7 @@ module _ (b : List ℕ) (u : List Transfer) (held : table_of b ≡ some u) (k : 
       let t = h.table in
       let f = follows (keys u) k found short t h.keeps m.marks packet (held_valid a t h.holds) h.agree octets (λ d e j q. only d e (u, j, held, q)) in
       rw h.held_is (
-        ap (λ (o : OnArea Recorded). o.answer) (record_held_lem a packet t h.holds) ∙ f.same,
+        ap (λ (o : OnArea (Result Receipt Refusal)). o.answer) (record_held_lem a packet t h.holds) ∙ f.same,
         record {
           table = (record_packet t packet).table;
           holds = record_leaves a t h.holds packet octets;
@@ -63,7 +65,7 @@ module _ (b : List ℕ) (u : List Transfer) (held : table_of b ≡ some u) (k : 
   all_answers a m [] octets only h = refl
   all_answers a m (p ∷ ps) octets only h =
       let r = recorded a m p octets.0 only.0 h in
-      ap₂ (λ (x : Recorded) (xs : List Recorded). x ∷ xs) r.0 (all_answers (on_area a p).1 (on_marks m p).1 ps octets.1 only.1 r.1)
+      ap₂ (λ (x : Result Receipt Refusal) (xs : List (Result Receipt Refusal)). x ∷ xs) r.0 (all_answers (on_area a p).1 (on_marks m p).1 ps octets.1 only.1 r.1)
 
   all_together : (a : List ℕ) (m : Bitmap) (n : ℕ) (ps : List (List ℕ)) → AllOctets ps → NoneForAnother b k.id ps → Together a m
       → Together (after on_area a (take n ps)) (after on_marks m (take n ps))

@@ -22,8 +22,6 @@ use Rattle.directory_entry.specs.Entry.{entry_refusal, entry_of}
 use Rattle.packet_metadata.specs.Checksum.{pair_allowed, pair_refusal}
 use Rattle.packet_metadata.specs.Metadata.{metadata_refusal, metadata_of, read_metadata}
 use Rattle.packet_data.specs.Data.{data_refusal, data_of, read_data}
-use Rattle.packet_data.specs.declared.DataRead.{DataRead}
-use Rattle.packet_data.specs.declared.DataRead.TheVariants as data-read
 use Rattle.runs.specs.Runs.{run, insert, absorbed, adds}
 use Rattle.runs.specs.Holes.{edge_from, holes_from, progress, complete}
 use Rattle.hole_list.specs.Pairs.{pairs}
@@ -37,8 +35,6 @@ use Rattle.transfer_status.specs.WriteStatus.{skips_too_many, least_room, size_r
 use Rattle.table.specs.WriteStatus.{buffer_for, status_buffer}
 use Rattle.table.specs.Tables.{keys, find, runs_of, stamp_of, add, set_runs}
 use Rattle.table.specs.Record.{data_judged, record_refusal, grown, absorbed_in, adds_in, record_as, record_data, record_read, record_packet}
-use Rattle.table.specs.declared.Recorded.{Recorded}
-use Rattle.table.specs.declared.Recorded.TheVariants as recorded
 use Rattle.table.specs.Open.{judge_found, judge_open, open_as, open_key, open_read, open_packet}
 use Rattle.table.specs.declared.Opened.{Opened}
 use Rattle.table.specs.declared.Opened.TheVariants as in_table
@@ -50,15 +46,18 @@ use Rattle.marks.specs.Marks.{mark_octets}
 use Rattle.marks.proofs.MarkLaws.{length_cleared, runs_cleared}
 use Rattle.bitmap.specs.Open as marks-open
 use Rattle.bitmap.specs.declared.Opening.{Opening}
-use Rattle.bitmap.specs.declared.Opened.TheVariants as by-marks
 use Rattle.bitmap.specs.State.{unstamped, marks_refusal, state_refusal}
 use Rattle.bitmap.proofs.ToldLaws.{marks_opened}
+use Rattle.bitmap_extend.specs.Record as by-marks
 use Rattle.bitmap_extend.specs.Record.{data_refused, record_marks}
-use Rattle.bitmap_extend.proofs.RecordLaws.{record_refused}
 use Rattle.bitmap_status.specs.WriteStatus.{marks_buffer}
 use Rattle.both_receivers.specs.Both.{Bitmap, on_area, on_marks, after, AllOctets, NoneForAnother, Alike}
 use Rattle.both_receivers.proofs.RecordLaws.{no_fault}
 use Rattle.both_receivers.proofs.BothReceivers.{both_receivers}
+use Rattle.std.specs.Prelude.{Result, Ok, Err}
+use Rattle.refusals.specs.declared.Refusal.{Refusal}
+use Rattle.packet_data.specs.declared.Data.{Data}
+use Rattle.transfer.specs.declared.Receipt.{Receipt}
 
 -- ---- packets of the width 16
 
@@ -86,9 +85,9 @@ abbrev stamped16 : ℕ → ℕ → ℕ → ℕ → List (ℕ × ℕ)
 stamped16 id stamp offset size = (4, 0x43080000) ∷ (4, id) ∷ (16, stamp) ∷ (2, offset) ∷ (size, 0) ∷ []
 
 -- the Id of a packet that was read
-abbrev id_of_lem : DataRead → ℕ
-id_of_lem (data-read.Accepted d) = d.id
-id_of_lem (data-read.Refused r) = 0
+abbrev id_of_lem : Result Data Refusal → ℕ
+id_of_lem (Ok d) = d.id
+id_of_lem (Err r) = 0
 
 -- ---- Id 3 is open, with octets received, and Id 7 is opened
 
@@ -105,11 +104,11 @@ abbrev begins7 : Opening
 begins7 = record { held = unstamped key7; reached = begun }
 
 module _ (a : List ℕ) (held : table_of a ≡ some (open3 ∷ [])) (s : List ℕ) (long : mark_octets ≤ length s) where
-  in_table_new : (open_area a opening).answer ≡ in_table.New begun
+  in_table_new : (open_area a opening).answer ≡ Ok (in_table.New begun)
   unfolding open_area start_refusal type_refusal file_refusal descriptor_refusal upper_zero property_refusal path_refusal entry_refusal entry_of pair_allowed pair_refusal metadata_refusal metadata_of read_metadata keys find judge_found new_refusal judge_open open_as open_key open_read open_packet reached edge_from progress complete
-  in_table_new = ap (λ (o : OnArea Opened). o.answer) (on_held (in_table.Refused (refusal_of 22)) (λ t. open_packet t opening) a (open3 ∷ []) held)
+  in_table_new = ap (λ (o : OnArea (Result Opened Refusal)). o.answer) (on_held (Err (refusal_of 22)) (λ t. open_packet t opening) a (open3 ∷ []) held)
 
-  by_marks_new : (marks-open.open_marks s opening).answer ≡ by-marks.New begins7
+  by_marks_new : (marks-open.open_marks s opening).answer ≡ Ok begins7
   unfolding start_refusal type_refusal file_refusal descriptor_refusal upper_zero property_refusal path_refusal entry_refusal entry_of pair_allowed pair_refusal metadata_refusal metadata_of marks_refusal new_refusal marks-open.open_refusal marks-open.open_as marks-open.open_marks reached edge_from progress complete
   by_marks_new = rw (le-ltb (length s) mark_octets long)
 
@@ -202,9 +201,9 @@ module _ (a : List ℕ) (held : table_of a ≡ some (open3 ∷ [])) (s : List �
   abbrev for3 : List ℕ
   for3 = fields (data16 3 0 5)
 
-  in_table_recorded : (record_area left for3).answer ≡ recorded.Accepted (record { reached = record { edge = 50; complete = false }; absorbed = 0; adds = 1 })
+  in_table_recorded : (record_area left for3).answer ≡ Ok (record { reached = record { edge = 50; complete = false }; absorbed = 0; adds = 1 })
   unfolding start_refusal type_refusal file_refusal descriptor_refusal upper_zero data_refusal data_of read_data insert absorbed adds edge_from progress complete reached keys find runs_of key_refusal runs_refusal extended absorbed_by adds_by data_judged record_refusal grown absorbed_in adds_in record_as record_data record_read record_packet
-  in_table_recorded = ap (λ (o : OnArea Recorded). o.answer) (record_held_lem left for3 both_open left_holds)
+  in_table_recorded = ap (λ (o : OnArea (Result Receipt Refusal)). o.answer) (record_held_lem left for3 both_open left_holds)
 
   no_fault_here : state_refusal key7 marks ≡ 0
   unfolding keys find runs_of stamp_of kept_octets
@@ -213,11 +212,11 @@ module _ (a : List ℕ) (held : table_of a ≡ some (open3 ∷ [])) (s : List �
       no_fault (keys both_open) key7 refl (omega arith) both_open (unstamped key7).kept marks (held_valid left both_open left_holds)
       (record { are_open = refl; same_runs = rw (w.left, runs_cleared s); same_stamp = refl; long = rw (w.left, length_cleared s long) long })
 
-  by_marks_refused : recorded.Refused (refusal_of 12) ≡ (record_marks key7 marks for3).answer
-  unfolding start_refusal type_refusal file_refusal descriptor_refusal upper_zero data_refusal data_of data_refused
-  by_marks_refused = (record_refused key7 marks for3 no_fault_here refl (data_of for3) refl 12 refl (λ z. omega arith)).0
+  by_marks_refused : Err (refusal_of 12) ≡ (record_marks key7 marks for3).answer
+  unfolding record_marks by-marks.record_refusal by-marks.record_as start_refusal type_refusal file_refusal descriptor_refusal upper_zero data_refusal data_of data_refused
+  by_marks_refused = rw no_fault_here
 
   pub not_alike : (record_area left for3).answer ≡ (record_marks key7 marks for3).answer → ⊥
   not_alike e =
-      let z : recorded.Refused (refusal_of 12) ≡ recorded.Accepted (record { reached = record { edge = 50; complete = false }; absorbed = 0; adds = 1 }) = by_marks_refused ∙ sym e ∙ in_table_recorded in
+      let z : ◌≡◌ {A = Result Receipt Refusal} (Err (refusal_of 12)) (Ok (record { reached = record { edge = 50; complete = false }; absorbed = 0; adds = 1 })) = by_marks_refused ∙ sym e ∙ in_table_recorded in
       let y : ◌≡◌ {A = ℕ} 0 1 = cc in omega arith

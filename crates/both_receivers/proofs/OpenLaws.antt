@@ -25,6 +25,8 @@ use Rattle.area.proofs.JudgeLaws.{held_valid}
 use Rattle.area.proofs.StoredLaws.{stored_held}
 use Rattle.table.proofs.ValidLaws.{open_valid}
 use Rattle.area.proofs.OperationLaws.{on_cases}
+use Rattle.std.specs.Prelude.{Result, Ok, Err}
+use Rattle.refusals.specs.declared.Refusal.{Refusal}
 
 -- what the METADATA m opens
 abbrev pub key_in : List ℕ → Key
@@ -36,9 +38,9 @@ pub record TableOpened (t : List Transfer) (k : Key) (x : Reached) : Type 0 wher
   pub none_kept : stamp_of t k.id ≡ []
   pub told : x ≡ reached k []
 
-table_opened : (t : List Transfer) (m : List ℕ) (x : Reached) → (open_packet t m).answer ≡ in_table.New x → TableOpened (open_packet t m).table (key_in m) x
+table_opened : (t : List Transfer) (m : List ℕ) (x : Reached) → (open_packet t m).answer ≡ Ok (in_table.New x) → TableOpened (open_packet t m).table (key_in m) x
 table_opened t m x =
-    open_cases (λ (o : Outcome Opened). o.answer ≡ in_table.New x → TableOpened o.table (key_in m) x) t m
+    open_cases (λ (o : Outcome (Result Opened Refusal)). o.answer ≡ Ok (in_table.New x) → TableOpened o.table (key_in m) x) t m
     (λ r q. absurd (let z : ◌≡◌ {A = ℕ} 0 1 = cc in omega arith))
     (λ n e f q. absurd (let z : ◌≡◌ {A = ℕ} 0 1 = cc in omega arith))
     (λ n e f w l q.
@@ -57,10 +59,10 @@ pub record AreaOpened (b m : List ℕ) (x : Reached) : Type 0 where
   pub held : table_of b ≡ some table
   pub opened : TableOpened table (key_in m) x
 
-pub area_opened : (a m : List ℕ) (x : Reached) → Octets m → (open_area a m).answer ≡ in_table.New x → AreaOpened (open_area a m).area m x
+pub area_opened : (a m : List ℕ) (x : Reached) → Octets m → (open_area a m).answer ≡ Ok (in_table.New x) → AreaOpened (open_area a m).area m x
 unfolding open_area
 area_opened a m x octets =
-    on_cases (in_table.Refused (refusal_of 22)) (λ t. open_packet t m) a (λ (o : OnArea Opened). o.answer ≡ in_table.New x → AreaOpened o.area m x)
+    on_cases (Err (refusal_of 22)) (λ t. open_packet t m) a (λ (o : OnArea (Result Opened Refusal)). o.answer ≡ Ok (in_table.New x) → AreaOpened o.area m x)
     (λ q. absurd (let z : ◌≡◌ {A = ℕ} 0 1 = cc in omega arith))
     (λ t h q.
     record {

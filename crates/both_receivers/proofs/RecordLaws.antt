@@ -14,7 +14,6 @@ use Rattle.refusals.specs.Refusals.{◌▹◌}
 use Rattle.refusals.proofs.RefusalLaws.{first_none}
 use Rattle.packet_data.specs.Data.{data_refusal, data_of, read_data}
 use Rattle.packet_data.specs.declared.Data.{Data}
-use Rattle.packet_data.specs.declared.DataRead.TheVariants as data-read
 use Rattle.runs.specs.Runs.{Run}
 use Rattle.runs.proofs.EdgeLaws.{edge_stops}
 use Rattle.transfer.specs.declared.Key.{Key}
@@ -26,7 +25,6 @@ use Rattle.transfer.proofs.StampLaws.{stamp_known}
 use Rattle.table.specs.Tables.{Valid, keys, find, runs_of, stamp_of, set_runs}
 use Rattle.table.specs.Outcome.{Outcome}
 use Rattle.table.specs.Record.{data_judged, record_refusal, grown, absorbed_in, adds_in, record_as, record_data, record_read, record_packet}
-use Rattle.table.specs.declared.Recorded.{Recorded}
 use Rattle.table.proofs.TableLaws.{keys_set, runs_set_same, stamp_set_same}
 use Rattle.table.proofs.FineLaws.{fine_found}
 use Rattle.marks.specs.Marks.{mark_octets, with_marks}
@@ -41,6 +39,9 @@ use Rattle.bitmap_extend.proofs.RecordLaws.{another_id, same_id, payload_some}
 use Rattle.bitmap_extend.proofs.ExtendLaws.{marks_extended}
 use Rattle.bitmap_held.proofs.HandedLaws.{after_octets}
 use Rattle.both_receivers.specs.Both.{goes_on}
+use Rattle.std.specs.Prelude.{Result, Ok}
+use Rattle.refusals.specs.declared.Refusal.{Refusal}
+use Rattle.transfer.specs.declared.Receipt.{Receipt}
 
 -- a transfer that was opened with the key k, and is open among the keys ks, that any other transfers have
 module _ (ks : List Key) (k : Key) (found : find k.id ks ≡ some k) (short : k.length ≤ longest) where
@@ -72,7 +73,7 @@ module _ (ks : List Key) (k : Key) (found : find k.id ks ≡ some k) (short : k.
       })
 
   -- what a recording gives on both, where the record kept c and `back` is handed back: the same answer, and again they agree
-  pub record Follows (c : Kept) (o : Outcome Recorded) (l : Left Recorded) (back : Held) : Type 0 where
+  pub record Follows (c : Kept) (o : Outcome (Result Receipt Refusal)) (l : Left (Result Receipt Refusal)) (back : Held) : Type 0 where
     pub same : o.answer ≡ l.answer
     pub keeps : Kept
     pub goes_on_lem : goes_on l.answer (held_with c) back ≡ held_with keeps
@@ -92,7 +93,7 @@ module _ (ks : List Key) (k : Key) (found : find k.id ks ≡ some k) (short : k.
       abbrev number : ℕ
       number = by-marks.data_refused k d ▹ runs_refusal runs
 
-      abbrev Same : ℕ → Outcome Recorded → Type 0
+      abbrev Same : ℕ → Outcome (Result Receipt Refusal) → Type 0
       Same n o = Follows c o (by-marks.record_as n k s d) (held_as n (held_with c) stamp)
 
       -- of an Id that is not open
@@ -146,7 +147,7 @@ module _ (ks : List Key) (k : Key) (found : find k.id ks ≡ some k) (short : k.
           go (no n) (some j) f = absurd (n (only j f))
 
     -- any packet
-    pub follows : Octets packet → ((d : Data) → read_data packet ≡ data-read.Accepted d → (j : Key) → find d.id ks ≡ some j → d.id ≡ k.id)
+    pub follows : Octets packet → ((d : Data) → read_data packet ≡ Ok d → (j : Key) → find d.id ks ≡ some j → d.id ≡ k.id)
         → Follows c (record_packet t packet) (by-marks.record_marks k s packet) (record_held (held_with c) s packet)
     unfolding record_packet record_read read_data by-marks.record_marks by-marks.record_refusal record_held
     follows octets only = go (data_refusal packet) refl

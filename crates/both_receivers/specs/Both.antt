@@ -1,19 +1,16 @@
 -- R12.8: from an opening that both receivers accept as new, over any recordings, both give equal answers and equal STATUS, the timestamp
 -- included. The one receiver keeps a table in an area (area: Operations), the other one mark for each octet, and a record by value.
 -- Assumes nothing.
-use Rattle.std.specs.Prelude.{ℕ, ◌≡◌, Bool, List, [], ◌∷◌, take}
+use Rattle.std.specs.Prelude.{ℕ, ◌≡◌, Bool, List, [], ◌∷◌, take, Result, Ok, Err}
 use Rattle.std.proofs.Math.Option.{some}
 use Rattle.octets.specs.Numbers.{Octets}
 use Rattle.packet_data.specs.Data.{read_data}
 use Rattle.packet_data.specs.declared.Data.{Data}
-use Rattle.packet_data.specs.declared.DataRead.TheVariants as data-read
 use Rattle.transfer.specs.declared.Key.{Key}
 use Rattle.transfer.specs.declared.Reached.{Reached}
 use Rattle.transfer.specs.Transfers.{Transfer}
 use Rattle.table.specs.Tables.{keys, find}
 use Rattle.table.specs.declared.Opened.TheVariants as in_table
-use Rattle.table.specs.declared.Recorded.{Recorded}
-use Rattle.table.specs.declared.Recorded.TheVariants as recorded
 use Rattle.area.specs.Judge.{table_of}
 use Rattle.area.specs.Operations.{open_area, record_area, area_status_written, area_status_buffer}
 use Rattle.bitmap.specs.Open.{open_marks}
@@ -22,7 +19,8 @@ use Rattle.bitmap_held.specs.Held.{record_held}
 use Rattle.bitmap_status.specs.WriteStatus.{marks_written, marks_buffer}
 use Rattle.bitmap.specs.declared.Held.{Held}
 use Rattle.bitmap.specs.declared.Opening.{Opening}
-use Rattle.bitmap.specs.declared.Opened.TheVariants as by-marks
+use Rattle.refusals.specs.declared.Refusal.{Refusal}
+use Rattle.transfer.specs.declared.Receipt.{Receipt}
 
 -- ---- a sequence of recordings
 
@@ -32,25 +30,25 @@ pub record Bitmap : Type 0 where
   pub marks : List ℕ
 
 -- R12.2: the record that the caller goes on with: the one handed back; after a refusal, which hands back zeros, the one that it had
-unfoldable pub goes_on : Recorded → Held → Held → Held
-goes_on (recorded.Accepted x) had back = back
-goes_on (recorded.Refused r) had back = had
+unfoldable pub goes_on : Result Receipt Refusal → Held → Held → Held
+goes_on (Ok x) had back = back
+goes_on (Err r) had back = had
 
 -- one recording, on an area, and on marks: what it answers, and the state that it leaves
-abbrev pub on_area : List ℕ → List ℕ → Recorded × List ℕ
+abbrev pub on_area : List ℕ → List ℕ → Result Receipt Refusal × List ℕ
 on_area a packet = let o = record_area a packet in (o.answer, o.area)
 
-abbrev pub on_marks : Bitmap → List ℕ → Recorded × Bitmap
+abbrev pub on_marks : Bitmap → List ℕ → Result Receipt Refusal × Bitmap
 on_marks m packet =
     let o = record_marks m.held.key m.marks packet in
     let back = record_held m.held m.marks packet in
     (o.answer, record { held = goes_on o.answer m.held back; marks = o.marks })
 
 -- packets with any octets, each recorded in the state that the call before it left
-module _ {A : Type 0} (recorded : A → List ℕ → Recorded × A) where
+module _ {A : Type 0} (recorded : A → List ℕ → Result Receipt Refusal × A) where
   -- the answers, call by call: a refusal's number and code, or the edge, whether the transfer is complete, the runs absorbed, and
   -- whether something was added
-  unfoldable pub answers : A → List (List ℕ) → List Recorded
+  unfoldable pub answers : A → List (List ℕ) → List (Result Receipt Refusal)
   answers x [] = []
   answers x (p ∷ ps) = (recorded x p).0 ∷ answers (recorded x p).1 ps
 
@@ -73,7 +71,7 @@ OpenIn a i = (t : List Transfer) × (k : Key) × (table_of a ≡ some t) × (fin
 -- a packet that reads as DATA of an open Id is of the Id i. Any other packet may come: one that doesn't read as DATA, and DATA of an
 -- Id that is not open
 abbrev pub ForNoOther : List ℕ → ℕ → List ℕ → Type 0
-ForNoOther a i packet = (d : Data) → read_data packet ≡ data-read.Accepted d → OpenIn a d.id → d.id ≡ i
+ForNoOther a i packet = (d : Data) → read_data packet ≡ Ok d → OpenIn a d.id → d.id ≡ i
 
 abbrev pub NoneForAnother : List ℕ → ℕ → List (List ℕ) → Type 0
 NoneForAnother a i [] = Unit
@@ -97,6 +95,6 @@ pub record Alike (a : List ℕ) (i : ℕ) (m : Bitmap) (ps : List (List ℕ)) : 
 -- tell the same of it, and any recordings follow. The record that opening handed out goes with the marks
 abbrev pub BothReceivers : Type 0
 BothReceivers = (a s m : List ℕ) → Octets m → (x : Reached) (o : Opening)
-    → (open_area a m).answer ≡ in_table.New x → (open_marks s m).answer ≡ by-marks.New o
+    → (open_area a m).answer ≡ Ok (in_table.New x) → (open_marks s m).answer ≡ Ok o
     → (ps : List (List ℕ)) → AllOctets ps → NoneForAnother (open_area a m).area o.held.key.id ps
     → (x ≡ o.reached) × Alike (open_area a m).area o.held.key.id (record { held = o.held; marks = (open_marks s m).marks }) ps

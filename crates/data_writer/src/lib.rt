@@ -5,29 +5,27 @@ ghost use Rattle.std.specs.Prelude.{◌≡◌, ◌+◌, ◌<◌, ◌^◌, length
 ghost use Rattle.octets.specs.Put.{put};
 ghost use Rattle.packet_data.specs.Data.{payload_at};
 ghost use Rattle.packet_data.specs.WriteData.{data_excess, data_write_refusal, data_octets, DataFits, data_written, data_buffer};
+ghost use Rattle.refusals.specs.Faults.{refused};
 
-use refusals::Written;
+use refusals::{Fault, Refusal};
 
-// Refusal 21 of the fields to be written; 0 for none. `timestamp` is a length.
-fn data_excess(flags: u64, id: u64, timestamp: usize, offset: u64) -> u64
-    ensures { result ≡ data_excess flags id timestamp offset }
+// Refusal 21 of the fields to be written. `timestamp` is a length.
+#[tactic(auto, unfolding(packet_data::specs::WriteData::data_excess))]
+fn data_excess(flags: u64, id: u64, timestamp: usize, offset: u64) -> Result<(), Fault>
+    ensures { refused result ≡ data_excess flags id timestamp offset }
 {
-    if 0x1000000 <= flags {
-        return 21;
+    if 0x1000000 <= flags
+        || 0x100000000 <= id
+        || descriptors::timestamp_octets(flags) < timestamp
+        || !octets::fits(offset, descriptors::descriptor_octets(flags))
+    {
+        return Err(Fault::Field);
     }
-    if 0x100000000 <= id {
-        return 21;
-    }
-    if descriptors::timestamp_octets(flags) < timestamp {
-        return 21;
-    }
-    if !octets::fits(offset, descriptors::descriptor_octets(flags)) {
-        return 21;
-    }
-    0
+    Ok(())
 }
 
-// The refusal of fields to be written; 0 for none. Timestamp, payload and room are lengths.
+// The refusal of fields to be written. Timestamp, payload and room are lengths.
+#[tactic(auto, using(packet_data::proofs::DataLaws::payload_at_le), unfolding(packet_data::specs::WriteData::data_write_refusal))]
 fn data_write_refusal(
     flags: u64,
     id: u64,
@@ -35,28 +33,23 @@ fn data_write_refusal(
     offset: u64,
     payload: usize,
     room: usize,
-) -> u64
+) -> Result<(), Fault>
     requires { payload < 2 ^ 63 }
-    ensures { result ≡ data_write_refusal flags id timestamp offset payload room }
+    ensures { refused result ≡ data_write_refusal flags id timestamp offset payload room }
 {
-    let e = data_excess(flags, id, timestamp, offset);
-    if e != 0 {
-        return e;
-    }
-    let f = packet_start::file_refusal(flags);
-    if f != 0 {
-        return f;
-    }
+    data_excess(flags, id, timestamp, offset)?;
+    packet_start::file_refusal(flags)?;
     if timestamp < descriptors::timestamp_octets(flags) {
-        return 1;
+        return Err(Fault::Short);
     }
     if payload == 0 {
-        return 10;
+        return Err(Fault::NoPayload);
     }
     refusals::room_refusal(packet_data::payload_at(flags) + payload, room)
 }
 
 // The octets of fields that are not refused, and their number.
+#[tactic(auto, using(packet_data::proofs::WriteDataLaws::data_put))]
 fn put_data(
     out: &mut [u8],
     flags: u64,
@@ -84,6 +77,7 @@ fn put_data(
 }
 
 // Writes DATA into a lent buffer.
+#[tactic(auto, using(refusals::proofs::FaultLaws::fault_answers, refusals::proofs::FaultLaws::fault_buffer, packet_data::proofs::WriteDataLaws::write_fits), unfolding(packet_data::specs::WriteData::data_written, packet_data::specs::WriteData::data_buffer))]
 pub fn write_data(
     out: &mut [u8],
     flags: u64,
@@ -91,13 +85,10 @@ pub fn write_data(
     timestamp: &[u8],
     offset: u64,
     payload: &[u8],
-) -> Written
+) -> Result<usize, Refusal>
     ensures { (result ≡ data_written flags id timestamp.now offset payload.now out.old)
         × (out.new ≡ data_buffer flags id timestamp.now offset payload.now out.old) }
 {
-    let n = data_write_refusal(flags, id, timestamp.len(), offset, payload.len(), out.len());
-    if n != 0 {
-        return Written::Refused(refusals::refuse(n));
-    }
-    Written::Size(put_data(out, flags, id, timestamp, offset, payload))
+    data_write_refusal(flags, id, timestamp.len(), offset, payload.len(), out.len())?;
+    Ok(put_data(out, flags, id, timestamp, offset, payload))
 }

@@ -5,6 +5,9 @@ ghost use Rattle.std.specs.Prelude.{◌≡◌, ◌+◌, ◌*◌, ◌<◌, ◌^�
 ghost use Rattle.octets.specs.Numbers.{Width};
 ghost use Rattle.header.specs.FirstWord.{descriptor_octets, timestamp_octets};
 ghost use Rattle.header.specs.Descriptor.{descriptor_at, descriptor_refusal};
+ghost use Rattle.refusals.specs.Faults.{refused};
+
+use refusals::Fault;
 
 // The octets of a descriptor, by the width bits of a word or of the properties.
 pub fn octets_of_width(width: u64) -> usize
@@ -30,19 +33,19 @@ pub fn timestamp_octets(w: u64) -> usize
     16 * (h.stamped as usize)
 }
 
-// Refusals 1 and 5 of the descriptor of d octets from `at` on; 0 for none.
-pub fn descriptor_refusal(s: &[u8], at: usize, d: usize) -> u64
+// Refusals 1 and 5 of the descriptor of d octets from `at` on.
+#[tactic(auto, unfolding(header::specs::Descriptor::descriptor_refusal, octets::specs::Numbers::number_in))]
+pub fn descriptor_refusal(s: &[u8], at: usize, d: usize) -> Result<(), Fault>
     requires { Width d × (at + d < 2 ^ 64) }
-    ensures { result ≡ descriptor_refusal d at s.now }
+    ensures { refused result ≡ descriptor_refusal d at s.now }
 {
     if s.len() < at + d {
-        return 1;
+        return Err(Fault::Short);
     }
-    let n = octets_read::read_number(s, at, d);
-    if n.small {
-        return 0;
+    match octets_read::read_number(s, at, d) {
+        Some(_) => Ok(()),
+        None => Err(Fault::UpperOctets),
     }
-    5
 }
 
 // The value of the descriptor of d octets from `at` on, which is not refused: of 16 octets the last eight.

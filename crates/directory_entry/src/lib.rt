@@ -5,6 +5,9 @@ ghost use Rattle.std.specs.Prelude.{◌≡◌, ◌+◌, ◌<◌, ◌≤◌, ◌^
 ghost use Rattle.octets.specs.Put.{put};
 ghost use Rattle.directory_entry.specs.Entry.{entry_refusal, entry_of};
 ghost use Rattle.directory_entry.specs.WriteEntry.{entry_excess, entry_write_refusal, entry_octets, entry_size};
+ghost use Rattle.refusals.specs.Faults.{refused};
+
+use refusals::Fault;
 
 // The fields of an entry. The path is `length` octets from the place `path` of the packet on, without its closing zero octet.
 #[derive(Clone, Copy)]
@@ -17,35 +20,27 @@ pub struct Entry {
     pub length: usize,
 }
 
-// The refusal of an entry in a packet with descriptors of d octets; 0 for none.
-pub fn entry_refusal(e: &[u8], d: usize) -> u64
-    ensures { result ≡ entry_refusal d e.now }
+// The refusal of an entry in a packet with descriptors of d octets.
+#[tactic(auto, unfolding(crate::specs::Entry::entry_refusal))]
+pub fn entry_refusal(e: &[u8], d: usize) -> Result<(), Fault>
+    ensures { refused result ≡ entry_refusal d e.now }
 {
     if e.len() < 2 {
-        return 1;
+        return Err(Fault::Short);
     }
     let x = octets_read::read_two(e, 0);
-    let f = entry_parts::property_refusal(x);
-    if f != 0 {
-        return f;
-    }
+    entry_parts::property_refusal(x)?;
     let k = entry_parts::size_octets(x);
     let at = 10 + k;
-    let size = descriptors::descriptor_refusal(e, 2, k);
-    if size != 0 {
-        return size;
-    }
+    descriptors::descriptor_refusal(e, 2, k)?;
     if e.len() < at {
-        return 1; // inside the times
+        return Err(Fault::Short); // inside the times
     }
-    let g = entry_parts::path_refusal(&e[at..]);
-    if g != 0 {
-        return g;
-    }
+    entry_parts::path_refusal(&e[at..])?;
     if !octets::fits(descriptors::descriptor(e, 2, k), d) {
-        return 9;
+        return Err(Fault::Size);
     }
-    0
+    Ok(())
 }
 
 // The fields of an entry that is not refused and starts at the place `at` of its packet.
@@ -66,41 +61,37 @@ pub fn entry_fields(e: &[u8], d: usize, at: usize) -> Entry
     }
 }
 
-// Refusal 21 of the fields to be written; 0 for none.
-pub fn entry_excess(properties: u64, size: u64, mtime: u64, ctime: u64) -> u64
-    ensures { result ≡ entry_excess properties size mtime ctime }
+// Refusal 21 of the fields to be written.
+#[tactic(auto, unfolding(crate::specs::WriteEntry::entry_excess))]
+pub fn entry_excess(properties: u64, size: u64, mtime: u64, ctime: u64) -> Result<(), Fault>
+    ensures { refused result ≡ entry_excess properties size mtime ctime }
 {
     if 0x10000 <= properties {
-        return 21;
+        return Err(Fault::Field);
     }
     if !octets::fits(size, entry_parts::size_octets(properties)) {
-        return 21;
+        return Err(Fault::Field);
     }
     if 0x100000000 <= mtime {
-        return 21;
+        return Err(Fault::Field);
     }
     if 0x100000000 <= ctime {
-        return 21;
+        return Err(Fault::Field);
     }
-    0
+    Ok(())
 }
 
-// Refusals 6, 8, 9 of the fields to be written, for a packet with descriptors of d octets; 0 for none.
-pub fn entry_write_refusal(d: usize, properties: u64, size: u64, path: &[u8]) -> u64
-    ensures { result ≡ entry_write_refusal d properties size path.now }
+// Refusals 6, 8, 9 of the fields to be written, for a packet with descriptors of d octets.
+#[tactic(auto, unfolding(crate::specs::WriteEntry::entry_write_refusal))]
+pub fn entry_write_refusal(d: usize, properties: u64, size: u64, path: &[u8]) -> Result<(), Fault>
+    ensures { refused result ≡ entry_write_refusal d properties size path.now }
 {
-    let f = entry_parts::property_refusal(properties);
-    if f != 0 {
-        return f;
-    }
-    let g = entry_parts::path_write_refusal(path);
-    if g != 0 {
-        return g;
-    }
+    entry_parts::property_refusal(properties)?;
+    entry_parts::path_write_refusal(path)?;
     if !octets::fits(size, d) {
-        return 9;
+        return Err(Fault::Size);
     }
-    0
+    Ok(())
 }
 
 // The octets of an entry from the place `at` of the buffer on.

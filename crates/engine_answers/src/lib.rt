@@ -2,14 +2,15 @@
 #![tactic(auto)]
 
 ghost use Rattle.std.specs.Prelude.{◌≡◌};
+ghost use Rattle.refusals.specs.Faults.{refused};
 ghost use Rattle.engine_answers.specs.EngineAnswers.{stretch_answer, bare_look, look_answer, bare_meeting, meeting_answer, closed_answer, letter_answer, bare_next, page_next, next_answer, done_by, sync_answer};
 
 use answer_table::DoneAnswer;
 use engine_next::{Next, Page};
 use engine_open::Closed;
 use engine_slots::{Look, Meeting, Stretch};
-use engine_sync::Begun;
-use engine_tell::Told;
+use engine_tell::Letter;
+use refusals::{Fault, Refusal};
 
 // struct saratoga_look.
 #[repr(C)]
@@ -113,15 +114,16 @@ fn bare_look(number: u64, code: u64, kind: u64) -> LookAnswer
     }
 }
 
-pub fn look_answer(a: Look) -> LookAnswer
+#[tactic(auto, unfolding(crate::specs::EngineAnswers::look_answer))]
+pub fn look_answer(a: Result<Look, Refusal>) -> LookAnswer
     ensures { result ≡ look_answer a }
 {
     match a {
-        Look::Refused(refusal) => bare_look(refusal.number, refusal.code, 0),
-        Look::Stranger => bare_look(0, 0, 1),
-        Look::Over => bare_look(0, 0, 2),
-        Look::Known(x) => stretch_answer(3, x),
-        Look::New(x) => stretch_answer(4, x),
+        Err(refusal) => bare_look(refusal.number, refusal.code, 0),
+        Ok(Look::Stranger) => bare_look(0, 0, 1),
+        Ok(Look::Over) => bare_look(0, 0, 2),
+        Ok(Look::Known(x)) => stretch_answer(3, x),
+        Ok(Look::New(x)) => stretch_answer(4, x),
     }
 }
 
@@ -141,15 +143,16 @@ fn bare_meeting(number: u64, code: u64, kind: u64, file: u64) -> MeetingAnswer
     }
 }
 
-pub fn meeting_answer(a: Meeting) -> MeetingAnswer
+#[tactic(auto, unfolding(crate::specs::EngineAnswers::meeting_answer))]
+pub fn meeting_answer(a: Result<Meeting, Refusal>) -> MeetingAnswer
     ensures { result ≡ meeting_answer a }
 {
     match a {
-        Meeting::Refused(refusal) => bare_meeting(refusal.number, refusal.code, 0, 0),
-        Meeting::Wait => bare_meeting(0, 0, 1, 0),
-        Meeting::Kept(file) => bare_meeting(0, 0, 2, file),
-        Meeting::Ended(file) => bare_meeting(0, 0, 3, file),
-        Meeting::Make(x) => MeetingAnswer {
+        Err(refusal) => bare_meeting(refusal.number, refusal.code, 0, 0),
+        Ok(Meeting::Wait) => bare_meeting(0, 0, 1, 0),
+        Ok(Meeting::Kept(file)) => bare_meeting(0, 0, 2, file),
+        Ok(Meeting::Ended(file)) => bare_meeting(0, 0, 3, file),
+        Ok(Meeting::Make(x)) => MeetingAnswer {
             number: 0,
             code: 0,
             kind: 4,
@@ -163,23 +166,24 @@ pub fn meeting_answer(a: Meeting) -> MeetingAnswer
 
 // ---- closing
 
-pub fn closed_answer(a: Closed) -> ClosedAnswer
+#[tactic(auto, unfolding(crate::specs::EngineAnswers::closed_answer))]
+pub fn closed_answer(a: Result<Closed, Refusal>) -> ClosedAnswer
     ensures { result ≡ closed_answer a }
 {
     match a {
-        Closed::Refused(refusal) => ClosedAnswer {
+        Err(refusal) => ClosedAnswer {
             number: refusal.number,
             code: refusal.code,
             kind: 0,
             file: 0,
         },
-        Closed::Wait => ClosedAnswer {
+        Ok(Closed::Wait) => ClosedAnswer {
             number: 0,
             code: 0,
             kind: 1,
             file: 0,
         },
-        Closed::Gone(file) => ClosedAnswer {
+        Ok(Closed::Gone(file)) => ClosedAnswer {
             number: 0,
             code: 0,
             kind: 2,
@@ -190,11 +194,12 @@ pub fn closed_answer(a: Closed) -> ClosedAnswer
 
 // ---- STATUS
 
-pub fn letter_answer(a: Told) -> LetterAnswer
+#[tactic(auto, unfolding(crate::specs::EngineAnswers::letter_answer))]
+pub fn letter_answer(a: Result<Letter, Refusal>) -> LetterAnswer
     ensures { result ≡ letter_answer a }
 {
     match a {
-        Told::Refused(refusal) => LetterAnswer {
+        Err(refusal) => LetterAnswer {
             number: refusal.number,
             code: refusal.code,
             size: 0,
@@ -202,7 +207,7 @@ pub fn letter_answer(a: Told) -> LetterAnswer
             low: 0,
             port: 0,
         },
-        Told::Sent(x) => LetterAnswer {
+        Ok(x) => LetterAnswer {
             number: 0,
             code: 0,
             size: x.size,
@@ -241,39 +246,50 @@ fn page_next(kind: u64, x: Page) -> NextAnswer
     }
 }
 
-pub fn next_answer(a: Next) -> NextAnswer
+#[tactic(auto, unfolding(crate::specs::EngineAnswers::next_answer))]
+pub fn next_answer(a: Result<Next, Refusal>) -> NextAnswer
     ensures { result ≡ next_answer a }
 {
     match a {
-        Next::Refused(refusal) => bare_next(refusal.number, refusal.code, 0, 0),
-        Next::Nothing => bare_next(0, 0, 1, 0),
-        Next::Answer(id) => bare_next(0, 0, 2, id),
-        Next::Name(x) => page_next(3, x),
-        Next::Report(x) => page_next(4, x),
-        Next::Close(id) => bare_next(0, 0, 5, id),
-        Next::Sync => bare_next(0, 0, 6, 0),
+        Err(refusal) => bare_next(refusal.number, refusal.code, 0, 0),
+        Ok(Next::Nothing) => bare_next(0, 0, 1, 0),
+        Ok(Next::Answer(id)) => bare_next(0, 0, 2, id),
+        Ok(Next::Name(x)) => page_next(3, x),
+        Ok(Next::Report(x)) => page_next(4, x),
+        Ok(Next::Close(id)) => bare_next(0, 0, 5, id),
+        Ok(Next::Sync) => bare_next(0, 0, 6, 0),
     }
 }
 
 // ---- a refusal, or none
 
-pub fn done_by(number: u64) -> DoneAnswer
-    ensures { result ≡ done_by number }
+#[tactic(auto, unfolding(refusals::specs::Refusals::code_of))]
+pub fn done_by(a: Result<(), Fault>) -> DoneAnswer
+    ensures { result ≡ done_by (refused a) }
 {
-    let refusal = refusals::refuse(number);
-    DoneAnswer {
-        number,
-        code: refusal.code,
+    match a {
+        Ok(()) => DoneAnswer { number: 0, code: 0 },
+        Err(fault) => DoneAnswer {
+            number: fault.number(),
+            code: Refusal::from(fault).code,
+        },
     }
 }
 
-pub fn sync_answer(b: Begun) -> SyncAnswer
-    ensures { result ≡ sync_answer b }
+#[tactic(auto, unfolding(crate::specs::EngineAnswers::sync_answer))]
+pub fn sync_answer(a: Result<Option<u64>, Refusal>) -> SyncAnswer
+    ensures { result ≡ sync_answer a }
 {
-    let refusal = refusals::refuse(b.number);
-    SyncAnswer {
-        number: b.number,
-        code: refusal.code,
-        sync: b.sync,
+    match a {
+        Err(refusal) => SyncAnswer {
+            number: refusal.number,
+            code: refusal.code,
+            sync: 0,
+        },
+        Ok(begun) => SyncAnswer {
+            number: 0,
+            code: 0,
+            sync: begun.unwrap_or(0),
+        },
     }
 }

@@ -10,7 +10,6 @@ use Rattle.refusals.specs.Refusals.{refusal_of}
 use Rattle.words.specs.Words.{word_at}
 use Rattle.table.specs.Open.{open_packet}
 use Rattle.table.specs.declared.Opened.{Opened}
-use Rattle.table.specs.declared.Opened.TheVariants as opened
 use Rattle.area.specs.Layout.{transfer_places}
 use Rattle.area.specs.Places.{read_table, place_of, place_in, KeptAt}
 use Rattle.area.specs.Judge.{judged}
@@ -31,6 +30,8 @@ use Rattle.engine_state.proofs.StateLaws.{slot_known}
 use Rattle.engine_change.specs.Changed.{kept_state, put_in, made_state}
 use Rattle.engine_change.specs.Making.{Makes, emptied}
 use Rattle.engine_change.proofs.MadeLaws.{make_known}
+use Rattle.std.specs.Prelude.{Result, Err}
+use Rattle.refusals.specs.declared.Refusal.{Refusal}
 
 -- ---- an Id taken out
 
@@ -67,7 +68,7 @@ pub put_is : (a p : List ℕ) (f : Files) → judged a ≡ true → (d : Digest)
 unfolding put_in open_area place_in
 put_is a p f j d de n ne q qe t due r b g x xe c h =
     let stored : b ≡ stored_in a (open_packet (read_table a) p).table =
-    g ∙ ap (λ (x : OnArea Opened). x.area) (on_judged (opened.Refused (refusal_of 22)) (λ u. open_packet u p) a j) in
+    g ∙ ap (λ (x : OnArea (Result Opened Refusal)). x.area) (on_judged (Err (refusal_of 22)) (λ u. open_packet u p) a j) in
     let at : q.at ≡ place_of f.id (read_table a) = ap (λ (x : Place). x.at) qe in
     let slot : x ≡ new_slot f.file r (digest_of p) due t = xe ∙ ap (λ (y : Digest). new_slot f.file r y due t) de in
     h ∙ (λ k. insert_slot (stored k) (ne k) (at k) (slot k))

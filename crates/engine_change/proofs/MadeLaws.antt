@@ -12,7 +12,6 @@ use Rattle.refusals.specs.Refusals.{refusal_of, answered}
 use Rattle.words.specs.Words.{word_at}
 use Rattle.packet_metadata.specs.Metadata.{metadata_refusal, metadata_of, read_metadata}
 use Rattle.packet_metadata.specs.declared.Metadata.{Metadata}
-use Rattle.packet_metadata.specs.declared.MetadataRead.TheVariants as metadata-read
 use Rattle.transfer.specs.Transfers.{Transfer, key_of}
 use Rattle.table.specs.Tables.{Valid, add}
 use Rattle.table.specs.Open.{open_packet}
@@ -33,7 +32,7 @@ use Rattle.engine_model.specs.Meetings.{last_number, digest_of, is_other, room_f
 use Rattle.engine_model.specs.Engine.{metadata_id}
 use Rattle.engine_model.proofs.PlaceLaws.{place_inside}
 use Rattle.engine_model.proofs.FitLaws.{Fit, open_key_lem}
-use Rattle.engine_model.proofs.MeetLaws.{meet_cases, meet_make, Kept, meet_kept, kept_open, meet_ended_lem}
+use Rattle.engine_model.proofs.MeetLaws.{meet_cases, meet_make, meet_kept, kept_open, meet_ended_lem}
 use Rattle.engine_state.specs.Layout.{next_field}
 use Rattle.engine_state.specs.State.{snapshot_in, number_in, held_state, taken_out, closed_state}
 use Rattle.engine_state.proofs.StateLaws.{held_known}
@@ -41,26 +40,28 @@ use Rattle.engine_meet.specs.Meet.{meet_state}
 use Rattle.engine_change.specs.Changed.{room_state}
 use Rattle.engine_change.specs.Making.{emptied}
 use Rattle.engine_change.proofs.TakenLaws.{taken_held}
+use Rattle.std.specs.Prelude.{Ok, Err, Result}
+use Rattle.refusals.specs.declared.Refusal.{Refusal}
 
 -- ---- the state is held, and the packet is METADATA
 
 -- nothing is told of octets that hold no state but 22
-module _ (s p : List ℕ) (x : Meeting) (other : meeting.Refused (refusal_of 22) ≡ x → ⊥) (e : meet_state s p ≡ x) where
+module _ (s p : List ℕ) (x : Result Meeting Refusal) (other : Err (refusal_of 22) ≡ x → ⊥) (e : meet_state s p ≡ x) where
   state_held : (held_state s ≡ true) × (meet (snapshot_in s) (number_in s next_field) p ≡ x)
   unfolding meet_state
   state_held = go (held_state s) refl e
     where
-      go : (b : Bool) → held_state s ≡ b → cond b (meet (snapshot_in s) (number_in s next_field) p) (meeting.Refused (refusal_of 22)) ≡ x
+      go : (b : Bool) → held_state s ≡ b → cond b (meet (snapshot_in s) (number_in s next_field) p) (Err (refusal_of 22)) ≡ x
           → (held_state s ≡ true) × (meet (snapshot_in s) (number_in s next_field) p ≡ x)
       go true h q = (h, q)
       go false h q = absurd (other q)
 
 -- what was read
-pub read_known : (p : List ℕ) (m : Metadata) → read_metadata p ≡ metadata-read.Accepted m → (metadata_refusal p ≡ 0) × (metadata_of p ≡ m)
+pub read_known : (p : List ℕ) (m : Metadata) → read_metadata p ≡ Ok m → (metadata_refusal p ≡ 0) × (metadata_of p ≡ m)
 unfolding read_metadata
 read_known p m = go (metadata_refusal p) refl
   where
-    go : (n : ℕ) → metadata_refusal p ≡ n → answered metadata-read.Refused n (metadata-read.Accepted (metadata_of p)) ≡ metadata-read.Accepted m
+    go : (n : ℕ) → metadata_refusal p ≡ n → answered Err n (Ok (metadata_of p)) ≡ Ok m
         → (metadata_refusal p ≡ 0) × (metadata_of p ≡ m)
     go zero z q = (z, cc)
     go (suc n) z q = absurd (let y : ◌≡◌ {A = ℕ} 0 1 = cc in omega arith)
@@ -84,19 +85,19 @@ pub record OpenFor (s p : List ℕ) : Type 0 where
   pub fine : metadata_refusal p ≡ 0
   pub is_open_lem : is_open (snapshot_in s) (metadata_of p).id ≡ true
 
-open_for : (s p : List ℕ) (m : Metadata) → held_state s ≡ true → read_metadata p ≡ metadata-read.Accepted m → is_open (snapshot_in s) m.id ≡ true → OpenFor s p
+open_for : (s p : List ℕ) (m : Metadata) → held_state s ≡ true → read_metadata p ≡ Ok m → is_open (snapshot_in s) m.id ≡ true → OpenFor s p
 open_for s p m h r o = let k = read_known p m r in
     record { held = h; fine = k.0; is_open_lem = ap (λ (x : Metadata). is_open (snapshot_in s) x.id) k.1 ∙ o }
 
-pub kept_known : (s p : List ℕ) (g : ℕ) → meet_state s p ≡ meeting.Kept g → OpenFor s p
+pub kept_known : (s p : List ℕ) (g : ℕ) → meet_state s p ≡ Ok (meeting.Kept g) → OpenFor s p
 kept_known s p g e =
-    let h = state_held s p (meeting.Kept g) (λ q. let y : ◌≡◌ {A = ℕ} 0 1 = cc in omega arith) e in
+    let h = state_held s p (Ok (meeting.Kept g)) (λ q. let y : ◌≡◌ {A = ℕ} 0 1 = cc in omega arith) e in
     let k = meet_kept (snapshot_in s) (number_in s next_field) p g (fit_held s h.0) h.1 in
     open_for s p k.m h.0 k.read (kept_open k)
 
-pub ended_known : (s p : List ℕ) (g : ℕ) → meet_state s p ≡ meeting.Ended g → OpenFor s p
+pub ended_known : (s p : List ℕ) (g : ℕ) → meet_state s p ≡ Ok (meeting.Ended g) → OpenFor s p
 ended_known s p g e =
-    let h = state_held s p (meeting.Ended g) (λ q. let y : ◌≡◌ {A = ℕ} 0 1 = cc in omega arith) e in
+    let h = state_held s p (Ok (meeting.Ended g)) (λ q. let y : ◌≡◌ {A = ℕ} 0 1 = cc in omega arith) e in
     let k = meet_ended_lem (snapshot_in s) (number_in s next_field) p g h.1 in
     open_for s p k.m h.0 k.read k.is_open_lem
 
@@ -145,10 +146,10 @@ files_end s i d n = go (is_open (snapshot_in s) i) (not (same_digest (slot_of (s
     go true false = ((λ q. refl), refl)
     go false c = ((λ q. absurd (omega arith)), refl)
 
-pub make_known : (s p : List ℕ) (f : Files) → meet_state s p ≡ meeting.Make f → Making s p f
+pub make_known : (s p : List ℕ) (f : Files) → meet_state s p ≡ Ok (meeting.Make f) → Making s p f
 unfolding files_for emptied
 make_known s p f e =
-    let h = state_held s p (meeting.Make f) (λ q. let y : ◌≡◌ {A = ℕ} 0 1 = cc in omega arith) e in
+    let h = state_held s p (Ok (meeting.Make f)) (λ q. let y : ◌≡◌ {A = ℕ} 0 1 = cc in omega arith) e in
     let k = meet_make (snapshot_in s) (number_in s next_field) p f h.1 in
     let r = files_are (snapshot_in s) (number_in s next_field) p f h.1 in
     let ends = files_end s f.id (digest_of p) (number_in s next_field) in
@@ -172,9 +173,9 @@ make_known s p f e =
         → (open_packet (room_for (snapshot_in s) i (digest_of p)).table p).table ≡ add (key_of m) (room_for (snapshot_in s) i (digest_of p)).table
     table_made m i e t = rw e t
 
-    files_are : (s : Snapshot) (n : ℕ) (p : List ℕ) (f : Files) → meet s n p ≡ meeting.Make f → f ≡ files_for s f.id (digest_of p) n
+    files_are : (s : Snapshot) (n : ℕ) (p : List ℕ) (f : Files) → meet s n p ≡ Ok (meeting.Make f) → f ≡ files_for s f.id (digest_of p) n
     files_are s n p f =
-        meet_cases s n p (λ (x : Meeting). x ≡ meeting.Make f → f ≡ files_for s f.id (digest_of p) n)
+        meet_cases s n p (λ (x : Result Meeting Refusal). x ≡ Ok (meeting.Make f) → f ≡ files_for s f.id (digest_of p) n)
         (λ r e. absurd (let z : ◌≡◌ {A = ℕ} 0 1 = cc in omega arith))
         (λ e. absurd (let z : ◌≡◌ {A = ℕ} 0 1 = cc in omega arith))
         (λ m r o b e. absurd (let z : ◌≡◌ {A = ℕ} 0 1 = cc in omega arith))

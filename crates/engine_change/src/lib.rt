@@ -100,7 +100,7 @@ fn put_in(state: &mut [u8], time: u64, due: u64, sender: Sender, packet: &[u8], 
     let count = area_at::open_count(state) as usize;
     let place = area_find::find_place(state, files.id);
     let at = place.at;
-    area_open::open(state, packet);
+    let _ = area_open::open(state, packet);
     let slot = new_slot(files.file, sender, digest, due, time);
     engine_slots::insert_slot(state, count, at, slot);
 }

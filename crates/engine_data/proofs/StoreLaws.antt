@@ -9,8 +9,6 @@ use Rattle.refusals.specs.Refusals.{refusal_of}
 use Rattle.refusals.specs.declared.Refusal.{Refusal}
 use Rattle.packet_data.specs.Data.{data_refusal, data_of, read_data}
 use Rattle.packet_data.specs.declared.Data.{Data}
-use Rattle.packet_data.specs.declared.DataRead.{DataRead}
-use Rattle.packet_data.specs.declared.DataRead.TheVariants as data-read
 use Rattle.packet_data.proofs.DataLaws.{data_accepted, data_given}
 use Rattle.engine_slots.specs.declared.Sender.{Sender}
 use Rattle.engine_slots.specs.declared.Stretch.{Stretch}
@@ -26,63 +24,64 @@ use Rattle.engine_piece.specs.Known.{Piece}
 use Rattle.engine_data.specs.Store.{look_state, stored_by, stored_state}
 use Rattle.engine_data.specs.Taken.{Looked}
 use Rattle.engine_data.proofs.TakenLaws.{snapshot_fit}
+use Rattle.std.specs.Prelude.{Result, Ok, Err}
 
 -- ---- the ways
 
 module _ (s : List ℕ) (t : ℕ) (p : List ℕ) where
   module _ (z : data_refusal p ≡ 0) (x : Stretch) where
-    pub new_bad : (w : Bool) → w ≡ false → s ≡ stored_by s t p w (read_data p) (look.New x)
+    pub new_bad : (w : Bool) → w ≡ false → s ≡ stored_by s t p w (read_data p) (Ok (look.New x))
     unfolding stored_by
     new_bad w f = rw (f, data_accepted p z)
 
-    pub new_well : (w : Bool) → w ≡ true → (b : List ℕ) → b ≡ piece_state s t p (data_of p) x → b ≡ stored_by s t p w (read_data p) (look.New x)
+    pub new_well : (w : Bool) → w ≡ true → (b : List ℕ) → b ≡ piece_state s t p (data_of p) x → b ≡ stored_by s t p w (read_data p) (Ok (look.New x))
     unfolding stored_by
     new_well w f b e = rw (f, data_accepted p z) e
 
     pub known_bad : (w : Bool) → w ≡ false → (i : ℕ) → i ≡ (data_of p).id → (b : List ℕ) → b ≡ differs_state s i
-        → b ≡ stored_by s t p w (read_data p) (look.Known x)
+        → b ≡ stored_by s t p w (read_data p) (Ok (look.Known x))
     unfolding stored_by
     known_bad w f i e b g = rw (f, data_accepted p z) (g ∙ ap (differs_state s) e)
 
-    pub known_well : (w : Bool) → w ≡ true → (b : List ℕ) → b ≡ piece_state s t p (data_of p) x → b ≡ stored_by s t p w (read_data p) (look.Known x)
+    pub known_well : (w : Bool) → w ≡ true → (b : List ℕ) → b ≡ piece_state s t p (data_of p) x → b ≡ stored_by s t p w (read_data p) (Ok (look.Known x))
     unfolding stored_by
     known_well w f b e = rw (f, data_accepted p z) e
 
-  pub over_same : (b : Bool) → s ≡ stored_by s t p b (read_data p) look.Over
+  pub over_same : (b : Bool) → s ≡ stored_by s t p b (read_data p) (Ok look.Over)
   unfolding stored_by
   over_same b = go b (read_data p)
     where
-      go : (b : Bool) (r : DataRead) → s ≡ stored_by s t p b r look.Over
-      go true (data-read.Accepted d) = refl
-      go false (data-read.Accepted d) = refl
-      go true (data-read.Refused r) = refl
-      go false (data-read.Refused r) = refl
+      go : (b : Bool) (r : Result Data Refusal) → s ≡ stored_by s t p b r (Ok look.Over)
+      go true (Ok d) = refl
+      go false (Ok d) = refl
+      go true (Err r) = refl
+      go false (Err r) = refl
 
-  pub stranger_same : (b : Bool) → s ≡ stored_by s t p b (read_data p) look.Stranger
+  pub stranger_same : (b : Bool) → s ≡ stored_by s t p b (read_data p) (Ok look.Stranger)
   unfolding stored_by
   stranger_same b = go b (read_data p)
     where
-      go : (b : Bool) (r : DataRead) → s ≡ stored_by s t p b r look.Stranger
-      go true (data-read.Accepted d) = refl
-      go false (data-read.Accepted d) = refl
-      go true (data-read.Refused r) = refl
-      go false (data-read.Refused r) = refl
+      go : (b : Bool) (r : Result Data Refusal) → s ≡ stored_by s t p b r (Ok look.Stranger)
+      go true (Ok d) = refl
+      go false (Ok d) = refl
+      go true (Err r) = refl
+      go false (Err r) = refl
 
-  pub refused_same : (b : Bool) (n : Refusal) → s ≡ stored_by s t p b (read_data p) (look.Refused n)
+  pub refused_same : (b : Bool) (n : Refusal) → s ≡ stored_by s t p b (read_data p) (Err n)
   unfolding stored_by
   refused_same b n = go b (read_data p)
     where
-      go : (b : Bool) (r : DataRead) → s ≡ stored_by s t p b r (look.Refused n)
-      go true (data-read.Accepted d) = refl
-      go false (data-read.Accepted d) = refl
-      go true (data-read.Refused r) = refl
-      go false (data-read.Refused r) = refl
+      go : (b : Bool) (r : Result Data Refusal) → s ≡ stored_by s t p b r (Err n)
+      go true (Ok d) = refl
+      go false (Ok d) = refl
+      go true (Err r) = refl
+      go false (Err r) = refl
 
   -- by the case
-  pub by_look : (b : Bool) (l m : Look) → l ≡ m → (e : List ℕ) → e ≡ stored_by s t p b (read_data p) m → e ≡ stored_by s t p b (read_data p) l
+  pub by_look : (b : Bool) (l m : Result Look Refusal) → l ≡ m → (e : List ℕ) → e ≡ stored_by s t p b (read_data p) m → e ≡ stored_by s t p b (read_data p) l
   by_look b l m f e g = g ∙ ap (stored_by s t p b (read_data p)) (sym f)
 
-  pub stored_is : (r : Sender) (from : ℕ) (b : Bool) (l : Look) → l ≡ look_state s r p from → (e : List ℕ) → e ≡ stored_by s t p b (read_data p) l
+  pub stored_is : (r : Sender) (from : ℕ) (b : Bool) (l : Result Look Refusal) → l ≡ look_state s r p from → (e : List ℕ) → e ≡ stored_by s t p b (read_data p) l
       → e ≡ stored_state s t r p from b
   unfolding stored_state
   stored_is r from b l f e g = g ∙ ap (stored_by s t p b (read_data p)) f
@@ -103,18 +102,18 @@ module _ (s : List ℕ) (r : Sender) (p : List ℕ) (from : ℕ) where
         some = l.some_octets;
       }
 
-  pub look_known_of : (l : Look) → l ≡ look_state s r p from → Looked s p l
+  pub look_known_of : (l : Result Look Refusal) → l ≡ look_state s r p from → Looked s p l
   unfolding look_state
-  look_known_of (look.New x) e = go (held_state s) refl e
+  look_known_of (Ok (look.New x)) e = go (held_state s) refl e
     where
-      go : (b : Bool) → held_state s ≡ b → look.New x ≡ cond b (look_data (snapshot_in s) r p from) (look.Refused (refusal_of 22)) → Piece s p x
+      go : (b : Bool) → held_state s ≡ b → Ok (look.New x) ≡ cond b (look_data (snapshot_in s) r p from) (Err (refusal_of 22)) → Piece s p x
       go true h f = piece_known x h (look_new (snapshot_in s) r p from x (snapshot_fit s (held_known s h).now_judged) (sym f)).0
       go false h f = absurd (let z : ◌≡◌ {A = ℕ} 0 1 = cc in omega arith)
-  look_known_of (look.Known x) e = go (held_state s) refl e
+  look_known_of (Ok (look.Known x)) e = go (held_state s) refl e
     where
-      go : (b : Bool) → held_state s ≡ b → look.Known x ≡ cond b (look_data (snapshot_in s) r p from) (look.Refused (refusal_of 22)) → Piece s p x
+      go : (b : Bool) → held_state s ≡ b → Ok (look.Known x) ≡ cond b (look_data (snapshot_in s) r p from) (Err (refusal_of 22)) → Piece s p x
       go true h f = piece_known x h (look_known (snapshot_in s) r p from x (snapshot_fit s (held_known s h).now_judged) (sym f)).0
       go false h f = absurd (let z : ◌≡◌ {A = ℕ} 0 1 = cc in omega arith)
-  look_known_of look.Over e = tt
-  look_known_of look.Stranger e = tt
-  look_known_of (look.Refused n) e = tt
+  look_known_of (Ok look.Over) e = tt
+  look_known_of (Ok look.Stranger) e = tt
+  look_known_of (Err n) e = tt

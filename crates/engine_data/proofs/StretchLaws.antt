@@ -28,9 +28,11 @@ use Rattle.engine_model.specs.Stretches.{stretch_of, look_reach, look_from, look
 use Rattle.engine_state.specs.State.{snapshot_in}
 use Rattle.engine_state.proofs.StateLaws.{held_known, slot_known}
 use Rattle.engine_data.specs.Taken.{Taken}
+use Rattle.std.specs.Prelude.{Result, Ok}
+use Rattle.refusals.specs.declared.Refusal.{Refusal}
 
 -- what is to be done from offset a on
-abbrev pub look_on : List ℕ → Data → ℕ → Look
+abbrev pub look_on : List ℕ → Data → ℕ → Result Look Refusal
 look_on s d a = look_reach (snapshot_in s) d a (reach_from (received (snapshot_in s) d.id) a (stop_of d))
 
 module _ (s : List ℕ) (d : Data) (t : Taken s d) (p : ℕ) (is : p ≡ place_of d.id (read_table s)) where
@@ -63,13 +65,13 @@ module _ (s : List ℕ) (d : Data) (t : Taken s d) (p : ℕ) (is : p ≡ place_o
       unfolding stretch_of
       found_is = ap (λ (n : ℕ). record { id = d.id; file = n; from = a; to = r.stop; start = d.start + (a - d.offset) }) f
 
-      pub is_known : r.received ≡ true → look.Known found ≡ look_on s d a
+      pub is_known : r.received ≡ true → Ok (look.Known found) ≡ look_on s d a
       unfolding look_reach
-      is_known b = ap look.Known found_is ∙ rw (← reached, b)
+      is_known b = ap (λ (y : Stretch). Ok (look.Known y)) found_is ∙ rw (← reached, b)
 
-      pub is_new : r.received ≡ false → look.New found ≡ look_on s d a
+      pub is_new : r.received ≡ false → Ok (look.New found) ≡ look_on s d a
       unfolding look_reach
-      is_new b = ap look.New found_is ∙ rw (← reached, b)
+      is_new b = ap (λ (y : Stretch). Ok (look.New y)) found_is ∙ rw (← reached, b)
 
   -- ---- the owner, by the slot of the place
 
@@ -81,15 +83,15 @@ module _ (s : List ℕ) (d : Data) (t : Taken s d) (p : ℕ) (is : p ≡ place_o
     file_is = ap (λ (y : Slot). y.file) slot_is
 
     module _ (r : Sender) (from : ℕ) where
-      pub is_stranger : same_sender x.owner r ≡ false → look.Stranger ≡ look_owned (snapshot_in s) r d from
+      pub is_stranger : same_sender x.owner r ≡ false → (Ok look.Stranger) ≡ look_owned (snapshot_in s) r d from
       unfolding look_owned
       is_stranger b = rw (← slot_is, b)
 
       module _ (b : same_sender x.owner r ≡ true) (a : ℕ) (m : a ≡ max from d.offset) where
-        pub is_over_lem : stop_of d ≤ a → look.Over ≡ look_owned (snapshot_in s) r d from
+        pub is_over_lem : stop_of d ≤ a → (Ok look.Over) ≡ look_owned (snapshot_in s) r d from
         unfolding look_owned look_from
         is_over_lem l = rw (← slot_is, b, ← m, le-ltb a (stop_of d) l)
 
-        pub is_more : a < stop_of d → (y : Look) → y ≡ look_on s d a → y ≡ look_owned (snapshot_in s) r d from
+        pub is_more : a < stop_of d → (y : Result Look Refusal) → y ≡ look_on s d a → y ≡ look_owned (snapshot_in s) r d from
         unfolding look_owned look_from
         is_more l y f = f ∙ rw (← slot_is, b, ← m, lt-ltb a (stop_of d) l)

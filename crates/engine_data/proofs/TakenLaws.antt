@@ -18,8 +18,6 @@ use Rattle.transfer.specs.Record.{stop_of}
 use Rattle.table.specs.Tables.{keys, find}
 use Rattle.table.specs.Record.{data_judged}
 use Rattle.table.specs.Outcome.{Outcome}
-use Rattle.table.specs.declared.Recorded.{Recorded}
-use Rattle.table.specs.declared.Recorded.TheVariants as recorded
 use Rattle.table.proofs.FineLaws.{fine_found}
 use Rattle.table.proofs.RecordLaws.{record_cases, judged_stop}
 use Rattle.area.specs.Places.{read_table}
@@ -35,6 +33,8 @@ use Rattle.engine_state.specs.State.{snapshot_in, held_state}
 use Rattle.engine_state.proofs.StateLaws.{held_known, open_kept}
 use Rattle.engine_piece.specs.Known.{OpenIn}
 use Rattle.engine_data.specs.Taken.{Taken}
+use Rattle.std.specs.Prelude.{Result, Ok}
+use Rattle.refusals.specs.declared.Refusal.{Refusal}
 
 -- ---- a state that has a table
 
@@ -72,11 +72,11 @@ fields_end : (p : List ℕ) → data_refusal p ≡ 0 → (data_of p).start + (da
 unfolding data_of
 fields_end p z = let h : payload_at (word_of p) < length p = (data_fine p z).more in omega arith
 
-pub accepted_taken : (s p : List ℕ) (x : Receipt) → held_state s ≡ true → length p < 2 ^ 64 → (record_area s p).answer ≡ recorded.Accepted x
+pub accepted_taken : (s p : List ℕ) (x : Receipt) → held_state s ≡ true → length p < 2 ^ 64 → (record_area s p).answer ≡ Ok x
     → (data_refusal p ≡ 0) × Taken s (data_of p)
 accepted_taken s p x h l e =
-    let is = ap (λ (o : OnArea Recorded). o.answer) (record_held_lem s p (read_table s) (judged_held s (held_known s h).now_judged)) in
-    record_cases (λ (o : Outcome Recorded). o.answer ≡ recorded.Accepted x → (data_refusal p ≡ 0) × Taken s (data_of p)) (read_table s) p
+    let is = ap (λ (o : OnArea (Result Receipt Refusal)). o.answer) (record_held_lem s p (read_table s) (judged_held s (held_known s h).now_judged)) in
+    record_cases (λ (o : Outcome (Result Receipt Refusal)). o.answer ≡ Ok x → (data_refusal p ≡ 0) × Taken s (data_of p)) (read_table s) p
     (λ n z. absurd (let y : ◌≡◌ {A = ℕ} 0 1 = cc in omega arith))
     (λ d k r f j few z.
     let g = data_given p d r in

@@ -1,7 +1,7 @@
 // DATA: what is to be done for it from an offset on, and recording what was done.
 #![tactic(auto)]
 
-ghost use Rattle.std.specs.Prelude.{◌≡◌, ◌<◌, ◌≤◌, max};
+ghost use Rattle.std.specs.Prelude.{◌≡◌, ◌<◌, ◌≤◌, Ok};
 ghost use Rattle.packet_data.specs.Data.{read_data};
 ghost use Rattle.transfer.specs.Record.{stop_of};
 ghost use Rattle.area.specs.Places.{read_table, place_of};
@@ -16,33 +16,19 @@ ghost use Rattle.engine_data.specs.Taken.{Taken, Looked};
 
 use engine_slots::{Look, Sender, Stretch};
 use packet_data::Data;
-use table::Recorded;
+use refusals::{Fault, Refusal};
 
 // ---- what is to be done
 
+#[tactic(auto, unfolding(engine_model::specs::Snapshots::same_sender))]
 fn same_sender(r: Sender, s: Sender) -> bool
     ensures { result ≡ same_sender r s }
 {
-    if r.high != s.high {
-        return false;
-    }
-    if r.low != s.low {
-        return false;
-    }
-    r.port == s.port
-}
-
-fn later_of(a: u64, b: u64) -> u64
-    ensures { result ≡ max a b }
-{
-    if a < b {
-        return b;
-    }
-    a
+    r.high == s.high && r.low == s.low && r.port == s.port
 }
 
 // The stretch of DATA from offset a on. Its Id is kept at a place, and its octets go to a file.
-fn stretch_at(state: &[u8], place: usize, file: u64, d: Data, a: u64) -> Look
+fn stretch_at(state: &[u8], place: usize, file: u64, d: Data, a: u64) -> Result<Look, Refusal>
     requires { Taken state.now d × (place ≡ place_of d.id (read_table state.now)) × (file ≡ file_of (snapshot_in state.now) d.id)
         × (d.offset ≤ a) × (a < stop_of d) }
     ensures { result ≡ look_reach (snapshot_in state.now) d a (reach_from (received (snapshot_in state.now) d.id) a (stop_of d)) }
@@ -57,13 +43,13 @@ fn stretch_at(state: &[u8], place: usize, file: u64, d: Data, a: u64) -> Look
         start: d.start as u64 + (a - d.offset),
     };
     if reach.received {
-        return Look::Known(x);
+        return Ok(Look::Known(x));
     }
-    Look::New(x)
+    Ok(Look::New(x))
 }
 
 // DATA that the table takes: of its owner alone, and from an offset on, or from its first.
-fn look_owned(state: &[u8], sender: Sender, d: Data, from: u64) -> Look
+fn look_owned(state: &[u8], sender: Sender, d: Data, from: u64) -> Result<Look, Refusal>
     requires { Taken state.now d }
     ensures { result ≡ look_owned (snapshot_in state.now) sender d from }
 {
@@ -71,27 +57,24 @@ fn look_owned(state: &[u8], sender: Sender, d: Data, from: u64) -> Look
     let slot = engine_slots::slot_at(state, place);
     let owner = slot.owner;
     if !same_sender(owner, sender) {
-        return Look::Stranger;
+        return Ok(Look::Stranger);
     }
-    let a = later_of(from, d.offset);
+    let a = from.max(d.offset);
     if d.offset + d.length as u64 <= a {
-        return Look::Over;
+        return Ok(Look::Over);
     }
     stretch_at(state, place, slot.file, d, a)
 }
 
 // What is to be done for DATA of a sender, from an offset of the file on. Nothing changes.
-pub fn look(state: &[u8], sender: Sender, packet: &[u8], from: u64) -> Look
+pub fn look(state: &[u8], sender: Sender, packet: &[u8], from: u64) -> Result<Look, Refusal>
     ensures { result ≡ look_state state.now sender packet.now from }
 {
     if !engine_state::held(state) {
-        return Look::Refused(refusals::refuse(22));
+        return Err(Fault::NoTable.into());
     }
-    let answer = area_record::try_record(state, packet);
-    match answer {
-        Recorded::Refused(r) => Look::Refused(r),
-        Recorded::Accepted(_) => look_owned(state, sender, packet_data::data_fields(packet), from),
-    }
+    area_record::try_record(state, packet)?;
+    look_owned(state, sender, packet_data::data_fields(packet), from)
 }
 
 // ---- what was done
@@ -99,7 +82,7 @@ pub fn look(state: &[u8], sender: Sender, packet: &[u8], from: u64) -> Look
 // A stretch that was not received, and ended well or not.
 fn store_new(state: &mut [u8], time: u64, packet: &[u8], x: Stretch, well: bool)
     requires { Piece state.old packet.now x }
-    ensures { state.new ≡ stored_by state.old time packet.now well (read_data packet.now) (New x) }
+    ensures { state.new ≡ stored_by state.old time packet.now well (read_data packet.now) (Ok (New x)) }
 {
     if !well {
         return;
@@ -110,7 +93,7 @@ fn store_new(state: &mut [u8], time: u64, packet: &[u8], x: Stretch, well: bool)
 // One that was.
 fn store_known(state: &mut [u8], time: u64, packet: &[u8], x: Stretch, well: bool)
     requires { Piece state.old packet.now x }
-    ensures { state.new ≡ stored_by state.old time packet.now well (read_data packet.now) (Known x) }
+    ensures { state.new ≡ stored_by state.old time packet.now well (read_data packet.now) (Ok (Known x)) }
 {
     if !well {
         engine_piece::end_transfer(state, x.id);
@@ -120,16 +103,17 @@ fn store_known(state: &mut [u8], time: u64, packet: &[u8], x: Stretch, well: boo
 }
 
 // What was to be done ended well or not.
-fn ended(state: &mut [u8], time: u64, packet: &[u8], l: Look, well: bool)
+#[tactic(auto, using(crate::proofs::StoreLaws::over_same, crate::proofs::StoreLaws::stranger_same, crate::proofs::StoreLaws::refused_same))]
+fn ended(state: &mut [u8], time: u64, packet: &[u8], l: Result<Look, Refusal>, well: bool)
     requires { Looked state.old packet.now l }
     ensures { state.new ≡ stored_by state.old time packet.now well (read_data packet.now) l }
 {
     match l {
-        Look::New(x) => store_new(state, time, packet, x, well),
-        Look::Known(x) => store_known(state, time, packet, x, well),
-        Look::Over => {}
-        Look::Stranger => {}
-        Look::Refused(_) => {}
+        Ok(Look::New(x)) => store_new(state, time, packet, x, well),
+        Ok(Look::Known(x)) => store_known(state, time, packet, x, well),
+        Ok(Look::Over) => {}
+        Ok(Look::Stranger) => {}
+        Err(_) => {}
     }
 }
 
@@ -141,7 +125,7 @@ pub fn store(
     packet: &[u8],
     from: u64,
     well: bool,
-) -> Look
+) -> Result<Look, Refusal>
     ensures { (result ≡ look_state state.old sender packet.now from)
         × (state.new ≡ stored_state state.old time sender packet.now from well) }
 {

@@ -42,6 +42,8 @@ use Rattle.engine_laws.proofs.LeaveLaws.{Leaves, leaves_then, stands_leaves, slo
 use Rattle.engine_laws.proofs.SizeLaws.{sized_fits, sized_owned, sized_heard, sized_new, sized_digest}
 use Rattle.engine_laws.proofs.TellSpeaks.{long_now, now_open, kept_holds, changed_holds, closed_holds}
 use Rattle.engine_laws.proofs.StoreSpeaks.{now_fit}
+use Rattle.std.specs.Prelude.{Result, Ok, Err}
+use Rattle.refusals.specs.declared.Refusal.{Refusal}
 
 module _ (s : List ℕ) (o : Octets s) (h : Held s) (t : ℕ) (r : Sender) (p : List ℕ) (l : t < 2 ^ 64) (w : Words r) (q : Octets p) where
   next_size : suc (number_in s number_field) < 2 ^ 64
@@ -125,12 +127,12 @@ module _ (s : List ℕ) (o : Octets s) (h : Held s) (t : ℕ) (r : Sender) (p : 
   unfolding opened_state meet_state opened opened_by model.opened_by end_of
   opens b k = rw (known_held s h) (go b (meet (snapshot_in s) (number_in s next_field) p) refl)
     where
-      go : (b : Bool) (x : Meeting) → meet (snapshot_in s) (number_in s next_field) p ≡ x
+      go : (b : Bool) (x : Result Meeting Refusal) → meet (snapshot_in s) (number_in s next_field) p ≡ x
           → Holds (opened_by s t r p b x) (model.opened_by (engine_in s) t r p (end_of b k) x)
-      go b (meeting.Refused n) e = kept_holds s o h
-      go b meeting.Wait e = kept_holds s o h
-      go b (meeting.Kept g) e =
+      go b (Err n) e = kept_holds s o h
+      go b (Ok meeting.Wait) e = kept_holds s o h
+      go b (Ok (meeting.Kept g)) e =
           keeps (metadata_id (read_metadata p)) (kept_there g (meet_kept (snapshot_in s) (number_in s next_field) p g (now_fit s h.now_judged) e))
-      go b (meeting.Ended g) e = closed_holds s o h (metadata_id (read_metadata p))
-      go false (meeting.Make f) e = kept_holds s o h
-      go true (meeting.Make f) e = makes f (meet_make (snapshot_in s) (number_in s next_field) p f e)
+      go b (Ok (meeting.Ended g)) e = closed_holds s o h (metadata_id (read_metadata p))
+      go false (Ok (meeting.Make f)) e = kept_holds s o h
+      go true (Ok (meeting.Make f)) e = makes f (meet_make (snapshot_in s) (number_in s next_field) p f e)

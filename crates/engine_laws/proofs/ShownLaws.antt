@@ -12,7 +12,6 @@ use lib.Seq.{take_all}
 use lib.Dec.{ltb}
 use borrow.Author.Tests.{ltb-false}
 use Rattle.refusals.specs.Tests.{bit}
-use Rattle.refusals.specs.declared.Written.TheVariants as written
 use Rattle.refusals.proofs.TestLaws.{bit_le}
 use Rattle.refusals.proofs.WritingLaws.{written_size}
 use Rattle.header.specs.FirstWord.{partial_of}
@@ -26,7 +25,7 @@ use Rattle.runs.proofs.ProgressLaws.{progress_below}
 use Rattle.timestamp.specs.Timestamps.{stamped}
 use Rattle.packet_status.specs.Status.{read_status}
 use Rattle.packet_status.specs.declared.SuccessStatus.{SuccessStatus}
-use Rattle.packet_status.specs.declared.StatusRead.TheVariants as status_read
+use Rattle.packet_status.specs.declared.Status.TheVariants as status
 use Rattle.success_status.specs.SuccessStatus.{status_size, status_flags, fields_read}
 use Rattle.success_status.specs.declared.Fields.{Fields}
 use Rattle.transfer.specs.declared.Key.{Key}
@@ -37,6 +36,8 @@ use Rattle.table.specs.WriteStatus.{written_for, status_written, status_buffer}
 use Rattle.table.proofs.FineLaws.{runs_canonical}
 use Rattle.table.proofs.StatusWritten.{status_written_size, status_buffer_read, status_buffer_holes}
 use Rattle.engine_laws.specs.Told.{BelowHole, HasReceived}
+use Rattle.std.specs.Prelude.{Result, Ok}
+use Rattle.refusals.specs.declared.Refusal.{Refusal}
 
 -- ---- holes of which the first m are listed
 
@@ -103,13 +104,13 @@ none_left ts d room n e = go (ltb (hole_room ts d room) (n - 0)) refl e
 
 pub record Shows (t : List Transfer) (i : ℕ) (p : List ℕ) : Type 0 where
   pub fields : SuccessStatus
-  pub read : read_status p ≡ status_read.Success fields
+  pub read : read_status p ≡ Ok (status.Success fields)
   pub of_id : fields.id ≡ i
   pub members : (o : ℕ) → HasReceived p fields o → Member (runs_of t i) o
 
 module _ (t : List Transfer) (v : Valid t) (i : ℕ) (unasked : Bool) (out : List ℕ) where
   module _ (key : Key) (found : find i (keys t) ≡ some key) (fine : transfer_refused key (runs_of t i) (stamp_of t i) 0 unasked out ≡ 0) (n : ℕ)
-      (size : status_written t i 0 unasked out ≡ written.Size n) where
+      (size : status_written t i 0 unasked out ≡ Ok n) where
     abbrev rs : List Run
     rs = runs_of t i
 
@@ -137,7 +138,7 @@ module _ (t : List Transfer) (v : Valid t) (i : ℕ) (unasked : Bool) (out : Lis
 
     shown : Shows t i (take n (status_buffer t i 0 unasked out))
     shown =
-        let q : written.Size (status_size ts key.width (length listed)) ≡ written.Size n = sym (status_written_size t v i 0 unasked out key found fine) ∙ size in
+        let q : ◌≡◌ {A = Result ℕ Refusal} (Ok (status_size ts key.width (length listed))) (Ok n) = sym (status_written_size t v i 0 unasked out key found fine) ∙ size in
         let e : status_size ts key.width (length listed) ≡ n = cc in
         subst (λ (m : ℕ). Shows t i (take m (status_buffer t i 0 unasked out))) e
         (record {
@@ -150,11 +151,11 @@ module _ (t : List Transfer) (v : Valid t) (i : ℕ) (unasked : Bool) (out : Lis
         })
 
   -- a STATUS that was written shows what was received
-  pub status_shows : (n : ℕ) → status_written t i 0 unasked out ≡ written.Size n → Shows t i (take n (status_buffer t i 0 unasked out))
+  pub status_shows : (n : ℕ) → status_written t i 0 unasked out ≡ Ok n → Shows t i (take n (status_buffer t i 0 unasked out))
   unfolding status_written written_for transfer_written
   status_shows n e = go (find i (keys t)) refl e
     where
-      go : (k : Option Key) → find i (keys t) ≡ k → written_for k (runs_of t i) (stamp_of t i) 0 unasked out ≡ written.Size n
+      go : (k : Option Key) → find i (keys t) ≡ k → written_for k (runs_of t i) (stamp_of t i) 0 unasked out ≡ Ok n
           → Shows t i (take n (status_buffer t i 0 unasked out))
       go none f q = absurd (let z : ◌≡◌ {A = ℕ} 0 1 = cc in omega arith)
       go (some key) f q = shown key f (written_size (transfer_refused key (runs_of t i) (stamp_of t i) 0 unasked out) _ n q).0 n e

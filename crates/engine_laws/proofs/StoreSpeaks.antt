@@ -11,8 +11,6 @@ use Rattle.octets.specs.Numbers.{Octets}
 use Rattle.words.specs.Words.{word_at}
 use Rattle.packet_data.specs.Data.{read_data}
 use Rattle.packet_data.specs.declared.Data.{Data}
-use Rattle.packet_data.specs.declared.DataRead.{DataRead}
-use Rattle.packet_data.specs.declared.DataRead.TheVariants as data-read
 use Rattle.transfer.specs.Record.{stamp_in}
 use Rattle.transfer.proofs.StampLaws.{stamp_known}
 use Rattle.table.specs.Record.{record_data}
@@ -42,6 +40,8 @@ use Rattle.engine_laws.specs.Speaks.{end_of, Holds}
 use Rattle.engine_laws.proofs.LeaveLaws.{Leaves, leaves_then, slot_leaves, table_leaves}
 use Rattle.engine_laws.proofs.SizeLaws.{sized_fits, open_sized, sized_heard}
 use Rattle.engine_laws.proofs.TellSpeaks.{long_now, kept_holds, changed_holds, closed_holds}
+use Rattle.std.specs.Prelude.{Result, Ok, Err}
+use Rattle.refusals.specs.declared.Refusal.{Refusal}
 
 pub now_fit : (a : List ℕ) → judged a ≡ true → Fit (snapshot_in a)
 now_fit a j = record { valid = (judged_passed a j).1; paired = length_slots a 0 (word_at a 0) ∙ sym (length_transfers a 0 (word_at a 0)) }
@@ -52,7 +52,7 @@ heard_in t n d y = with_slot y d.id (heard_at t n (eqb d.wanted 1 || is_complete
 
 module _ (s : List ℕ) (o : Octets s) (h : Held s) (t : ℕ) (r : Sender) (p : List ℕ) (from : ℕ) (l : t < 2 ^ 64) (q : Octets p) where
   -- a stretch recorded, and then its transfer heard
-  module _ (d : Data) (x : Stretch) (e : read_data p ≡ data-read.Accepted d) (some_octets : x.from < x.to) (is_open_lem : is_open (snapshot_in s) d.id ≡ true) where
+  module _ (d : Data) (x : Stretch) (e : read_data p ≡ Ok d) (some_octets : x.from < x.to) (is_open_lem : is_open (snapshot_in s) d.id ≡ true) where
     abbrev after : Snapshot
     after = recording (snapshot_in s) (piece_of d x) (stamp_in p d)
 
@@ -85,9 +85,9 @@ module _ (s : List ℕ) (o : Octets s) (h : Held s) (t : ℕ) (r : Sender) (p : 
         (leaves_then m (subst (λ (y : Snapshot). Leaves a (set_slot a (place_of d.id (read_table a)) slot) (heard_in t n d y)) m.there.is heard))
 
   -- a stretch that was looked for is of this packet
-  taken : (d : Data) (x : Stretch) → read_data p ≡ data-read.Accepted d → Looked (snapshot_in s) r p x → Holds (piece_state s t p d x) (recorded_in (engine_in s) t p d x)
+  taken : (d : Data) (x : Stretch) → read_data p ≡ Ok d → Looked (snapshot_in s) r p x → Holds (piece_state s t p d x) (recorded_in (engine_in s) t p d x)
   taken d x e k =
-      let z : data-read.Accepted k.d ≡ data-read.Accepted d = sym k.read ∙ e in
+      let z : ◌≡◌ {A = Result Data Refusal} (Ok k.d) (Ok d) = sym k.read ∙ e in
       let y : k.d ≡ d = cc in
       piece_holds d x e k.some_octets (subst (λ (c : Data). is_open (snapshot_in s) c.id ≡ true) y (looked_open k))
 
@@ -104,13 +104,13 @@ module _ (s : List ℕ) (o : Octets s) (h : Held s) (t : ℕ) (r : Sender) (p : 
   unfolding stored_state look_state stored stored_by stored_as end_of
   stores b k = rw (known_held s h) (go b (read_data p) refl (look_data (snapshot_in s) r p from) refl)
     where
-      go : (b : Bool) (d : DataRead) → read_data p ≡ d → (x : Look) → look_data (snapshot_in s) r p from ≡ x
+      go : (b : Bool) (d : Result Data Refusal) → read_data p ≡ d → (x : Result Look Refusal) → look_data (snapshot_in s) r p from ≡ x
           → Holds (stored_by s t p b d x) (stored_as (engine_in s) t p (end_of b k) d x)
-      go true (data-read.Accepted d) e (look.New x) f = taken d x e (look_new (snapshot_in s) r p from x (now_fit s h.now_judged) f).0
-      go false (data-read.Accepted d) e (look.New x) f = kept_holds s o h
-      go true (data-read.Accepted d) e (look.Known x) f = taken d x e (look_known (snapshot_in s) r p from x (now_fit s h.now_judged) f).0
-      go false (data-read.Accepted d) e (look.Known x) f = differs d.id
-      go b (data-read.Accepted d) e look.Over f = kept_holds s o h
-      go b (data-read.Accepted d) e look.Stranger f = kept_holds s o h
-      go b (data-read.Accepted d) e (look.Refused n) f = kept_holds s o h
-      go b (data-read.Refused n) e x f = kept_holds s o h
+      go true (Ok d) e (Ok (look.New x)) f = taken d x e (look_new (snapshot_in s) r p from x (now_fit s h.now_judged) f).0
+      go false (Ok d) e (Ok (look.New x)) f = kept_holds s o h
+      go true (Ok d) e (Ok (look.Known x)) f = taken d x e (look_known (snapshot_in s) r p from x (now_fit s h.now_judged) f).0
+      go false (Ok d) e (Ok (look.Known x)) f = differs d.id
+      go b (Ok d) e (Ok look.Over) f = kept_holds s o h
+      go b (Ok d) e (Ok look.Stranger) f = kept_holds s o h
+      go b (Ok d) e (Err n) f = kept_holds s o h
+      go b (Err n) e x f = kept_holds s o h

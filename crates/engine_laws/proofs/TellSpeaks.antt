@@ -2,7 +2,7 @@
 -- Assumes nothing.
 use Prim.Native.Nat.{ℕ, ◌≤◌}
 use mathlib.Core.Path.{◌≡◌, refl}
-use mathlib.Core.Bool.{Bool, true, false, cond, ◌&&◌, ◌||◌, not}
+use mathlib.Core.Bool.{Bool, true, false, cond, ◌&&◌}
 use mathlib.Core.List.{List}
 use native.Mathlib.Omega.{arith}
 use lib.ListN.{length, drop}
@@ -19,12 +19,12 @@ use Rattle.engine_open.specs.Opened.{closing, gone_by, gone_state}
 use Rattle.engine_open_slot.specs.OpenSlot.{slot_state}
 use Rattle.engine_tell.specs.Tell.{telling, told_by, told_state}
 use Rattle.engine_tell.specs.declared.Letter.{Letter}
-use Rattle.engine_tell.specs.declared.Told.TheVariants as told
 use Rattle.engine_marks.specs.Marks.{marked_state, named_state, reported_state}
 use Rattle.engine_laws.specs.Speaks.{end_of, Holds}
 use Rattle.engine_laws.proofs.StandsLaws.{stands, stands_holds, six, set_number_lem}
 use Rattle.engine_laws.proofs.LeaveLaws.{Leaves, stands_leaves, slot_leaves, closed_leaves}
 use Rattle.engine_laws.proofs.SizeLaws.{Sized, sized_fits, open_sized, sized_answered, sized_named, sized_reported}
+use Rattle.std.specs.Prelude.{Ok}
 
 -- both have it open
 same_open : (s t : Snapshot) (i : ℕ) → same_file s t i ≡ true → is_open s i ≡ true
@@ -86,7 +86,7 @@ module _ (s : List ℕ) (o : Octets s) (h : Held s) where
 
   -- ---- answers
 
-  pub tells : (i : ℕ) (out : List ℕ) (x : Letter) → telling s i out ≡ told.Sent x → Holds (told_state s i out) (answered (engine_in s) i)
+  pub tells : (i : ℕ) (out : List ℕ) (x : Letter) → telling s i out ≡ Ok x → Holds (told_state s i out) (answered (engine_in s) i)
   unfolding told_state told_by answered marked
   tells i out x e = rw e (go (same_file (snapshot_in s) (snapshot_in (drop synced_octet s)) i) refl)
     where

@@ -8,8 +8,6 @@ use native.Mathlib.Omega.{arith}
 use mathlib.Core.Logic.{inl}
 use lib.ListN.{take, drop}
 use Rattle.refusals.specs.Refusals.{refusal_of}
-use Rattle.refusals.specs.declared.Written.{Written}
-use Rattle.refusals.specs.declared.Written.TheVariants as written
 use Rattle.runs.specs.Runs.{Member}
 use Rattle.table.specs.WriteStatus.{status_written, status_buffer}
 use Rattle.area.specs.Judge.{table_of}
@@ -30,10 +28,11 @@ use Rattle.engine_state.specs.State.{snapshot_in}
 use Rattle.engine_state.proofs.StateLaws.{Held, held_known, known_held}
 use Rattle.engine_tell.specs.Tell.{unasked, told_as, telling, letter_buffer}
 use Rattle.engine_tell.specs.declared.Letter.{Letter}
-use Rattle.engine_tell.specs.declared.Told.TheVariants as told
 use Rattle.engine_laws.specs.Told.{ReportsWhole, TellsKept}
 use Rattle.engine_laws.proofs.ShownLaws.{Shows, status_shows}
 use Rattle.engine_laws.proofs.Theorems.{holds_known}
+use Rattle.std.specs.Prelude.{Result, Ok, Err}
+use Rattle.refusals.specs.declared.Refusal.{Refusal}
 
 pub reports_whole : ReportsWhole
 reports_whole h s t w from x holds q =
@@ -55,13 +54,13 @@ received_kept h i o m =
 -- ---- what is written is of what is synced
 
 module _ (s : List ℕ) (i : ℕ) (out : List ℕ) (x : Letter) where
-  sent_is : (y : Written) → told_as s i y ≡ told.Sent x → (y ≡ written.Size x.size) × (x.to ≡ (slot_of (snapshot_in (drop synced_octet s)) i).owner)
+  sent_is : (y : Result ℕ Refusal) → told_as s i y ≡ Ok x → (y ≡ Ok x.size) × (x.to ≡ (slot_of (snapshot_in (drop synced_octet s)) i).owner)
   unfolding told_as
-  sent_is (written.Refused r) e = absurd (let z : ◌≡◌ {A = ℕ} 0 1 = cc in omega arith)
-  sent_is (written.Size n) e = (cc, cc)
+  sent_is (Err r) e = absurd (let z : ◌≡◌ {A = ℕ} 0 1 = cc in omega arith)
+  sent_is (Ok n) e = (cc, cc)
 
-  module _ (h : Held s) (e : telling s i out ≡ told.Sent x) where
-    letter : (area_status_written (drop synced_octet s) i 0 (unasked s i) out ≡ written.Size x.size) × (x.to ≡ (slot_of (snapshot_in (drop synced_octet s)) i).owner)
+  module _ (h : Held s) (e : telling s i out ≡ Ok x) where
+    letter : (area_status_written (drop synced_octet s) i 0 (unasked s i) out ≡ Ok x.size) × (x.to ≡ (slot_of (snapshot_in (drop synced_octet s)) i).owner)
     unfolding telling
     letter = sent_is (area_status_written (drop synced_octet s) i 0 (unasked s i) out) (rw (known_held s h) at e)
 
@@ -71,7 +70,7 @@ module _ (s : List ℕ) (i : ℕ) (out : List ℕ) (x : Letter) where
     shows : Shows (read_table (drop synced_octet s)) i (take x.size (letter_buffer s i out))
     unfolding letter_buffer area_status_written area_status_buffer
     shows =
-        let w = sym (from_held (written.Refused (refusal_of 22)) (λ t. status_written t i 0 (unasked s i) out) (drop synced_octet s) _ synced_table) ∙ letter.0 in
+        let w = sym (from_held (Err (refusal_of 22)) (λ t. status_written t i 0 (unasked s i) out) (drop synced_octet s) _ synced_table) ∙ letter.0 in
         rw (known_held s h, from_held out (λ t. status_buffer t i 0 (unasked s i) out) (drop synced_octet s) _ synced_table)
         (status_shows (read_table (drop synced_octet s)) (judged_passed (drop synced_octet s) h.synced_judged).1 i (unasked s i) out x.size w)
 

@@ -1,6 +1,6 @@
 -- R19.18: what each call leaves in the state, in the model's words. So the claims on histories are claims on the calls.
 -- Assumes nothing.
-use Rattle.std.specs.Prelude.{ℕ, ◌^◌, ◌<◌, ◌≡◌, Bool, true, false, List}
+use Rattle.std.specs.Prelude.{ℕ, ◌^◌, ◌<◌, ◌≡◌, Bool, true, false, List, Ok}
 use Rattle.std.proofs.Math.Option.{some}
 use Rattle.octets.specs.Numbers.{Octets}
 use Rattle.engine_slots.specs.declared.Sender.{Sender}
@@ -11,7 +11,6 @@ use Rattle.engine_open.specs.Opened.{opened_state, gone_state}
 use Rattle.engine_sync.specs.Syncs.{start_refusal, started_state, begun_state, ended_state}
 use Rattle.engine_tell.specs.Tell.{telling, told_state}
 use Rattle.engine_tell.specs.declared.Letter.{Letter}
-use Rattle.engine_tell.specs.declared.Told.TheVariants as told
 use Rattle.engine_marks.specs.Marks.{named_state, reported_state}
 
 -- how the shell's word on a write stands in the model: of one that failed any octets may be in the file
@@ -37,7 +36,7 @@ pub record Speaks (s : List ℕ) (e : Engine) : Type 0 where
   pub stores : (t : ℕ) (r : Sender) (p : List ℕ) (from : ℕ) (b : Bool) (k : ℕ → Bool) → t < 2 ^ 64 → Octets p
       → Holds (stored_state s t r p from b) (stored e t r p from (end_of b k))
   pub closes : (i : ℕ) (b : Bool) → Holds (gone_state s i b) (closed e i b)
-  pub tells : (i : ℕ) (out : List ℕ) (x : Letter) → telling s i out ≡ told.Sent x → Holds (told_state s i out) (answered e i)
+  pub tells : (i : ℕ) (out : List ℕ) (x : Letter) → telling s i out ≡ Ok x → Holds (told_state s i out) (answered e i)
   pub names : (i : ℕ) (b : Bool) (k : ℕ → Bool) → Holds (named_state s i b) (named e i (end_of b k))
   pub reports : (i : ℕ) → Holds (reported_state s i) (reported e i)
   pub begins : (t : ℕ) → t < 2 ^ 64 → Holds (begun_state s t) (begun_at e t)

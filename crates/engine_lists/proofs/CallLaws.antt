@@ -1,6 +1,6 @@
 -- What a program has after a call, where it had the same before: the engine of the history, what is saved, and the copy for the sync under way.
 -- Assumes nothing.
-use Prim.Native.Nat.{ℕ, ◌+◌, ◌^◌, ◌≤◌, ◌<◌}
+use Prim.Native.Nat.{ℕ, ◌+◌, ◌^◌, ◌<◌}
 use mathlib.Core.Path.{◌≡◌, refl, sym, ap, subst, ◌∙◌}
 use mathlib.Core.Bool.{Bool, true, false, cond, ◌&&◌}
 use mathlib.Core.List.{List, ◌∷◌}
@@ -10,7 +10,6 @@ use lib.ListN.{take, drop}
 use Rattle.engine_slots.specs.Layout.{snapshot_octets}
 use Rattle.engine_slots.specs.declared.Sender.{Sender}
 use Rattle.engine_model.specs.Snapshots.{Packet, Snapshot, is_some}
-use Rattle.engine_model.specs.Meetings.{last_number}
 use Rattle.engine_model.specs.Engine.{Engine, Ended, whole, part, is_whole, Event, opening, storing, closing, answering, naming, reporting, syncing, good, bad, crash, may_sync, begun_at, current, confirmed, dropped, started, with_now}
 use Rattle.engine_model.specs.World.{World, written, restarted, with_engine, acts, lost, step, run}
 use Rattle.engine_model.proofs.SnapshotLaws.{Fit}
@@ -27,15 +26,15 @@ use Rattle.engine_open.specs.Opened.{opened_state}
 use Rattle.engine_sync.specs.Syncs.{started_state, begun_state}
 use Rattle.engine_tell.specs.Tell.{telling, told_by, told_state}
 use Rattle.engine_tell.specs.declared.Letter.{Letter}
-use Rattle.engine_tell.specs.declared.Told.{Told}
-use Rattle.engine_tell.specs.declared.Told.TheVariants as told
 use Rattle.engine_marks.specs.Marks.{named_state}
 use Rattle.engine_laws.specs.Speaks.{end_of, Words, Holds, Speaks}
 use Rattle.engine_laws.proofs.Theorems.{holds_known, every_call_speaks}
-use Rattle.engine_lists.specs.Calls.{Program, Call, saved_after, state_after, copy_after, heard, history_after, after, Memory, Fits}
+use Rattle.engine_lists.specs.Calls.{Program, saved_after, state_after, copy_after, heard, history_after, after, Fits}
 use Rattle.engine_lists.specs.Claims.{Saved}
 use Rattle.engine_lists.proofs.StartLaws.{starts}
 use Rattle.engine_lists.proofs.CopyLaws.{copy_saved}
+use Rattle.std.specs.Prelude.{Result, Ok, Err}
+use Rattle.refusals.specs.declared.Refusal.{Refusal}
 
 pub record Stands (p : Program) : Type 0 where
   pub holds : Holds p.state (run p.history).engine
@@ -116,13 +115,13 @@ module _ (p : Program) (i : Stands p) where
   names j (part k) = spoken.names j false k
 
   -- an answer that is refused changes nothing
-  answers : (j : ℕ) (m : List ℕ) (t : Told) → telling p.state j m ≡ t
+  answers : (j : ℕ) (m : List ℕ) (t : Result Letter Refusal) → telling p.state j m ≡ t
       → Stands (record { state = told_by p.state j t; copy = p.copy; saved = p.saved; history = heard t j h })
   unfolding heard told_by told_state step acts
-  answers j m (told.Refused r) e = i
-  answers j m (told.Sent x) e =
-      turned (answering j) (told_by p.state j (told.Sent x)) (answer_turn h j fit)
-      (subst (λ (t : Told). Holds (told_by p.state j t) (step w (answering j)).engine) e (spoken.tells j m x e))
+  answers j m (Err r) e = i
+  answers j m (Ok x) e =
+      turned (answering j) (told_by p.state j (Ok x)) (answer_turn h j fit)
+      (subst (λ (t : Result Letter Refusal). Holds (told_by p.state j t) (step w (answering j)).engine) e (spoken.tells j m x e))
 
   -- ---- syncs, and starts
 

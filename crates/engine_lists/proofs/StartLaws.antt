@@ -1,13 +1,12 @@
 -- A start: what is saved is taken, and a snapshot with nothing open is the empty one.
 -- Assumes nothing.
 use Prim.Native.Nat.{ℕ, ◌^◌, ◌≤◌, ◌<◌}
-use mathlib.Core.Path.{◌≡◌, refl, ap, subst}
-use mathlib.Core.Bool.{true, false}
+use mathlib.Core.Path.{◌≡◌, refl, subst}
+use mathlib.Core.Bool.{true}
 use mathlib.Core.List.{List}
 use native.Mathlib.Omega.{arith}
 use lib.ListN.{length}
 use borrow.Author.Tests.{le-leb, le-ltb}
-use Rattle.refusals.specs.Refusals.{◌▹◌, when}
 use Rattle.words.specs.Words.{word_at}
 use Rattle.area.specs.Layout.{area_octets}
 use Rattle.area.specs.Places.{transfers_from}
@@ -16,7 +15,7 @@ use Rattle.engine_slots.specs.Layout.{snapshot_octets}
 use Rattle.engine_slots.specs.Slots.{slots_from}
 use Rattle.engine_model.specs.Snapshots.{Snapshot, empty_snapshot}
 use Rattle.engine_model.specs.Meetings.{last_number}
-use Rattle.engine_model.specs.Engine.{Engine, started}
+use Rattle.engine_model.specs.Engine.{started}
 use Rattle.engine_state.specs.Layout.{state_octets}
 use Rattle.engine_state.specs.State.{snapshot_in}
 use Rattle.engine_sync.specs.Syncs.{start_refusal, started_state}

@@ -1,10 +1,10 @@
 -- Every list of calls from a fresh start: the state holds the engine of the history, and the claims on histories are claims on the calls.
 -- Assumes nothing.
-use Prim.Native.Nat.{ℕ, ◌≤◌, ◌<◌}
+use Prim.Native.Nat.{ℕ}
 use mathlib.Core.Path.{◌≡◌}
 use mathlib.Core.List.{List, [], ◌∷◌}
 use native.Mathlib.Omega.{arith}
-use Rattle.engine_model.specs.Snapshots.{Snapshot, empty_snapshot}
+use Rattle.engine_model.specs.Snapshots.{empty_snapshot}
 use Rattle.engine_model.specs.Engine.{started}
 use Rattle.engine_model.specs.World.{start, run}
 use Rattle.engine_laws.proofs.ToldLaws.{reports_whole, tells_kept}

@@ -1,6 +1,6 @@
 -- R19.18: lists of calls from a fresh start: what a program over the engine has after them, and the history that they are.
 -- Assumes nothing.
-use Rattle.std.specs.Prelude.{ℕ, ◌+◌, ◌^◌, ◌≤◌, ◌<◌, ◌≡◌, Bool, true, false, cond, ◌&&◌, List, [], ◌∷◌, length, take, drop}
+use Rattle.std.specs.Prelude.{ℕ, ◌+◌, ◌^◌, ◌≤◌, ◌<◌, ◌≡◌, true, false, cond, ◌&&◌, List, [], ◌∷◌, length, take, drop, Result, Ok, Err}
 use Rattle.octets.specs.Numbers.{Octets}
 use Rattle.words.specs.Words.{word_at}
 use Rattle.engine_slots.specs.Layout.{snapshot_octets}
@@ -13,10 +13,10 @@ use Rattle.engine_data.specs.Store.{stored_state}
 use Rattle.engine_open.specs.Opened.{opened_state, gone_state}
 use Rattle.engine_sync.specs.Syncs.{started_state, begun_state, ended_state}
 use Rattle.engine_tell.specs.Tell.{telling, told_state}
-use Rattle.engine_tell.specs.declared.Told.{Told}
-use Rattle.engine_tell.specs.declared.Told.TheVariants as told
 use Rattle.engine_marks.specs.Marks.{named_state, reported_state}
 use Rattle.engine_laws.specs.Speaks.{Words}
+use Rattle.refusals.specs.declared.Refusal.{Refusal}
+use Rattle.engine_tell.specs.declared.Letter.{Letter}
 
 pub record Program : Type 0 where
   -- the state in memory
@@ -74,9 +74,9 @@ copy_after p (bad n b c) = p.copy
 copy_after p (crash b c n k) = p.copy
 
 -- an answer that is refused did not happen
-unfoldable pub heard : Told → ℕ → List Event → List Event
-heard (told.Sent x) i h = answering i ∷ h
-heard (told.Refused r) i h = h
+unfoldable pub heard : Result Letter Refusal → ℕ → List Event → List Event
+heard (Ok x) i h = answering i ∷ h
+heard (Err r) i h = h
 
 unfoldable pub history_after : Program → List ℕ → Event → List Event
 history_after p m (answering i) = heard (telling p.state i m) i p.history

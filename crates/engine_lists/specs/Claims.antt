@@ -1,6 +1,6 @@
 -- R19.14, R19.15, R19.18: what is claimed of every list of calls.
 -- Assumes nothing.
-use Rattle.std.specs.Prelude.{ℕ, ◌≤◌, ◌≡◌, true, List, length, take}
+use Rattle.std.specs.Prelude.{ℕ, ◌≤◌, ◌≡◌, true, List, length, take, Ok}
 use Rattle.octets.specs.Numbers.{Octets}
 use Rattle.area.specs.Judge.{judged}
 use Rattle.engine_slots.specs.Layout.{snapshot_octets}
@@ -14,7 +14,6 @@ use Rattle.engine_next.specs.declared.Next.TheVariants as next
 use Rattle.engine_next.specs.Next.{next_state}
 use Rattle.engine_tell.specs.Tell.{telling, letter_buffer}
 use Rattle.engine_tell.specs.declared.Letter.{Letter}
-use Rattle.engine_tell.specs.declared.Told.TheVariants as told
 use Rattle.engine_laws.specs.Speaks.{Holds}
 use Rattle.engine_laws.specs.Told.{Tells}
 use Rattle.engine_lists.specs.Calls.{Program, Call, program, AllFit}
@@ -37,10 +36,10 @@ ListsFollow = (m z : List ℕ) (cs : List Call) → AllFit m z cs → Follows (p
 -- so after every list of calls a page that `next` says to report is whole on disk, for good
 abbrev pub ListsReportWhole : Type 0
 ListsReportWhole = (m z : List ℕ) (cs : List Call) → AllFit m z cs → (t : ℕ) (w : Waits) (from : ℕ) (x : Page)
-    → next_state (program m z cs).state t w from ≡ next.Report x → Whole (program m z cs).history x.id x.file x.length
+    → next_state (program m z cs).state t w from ≡ Ok (next.Report x) → Whole (program m z cs).history x.id x.file x.length
 
 -- and a STATUS that `tell` writes has no offset as received that is not kept
 abbrev pub ListsTellKept : Type 0
 ListsTellKept = (m z : List ℕ) (cs : List Call) → AllFit m z cs → (i : ℕ) (out : List ℕ) (x : Letter)
-    → telling (program m z cs).state i out ≡ told.Sent x
+    → telling (program m z cs).state i out ≡ Ok x
     → Tells (program m z cs).history i (take x.size (letter_buffer (program m z cs).state i out))

@@ -15,14 +15,11 @@ use Rattle.runs.proofs.CompareLaws.{le_or_lt}
 use Rattle.runs.proofs.HoleLaws.{hole_iff}
 use Rattle.packet_data.specs.Data.{read_data}
 use Rattle.packet_data.specs.declared.Data.{Data}
-use Rattle.packet_data.specs.declared.DataRead.TheVariants as data-read
 use Rattle.plan.specs.declared.Piece.{Piece}
 use Rattle.plan_check.specs.GoodPlan.{Each, Some, InPiece, LiesIn, GoodPlan}
 use Rattle.plan_check.proofs.GoodPlanLaws.{each_map}
 use Rattle.transfer.specs.Record.{stop_of}
 use Rattle.table.specs.Record.{record_packet, record_accepted}
-use Rattle.table.specs.declared.Recorded.{Recorded}
-use Rattle.table.specs.declared.Recorded.TheVariants as recorded
 use Rattle.table.proofs.TableLaws.{by_test}
 use Rattle.engine_slots.specs.declared.Sender.{Sender}
 use Rattle.engine_slots.specs.declared.Stretch.{Stretch}
@@ -32,6 +29,9 @@ use Rattle.engine_stretch.specs.Stretch.{reach, reach_from}
 use Rattle.engine_model.specs.Snapshots.{Snapshot, slot_of, received, same_sender}
 use Rattle.engine_model.specs.Stretches.{piece_of, stretch_of, look_reach, look_from, look_owned, look_judged, look_data}
 use Rattle.engine_model.proofs.FitLaws.{Fit, received_canonical}
+use Rattle.std.specs.Prelude.{Result, Ok, Err}
+use Rattle.refusals.specs.declared.Refusal.{Refusal}
+use Rattle.transfer.specs.declared.Receipt.{Receipt}
 
 -- ---- nothing of a piece was received
 
@@ -94,17 +94,17 @@ unfolding same_sender
 same_as_itself r = rw (eq-eqb r.high r.high refl, eq-eqb r.low r.low refl, eq-eqb r.port r.port refl)
 
 module _ (s : Snapshot) (r : Sender) (p : List ℕ) (d : Data) where
-  taken_owned : (from : ℕ) (x : Recorded) → record_accepted x ≡ true → look_judged s r from x (data-read.Accepted d) ≡ look_owned s r d from
+  taken_owned : (from : ℕ) (x : Result Receipt Refusal) → record_accepted x ≡ true → look_judged s r from x (Ok d) ≡ look_owned s r d from
   unfolding look_judged
-  taken_owned from (recorded.Accepted x) e = refl
-  taken_owned from (recorded.Refused n) e = absurd (false≢true e)
+  taken_owned from (Ok x) e = refl
+  taken_owned from (Err n) e = absurd (false≢true e)
 
   owned_from : (from : ℕ) → (slot_of s d.id).owner ≡ r → look_owned s r d from ≡ look_from s d from
   unfolding look_owned
   owned_from from e = rw (e, same_as_itself r)
 
   from_new : Fit s → 0 < d.length → ((o : ℕ) → d.offset ≤ o → o < stop_of d → Member (received s d.id) o → ⊥)
-      → look_from s d 0 ≡ look.New (whole_of s d)
+      → look_from s d 0 ≡ Ok (look.New (whole_of s d))
   unfolding look_from look_reach
   from_new f l n =
       let at : max 0 d.offset ≡ d.offset = omega arith in
@@ -112,14 +112,14 @@ module _ (s : Snapshot) (r : Sender) (p : List ℕ) (d : Data) where
       rw (at, lt-ltb d.offset (stop_of d) some, reach_clear 0 (received s d.id) d.offset (stop_of d) (received_canonical s d.id f) some n)
 
   -- a packet that is accepted, and is the owner's
-  pub look_taken : (from : ℕ) → record_accepted (record_packet s.table p).answer ≡ true → read_data p ≡ data-read.Accepted d
+  pub look_taken : (from : ℕ) → record_accepted (record_packet s.table p).answer ≡ true → read_data p ≡ Ok d
       → (slot_of s d.id).owner ≡ r → look_data s r p from ≡ look_from s d from
   unfolding look_data
   look_taken from a e o =
       ap (look_judged s r from (record_packet s.table p).answer) e ∙ taken_owned from (record_packet s.table p).answer a ∙ owned_from from o
 
   -- and nothing of it was received
-  pub look_whole : record_accepted (record_packet s.table p).answer ≡ true → read_data p ≡ data-read.Accepted d → (slot_of s d.id).owner ≡ r
+  pub look_whole : record_accepted (record_packet s.table p).answer ≡ true → read_data p ≡ Ok d → (slot_of s d.id).owner ≡ r
       → Fit s → 0 < d.length → ((o : ℕ) → d.offset ≤ o → o < stop_of d → Member (received s d.id) o → ⊥)
-      → look_data s r p 0 ≡ look.New (whole_of s d)
+      → look_data s r p 0 ≡ Ok (look.New (whole_of s d))
   look_whole a e o f l n = look_taken 0 a e o ∙ from_new f l n

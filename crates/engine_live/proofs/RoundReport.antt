@@ -7,7 +7,6 @@ use mathlib.Core.List.{List, [], ◌∷◌}
 use mathlib.Core.Option.{Option, some}
 use native.Mathlib.Omega.{arith}
 use borrow.Author.Tests.{eq-eqb}
-use lib.ListN.{length}
 use Rattle.runs.specs.Runs.{Run}
 use Rattle.runs.specs.Holes.{holes, complete}
 use Rattle.plan.specs.Pieces.{plan_of}

@@ -7,10 +7,8 @@ use mathlib.Core.List.{List, [], ◌∷◌}
 use mathlib.Core.Logic.{◌⊎◌, inl, inr, ⊎_elim}
 use mathlib.Core.Option.{some}
 use native.Mathlib.Omega.{arith}
-use Rattle.runs.specs.Runs.{run, Member}
+use Rattle.runs.specs.Runs.{Member}
 use Rattle.packet_data.specs.declared.Data.{Data}
-use Rattle.packet_data.specs.declared.DataRead.{DataRead}
-use Rattle.packet_data.specs.declared.DataRead.TheVariants as data-read
 use Rattle.plan.specs.declared.Piece.{Piece}
 use Rattle.plan_check.specs.GoodPlan.{Each, InPiece, NoOverlap}
 use Rattle.plan_check.proofs.GoodPlanLaws.{each_map, each_both}
@@ -33,6 +31,8 @@ use Rattle.engine_model.proofs.Histories.{run_inv}
 use Rattle.engine_live.specs.Live.{goes_on, now_of, Arrival, octets_of, sending}
 use Rattle.engine_live.proofs.TakeLaws.{Takes, stretch_taken}
 use Rattle.engine_live.proofs.PieceLaws.{Clear, whole_of, piece_whole, look_whole}
+use Rattle.std.specs.Prelude.{Result, Ok}
+use Rattle.refusals.specs.declared.Refusal.{Refusal}
 
 -- ---- a packet that carries a piece of which nothing was received
 
@@ -59,7 +59,7 @@ module _ (h : List Event) (i : ℕ) (k : Key) (r : Sender) (open_is : key_in (no
   opened_as : key_in (now_of h) d.id ≡ some k
   opened_as = rw c.id_is open_is
 
-  looked : look_data (now_of h) r p.octets 0 ≡ look.New (whole_of (now_of h) d)
+  looked : look_data (now_of h) r p.octets 0 ≡ Ok (look.New (whole_of (now_of h) d))
   looked = look_whole (now_of h) r p.octets d accepted c.read (rw c.id_is owner_is) fit brings new
 
   some_new : (whole_of (now_of h) d).from < (whole_of (now_of h) d).to
@@ -69,15 +69,15 @@ module _ (h : List Event) (i : ℕ) (k : Key) (r : Sender) (open_is : key_in (no
   stored_is : (world.run (storing t r p 0 whole ∷ h)).engine ≡ recorded_in e t p.octets d (whole_of (now_of h) d)
   unfolding world.run step acts stored stored_as
   stored_is =
-      ap (λ (y : DataRead). stored_as e t p.octets whole y (look_data (now_of h) r p.octets 0)) c.read
-      ∙ ap (stored_as e t p.octets whole (data-read.Accepted d)) looked
+      ap (λ (y : Result Data Refusal). stored_as e t p.octets whole y (look_data (now_of h) r p.octets 0)) c.read
+      ∙ ap (stored_as e t p.octets whole (Ok d)) looked
 
   -- its table is the one that recording the packet leaves
   same_recorded : (record_data (now_of h).table (piece_of d (whole_of (now_of h) d)) (stamp_in p.octets d)).table ≡ (record_packet (now_of h).table p.octets).table
   unfolding record_packet record_read
   same_recorded =
       ap (λ (y : Data). (record_data (now_of h).table y (stamp_in p.octets d)).table) (piece_whole (now_of h) d c.no_eod)
-      ∙ ap (λ (y : DataRead). (record_read (now_of h).table p.octets y).table) (sym c.read)
+      ∙ ap (λ (y : Result Data Refusal). (record_read (now_of h).table p.octets y).table) (sym c.read)
 
   packet_taken : Takes e (world.run (storing t r p 0 whole ∷ h)).engine i (record_packet (now_of h).table p.octets).table
   packet_taken =
@@ -92,7 +92,7 @@ module _ (h : List Event) (i : ℕ) (k : Key) (r : Sender) (open_is : key_in (no
   received_then o m =
       let z : List ℕ = stamp_in p.octets d in
       let same : (now_of (storing t r p 0 whole ∷ h)).table ≡ (record_data (now_of h).table d z).table =
-      packet_taken.table_is ∙ ap (λ (y : DataRead). (record_read (now_of h).table p.octets y).table) c.read in
+      packet_taken.table_is ∙ ap (λ (y : Result Data Refusal). (record_read (now_of h).table p.octets y).table) c.read in
       ⊎_elim (λ w. inl (omega (arith, c.offset_is, w.1), omega (arith, c.offset_is, c.length_is, w.1))) inr
       (recording_only (now_of h) d z i o (subst (λ (l : List Transfer). Member (runs_of l i) o) same m))
 

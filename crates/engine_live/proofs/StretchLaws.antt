@@ -13,7 +13,6 @@ use Rattle.refusals.specs.Refusals.{◌▹◌, when}
 use Rattle.refusals.proofs.RefusalLaws.{first_none}
 use Rattle.runs.specs.Runs.{insert}
 use Rattle.packet_data.specs.declared.Data.{Data}
-use Rattle.packet_data.specs.declared.DataRead.TheVariants as data-read
 use Rattle.transfer.specs.declared.Key.{Key}
 use Rattle.transfer.specs.Transfers.{Transfer}
 use Rattle.transfer.specs.Record.{stop_of, key_refusal, extended, runs_refusal}
@@ -26,6 +25,7 @@ use Rattle.engine_model.specs.Stretches.{piece_of}
 use Rattle.engine_model.specs.Engine.{Engine, whole, recorded_in, stored_as}
 use Rattle.engine_model.proofs.LookLaws.{look_as}
 use Rattle.engine_live.specs.Walk.{end_of}
+use Rattle.std.specs.Prelude.{Ok}
 
 -- neither 13 nor 14 nor 15, where the packet gives none
 pub piece_judged : (k : Key) (d : Data) (x : Stretch) → data_judged (some k) d ≡ 0 → x.from ≤ x.to → x.to ≤ stop_of d → data_judged (some k) (piece_of d x) ≡ 0
@@ -52,7 +52,7 @@ pub packet_grown : (t : List Transfer) (d : Data) → grown t d ≡ insert d.off
 unfolding grown extended
 packet_grown t d = refl
 
-pub stored_as_lem : (c : Bool) (e : Engine) (t : ℕ) (p : List ℕ) (d : Data) (x : Stretch) → stored_as e t p whole (data-read.Accepted d) (look_as c x) ≡ recorded_in e t p d x
+pub stored_as_lem : (c : Bool) (e : Engine) (t : ℕ) (p : List ℕ) (d : Data) (x : Stretch) → stored_as e t p whole (Ok d) (look_as c x) ≡ recorded_in e t p d x
 unfolding stored_as
 stored_as_lem true e t p d x = refl
 stored_as_lem false e t p d x = refl

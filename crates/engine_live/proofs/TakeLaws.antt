@@ -8,7 +8,6 @@ use mathlib.Core.Option.{some}
 use lib.Dec.{eqb}
 use Rattle.packet_data.specs.Data.{read_data}
 use Rattle.packet_data.specs.declared.Data.{Data}
-use Rattle.packet_data.specs.declared.DataRead.TheVariants as data-read
 use Rattle.transfer.specs.declared.Key.{Key}
 use Rattle.transfer.specs.Transfers.{Transfer}
 use Rattle.transfer.specs.Record.{stamp_in}
@@ -22,6 +21,7 @@ use Rattle.engine_model.specs.Engine.{Engine, with_now, recorded_in}
 use Rattle.engine_model.proofs.FitLaws.{Fit, key_open, slot_same}
 use Rattle.engine_model.proofs.RecordingLaws.{recording, fit_recording, recording_key, recording_slot}
 use Rattle.engine_model.proofs.LookLaws.{piece_some}
+use Rattle.std.specs.Prelude.{Ok}
 
 -- of the Id i, with the table t
 pub record Takes (e u : Engine) (i : ℕ) (t : List Transfer) : Type 0 where
@@ -33,7 +33,7 @@ pub record Takes (e u : Engine) (i : ℕ) (t : List Transfer) : Type 0 where
   pub number_is : u.number ≡ e.number
 
 module _ (e : Engine) (t : ℕ) (p : Packet) (d : Data) (x : Stretch) (f : Fit e.now) (k : Key) (open_is : key_in e.now d.id ≡ some k)
-    (read : read_data p.octets ≡ data-read.Accepted d) (some_octets : x.from < x.to) where
+    (read : read_data p.octets ≡ Ok d) (some_octets : x.from < x.to) where
   abbrev z : List ℕ
   z = stamp_in p.octets d
 

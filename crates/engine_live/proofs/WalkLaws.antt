@@ -13,8 +13,6 @@ use Rattle.runs.specs.Runs.{Run, Canonical, insert}
 use Rattle.runs.proofs.CompareLaws.{le_or_lt}
 use Rattle.packet_data.specs.Data.{read_data}
 use Rattle.packet_data.specs.declared.Data.{Data}
-use Rattle.packet_data.specs.declared.DataRead.{DataRead}
-use Rattle.packet_data.specs.declared.DataRead.TheVariants as data-read
 use Rattle.transfer.specs.declared.Key.{Key}
 use Rattle.transfer.specs.Transfers.{Transfer}
 use Rattle.transfer.specs.Record.{stop_of, stamp_in}
@@ -22,8 +20,6 @@ use Rattle.transfer.proofs.FieldLaws.{data_some}
 use Rattle.table.specs.Tables.{keys, find, runs_of, set_runs}
 use Rattle.table.specs.Record.{data_judged, grown, record_data, record_packet, record_accepted}
 use Rattle.table.specs.Outcome.{Outcome}
-use Rattle.table.specs.declared.Recorded.{Recorded}
-use Rattle.table.specs.declared.Recorded.TheVariants as recorded
 use Rattle.table.proofs.TableLaws.{runs_set_same}
 use Rattle.table.proofs.FindLaws.{found_fine}
 use Rattle.table.proofs.RecordLaws.{record_cases, record_taken}
@@ -47,10 +43,13 @@ use Rattle.engine_live.proofs.PieceLaws.{look_taken}
 use Rattle.engine_live.proofs.TakeLaws.{Takes, stretch_taken}
 use Rattle.engine_live.proofs.CutLaws.{insert_onto, touched_few, reach_ends, set_twice}
 use Rattle.engine_live.proofs.StretchLaws.{piece_judged, data_taken, piece_grown, packet_grown, stored_as_lem, end_of_lem}
+use Rattle.std.specs.Prelude.{Result, Ok, Err}
+use Rattle.refusals.specs.declared.Refusal.{Refusal}
+use Rattle.transfer.specs.declared.Receipt.{Receipt}
 
 -- ---- along the packet
 
-module _ (h : List Event) (t : ℕ) (r : Sender) (p : Packet) (d : Data) (k : Key) (read : read_data p.octets ≡ data-read.Accepted d)
+module _ (h : List Event) (t : ℕ) (r : Sender) (p : Packet) (d : Data) (k : Key) (read : read_data p.octets ≡ Ok d)
     (found : key_in (now_of h) d.id ≡ some k) (judged : data_judged (some k) d ≡ 0) where
   abbrev rs : List Run
   rs = received (now_of h) d.id
@@ -86,13 +85,13 @@ module _ (h : List Event) (t : ℕ) (r : Sender) (p : Packet) (d : Data) (k : Ke
 
     accepted : record_accepted (record_packet (now_of g).table p.octets).answer ≡ true
     accepted =
-        ap (λ (o : Outcome Recorded). record_accepted o.answer)
+        ap (λ (o : Outcome (Result Receipt Refusal)). record_accepted o.answer)
         (record_taken (now_of g).table p.octets d k read n.key_is judged (rw (packet_grown (now_of g).table d, n.spans) few))
 
     looked : look_data (now_of g) r p.octets from ≡ look_from (now_of g) d from
     looked = look_taken (now_of g) r p.octets d from accepted read n.owner_is
 
-    over : stop_of d ≤ a → look_data (now_of g) r p.octets from ≡ look.Over
+    over : stop_of d ≤ a → look_data (now_of g) r p.octets from ≡ (Ok look.Over)
     unfolding look_from
     over l = looked ∙ rw (n.at_is, le-ltb a (stop_of d) l) refl
 
@@ -133,8 +132,8 @@ module _ (h : List Event) (t : ℕ) (r : Sender) (p : Packet) (d : Data) (k : Ke
       stored_is : (run later).engine ≡ recorded_in (run g).engine t p.octets d x
       unfolding run step acts stored
       stored_is =
-          ap (λ (y : DataRead). stored_as (run g).engine t p.octets whole y (look_data (now_of g) r p.octets from)) read
-          ∙ ap (stored_as (run g).engine t p.octets whole (data-read.Accepted d)) looks ∙ stored_as_lem end.received (run g).engine t p.octets d x
+          ap (λ (y : Result Data Refusal). stored_as (run g).engine t p.octets whole y (look_data (now_of g) r p.octets from)) read
+          ∙ ap (stored_as (run g).engine t p.octets whole (Ok d)) looks ∙ stored_as_lem end.received (run g).engine t p.octets d x
 
       took : Takes (run g).engine (run later).engine d.id (record_data (now_of g).table (piece_of d x) z).table
       took =
@@ -180,7 +179,7 @@ module _ (h : List Event) (t : ℕ) (r : Sender) (p : Packet) (d : Data) (k : Ke
   unfolding walk end_of
   walk_over few zero g from a n l = refl
   walk_over few (suc m) g from a n l =
-      ap (λ (y : Look). onward (end_of y) (λ b. walk m (storing t r p from whole ∷ g) t r p b) g) (over few g from a n l)
+      ap (λ (y : Result Look Refusal). onward (end_of y) (λ b. walk m (storing t r p from whole ∷ g) t r p b) g) (over few g from a n l)
 
   walk_from : length (insert d.offset (stop_of d) rs) ≤ 64 → (m : ℕ) (g : List Event) (from a : ℕ) → Next g from a → a < stop_of d → stop_of d - a ≤ m
       → (now_of (walk m g t r p from)).table ≡ up_to (stop_of d)
@@ -193,7 +192,7 @@ module _ (h : List Event) (t : ℕ) (r : Sender) (p : Packet) (d : Data) (k : Ke
       let inside : f ≤ stop_of d = (reached few g from a n l).inside in
       let after : Next u f f = next few g from a n l in
       let goes : walk (suc m) g t r p from ≡ walk m u t r p f =
-      ap (λ (y : Look). onward (end_of y) (λ b. walk m u t r p b) g) (looks few g from a n l)
+      ap (λ (y : Result Look Refusal). onward (end_of y) (λ b. walk m u t r p b) g) (looks few g from a n l)
       ∙ ap (λ (o : Option ℕ). onward o (λ b. walk m u t r p b) g) (end_of_lem (end few g from a n l).received (x few g from a n l)) in
       ap (λ (y : List Event). (now_of y).table) goes
       ∙ ⊎_elim
@@ -211,12 +210,12 @@ unfolding walk end_of look_data look_judged
 refused_stays h t r p zero e = refl
 refused_stays h t r p (suc n) e = go (record_packet (now_of h).table p.octets).answer e
   where
-    go : (x : Recorded) → record_accepted x ≡ false
+    go : (x : Result Receipt Refusal) → record_accepted x ≡ false
         → onward (end_of (look_judged (now_of h) r 0 x (read_data p.octets))) (λ b. walk n (storing t r p 0 whole ∷ h) t r p b) h ≡ h
-    go (recorded.Refused y) q = refl
-    go (recorded.Accepted y) q = absurd (true≢false q)
+    go (Err y) q = refl
+    go (Ok y) q = absurd (true≢false q)
 
-module _ (h : List Event) (t : ℕ) (r : Sender) (p : Packet) (d : Data) (read : read_data p.octets ≡ data-read.Accepted d)
+module _ (h : List Event) (t : ℕ) (r : Sender) (p : Packet) (d : Data) (read : read_data p.octets ≡ Ok d)
     (owner : (slot_of (now_of h) d.id).owner ≡ r) where
   abbrev table : List Transfer
   table = (now_of h).table
@@ -234,13 +233,13 @@ module _ (h : List Event) (t : ℕ) (r : Sender) (p : Packet) (d : Data) (read :
       walk_from h t r p d k read f j (rw (packet_grown table d) at few) d.length h 0 d.offset (first h t r p d k read f j owner) (omega arith) (omega arith)
       ∙ ap (λ (ss : List Run). set_runs d.id ss (stamp_in p.octets d) table) (sym (packet_grown table d))
 
-  same_data : (y : Data) → read_data p.octets ≡ data-read.Accepted y → d ≡ y
+  same_data : (y : Data) → read_data p.octets ≡ Ok y → d ≡ y
   same_data y e = cc
 
   walked : then ≡ (record_packet table p.octets).table
   walked =
-      record_cases (λ (o : Outcome Recorded). record_packet table p.octets ≡ o → then ≡ o.table) table p.octets
-      (λ n e. ap (λ (g : List Event). (now_of g).table) (refused_stays h t r p d.length (ap (λ (o : Outcome Recorded). record_accepted o.answer) e)))
+      record_cases (λ (o : Outcome (Result Receipt Refusal)). record_packet table p.octets ≡ o → then ≡ o.table) table p.octets
+      (λ n e. ap (λ (g : List Event). (now_of g).table) (refused_stays h t r p d.length (ap (λ (o : Outcome (Result Receipt Refusal)). record_accepted o.answer) e)))
       (λ y k e f j few q. subst Taken (same_data y e) taken k f j few) refl
 
 pub walked_whole : WalkedWhole

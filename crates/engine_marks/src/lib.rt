@@ -2,6 +2,7 @@
 #![tactic(auto)]
 
 ghost use Rattle.std.specs.Prelude.{◌≡◌, true, ◌&&◌, ◌≤◌, length};
+ghost use Rattle.refusals.specs.Faults.{refused};
 ghost use Rattle.engine_model.specs.Snapshots.{named_slot, reported_slot};
 ghost use Rattle.engine_model.specs.Engine.{may_report};
 ghost use Rattle.engine_state.specs.Layout.{state_octets};
@@ -11,6 +12,7 @@ ghost use Rattle.engine_open_slot.specs.OpenSlot.{OpenIn, same_now, slot_state};
 ghost use Rattle.engine_marks.specs.Marks.{named_state, reported_state};
 
 use engine_slots::Slot;
+use refusals::Fault;
 
 // Whether it was reported: it may have its name, and has it on disk.
 fn may_report(state: &[u8], id: u64) -> bool
@@ -68,35 +70,35 @@ fn put_marked(state: &mut [u8], id: u64, s: Slot)
     engine_state::set_number(state, engine_state::CHANGED, 1);
 }
 
-// The page of an Id got its name, well or not. Answers a refusal, or 0.
-pub fn named(state: &mut [u8], id: u64, well: bool) -> u64
-    ensures { (result ≡ held_refusal state.old) × (state.new ≡ named_state state.old id well) }
+// The page of an Id got its name, well or not.
+pub fn named(state: &mut [u8], id: u64, well: bool) -> Result<(), Fault>
+    ensures { (refused result ≡ held_refusal state.old) × (state.new ≡ named_state state.old id well) }
 {
     if !engine_state::held(state) {
-        return 22;
+        return Err(Fault::NoTable);
     }
     if !engine_may::may_name(state, id) {
-        return 0;
+        return Ok(());
     }
     if !well {
-        return 0;
+        return Ok(());
     }
     let slot = engine_open_slot::slot_of(state, id);
     put_marked(state, id, named_slot(slot));
-    0
+    Ok(())
 }
 
-// The page of an Id was reported. Answers a refusal, or 0.
-pub fn reported(state: &mut [u8], id: u64) -> u64
-    ensures { (result ≡ held_refusal state.old) × (state.new ≡ reported_state state.old id) }
+// The page of an Id was reported.
+pub fn reported(state: &mut [u8], id: u64) -> Result<(), Fault>
+    ensures { (refused result ≡ held_refusal state.old) × (state.new ≡ reported_state state.old id) }
 {
     if !engine_state::held(state) {
-        return 22;
+        return Err(Fault::NoTable);
     }
     if !may_report(state, id) {
-        return 0;
+        return Ok(());
     }
     let slot = engine_open_slot::slot_of(state, id);
     put_marked(state, id, reported_slot(slot));
-    0
+    Ok(())
 }

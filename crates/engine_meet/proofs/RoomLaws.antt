@@ -29,19 +29,21 @@ use Rattle.engine_model.specs.Meetings.{last_number, is_other, room_for, files_f
 use Rattle.engine_model.proofs.PlaceLaws.{removed_one}
 use Rattle.engine_meet.specs.Cases.{new_meeting, same_meeting}
 use Rattle.engine_meet.proofs.CaseLaws.{new_unwanted, new_full, new_last, new_made}
+use Rattle.std.specs.Prelude.{Result, Ok, Err}
+use Rattle.refusals.specs.declared.Refusal.{Refusal}
 
 -- ---- the sender ends the transfer
 
 module _ (s : Snapshot) (i : ℕ) where
-  pub ended_none : is_open s i ≡ false → meet_ended s i ≡ meeting.Refused (refusal_of 12)
+  pub ended_none : is_open s i ≡ false → meet_ended s i ≡ Err (refusal_of 12)
   unfolding meet_ended
   ended_none e = rw e
 
-  pub ended_busy : is_open s i ≡ true → is_busy s i ≡ true → meet_ended s i ≡ meeting.Wait
+  pub ended_busy : is_open s i ≡ true → is_busy s i ≡ true → meet_ended s i ≡ (Ok meeting.Wait)
   unfolding meet_ended
   ended_busy e b = rw (e, b)
 
-  pub ended_idle : is_open s i ≡ true → is_busy s i ≡ false → meet_ended s i ≡ meeting.Ended (file_of s i)
+  pub ended_idle : is_open s i ≡ true → is_busy s i ≡ false → meet_ended s i ≡ Ok (meeting.Ended (file_of s i))
   unfolding meet_ended
   ended_idle e b = rw (e, b)
 
@@ -57,11 +59,11 @@ unfolding open_key judge_open judge_found open_as meet_opened
 opens s k d n (suc u) t e = rw e (new_unwanted (suc u) (length t) (files_for s k.id d n) (λ z. omega arith))
 opens s k d n zero t e = rw (e, length_keys t) (⊎_elim full room (le_or_lt transfer_places (length t)))
   where
-    with_room : Bool → Meeting
+    with_room : Bool → Result Meeting Refusal
     with_room b = meet_opened s k.id d n (open_as (cond b new (refuse 17)) t k).answer
 
-    with_number : Bool → Meeting
-    with_number b = cond b (meeting.Make (files_for s k.id d n)) (meeting.Refused (refusal_of 17))
+    with_number : Bool → Result Meeting Refusal
+    with_number b = cond b (Ok (meeting.Make (files_for s k.id d n))) (Err (refusal_of 17))
 
     number : n ≡ (files_for s k.id d n).file
     number = sym (file_is s k.id d n)
@@ -81,7 +83,7 @@ opens s k d n zero t e = rw (e, length_keys t) (⊎_elim full room (le_or_lt tra
 
 module _ (s : Snapshot) (k : Key) (d : Digest) (n u : ℕ) where
   -- the answer of the table that it would be opened in
-  abbrev answer : Meeting
+  abbrev answer : Result Meeting Refusal
   answer = meet_other s k.id d n (open_key (room_for s k.id d).table u k).answer
 
   pub meet_free : is_open s k.id ≡ false → find k.id (keys s.table) ≡ none
@@ -95,7 +97,7 @@ module _ (s : Snapshot) (k : Key) (d : Digest) (n u : ℕ) where
     meet_alike g = rw (e, g, m) (go (eqb held.width k.width && eqb held.length k.length))
       where
         go : (b : Bool) → meet_opened s k.id d n (open_as (cond b already (refuse 18)) s.table k).answer
-            ≡ cond b (meeting.Kept (file_of s k.id)) (meeting.Refused (refusal_of 18))
+            ≡ cond b (Ok (meeting.Kept (file_of s k.id))) (Err (refusal_of 18))
         go true = refl
         go false = refl
 
@@ -104,7 +106,7 @@ module _ (s : Snapshot) (k : Key) (d : Digest) (n u : ℕ) where
       unfolding is_other
       other = rw (e, g)
 
-      pub meet_busy : is_busy s k.id ≡ true → answer ≡ meeting.Wait
+      pub meet_busy : is_busy s k.id ≡ true → answer ≡ (Ok meeting.Wait)
       unfolding meet_other
       meet_busy b = rw (other, b)
 

@@ -25,6 +25,8 @@ use Rattle.engine_state.proofs.StateLaws.{slot_known, kept_open, free_closed}
 use Rattle.engine_meet.specs.Cases.{new_meeting, same_meeting}
 use Rattle.engine_meet.proofs.RoomLaws.{ended_busy, ended_idle, meet_free, meet_alike, meet_busy, meet_again}
 use Rattle.engine_meet.proofs.HeldLaws.{key_kept, key_free}
+use Rattle.std.specs.Prelude.{Result, Ok}
+use Rattle.refusals.specs.declared.Refusal.{Refusal}
 
 -- ---- an Id that is open at place p, with the slot x
 
@@ -41,23 +43,23 @@ module _ (s : List ℕ) (i p : ℕ) (h : KeptAt i (read_table s) p) (x : Slot) (
 
   -- the sender ends it
   module _ (b : Bool) (f : b ≡ is_complete (snapshot_in s) i && not (eqb x.reported 1)) where
-    pub end_waits : b ≡ true → meeting.Wait ≡ meet_ended (snapshot_in s) i
+    pub end_waits : b ≡ true → (Ok meeting.Wait) ≡ meet_ended (snapshot_in s) i
     end_waits t = sym (ended_busy (snapshot_in s) i (kept_open s i p h) (busy_is b f ∙ t))
 
-    pub end_told : b ≡ false → meeting.Ended x.file ≡ meet_ended (snapshot_in s) i
-    end_told t = ap meeting.Ended file_is ∙ sym (ended_idle (snapshot_in s) i (kept_open s i p h) (busy_is b f ∙ t))
+    pub end_told : b ≡ false → Ok (meeting.Ended x.file) ≡ meet_ended (snapshot_in s) i
+    end_told t = ap (λ (file : ℕ). Ok (meeting.Ended file)) file_is ∙ sym (ended_idle (snapshot_in s) i (kept_open s i p h) (busy_is b f ∙ t))
 
 -- ---- its METADATA comes again, or other METADATA of the Id
 
 module _ (s : List ℕ) (k : Key) (d : Digest) (n u p : ℕ) (h : KeptAt k.id (read_table s) p) (x : Slot) (e : x ≡ slot_at s p) where
-  abbrev met : Meeting
+  abbrev met : Result Meeting Refusal
   met = meet_other (snapshot_in s) k.id d n (open_key (room_for (snapshot_in s) k.id d).table u k).answer
 
   digest_is : (b : Bool) → b ≡ same_digest x.digest d → same_digest (slot_of (snapshot_in s) k.id).digest d ≡ b
   digest_is b f = sym (f ∙ ap (λ (y : Slot). same_digest y.digest d) (is_slot s k.id p h x e))
 
   module _ (same : Bool) (f : same ≡ same_digest x.digest d) where
-    pub kept_told : same ≡ true → (held : Key) → held ≡ key_at s p → (r : Meeting) → r ≡ same_meeting held k x.file → r ≡ met
+    pub kept_told : same ≡ true → (held : Key) → held ≡ key_at s p → (r : Result Meeting Refusal) → r ≡ same_meeting held k x.file → r ≡ met
     kept_told t held z r g =
         g
         ∙ ap (λ (file : ℕ). same_meeting held k file) (file_is s k.id p h x e)
@@ -65,7 +67,7 @@ module _ (s : List ℕ) (k : Key) (d : Digest) (n u p : ℕ) (h : KeptAt k.id (r
         ∙ sym (meet_alike (snapshot_in s) k d n u (key_at s p) (kept_open s k.id p h) (key_kept s k.id p h) (digest_is same f ∙ t))
 
     module _ (o : same ≡ false) (b : Bool) (g : b ≡ is_complete (snapshot_in s) k.id && not (eqb x.reported 1)) where
-      pub other_waits : b ≡ true → meeting.Wait ≡ met
+      pub other_waits : b ≡ true → (Ok meeting.Wait) ≡ met
       other_waits t =
           sym (meet_busy (snapshot_in s) k d n u (key_at s p) (kept_open s k.id p h) (key_kept s k.id p h) (digest_is same f ∙ o) (busy_is s k.id p h x e b g ∙ t))
 

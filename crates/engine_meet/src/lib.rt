@@ -3,6 +3,7 @@
 
 ghost use Rattle.std.specs.Prelude.{◌≡◌, true, ◌≤◌, length, eqb, not, ◌&&◌};
 ghost use Rattle.header.specs.FirstWord.{bits};
+ghost use Rattle.refusals.specs.Faults.{refused};
 ghost use Rattle.packet_metadata.specs.Metadata.{metadata_refusal, read_metadata};
 ghost use Rattle.table.specs.Open.{open_key};
 ghost use Rattle.area.specs.Places.{read_table, KeptAt};
@@ -15,6 +16,7 @@ ghost use Rattle.engine_meet.specs.Cases.{new_meeting, same_meeting};
 ghost use Rattle.engine_meet.specs.Meet.{meet_state};
 
 use engine_slots::{Digest, Files, Meeting};
+use refusals::{Fault, Refusal};
 use transfer::Key;
 
 // Bit 12 of a packet, by its flags: the sender has ended the transfer.
@@ -34,32 +36,30 @@ fn same_digest(d: Digest, e: Digest) -> bool
 }
 
 // A transfer is to be opened with these files, beside `count` others.
-fn meet_new(unwanted: u64, count: u64, files: Files) -> Meeting
-    ensures { result ≡ new_meeting unwanted count files }
+fn meet_new(unwanted: Result<(), Fault>, count: u64, files: Files) -> Result<Meeting, Refusal>
+    ensures { result ≡ new_meeting (refused unwanted) count files }
 {
-    if unwanted != 0 {
-        return Meeting::Refused(refusals::refuse(unwanted));
-    }
+    unwanted?;
     if (area::TRANSFERS as u64) <= count {
-        return Meeting::Refused(refusals::refuse(17));
+        return Err(Fault::TableFull.into());
     }
     if engine_state::LAST_NUMBER <= files.file {
-        return Meeting::Refused(refusals::refuse(17));
+        return Err(Fault::TableFull.into());
     }
-    Meeting::Make(files)
+    Ok(Meeting::Make(files))
 }
 
 // The METADATA of the open transfer comes again.
-fn meet_same(held: Key, key: Key, file: u64) -> Meeting
+fn meet_same(held: Key, key: Key, file: u64) -> Result<Meeting, Refusal>
     ensures { result ≡ same_meeting held key file }
 {
     if held.width != key.width {
-        return Meeting::Refused(refusals::refuse(18));
+        return Err(Fault::OtherFile.into());
     }
     if held.length != key.length {
-        return Meeting::Refused(refusals::refuse(18));
+        return Err(Fault::OtherFile.into());
     }
-    Meeting::Kept(file)
+    Ok(Meeting::Kept(file))
 }
 
 // Whether the page of an Id is complete and was not reported yet, by what its slot says of that.
@@ -74,26 +74,33 @@ pub fn busy(state: &[u8], id: u64, reported: u64) -> bool
 }
 
 // METADATA that ends the transfer of its Id.
-fn meet_ended(state: &[u8], id: u64) -> Meeting
+fn meet_ended(state: &[u8], id: u64) -> Result<Meeting, Refusal>
     requires { held_state state.now ≡ true }
     ensures { result ≡ meet_ended (snapshot_in state.now) id }
 {
     let place = area_find::find_place(state, id);
     if !place.open {
-        return Meeting::Refused(refusals::refuse(12));
+        return Err(Fault::NotOpen.into());
     }
     let slot = engine_slots::slot_at(state, place.at);
     if busy(state, id, slot.reported) {
-        return Meeting::Wait;
+        return Ok(Meeting::Wait);
     }
-    Meeting::Ended(slot.file)
+    Ok(Meeting::Ended(slot.file))
 }
 
 // METADATA of an Id that is open at a place: its own, or other METADATA, for which that transfer ends.
-fn meet_open(state: &[u8], at: usize, next: u64, unwanted: u64, key: Key, digest: Digest) -> Meeting
+fn meet_open(
+    state: &[u8],
+    at: usize,
+    next: u64,
+    unwanted: Result<(), Fault>,
+    key: Key,
+    digest: Digest,
+) -> Result<Meeting, Refusal>
     requires { (held_state state.now ≡ true) × KeptAt key.id (read_table state.now) at }
     ensures { result ≡ meet_other (snapshot_in state.now) key.id digest next
-        (open_key (room_for (snapshot_in state.now) key.id digest).table unwanted key).answer }
+        (open_key (room_for (snapshot_in state.now) key.id digest).table (refused unwanted) key).answer }
 {
     let slot = engine_slots::slot_at(state, at);
     let held = slot.digest;
@@ -101,7 +108,7 @@ fn meet_open(state: &[u8], at: usize, next: u64, unwanted: u64, key: Key, digest
         return meet_same(area_at::key_at(state, at), key, slot.file);
     }
     if busy(state, key.id, slot.reported) {
-        return Meeting::Wait;
+        return Ok(Meeting::Wait);
     }
     let others = area_at::open_count(state) - 1;
     meet_new(
@@ -117,7 +124,7 @@ fn meet_open(state: &[u8], at: usize, next: u64, unwanted: u64, key: Key, digest
 }
 
 // METADATA that was read.
-fn meet_read(state: &[u8], packet: &[u8]) -> Meeting
+fn meet_read(state: &[u8], packet: &[u8]) -> Result<Meeting, Refusal>
     requires { (held_state state.now ≡ true) × (metadata_refusal packet.now ≡ 0) }
     ensures { result ≡ meet_read (snapshot_in state.now) (number_in state.now next_field) packet.now (read_metadata packet.now) }
 {
@@ -152,15 +159,12 @@ fn meet_read(state: &[u8], packet: &[u8]) -> Meeting
 }
 
 // What is to be done for METADATA.
-pub fn meet(state: &[u8], packet: &[u8]) -> Meeting
+pub fn meet(state: &[u8], packet: &[u8]) -> Result<Meeting, Refusal>
     ensures { result ≡ meet_state state.now packet.now }
 {
     if !engine_state::held(state) {
-        return Meeting::Refused(refusals::refuse(22));
+        return Err(Fault::NoTable.into());
     }
-    let unread = packet_metadata::metadata_refusal(packet);
-    if unread != 0 {
-        return Meeting::Refused(refusals::refuse(unread));
-    }
+    packet_metadata::metadata_refusal(packet)?;
     meet_read(state, packet)
 }

@@ -16,17 +16,18 @@ use Rattle.transfer.proofs.ExtendLaws.{extended_fine, runs_few}
 use Rattle.table.specs.Tables.{Valid, keys, find, runs_of, stamp_of, set_runs}
 use Rattle.table.specs.Record.{data_judged, record_refusal, grown, absorbed_in, adds_in, record_as, record_data}
 use Rattle.table.specs.Outcome.{Outcome}
-use Rattle.table.specs.declared.Recorded.{Recorded}
-use Rattle.table.specs.declared.Recorded.TheVariants.{Accepted, Refused}
 use Rattle.table.proofs.TableLaws.{length_set}
 use Rattle.table.proofs.FineLaws.{fine_found, fine_set}
 use Rattle.table.proofs.RecordLaws.{judged_stop}
+use Rattle.std.specs.Prelude.{Result, Ok, Err}
+use Rattle.refusals.specs.declared.Refusal.{Refusal}
+use Rattle.transfer.specs.declared.Receipt.{Receipt}
 
 -- refused, and the table stays; or the Id is open with k, nothing of 12 to 15 is given, and there is room
-pub data_cases : (P : Outcome Recorded → Type 0) (t : List Transfer) (d : Data) (z : List ℕ)
-    → ((n : ℕ) → P (record { answer = Refused (refusal_of (suc n)); table = t }))
+pub data_cases : (P : Outcome (Result Receipt Refusal) → Type 0) (t : List Transfer) (d : Data) (z : List ℕ)
+    → ((n : ℕ) → P (record { answer = Err (refusal_of (suc n)); table = t }))
     → ((k : Key) → find d.id (keys t) ≡ some k → data_judged (some k) d ≡ 0 → length (grown t d) ≤ 64
-    → P (record { answer = Accepted (receipt k (grown t d) (absorbed_in t d) (adds_in t d)); table = set_runs d.id (grown t d) z t }))
+    → P (record { answer = Ok (receipt k (grown t d) (absorbed_in t d) (adds_in t d)); table = set_runs d.id (grown t d) z t }))
     → P (record_data t d z)
 unfolding record_data record_as record_refusal
 data_cases P t d z refused taken = go (find d.id (keys t)) (record_refusal (find d.id (keys t)) (grown t d) d) refl refl
@@ -39,7 +40,7 @@ data_cases P t d z refused taken = go (find d.id (keys t)) (record_refusal (find
 pub data_valid : (t : List Transfer) (d : Data) (z : List ℕ) → Valid t → 0 < d.length → Stamp z → Valid (record_data t d z).table
 unfolding grown
 data_valid t d z v l y =
-    data_cases (λ (x : Outcome Recorded). Valid x.table) t d z (λ n. v)
+    data_cases (λ (x : Outcome (Result Receipt Refusal)). Valid x.table) t d z (λ n. v)
     (λ k f j few.
     record {
       few = rw (length_set d.id (grown t d) z t) v.few;

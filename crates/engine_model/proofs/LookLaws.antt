@@ -13,13 +13,10 @@ use Rattle.refusals.proofs.TestLaws.{and_iff}
 use Rattle.runs.specs.Runs.{Run, run, Within, Member}
 use Rattle.packet_data.specs.Data.{read_data}
 use Rattle.packet_data.specs.declared.Data.{Data}
-use Rattle.packet_data.specs.declared.DataRead.{DataRead}
-use Rattle.packet_data.specs.declared.DataRead.TheVariants as data-read
 use Rattle.transfer.specs.declared.Key.{Key}
 use Rattle.transfer.specs.Record.{stop_of}
 use Rattle.table.specs.Record.{data_judged}
 use Rattle.table.specs.Outcome.{Outcome}
-use Rattle.table.specs.declared.Recorded.{Recorded}
 use Rattle.table.proofs.TableLaws.{by_test}
 use Rattle.table.proofs.RecordLaws.{recorded_as, record_cases}
 use Rattle.engine_slots.specs.declared.Sender.{Sender}
@@ -33,11 +30,14 @@ use Rattle.engine_model.specs.Stretches.{brings, brings_in, piece_of, stretch_of
 use Rattle.engine_model.proofs.SameLaws.{same_sender_lem}
 use Rattle.engine_model.proofs.ReachLaws.{IsReceived, Reaches, reaches}
 use Rattle.engine_model.proofs.SnapshotLaws.{Fit, key_open, received_canonical}
+use Rattle.std.specs.Prelude.{Result, Ok, Err}
+use Rattle.refusals.specs.declared.Refusal.{Refusal}
+use Rattle.transfer.specs.declared.Receipt.{Receipt}
 
 -- the packet p of r is DATA d that the snapshot takes, and x a stretch of it
 pub record Looked (s : Snapshot) (r : Sender) (p : List ℕ) (x : Stretch) : Type 0 where
   pub d : Data
-  pub read : read_data p ≡ data-read.Accepted d
+  pub read : read_data p ≡ Ok d
   pub key : Key
   pub found : key_in s d.id ≡ some key
   pub judged : data_judged (some key) d ≡ 0
@@ -55,8 +55,8 @@ looked_open {s} l = key_open s l.d.id l.key l.found
 -- ---- where a stretch comes from
 
 -- a stretch that was received, or one that was not
-abbrev pub look_as : Bool → Stretch → Look
-look_as known x = cond known (look.Known x) (look.New x)
+abbrev pub look_as : Bool → Stretch → Result Look Refusal
+look_as known x = cond known (Ok (look.Known x)) (Ok (look.New x))
 
 look_same : (b c : Bool) (x y : Stretch) → look_as b x ≡ look_as c y → (b ≡ c) × (x ≡ y)
 look_same true true x y e = (refl, cc)
@@ -64,12 +64,12 @@ look_same true false x y e = absurd (let z : ◌≡◌ {A = ℕ} 0 1 = cc in ome
 look_same false true x y e = absurd (let z : ◌≡◌ {A = ℕ} 0 1 = cc in omega arith)
 look_same false false x y e = (refl, cc)
 
-abbrev is_stretch : Look → Bool
-is_stretch (look.Refused r) = false
-is_stretch look.Stranger = false
-is_stretch look.Over = false
-is_stretch (look.Known x) = true
-is_stretch (look.New x) = true
+abbrev is_stretch : Result Look Refusal → Bool
+is_stretch (Err r) = false
+is_stretch (Ok look.Stranger) = false
+is_stretch (Ok look.Over) = false
+is_stretch (Ok (look.Known x)) = true
+is_stretch (Ok (look.New x)) = true
 
 as_stretch : (b : Bool) (x : Stretch) → is_stretch (look_as b x) ≡ true
 as_stretch true x = refl
@@ -78,28 +78,28 @@ as_stretch false x = refl
 -- what the packet is, and that it is the owner's
 record Takes (s : Snapshot) (r : Sender) (p : List ℕ) (d : Data) : Type 0 where
   key : Key
-  read : read_data p ≡ data-read.Accepted d
+  read : read_data p ≡ Ok d
   found : key_in s d.id ≡ some key
   judged : data_judged (some key) d ≡ 0
   owned : (slot_of s d.id).owner ≡ r
 
 -- anything else, or a stretch from an offset of the packet on
-look_cases : (P : Look → Type 0) (s : Snapshot) (r : Sender) (p : List ℕ) (from : ℕ)
-    → ((l : Look) → is_stretch l ≡ false → P l)
+look_cases : (P : Result Look Refusal → Type 0) (s : Snapshot) (r : Sender) (p : List ℕ) (from : ℕ)
+    → ((l : Result Look Refusal) → is_stretch l ≡ false → P l)
     → ((d : Data) (a : ℕ) → Takes s r p d → d.offset ≤ a → a < stop_of d → P (look_reach s d a (reach_from (received s d.id) a (stop_of d))))
     → P (look_data s r p from)
 unfolding look_data look_judged look_owned look_from
 look_cases P s r p from other stretch =
-    record_cases (λ (o : Outcome Recorded). P (look_judged s r from o.answer (read_data p))) s.table p (λ n. other (look.Refused _) refl)
+    record_cases (λ (o : Outcome (Result Receipt Refusal)). P (look_judged s r from o.answer (read_data p))) s.table p (λ n. other (Err _) refl)
     (λ d k e f j few.
-    subst (λ (x : DataRead). P (look_judged s r from (recorded_as s.table p d k).answer x)) (sym e)
-    (by_test P (same_sender (slot_of s d.id).owner r) (look_from s d from) look.Stranger
+    subst (λ (x : Result Data Refusal). P (look_judged s r from (recorded_as s.table p d k).answer x)) (sym e)
+    (by_test P (same_sender (slot_of s d.id).owner r) (look_from s d from) (Ok look.Stranger)
     (λ t.
-    by_test P (ltb (max from d.offset) (stop_of d)) _ look.Over
+    by_test P (ltb (max from d.offset) (stop_of d)) _ (Ok look.Over)
     (λ u.
     stretch d (max from d.offset) (record { key = k; read = e; found = f; judged = j; owned = same_sender_lem _ r t }) (omega arith) (ltb-true _ _ u))
-    (λ u. other look.Over refl))
-    (λ t. other look.Stranger refl)))
+    (λ u. other (Ok look.Over) refl))
+    (λ t. other (Ok look.Stranger) refl)))
 
 -- all of the stretch was received, or none of it
 abbrev Judged : Snapshot → Sender → List ℕ → Stretch → Bool → Type 0
@@ -109,7 +109,7 @@ look_stretch : (s : Snapshot) (r : Sender) (p : List ℕ) (from : ℕ) (known : 
     → Judged s r p x known
 unfolding look_reach stretch_of
 look_stretch s r p from known x f =
-    look_cases (λ (y : Look). y ≡ look_as known x → Judged s r p x known) s r p from
+    look_cases (λ (y : Result Look Refusal). y ≡ look_as known x → Judged s r p x known) s r p from
     (λ y n e. absurd (true≢false (sym (as_stretch known x) ∙ sym (ap is_stretch e) ∙ n)))
     (λ d a t low high e.
     let rs = received s d.id in
@@ -135,12 +135,12 @@ look_stretch s r p from known x f =
     )))
 
 -- nothing of a new stretch was received
-pub look_new : (s : Snapshot) (r : Sender) (p : List ℕ) (from : ℕ) (x : Stretch) → Fit s → look_data s r p from ≡ look.New x
+pub look_new : (s : Snapshot) (r : Sender) (p : List ℕ) (from : ℕ) (x : Stretch) → Fit s → look_data s r p from ≡ Ok (look.New x)
     → (l : Looked s r p x) × ((o : ℕ) → Within (run x.from x.to) o → Member (received s l.d.id) o → ⊥)
 look_new s r p from x f e = look_stretch s r p from false x f e
 
 -- all of a known one was
-pub look_known : (s : Snapshot) (r : Sender) (p : List ℕ) (from : ℕ) (x : Stretch) → Fit s → look_data s r p from ≡ look.Known x
+pub look_known : (s : Snapshot) (r : Sender) (p : List ℕ) (from : ℕ) (x : Stretch) → Fit s → look_data s r p from ≡ Ok (look.Known x)
     → (l : Looked s r p x) × ((o : ℕ) → Within (run x.from x.to) o → Member (received s l.d.id) o)
 look_known s r p from x f e = look_stretch s r p from true x f e
 

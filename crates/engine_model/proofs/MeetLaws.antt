@@ -12,8 +12,6 @@ use Rattle.octets.specs.Numbers.{Octets}
 use Rattle.refusals.specs.declared.Refusal.{Refusal}
 use Rattle.packet_metadata.specs.Metadata.{read_metadata}
 use Rattle.packet_metadata.specs.declared.Metadata.{Metadata}
-use Rattle.packet_metadata.specs.declared.MetadataRead.{MetadataRead}
-use Rattle.packet_metadata.specs.declared.MetadataRead.TheVariants as metadata-read
 use Rattle.transfer.specs.Transfers.{Transfer, key_of}
 use Rattle.table.specs.Tables.{Valid, keys, find, add}
 use Rattle.table.specs.Open.{open_packet}
@@ -31,6 +29,7 @@ use Rattle.engine_model.specs.Snapshots.{Snapshot, key_in, is_open, is_busy, slo
 use Rattle.engine_model.specs.Meetings.{last_number, digest_of, ended_by, is_other, room_for, files_for, meet_opened, meet_ended, meet_other, meet_read, meet}
 use Rattle.engine_model.proofs.SameLaws.{same_digest_lem}
 use Rattle.engine_model.proofs.SnapshotLaws.{Fit, Alike, key_open, key_shut, alike_same, with_key, fit_new, fit_closed, closed_gone, closed_other, closed_open}
+use Rattle.std.specs.Prelude.{Result, Ok, Err}
 
 -- ---- room for other METADATA of an Id
 
@@ -65,23 +64,23 @@ module _ (s : Snapshot) (n : ℕ) (p : List ℕ) where
   abbrev room : Metadata → Snapshot
   room m = room_for s m.id (digest_of p)
 
-  pub meet_cases : (P : Meeting → Type 0)
-      → ((r : Refusal) → P (meeting.Refused r))
-      → P meeting.Wait
-      → ((m : Metadata) → read_metadata p ≡ metadata-read.Accepted m → is_open s m.id ≡ true → is_busy s m.id ≡ false
-      → P (meeting.Ended (file_of s m.id)))
-      → ((m : Metadata) → read_metadata p ≡ metadata-read.Accepted m → key_in (room m) m.id ≡ some (key_of m) → P (meeting.Kept (file_of s m.id)))
-      → ((m : Metadata) → read_metadata p ≡ metadata-read.Accepted m → key_in (room m) m.id ≡ none
+  pub meet_cases : (P : Result Meeting Refusal → Type 0)
+      → ((r : Refusal) → P (Err r))
+      → P (Ok meeting.Wait)
+      → ((m : Metadata) → read_metadata p ≡ Ok m → is_open s m.id ≡ true → is_busy s m.id ≡ false
+      → P (Ok (meeting.Ended (file_of s m.id))))
+      → ((m : Metadata) → read_metadata p ≡ Ok m → key_in (room m) m.id ≡ some (key_of m) → P (Ok (meeting.Kept (file_of s m.id))))
+      → ((m : Metadata) → read_metadata p ≡ Ok m → key_in (room m) m.id ≡ none
       → (open_packet (room m).table p).table ≡ add (key_of m) (room m).table → n < last_number
-      → P (meeting.Make (files_for s m.id (digest_of p) n)))
+      → P (Ok (meeting.Make (files_for s m.id (digest_of p) n))))
       → P (meet s n p)
   unfolding meet meet_read meet_ended meet_other meet_opened
   meet_cases P refused wait ended kept make = go (read_metadata p) refl
     where
-      opens : (m : Metadata) → read_metadata p ≡ metadata-read.Accepted m
+      opens : (m : Metadata) → read_metadata p ≡ Ok m
           → P (meet_opened s m.id (digest_of p) n (open_packet (room m).table p).answer)
       opens m e =
-          open_cases (λ (o : Outcome Opened). open_packet (room m).table p ≡ o → P (meet_opened s m.id (digest_of p) n o.answer))
+          open_cases (λ (o : Outcome (Result Opened Refusal)). open_packet (room m).table p ≡ o → P (meet_opened s m.id (digest_of p) n o.answer))
           (room m).table p (λ r q. refused _)
           (λ k z f q.
           let y : k ≡ m = cc in
@@ -90,18 +89,18 @@ module _ (s : Snapshot) (n : ℕ) (p : List ℕ) where
           let y : k ≡ m = cc in
           by_test P (ltb n last_number) _ _
           (λ t. make m e (subst (λ (x : Metadata). key_in (room m) x.id ≡ none) y f)
-          (ap (λ (o : Outcome Opened). o.table) q ∙ ap (λ (x : Metadata). add (key_of x) (room m).table) y) (ltb-true _ _ t))
+          (ap (λ (o : Outcome (Result Opened Refusal)). o.table) q ∙ ap (λ (x : Metadata). add (key_of x) (room m).table) y) (ltb-true _ _ t))
           (λ t. refused _)) refl
 
-      go : (r : MetadataRead) → read_metadata p ≡ r → P (meet_read s n p r)
-      go (metadata-read.Refused r) e = refused r
-      go (metadata-read.Accepted m) e =
+      go : (r : Result Metadata Refusal) → read_metadata p ≡ r → P (meet_read s n p r)
+      go (Err r) e = refused r
+      go (Ok m) e =
           by_test P (ended_by m) (meet_ended s m.id) _
           (λ t.
           by_test P (is_open s m.id) _ _
-          (λ o. by_test P (is_busy s m.id) meeting.Wait (meeting.Ended (file_of s m.id)) (λ b. wait) (λ b. ended m e o b))
+          (λ o. by_test P (is_busy s m.id) (Ok meeting.Wait) (Ok (meeting.Ended (file_of s m.id))) (λ b. wait) (λ b. ended m e o b))
           (λ o. refused _))
-          (λ t. by_test P (is_other s m.id (digest_of p) && is_busy s m.id) meeting.Wait _ (λ b. wait) (λ b. opens m e))
+          (λ t. by_test P (is_other s m.id (digest_of p) && is_busy s m.id) (Ok meeting.Wait) _ (λ b. wait) (λ b. opens m e))
 
 -- ---- files are made
 
@@ -111,7 +110,7 @@ made_in s p f x = with_new (room_for s f.id (digest_of p)) f.id (open_packet (ro
 
 pub record Made (s : Snapshot) (n : ℕ) (p : List ℕ) (f : Files) : Type 0 where
   pub m : Metadata
-  pub read : read_metadata p ≡ metadata-read.Accepted m
+  pub read : read_metadata p ≡ Ok m
   pub id_is : f.id ≡ m.id
   pub file_is : f.file ≡ n
   pub below : n < last_number
@@ -120,10 +119,10 @@ pub record Made (s : Snapshot) (n : ℕ) (p : List ℕ) (f : Files) : Type 0 whe
   pub table_is : (open_packet (room_for s m.id (digest_of p)).table p).table ≡ add (key_of m) (room_for s m.id (digest_of p)).table
   pub made : (x : Slot) → made_in s p f x ≡ with_key (room_for s m.id (digest_of p)) (key_of m) x
 
-pub meet_make : (s : Snapshot) (n : ℕ) (p : List ℕ) (f : Files) → meet s n p ≡ meeting.Make f → Made s n p f
+pub meet_make : (s : Snapshot) (n : ℕ) (p : List ℕ) (f : Files) → meet s n p ≡ Ok (meeting.Make f) → Made s n p f
 unfolding files_for
 meet_make s n p f =
-    meet_cases s n p (λ (x : Meeting). x ≡ meeting.Make f → Made s n p f)
+    meet_cases s n p (λ (x : Result Meeting Refusal). x ≡ Ok (meeting.Make f) → Made s n p f)
     (λ r e. absurd (let z : ◌≡◌ {A = ℕ} 0 1 = cc in omega arith)) (λ e. absurd (let z : ◌≡◌ {A = ℕ} 0 1 = cc in omega arith)) (λ m r o b e. absurd (let z : ◌≡◌ {A = ℕ} 0 1 = cc in omega arith)) (λ m r k e. absurd (let z : ◌≡◌ {A = ℕ} 0 1 = cc in omega arith))
     (λ m r k t l e.
     let y : files_for s m.id (digest_of p) n ≡ f = cc in
@@ -139,7 +138,7 @@ meet_make s n p f =
       made = λ x. ap (λ (u : List Transfer). with_new (room_for s m.id (digest_of p)) m.id u x) t;
     }))
 
-pub fit_made : (s : Snapshot) (n : ℕ) (p : List ℕ) (f : Files) (x : Slot) → Fit s → Octets p → meet s n p ≡ meeting.Make f → Fit (made_in s p f x)
+pub fit_made : (s : Snapshot) (n : ℕ) (p : List ℕ) (f : Files) (x : Slot) → Fit s → Octets p → meet s n p ≡ Ok (meeting.Make f) → Fit (made_in s p f x)
 fit_made s n p f x h o e =
     let k = meet_make s n p f e in
     let r = room_for s k.m.id (digest_of p) in
@@ -150,14 +149,14 @@ fit_made s n p f x h o e =
 
 pub record Kept (s : Snapshot) (p : List ℕ) (g : ℕ) : Type 0 where
   pub m : Metadata
-  pub read : read_metadata p ≡ metadata-read.Accepted m
+  pub read : read_metadata p ≡ Ok m
   pub found : key_in s m.id ≡ some (key_of m)
   pub digest_is : (slot_of s m.id).digest ≡ digest_of p
   pub file_is : g ≡ file_of s m.id
 
-pub meet_kept : (s : Snapshot) (n : ℕ) (p : List ℕ) (g : ℕ) → Fit s → meet s n p ≡ meeting.Kept g → Kept s p g
+pub meet_kept : (s : Snapshot) (n : ℕ) (p : List ℕ) (g : ℕ) → Fit s → meet s n p ≡ Ok (meeting.Kept g) → Kept s p g
 meet_kept s n p g f =
-    meet_cases s n p (λ (x : Meeting). x ≡ meeting.Kept g → Kept s p g)
+    meet_cases s n p (λ (x : Result Meeting Refusal). x ≡ Ok (meeting.Kept g) → Kept s p g)
     (λ r e. absurd (let z : ◌≡◌ {A = ℕ} 0 1 = cc in omega arith)) (λ e. absurd (let z : ◌≡◌ {A = ℕ} 0 1 = cc in omega arith)) (λ m r o b e. absurd (let z : ◌≡◌ {A = ℕ} 0 1 = cc in omega arith))
     (λ m r k e.
     let same = room_same s m.id (digest_of p) f (key_open (room_for s m.id (digest_of p)) m.id (key_of m) k) in
@@ -177,13 +176,13 @@ kept_open {s} k = key_open s k.m.id (key_of k.m) k.found
 
 pub record EndedBy (s : Snapshot) (p : List ℕ) (g : ℕ) : Type 0 where
   pub m : Metadata
-  pub read : read_metadata p ≡ metadata-read.Accepted m
+  pub read : read_metadata p ≡ Ok m
   pub is_open_lem : is_open s m.id ≡ true
   pub idle : is_busy s m.id ≡ false
   pub file_is : g ≡ file_of s m.id
 
-pub meet_ended_lem : (s : Snapshot) (n : ℕ) (p : List ℕ) (g : ℕ) → meet s n p ≡ meeting.Ended g → EndedBy s p g
+pub meet_ended_lem : (s : Snapshot) (n : ℕ) (p : List ℕ) (g : ℕ) → meet s n p ≡ Ok (meeting.Ended g) → EndedBy s p g
 meet_ended_lem s n p g =
-    meet_cases s n p (λ (x : Meeting). x ≡ meeting.Ended g → EndedBy s p g)
+    meet_cases s n p (λ (x : Result Meeting Refusal). x ≡ Ok (meeting.Ended g) → EndedBy s p g)
     (λ r e. absurd (let z : ◌≡◌ {A = ℕ} 0 1 = cc in omega arith)) (λ e. absurd (let z : ◌≡◌ {A = ℕ} 0 1 = cc in omega arith)) (λ m r o b e. record { m = m; read = r; is_open_lem = o; idle = b; file_is = cc }) (λ m r k e. absurd (let z : ◌≡◌ {A = ℕ} 0 1 = cc in omega arith))
     (λ m r k t l e. absurd (let z : ◌≡◌ {A = ℕ} 0 1 = cc in omega arith))

@@ -9,7 +9,6 @@ use mathlib.Core.Option.{Option, some}
 use native.Mathlib.Omega.{arith}
 use Rattle.packet_metadata.specs.Metadata.{read_metadata}
 use Rattle.packet_metadata.specs.declared.Metadata.{Metadata}
-use Rattle.packet_metadata.specs.declared.MetadataRead.TheVariants as metadata-read
 use Rattle.runs.specs.Runs.{Run, Member}
 use Rattle.transfer.specs.declared.Key.{Key}
 use Rattle.transfer.specs.Transfers.{key_of}
@@ -29,8 +28,10 @@ use Rattle.engine_model.proofs.MeetLaws.{fit_room, room_other, made_in, Made, me
 use Rattle.engine_model.proofs.DiskLaws.{Some, any}
 use Rattle.engine_model.proofs.Turns.{now_of, next_of, writes_of, puts, Turn, none_added, still, nothing, slotted, closes}
 use Rattle.engine_model.proofs.MarkTurns.{token_write, meta_added, token_there}
+use Rattle.std.specs.Prelude.{Ok, Result, Err}
+use Rattle.refusals.specs.declared.Refusal.{Refusal}
 
-id_of_lem : (p : List ℕ) (m : Metadata) → read_metadata p ≡ metadata-read.Accepted m → metadata_id (read_metadata p) ≡ m.id
+id_of_lem : (p : List ℕ) (m : Metadata) → read_metadata p ≡ Ok m → metadata_id (read_metadata p) ≡ m.id
 unfolding metadata_id
 id_of_lem p m e = ap metadata_id e
 
@@ -62,7 +63,7 @@ unfolding is_open
 still_open s i y o = ap (λ (k : Option Key). is_some k) (slot_key s i y i) ∙ o
 
 kept_turn : (h : List Event) (t : ℕ) (r : Sender) (p : Packet) (x : Ended) (g i : ℕ) → Fit (now_of h)
-    → meet (now_of h) (next_of h) p.octets ≡ meeting.Kept g → metadata_id (read_metadata p.octets) ≡ i
+    → meet (now_of h) (next_of h) p.octets ≡ Ok (meeting.Kept g) → metadata_id (read_metadata p.octets) ≡ i
     → Turn h (opening t r p x) (puts (run h) (with_slot (now_of h) i (kept_slot (run h).engine t r i)) (next_of h) 1 (writes_of h))
 unfolding heard_at kept_slot with_now
 kept_turn h t r p x g i fit e same =
@@ -84,7 +85,7 @@ abbrev made_slot : Engine → ℕ → Sender → List ℕ → Files → Slot
 made_slot e t r p f = new_slot f.file r (digest_of p) (suc e.number) t
 
 module _ (h : List Event) (t : ℕ) (r : Sender) (p : Packet) (f : Files) (fit : Fit (now_of h))
-    (e : meet (now_of h) (next_of h) p.octets ≡ meeting.Make f) where
+    (e : meet (now_of h) (next_of h) p.octets ≡ Ok (meeting.Make f)) where
   made_turn : Turn h (opening t r p whole) (puts (run h) (made_in (now_of h) p.octets f (made_slot (run h).engine t r p.octets f))
       (suc (next_of h)) 1 (token_write f.id f.file meta_part whole ∷ writes_of h))
   unfolding with_now
@@ -156,21 +157,21 @@ module _ (h : List Event) (t : ℕ) (r : Sender) (p : Packet) (f : Files) (fit :
 
 -- ---- any METADATA
 
-open_turn : (h : List Event) (t : ℕ) (r : Sender) (p : Packet) (x : Ended) (y : Meeting) → Fit (now_of h) → meet (now_of h) (next_of h) p.octets ≡ y
+open_turn : (h : List Event) (t : ℕ) (r : Sender) (p : Packet) (x : Ended) (y : Result Meeting Refusal) → Fit (now_of h) → meet (now_of h) (next_of h) p.octets ≡ y
     → Turn h (opening t r p x) (record {
       engine = opened_by (run h).engine t r p.octets x y;
       writes = does_all x (made_of y) (writes_of h);
       area = (run h).area;
     })
 unfolding opened_by made_of does_all does kept_slot
-open_turn h t r p x (meeting.Refused n) fit e = nothing h (opening t r p x) fit
-open_turn h t r p x meeting.Wait fit e = nothing h (opening t r p x) fit
-open_turn h t r p x (meeting.Kept g) fit e = kept_turn h t r p x g (metadata_id (read_metadata p.octets)) fit e refl
-open_turn h t r p x (meeting.Ended g) fit e = closes h (opening t r p x) (metadata_id (read_metadata p.octets)) fit
-open_turn h t r p (part c) (meeting.Make f) fit e =
+open_turn h t r p x (Err n) fit e = nothing h (opening t r p x) fit
+open_turn h t r p x (Ok meeting.Wait) fit e = nothing h (opening t r p x) fit
+open_turn h t r p x (Ok (meeting.Kept g)) fit e = kept_turn h t r p x g (metadata_id (read_metadata p.octets)) fit e refl
+open_turn h t r p x (Ok (meeting.Ended g)) fit e = closes h (opening t r p x) (metadata_id (read_metadata p.octets)) fit
+open_turn h t r p (part c) (Ok (meeting.Make f)) fit e =
     still h (opening t r p (part c)) (token_write f.id f.file meta_part (part c) ∷ writes_of h) fit
     (meta_added h (opening t r p (part c)) f.id f.file (part c))
-open_turn h t r p whole (meeting.Make f) fit e = made_turn h t r p f fit e
+open_turn h t r p whole (Ok (meeting.Make f)) fit e = made_turn h t r p f fit e
 
 pub opening_turn : (h : List Event) (t : ℕ) (r : Sender) (p : Packet) (x : Ended) → Fit (now_of h) → Turn h (opening t r p x) (step (run h) (opening t r p x))
 unfolding step acts actions opened

@@ -10,8 +10,6 @@ use native.Mathlib.Omega.{arith}
 use lib.Dec.{eqb}
 use Rattle.packet_data.specs.Data.{read_data}
 use Rattle.packet_data.specs.declared.Data.{Data}
-use Rattle.packet_data.specs.declared.DataRead.{DataRead}
-use Rattle.packet_data.specs.declared.DataRead.TheVariants as data-read
 use Rattle.runs.specs.Runs.{run, Within, Member}
 use Rattle.transfer.specs.Record.{stop_of, stamp_in}
 use Rattle.transfer.proofs.StampLaws.{stamp_known}
@@ -33,6 +31,8 @@ use Rattle.engine_model.proofs.FirmLaws.{At}
 use Rattle.engine_model.proofs.Backing.{BackedAt, Keeps}
 use Rattle.engine_model.proofs.History.{Known, known_later, known_slot}
 use Rattle.engine_model.proofs.Turns.{now_of, next_of, writes_of, Turn, Adds, none_added, one_added, still, nothing, closes}
+use Rattle.std.specs.Prelude.{Result, Ok, Err}
+use Rattle.refusals.specs.declared.Refusal.{Refusal}
 
 -- ---- a stretch is recorded
 
@@ -116,7 +116,7 @@ written_brings whole b o v e = e
 written_brings (part k) b o v e = cond_some (k o) (b o) v e
 
 module _ (h : List Event) (t : ℕ) (r : Sender) (p : Packet) (from : ℕ) (q : Ended) (y : Stretch) (l : Looked (now_of h) r p.octets y)
-    (new : look_data (now_of h) r p.octets from ≡ look.New y)
+    (new : look_data (now_of h) r p.octets from ≡ Ok (look.New y))
     (missing : (o : ℕ) → Within (run y.from y.to) o → Member (received (now_of h) l.d.id) o → ⊥) where
   -- nothing is written where an octet was received
   silent : (i f o v : ℕ) → Keeps (now_of h) i f o → At (stretch_write p.octets l.d y q) i f octets_part o v → ⊥
@@ -162,7 +162,7 @@ stretch_there h r p y l ws o w =
 -- ---- any DATA
 
 module _ (h : List Event) (t : ℕ) (r : Sender) (p : Packet) (from : ℕ) (q : Ended) where
-  abbrev after : DataRead → Look → World
+  abbrev after : Result Data Refusal → Result Look Refusal → World
   after d y = record {
     engine = stored_as (world.run h).engine t p.octets q d y;
     writes = does_all q (write_of p.octets d y) (writes_of h);
@@ -170,17 +170,17 @@ module _ (h : List Event) (t : ℕ) (r : Sender) (p : Packet) (from : ℕ) (q : 
   }
 
 new_turn : (h : List Event) (t : ℕ) (r : Sender) (p : Packet) (from : ℕ) (q : Ended) (d : Data) (y : Stretch) → Fit (now_of h)
-    → read_data p.octets ≡ data-read.Accepted d → look_data (now_of h) r p.octets from ≡ look.New y
-    → Turn h (storing t r p from q) (after h t r p from q (data-read.Accepted d) (look.New y))
+    → read_data p.octets ≡ Ok d → look_data (now_of h) r p.octets from ≡ Ok (look.New y)
+    → Turn h (storing t r p from q) (after h t r p from q (Ok d) (Ok (look.New y)))
 unfolding stored_as write_of does_all does
 new_turn h t r p from q d y fit read e =
     let l = look_new (now_of h) r p.octets from y fit e in
-    let same : l.0.d ≡ d = (let u : read_data p.octets ≡ data-read.Accepted l.0.d = l.0.read in cc) in
-    subst (λ (b : Data). Turn h (storing t r p from q) (after h t r p from q (data-read.Accepted b) (look.New y))) same (go q l.0 l.1)
+    let same : l.0.d ≡ d = (let u : read_data p.octets ≡ Ok l.0.d = l.0.read in cc) in
+    subst (λ (b : Data). Turn h (storing t r p from q) (after h t r p from q (Ok b) (Ok (look.New y)))) same (go q l.0 l.1)
   where
     go : (q : Ended) (l : Looked (now_of h) r p.octets y)
         → ((o : ℕ) → Within (run y.from y.to) o → Member (received (now_of h) l.d.id) o → ⊥)
-        → Turn h (storing t r p from q) (after h t r p from q (data-read.Accepted l.d) (look.New y))
+        → Turn h (storing t r p from q) (after h t r p from q (Ok l.d) (Ok (look.New y)))
     go whole l missing =
         recorded_turn h (storing t r p from whole) t p r y (stretch_write p.octets l.d y whole ∷ writes_of h) fit l
         (stretch_added h t r p from whole y l e missing) (λ o w. inl (stretch_there h r p y l (writes_of h) o w))
@@ -199,25 +199,25 @@ differs_turn h x i fit true = closes h x i fit
 differs_turn h x i fit false = nothing h x fit
 
 known_turn : (h : List Event) (t : ℕ) (r : Sender) (p : Packet) (from : ℕ) (q : Ended) (d : Data) (y : Stretch) → Fit (now_of h)
-    → read_data p.octets ≡ data-read.Accepted d → look_data (now_of h) r p.octets from ≡ look.Known y
-    → Turn h (storing t r p from q) (after h t r p from q (data-read.Accepted d) (look.Known y))
+    → read_data p.octets ≡ Ok d → look_data (now_of h) r p.octets from ≡ Ok (look.Known y)
+    → Turn h (storing t r p from q) (after h t r p from q (Ok d) (Ok (look.Known y)))
 unfolding stored_as write_of does_all does closed
 known_turn h t r p from (part k) d y fit read e = differs_turn h (storing t r p from (part k)) d.id fit (may_close (now_of h) d.id false)
 known_turn h t r p from whole d y fit read e =
     let l = look_known (now_of h) r p.octets from y fit e in
-    let same : l.0.d ≡ d = (let u : read_data p.octets ≡ data-read.Accepted l.0.d = l.0.read in cc) in
-    subst (λ (b : Data). Turn h (storing t r p from whole) (after h t r p from whole (data-read.Accepted b) (look.Known y))) same
+    let same : l.0.d ≡ d = (let u : read_data p.octets ≡ Ok l.0.d = l.0.read in cc) in
+    subst (λ (b : Data). Turn h (storing t r p from whole) (after h t r p from whole (Ok b) (Ok (look.Known y)))) same
     (recorded_turn h (storing t r p from whole) t p r y (writes_of h) fit l.0 (none_added h (storing t r p from whole)) (λ o w. inr (l.1 o w)))
 
-store_turn : (h : List Event) (t : ℕ) (r : Sender) (p : Packet) (from : ℕ) (q : Ended) (d : DataRead) (y : Look) → Fit (now_of h)
+store_turn : (h : List Event) (t : ℕ) (r : Sender) (p : Packet) (from : ℕ) (q : Ended) (d : Result Data Refusal) (y : Result Look Refusal) → Fit (now_of h)
     → read_data p.octets ≡ d → look_data (now_of h) r p.octets from ≡ y → Turn h (storing t r p from q) (after h t r p from q d y)
 unfolding stored_as write_of does_all
-store_turn h t r p from q (data-read.Accepted d) (look.New y) fit read e = new_turn h t r p from q d y fit read e
-store_turn h t r p from q (data-read.Accepted d) (look.Known y) fit read e = known_turn h t r p from q d y fit read e
-store_turn h t r p from q (data-read.Accepted d) look.Over fit read e = nothing h (storing t r p from q) fit
-store_turn h t r p from q (data-read.Accepted d) look.Stranger fit read e = nothing h (storing t r p from q) fit
-store_turn h t r p from q (data-read.Accepted d) (look.Refused n) fit read e = nothing h (storing t r p from q) fit
-store_turn h t r p from q (data-read.Refused n) y fit read e = nothing h (storing t r p from q) fit
+store_turn h t r p from q (Ok d) (Ok (look.New y)) fit read e = new_turn h t r p from q d y fit read e
+store_turn h t r p from q (Ok d) (Ok (look.Known y)) fit read e = known_turn h t r p from q d y fit read e
+store_turn h t r p from q (Ok d) (Ok look.Over) fit read e = nothing h (storing t r p from q) fit
+store_turn h t r p from q (Ok d) (Ok look.Stranger) fit read e = nothing h (storing t r p from q) fit
+store_turn h t r p from q (Ok d) (Err n) fit read e = nothing h (storing t r p from q) fit
+store_turn h t r p from q (Err n) y fit read e = nothing h (storing t r p from q) fit
 
 pub storing_turn : (h : List Event) (t : ℕ) (r : Sender) (p : Packet) (from : ℕ) (q : Ended) → Fit (now_of h)
     → Turn h (storing t r p from q) (step (world.run h) (storing t r p from q))

@@ -27,6 +27,8 @@ use Rattle.engine_model.proofs.Histories.{run_inv, run_leads}
 use Rattle.engine_model.proofs.MarkTurns.{name_open}
 use Rattle.engine_model.proofs.KeptLaws.{kept_of, token_stays, kept_along}
 use Rattle.engine_model.proofs.Told.{Says, Completes, answer_says, report_completes}
+use Rattle.std.specs.Prelude.{Result, Ok}
+use Rattle.refusals.specs.declared.Refusal.{Refusal}
 
 -- ---- (1)
 
@@ -105,15 +107,15 @@ owners_claimed h i e = (sound_open (Known h (next_of h)) (run h).engine.now i (r
 
 -- an opening that makes files takes a number that no later one takes
 opening_next : (h : List Event) (t : ℕ) (r : Sender) (p : Packet) (f : Files)
-    → meet (run h).engine.now (next_of h) p.octets ≡ meeting.Make f → next_of h < next_of (opening t r p whole ∷ h)
+    → meet (run h).engine.now (next_of h) p.octets ≡ Ok (meeting.Make f) → next_of h < next_of (opening t r p whole ∷ h)
 unfolding run step acts opened opened_by with_now
 opening_next h t r p f e =
-    subst (λ (y : Meeting). next_of h < (opened_by (run h).engine t r p.octets whole y).next) (sym e) (omega arith)
+    subst (λ (y : Result Meeting Refusal). next_of h < (opened_by (run h).engine t r p.octets whole y).next) (sym e) (omega arith)
 
 -- of two openings with one file number neither is before the other
 once : (l m : List Event) (s t : ℕ) (x y : Sender) (p q : Packet) (f g : Files) (a b : List Event)
     → l ++ (opening s x p whole ∷ a) ≡ m ++ (opening t y q whole ∷ b) → next_of a ≡ next_of b
-    → meet (run a).engine.now (next_of a) p.octets ≡ meeting.Make f → meet (run b).engine.now (next_of b) q.octets ≡ meeting.Make g
+    → meet (run a).engine.now (next_of a) p.octets ≡ Ok (meeting.Make f) → meet (run b).engine.now (next_of b) q.octets ≡ Ok (meeting.Make g)
     → a ≡ b
 once [] [] s t x y p q f g a b e n u v = cc
 once [] (z ∷ m) s t x y p q f g a b e n u v =
@@ -129,7 +131,7 @@ once (z ∷ l) [] s t x y p q f g a b e n u v =
 once (z ∷ l) (w ∷ m) s t x y p q f g a b e n u v = once l m s t x y p q f g a b (cc) n u v
 
 -- the file that an opening makes has the next number
-made_next : (h : List Event) (p : Packet) (f : Files) → meet (run h).engine.now (next_of h) p.octets ≡ meeting.Make f → f.file ≡ next_of h
+made_next : (h : List Event) (p : Packet) (f : Files) → meet (run h).engine.now (next_of h) p.octets ≡ Ok (meeting.Make f) → f.file ≡ next_of h
 made_next h p f e = (meet_make (run h).engine.now (next_of h) p.octets f e).file_is
 
 pub files_once : FilesOnce

@@ -11,8 +11,6 @@ use borrow.Author.Tests.{eqb-true}
 use lib.Dec.{eqb}
 use Rattle.refusals.proofs.TestLaws.{and_iff}
 use Rattle.packet_data.specs.Data.{read_data}
-use Rattle.packet_data.specs.declared.DataRead.{DataRead}
-use Rattle.packet_data.specs.declared.DataRead.TheVariants as data-read
 use Rattle.runs.specs.Runs.{Run}
 use Rattle.transfer.specs.declared.Key.{Key}
 use Rattle.engine_slots.specs.declared.Sender.{Sender}
@@ -25,6 +23,9 @@ use Rattle.engine_model.specs.Stretches.{look_data}
 use Rattle.engine_model.specs.Meetings.{meet}
 use Rattle.engine_model.specs.Engine.{Engine, Event, opening, storing, closing, answering, naming, reporting, syncing, good, bad, crash, Action, write, sync, answer, report, actions, made_of, write_of, answer_of, may_name, name_of, may_report, report_of, may_sync}
 use Rattle.engine_model.specs.Claims.{In}
+use Rattle.std.specs.Prelude.{Result, Ok, Err}
+use Rattle.refusals.specs.declared.Refusal.{Refusal}
+use Rattle.packet_data.specs.declared.Data.{Data}
 
 -- an answer has the received offsets of `synced`
 pub record Says (e : Engine) (i f : ℕ) (rs : List Run) : Type 0 where
@@ -53,22 +54,22 @@ module _ (a : Action) (loud : Loud a) where
   not_one b n (inl e) = n (subst Loud e loud)
   not_one b n (inr m) = m
 
-  not_made : (y : Meeting) → In a (made_of y) → ⊥
+  not_made : (y : Result Meeting Refusal) → In a (made_of y) → ⊥
   unfolding made_of
-  not_made (meeting.Make f) m = not_one (write _ _ _ _) (λ x. x) m
-  not_made (meeting.Refused r) m = m
-  not_made meeting.Wait m = m
-  not_made (meeting.Kept f) m = m
-  not_made (meeting.Ended f) m = m
+  not_made (Ok (meeting.Make f)) m = not_one (write _ _ _ _) (λ x. x) m
+  not_made (Err r) m = m
+  not_made (Ok meeting.Wait) m = m
+  not_made (Ok (meeting.Kept f)) m = m
+  not_made (Ok (meeting.Ended f)) m = m
 
-  not_stored : (p : List ℕ) (d : DataRead) (y : Look) → In a (write_of p d y) → ⊥
+  not_stored : (p : List ℕ) (d : Result Data Refusal) (y : Result Look Refusal) → In a (write_of p d y) → ⊥
   unfolding write_of
-  not_stored p (data-read.Accepted d) (look.New x) m = not_one (write _ _ _ _) (λ x. x) m
-  not_stored p (data-read.Accepted d) (look.Known x) m = m
-  not_stored p (data-read.Accepted d) look.Over m = m
-  not_stored p (data-read.Accepted d) look.Stranger m = m
-  not_stored p (data-read.Accepted d) (look.Refused r) m = m
-  not_stored p (data-read.Refused r) y m = m
+  not_stored p (Ok d) (Ok (look.New x)) m = not_one (write _ _ _ _) (λ x. x) m
+  not_stored p (Ok d) (Ok (look.Known x)) m = m
+  not_stored p (Ok d) (Ok look.Over) m = m
+  not_stored p (Ok d) (Ok look.Stranger) m = m
+  not_stored p (Ok d) (Err r) m = m
+  not_stored p (Err r) y m = m
 
   not_named : (b : Bool) (e : Engine) (i : ℕ) → In a (name_of b e i) → ⊥
   unfolding name_of

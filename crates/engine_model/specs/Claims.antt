@@ -1,13 +1,11 @@
 -- R19.14, R19.15, R19.16, R19.17, R19.19: what is claimed of every history.
 -- Assumes nothing.
-use Rattle.std.specs.Prelude.{ℕ, ◌<◌, ◌≡◌, Bool, true, List, [], ◌∷◌, ◌++◌, ◌⊎◌}
+use Rattle.std.specs.Prelude.{ℕ, ◌<◌, ◌≡◌, Bool, true, List, [], ◌∷◌, ◌++◌, ◌⊎◌, Ok}
 use Rattle.std.proofs.Math.Option.{some}
 use Rattle.packet_metadata.specs.Metadata.{read_metadata}
 use Rattle.packet_metadata.specs.declared.Metadata.{Metadata}
-use Rattle.packet_metadata.specs.declared.MetadataRead.TheVariants as metadata-read
 use Rattle.packet_data.specs.Data.{read_data}
 use Rattle.packet_data.specs.declared.Data.{Data}
-use Rattle.packet_data.specs.declared.DataRead.TheVariants as data-read
 use Rattle.runs.specs.Runs.{Run, Member}
 use Rattle.transfer.specs.declared.Key.{Key}
 use Rattle.transfer.specs.Transfers.{key_of}
@@ -39,9 +37,9 @@ pub record Brought (h : List Event) (i f o v : ℕ) : Type 0 where
   pub ended : Ended
   pub split : h ≡ later ++ (storing time sender packet from ended ∷ earlier)
   pub brought : Data
-  pub read : read_data packet.octets ≡ data-read.Accepted brought
+  pub read : read_data packet.octets ≡ Ok brought
   pub stretch : Stretch
-  pub new : look_data (run earlier).engine.now sender packet.octets from ≡ look.New stretch
+  pub new : look_data (run earlier).engine.now sender packet.octets from ≡ Ok (look.New stretch)
   pub of_id : stretch.id ≡ i
   pub of_file : stretch.file ≡ f
   pub owned : (slot_of (run earlier).engine.now i).owner ≡ sender
@@ -56,11 +54,11 @@ pub record Begun (h : List Event) (i f : ℕ) (k : Key) : Type 0 where
   pub packet : Packet
   pub split : h ≡ later ++ (opening time sender packet whole ∷ earlier)
   pub metadata : Metadata
-  pub read : read_metadata packet.octets ≡ metadata-read.Accepted metadata
+  pub read : read_metadata packet.octets ≡ Ok metadata
   pub of_id : metadata.id ≡ i
   pub key_is : key_of metadata ≡ k
   pub files : Files
-  pub makes : meet (run earlier).engine.now (run earlier).engine.next packet.octets ≡ meeting.Make files
+  pub makes : meet (run earlier).engine.now (run earlier).engine.next packet.octets ≡ Ok (meeting.Make files)
   pub of_file : files.file ≡ f
 
 -- a file belongs to one such opening

@@ -1,14 +1,10 @@
 -- R19.5, R19.6, R19.7, R19.8, R19.9, R19.11: the engine: what it keeps, what it is told, what it has done, and what it is afterwards. It does nothing itself.
 -- Assumes nothing.
-use Rattle.std.specs.Prelude.{ℕ, suc, ◌+◌, Bool, true, false, cond, ◌&&◌, ◌||◌, not, List, [], ◌∷◌, ltb, eqb}
+use Rattle.std.specs.Prelude.{ℕ, suc, ◌+◌, Bool, true, false, cond, ◌&&◌, ◌||◌, not, List, [], ◌∷◌, ltb, eqb, Result, Ok, Err}
 use Rattle.std.proofs.Math.Option.{Option, none, some}
 use Rattle.packet_metadata.specs.Metadata.{read_metadata}
-use Rattle.packet_metadata.specs.declared.MetadataRead.{MetadataRead}
-use Rattle.packet_metadata.specs.declared.MetadataRead.TheVariants as metadata-read
 use Rattle.packet_data.specs.Data.{read_data}
 use Rattle.packet_data.specs.declared.Data.{Data}
-use Rattle.packet_data.specs.declared.DataRead.{DataRead}
-use Rattle.packet_data.specs.declared.DataRead.TheVariants as data-read
 use Rattle.runs.specs.Runs.{Run}
 use Rattle.transfer.specs.declared.Key.{Key}
 use Rattle.transfer.specs.Transfers.{Transfer}
@@ -26,6 +22,8 @@ use Rattle.engine_slots.specs.declared.Meeting.TheVariants as meeting
 use Rattle.engine_model.specs.Snapshots.{Packet, Snapshot, is_some, key_in, is_open, must_wait, slot_of, file_of, received, is_complete, same_file, with_slot, with_table, with_new, closed_in, owned_by, heard_at, answered_slot, named_slot, reported_slot, new_slot}
 use Rattle.engine_model.specs.Stretches.{brings_in, piece_of, look_data}
 use Rattle.engine_model.specs.Meetings.{last_number, digest_of, room_for, meet}
+use Rattle.refusals.specs.declared.Refusal.{Refusal}
+use Rattle.packet_metadata.specs.declared.Metadata.{Metadata}
 
 pub record Engine : Type 0 where
   -- as of all writes handed over
@@ -102,20 +100,20 @@ pub data Action : Type 0 where
 
 -- ---- what is done
 
-unfoldable pub made_of : Meeting → List Action
-made_of (meeting.Make f) = write f.id f.file meta_part token ∷ []
-made_of (meeting.Refused r) = []
-made_of meeting.Wait = []
-made_of (meeting.Kept f) = []
-made_of (meeting.Ended f) = []
+unfoldable pub made_of : Result Meeting Refusal → List Action
+made_of (Ok (meeting.Make f)) = write f.id f.file meta_part token ∷ []
+made_of (Err r) = []
+made_of (Ok meeting.Wait) = []
+made_of (Ok (meeting.Kept f)) = []
+made_of (Ok (meeting.Ended f)) = []
 
-unfoldable pub write_of : List ℕ → DataRead → Look → List Action
-write_of p (data-read.Accepted d) (look.New x) = write x.id x.file octets_part (brings_in p d x) ∷ []
-write_of p (data-read.Accepted d) (look.Known x) = []
-write_of p (data-read.Accepted d) look.Over = []
-write_of p (data-read.Accepted d) look.Stranger = []
-write_of p (data-read.Accepted d) (look.Refused r) = []
-write_of p (data-read.Refused r) l = []
+unfoldable pub write_of : List ℕ → Result Data Refusal → Result Look Refusal → List Action
+write_of p (Ok d) (Ok (look.New x)) = write x.id x.file octets_part (brings_in p d x) ∷ []
+write_of p (Ok d) (Ok (look.Known x)) = []
+write_of p (Ok d) (Ok look.Over) = []
+write_of p (Ok d) (Ok look.Stranger) = []
+write_of p (Ok d) (Err r) = []
+write_of p (Err r) l = []
 
 unfoldable pub answer_of : Option Key → Snapshot → ℕ → List Action
 answer_of none s i = []
@@ -169,20 +167,20 @@ with_now e s n c = record {
   begun = e.begun;
 }
 
-unfoldable pub metadata_id : MetadataRead → ℕ
-metadata_id (metadata-read.Accepted m) = m.id
-metadata_id (metadata-read.Refused r) = 0
+unfoldable pub metadata_id : Result Metadata Refusal → ℕ
+metadata_id (Ok m) = m.id
+metadata_id (Err r) = 0
 
 -- a STATUS is due for METADATA that is accepted, as unasked; its sender is the owner
-unfoldable pub opened_by : Engine → ℕ → Sender → List ℕ → Ended → Meeting → Engine
-opened_by e t r p x (meeting.Refused n) = e
-opened_by e t r p x meeting.Wait = e
-opened_by e t r p x (meeting.Kept f) =
+unfoldable pub opened_by : Engine → ℕ → Sender → List ℕ → Ended → Result Meeting Refusal → Engine
+opened_by e t r p x (Err n) = e
+opened_by e t r p x (Ok meeting.Wait) = e
+opened_by e t r p x (Ok (meeting.Kept f)) =
     let i = metadata_id (read_metadata p) in
     with_now e (with_slot e.now i (heard_at t (suc e.number) true false (owned_by r (slot_of e.now i)))) e.next 1
-opened_by e t r p x (meeting.Ended f) = with_now e (closed_in e.now (metadata_id (read_metadata p))) e.next 1
-opened_by e t r p (part k) (meeting.Make f) = e
-opened_by e t r p whole (meeting.Make f) =
+opened_by e t r p x (Ok (meeting.Ended f)) = with_now e (closed_in e.now (metadata_id (read_metadata p))) e.next 1
+opened_by e t r p (part k) (Ok (meeting.Make f)) = e
+opened_by e t r p whole (Ok (meeting.Make f)) =
     let d = digest_of p in
     let s = room_for e.now f.id d in
     with_now e (with_new s f.id (open_packet s.table p).table (new_slot f.file r d (suc e.number) t)) (suc e.next) 1
@@ -206,15 +204,15 @@ unfoldable pub closed : Engine → ℕ → Bool → Engine
 closed e i b = cond (may_close e.now i b) (with_now e (closed_in e.now i) e.next 1) e
 
 -- what is compared and is not equal ends the transfer, unless its page is busy
-unfoldable pub stored_as : Engine → ℕ → List ℕ → Ended → DataRead → Look → Engine
-stored_as e t p whole (data-read.Accepted d) (look.New x) = recorded_in e t p d x
-stored_as e t p (part k) (data-read.Accepted d) (look.New x) = e
-stored_as e t p whole (data-read.Accepted d) (look.Known x) = recorded_in e t p d x
-stored_as e t p (part k) (data-read.Accepted d) (look.Known x) = closed e d.id false
-stored_as e t p x (data-read.Accepted d) look.Over = e
-stored_as e t p x (data-read.Accepted d) look.Stranger = e
-stored_as e t p x (data-read.Accepted d) (look.Refused r) = e
-stored_as e t p x (data-read.Refused r) l = e
+unfoldable pub stored_as : Engine → ℕ → List ℕ → Ended → Result Data Refusal → Result Look Refusal → Engine
+stored_as e t p whole (Ok d) (Ok (look.New x)) = recorded_in e t p d x
+stored_as e t p (part k) (Ok d) (Ok (look.New x)) = e
+stored_as e t p whole (Ok d) (Ok (look.Known x)) = recorded_in e t p d x
+stored_as e t p (part k) (Ok d) (Ok (look.Known x)) = closed e d.id false
+stored_as e t p x (Ok d) (Ok look.Over) = e
+stored_as e t p x (Ok d) (Ok look.Stranger) = e
+stored_as e t p x (Ok d) (Err r) = e
+stored_as e t p x (Err r) l = e
 
 unfoldable pub stored : Engine → ℕ → Sender → List ℕ → ℕ → Ended → Engine
 stored e t r p from x = stored_as e t p x (read_data p) (look_data e.now r p from)

@@ -1,15 +1,11 @@
 -- R19.4: what is done for DATA, from an offset on: the stretches of its octets that were received are compared, the others are written.
 -- Assumes nothing.
-use Rattle.std.specs.Prelude.{ℕ, ◌+◌, ◌-◌, max, Bool, true, false, cond, ◌&&◌, List, get_or, ltb, leb}
+use Rattle.std.specs.Prelude.{ℕ, ◌+◌, ◌-◌, max, Bool, true, false, cond, ◌&&◌, List, get_or, ltb, leb, Result, Ok, Err}
 use Rattle.std.proofs.Math.Option.{Option, none, some}
 use Rattle.packet_data.specs.Data.{read_data}
 use Rattle.packet_data.specs.declared.Data.{Data}
-use Rattle.packet_data.specs.declared.DataRead.{DataRead}
-use Rattle.packet_data.specs.declared.DataRead.TheVariants as data-read
 use Rattle.transfer.specs.Record.{stop_of}
 use Rattle.table.specs.Record.{record_packet}
-use Rattle.table.specs.declared.Recorded.{Recorded}
-use Rattle.table.specs.declared.Recorded.TheVariants as recorded
 use Rattle.engine_slots.specs.declared.Sender.{Sender}
 use Rattle.engine_slots.specs.declared.Stretch.{Stretch}
 use Rattle.engine_slots.specs.declared.Look.{Look}
@@ -17,6 +13,8 @@ use Rattle.engine_slots.specs.declared.Look.TheVariants as look
 use Rattle.engine_stretch.specs.declared.Reach.{Reach}
 use Rattle.engine_stretch.specs.Stretch.{reach_from}
 use Rattle.engine_model.specs.Snapshots.{Snapshot, slot_of, file_of, received, same_sender}
+use Rattle.refusals.specs.declared.Refusal.{Refusal}
+use Rattle.transfer.specs.declared.Receipt.{Receipt}
 
 -- the octet that a packet brings at an offset
 unfoldable pub brings : List ℕ → Data → ℕ → Option ℕ
@@ -43,24 +41,24 @@ piece_of d x = record {
 unfoldable pub stretch_of : Snapshot → Data → ℕ → Reach → Stretch
 stretch_of s d a r = record { id = d.id; file = file_of s d.id; from = a; to = r.stop; start = d.start + (a - d.offset) }
 
-unfoldable pub look_reach : Snapshot → Data → ℕ → Reach → Look
-look_reach s d a r = cond r.received (look.Known (stretch_of s d a r)) (look.New (stretch_of s d a r))
+unfoldable pub look_reach : Snapshot → Data → ℕ → Reach → Result Look Refusal
+look_reach s d a r = cond r.received (Ok (look.Known (stretch_of s d a r))) (Ok (look.New (stretch_of s d a r)))
 
 -- from the packet's first octet on, or from a later offset
-unfoldable pub look_from : Snapshot → Data → ℕ → Look
+unfoldable pub look_from : Snapshot → Data → ℕ → Result Look Refusal
 look_from s d from =
     let a = max from d.offset in
-    cond (ltb a (stop_of d)) (look_reach s d a (reach_from (received s d.id) a (stop_of d))) look.Over
+    cond (ltb a (stop_of d)) (look_reach s d a (reach_from (received s d.id) a (stop_of d))) (Ok look.Over)
 
 -- packets of the owner alone are taken
-unfoldable pub look_owned : Snapshot → Sender → Data → ℕ → Look
-look_owned s r d from = cond (same_sender (slot_of s d.id).owner r) (look_from s d from) look.Stranger
+unfoldable pub look_owned : Snapshot → Sender → Data → ℕ → Result Look Refusal
+look_owned s r d from = cond (same_sender (slot_of s d.id).owner r) (look_from s d from) (Ok look.Stranger)
 
 -- the table's refusals come first, by the whole packet
-unfoldable pub look_judged : Snapshot → Sender → ℕ → Recorded → DataRead → Look
-look_judged s r from (recorded.Refused n) d = look.Refused n
-look_judged s r from (recorded.Accepted x) (data-read.Accepted d) = look_owned s r d from
-look_judged s r from (recorded.Accepted x) (data-read.Refused n) = look.Refused n
+unfoldable pub look_judged : Snapshot → Sender → ℕ → Result Receipt Refusal → Result Data Refusal → Result Look Refusal
+look_judged s r from (Err n) d = Err n
+look_judged s r from (Ok x) (Ok d) = look_owned s r d from
+look_judged s r from (Ok x) (Err n) = Err n
 
-unfoldable pub look_data : Snapshot → Sender → List ℕ → ℕ → Look
+unfoldable pub look_data : Snapshot → Sender → List ℕ → ℕ → Result Look Refusal
 look_data s r p from = look_judged s r from (record_packet s.table p).answer (read_data p)

@@ -13,8 +13,9 @@ use Rattle.engine_slots.specs.declared.Slot.{Slot}
 use Rattle.engine_state.specs.State.{engine_in, held_state}
 use Rattle.engine_due.specs.declared.Waits.{Waits}
 use Rattle.engine_next.specs.declared.Page.{Page}
-use Rattle.engine_next.specs.declared.Next.TheVariants.{Refused, Answer, Name, Report, Close}
+use Rattle.engine_next.specs.declared.Next.TheVariants.{Answer, Name, Report, Close}
 use Rattle.engine_next.specs.Next.{next_by, is_urgent, first_next, next_state}
+use Rattle.std.specs.Prelude.{Ok, Err}
 
 module _ (k : ℕ) (x : Page) where
   pub by_answer : k ≡ 2 → Answer x.id ≡ next_by k x
@@ -49,10 +50,10 @@ module _ (done : ℕ) (s : Slot) where
 -- ---- the first of all
 
 module _ (s : List ℕ) (t : ℕ) (w : Waits) (from : ℕ) where
-  pub next_refused : held_state s ≡ false → (r : Refusal) → r ≡ refusal_of 22 → Refused r ≡ next_state s t w from
+  pub next_refused : held_state s ≡ false → (r : Refusal) → r ≡ refusal_of 22 → Err r ≡ next_state s t w from
   unfolding next_state
-  next_refused h r e = rw h (ap Refused e)
+  next_refused h r e = rw h (ap Err e)
 
-  pub next_held : held_state s ≡ true → first_next (engine_in s) t w from (read_table s) ≡ next_state s t w from
+  pub next_held : held_state s ≡ true → Ok (first_next (engine_in s) t w from (read_table s)) ≡ next_state s t w from
   unfolding next_state
   next_held h = rw h

@@ -24,13 +24,13 @@ use Rattle.engine_due.specs.declared.Waits.{Waits}
 use Rattle.engine_due.specs.Due.{is_covered, name_due, report_due, is_at_end, kind_for, kind_from}
 use Rattle.engine_next.specs.declared.Page.{Page}
 use Rattle.engine_next.specs.declared.Next.{Next}
-use Rattle.engine_next.specs.declared.Next.TheVariants.{Refused, Answer, Name, Report, Close, Sync, Nothing}
+use Rattle.engine_next.specs.declared.Next.TheVariants.{Answer, Name, Report, Close, Sync, Nothing}
 use Rattle.engine_next.specs.Next.{page_by, page_of, next_by, sync_due, first_next, next_state}
+use Rattle.std.specs.Prelude.{Ok, Err}
 
 -- ---- from what is said to the transfer that it is said of
 
 abbrev code : Next → ℕ
-code (Refused r) = 0
 code (Answer i) = 2
 code (Name x) = 3
 code (Report x) = 4
@@ -39,7 +39,6 @@ code Sync = 6
 code Nothing = 7
 
 abbrev about : Next → Page
-about (Refused r) = record { id = 0; file = 0; length = 0 }
 about (Answer i) = record { id = i; file = 0; length = 0 }
 about (Name x) = x
 about (Report x) = x
@@ -94,15 +93,16 @@ module _ (e : Engine) (t : ℕ) (w : Waits) (from : ℕ) (c : ℕ) (low : 0 < c)
       go true later z = later z
       go false later z = let k = by_code kind (page_of e x.key.id) c high z in (x.key.id, reached x.key.id k, ap (λ (y : ℕ). next_by y (page_of e x.key.id)) k)
 
-next_of : (s : List ℕ) (t : ℕ) (w : Waits) (from c : ℕ) (low : 0 < c) (high : c < 5) → code (next_state s t w from) ≡ c
-    → Of (engine_in s) t w from c low high (next_state s t w from)
+next_of : (s : List ℕ) (t : ℕ) (w : Waits) (from c : ℕ) (low : 0 < c) (high : c < 5) (n : Next) → next_state s t w from ≡ Ok n → code n ≡ c
+    → Of (engine_in s) t w from c low high n
 unfolding next_state
-next_of s t w from c low high q = go (held_state s) q
+next_of s t w from c low high n q f = go (held_state s) q
   where
-    go : (b : Bool) → code (cond b (first_next (engine_in s) t w from (read_table s)) (Refused (refusal_of 22))) ≡ c
-        → Of (engine_in s) t w from c low high (cond b (first_next (engine_in s) t w from (read_table s)) (Refused (refusal_of 22)))
-    go true z = first_of (engine_in s) t w from c low high (read_table s) z
-    go false z = absurd (omega arith)
+    go : (b : Bool) → cond b (Ok (first_next (engine_in s) t w from (read_table s))) (Err (refusal_of 22)) ≡ Ok n → Of (engine_in s) t w from c low high n
+    go true z =
+        let same : first_next (engine_in s) t w from (read_table s) ≡ n = cc in
+        subst (λ (m : Next). Of (engine_in s) t w from c low high m) same (first_of (engine_in s) t w from c low high (read_table s) (ap code same ∙ f))
+    go false z = absurd (let y : ◌≡◌ {A = ℕ} 0 1 = cc in omega arith)
 
 -- ---- why it is said
 
@@ -150,13 +150,13 @@ page_id e i = go (key_in e.synced i)
 -- ---- an answer, a name, a report
 
 -- the last good sync covers it
-pub answer_covered : (s : List ℕ) (t : ℕ) (w : Waits) (from i : ℕ) → next_state s t w from ≡ Answer i
+pub answer_covered : (s : List ℕ) (t : ℕ) (w : Waits) (from i : ℕ) → next_state s t w from ≡ Ok (Answer i)
     → let e = engine_in s in is_covered e.done (same_file e.now e.synced i) (slot_of e.now i) ≡ true
 unfolding next_by
 answer_covered s t w from i q =
     let e = engine_in s in
-    let f = next_of s t w from 2 (omega arith) (omega arith) (ap code q) in
-    let j : f.0 ≡ i = sym (page_id e f.0) ∙ ap (λ (n : Next). (about n).id) (sym f.2 ∙ q) in
+    let f = next_of s t w from 2 (omega arith) (omega arith) (Answer i) q refl in
+    let j : f.0 ≡ i = sym (page_id e f.0) ∙ ap (λ (n : Next). (about n).id) (sym f.2) in
     subst (λ (k : ℕ). is_covered e.done (same_file e.now e.synced k) (slot_of e.now k) ≡ true) j
     ((kind_told e t w f.0 (slot_of e.now f.0)).1 f.1)
 
@@ -165,16 +165,16 @@ unfolding name_due may_name
 name_parts e i s q = let m = ((and_iff (is_complete e.synced i && same_file e.now e.synced i) _).0 q).0 in (m, ((and_iff (is_complete e.synced i) _).0 m).0)
 
 -- complete on disk, and still open for the same file
-pub name_fine : (s : List ℕ) (t : ℕ) (w : Waits) (from : ℕ) (x : Page) → next_state s t w from ≡ Name x → (may_name (engine_in s) x.id ≡ true) × OnDisk (engine_in s) x
+pub name_fine : (s : List ℕ) (t : ℕ) (w : Waits) (from : ℕ) (x : Page) → next_state s t w from ≡ Ok (Name x) → (may_name (engine_in s) x.id ≡ true) × OnDisk (engine_in s) x
 unfolding next_by
 name_fine s t w from x q =
     let e = engine_in s in
-    let f = next_of s t w from 3 (omega arith) (omega arith) (ap code q) in
+    let f = next_of s t w from 3 (omega arith) (omega arith) (Name x) q refl in
     let p = name_parts e f.0 (slot_of e.now f.0) ((kind_told e t w f.0 (slot_of e.now f.0)).0 f.1) in
-    let d = on_disk e f.0 x p.1 (ap about (sym f.2 ∙ q)) in
+    let d = on_disk e f.0 x p.1 (ap about (sym f.2)) in
     (subst (λ (k : ℕ). may_name e k ≡ true) d.0 p.0, d.1)
 
-pub name_done : (s : List ℕ) (t : ℕ) (w : Waits) (from : ℕ) (x : Page) (z : Ended) → next_state s t w from ≡ Name x
+pub name_done : (s : List ℕ) (t : ℕ) (w : Waits) (from : ℕ) (x : Page) (z : Ended) → next_state s t w from ≡ Ok (Name x)
     → In (write x.id x.file name_part token) (actions (engine_in s) (naming x.id z))
 unfolding actions name_of
 name_done s t w from x z q = let m = name_fine s t w from x q in rw m.0 (inl (λ k. write x.id (m.1.file_is k) name_part token))
@@ -188,17 +188,17 @@ report_parts e i s q =
     (p.0, p.1, ((and_iff (is_complete e.synced i) _).0 p.0).0)
 
 -- complete and named on disk, and still open for the same file
-pub report_fine : (s : List ℕ) (t : ℕ) (w : Waits) (from : ℕ) (x : Page) → next_state s t w from ≡ Report x
+pub report_fine : (s : List ℕ) (t : ℕ) (w : Waits) (from : ℕ) (x : Page) → next_state s t w from ≡ Ok (Report x)
     → let e = engine_in s in (may_report e x.id ≡ true) × (same_file e.now e.synced x.id ≡ true) × OnDisk e x
 unfolding next_by
 report_fine s t w from x q =
     let e = engine_in s in
-    let f = next_of s t w from 4 (omega arith) (omega arith) (ap code q) in
+    let f = next_of s t w from 4 (omega arith) (omega arith) (Report x) q refl in
     let p = report_parts e f.0 (slot_of e.now f.0) ((kind_told e t w f.0 (slot_of e.now f.0)).2 f.1) in
-    let d = on_disk e f.0 x p.2 (ap about (sym f.2 ∙ q)) in
+    let d = on_disk e f.0 x p.2 (ap about (sym f.2)) in
     (subst (λ (k : ℕ). may_report e k ≡ true) d.0 p.0, subst (λ (k : ℕ). same_file e.now e.synced k ≡ true) d.0 p.1, d.1)
 
-pub report_done : (s : List ℕ) (t : ℕ) (w : Waits) (from : ℕ) (x : Page) → next_state s t w from ≡ Report x
+pub report_done : (s : List ℕ) (t : ℕ) (w : Waits) (from : ℕ) (x : Page) → next_state s t w from ≡ Ok (Report x)
     → In (report x.id x.file x.length) (actions (engine_in s) (reporting x.id))
 unfolding actions report_of
 report_done s t w from x q =

@@ -1,6 +1,6 @@
 -- R19.10: what is to be done next, at a time: of each transfer in its order, from an Id on, what is due (engine_due: Due); then a sync.
 -- Assumes nothing.
-use Rattle.std.specs.Prelude.{ℕ, Bool, true, false, cond, ◌&&◌, ◌||◌, not, List, [], ◌∷◌, ltb, eqb}
+use Rattle.std.specs.Prelude.{ℕ, Bool, true, false, cond, ◌&&◌, ◌||◌, not, List, [], ◌∷◌, ltb, eqb, Result, Ok, Err}
 use Rattle.std.proofs.Math.Option.{Option, none, some}
 use Rattle.refusals.specs.Refusals.{refusal_of}
 use Rattle.transfer.specs.declared.Key.{Key}
@@ -13,7 +13,8 @@ use Rattle.engine_due.specs.declared.Waits.{Waits}
 use Rattle.engine_due.specs.Due.{is_over, kind_from}
 use Rattle.engine_next.specs.declared.Page.{Page}
 use Rattle.engine_next.specs.declared.Next.{Next}
-use Rattle.engine_next.specs.declared.Next.TheVariants.{Refused, Answer, Name, Report, Close, Sync, Nothing}
+use Rattle.engine_next.specs.declared.Next.TheVariants.{Answer, Name, Report, Close, Sync, Nothing}
+use Rattle.refusals.specs.declared.Refusal.{Refusal}
 
 -- ---- of one transfer
 
@@ -52,5 +53,5 @@ first_next e t w from (x ∷ xs) =
     cond (eqb k 0) later (next_by k (page_of e x.key.id))
 
 -- 22 first
-unfoldable pub next_state : List ℕ → ℕ → Waits → ℕ → Next
-next_state s t w from = cond (held_state s) (first_next (engine_in s) t w from (engine_in s).now.table) (Refused (refusal_of 22))
+unfoldable pub next_state : List ℕ → ℕ → Waits → ℕ → Result Next Refusal
+next_state s t w from = cond (held_state s) (Ok (first_next (engine_in s) t w from (engine_in s).now.table)) (Err (refusal_of 22))

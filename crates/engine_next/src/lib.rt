@@ -8,7 +8,7 @@ ghost use Rattle.engine_next.specs.Next.{page_of, next_by, is_urgent, any_urgent
 
 use engine_due::Waits;
 use engine_slots::Slot;
-use refusals::Refusal;
+use refusals::{Fault, Refusal};
 
 // The page of an Id: its file, and its length.
 #[derive(Clone, Copy)]
@@ -21,7 +21,6 @@ pub struct Page {
 // What is to be done: the STATUS of an Id is due; a page gets its name; a page is reported; an Id is closed; a sync begins; nothing.
 #[derive(Clone, Copy)]
 pub enum Next {
-    Refused(Refusal),
     Answer(u64),
     Name(Page),
     Report(Page),
@@ -89,12 +88,10 @@ fn any_urgent(state: &[u8]) -> bool
 {
     let done = engine_state::number(state, engine_state::DONE);
     let n = area_at::open_count(state) as usize;
-    let mut i: usize = 0;
-    while i < n {
+    for i in 0..n {
         if is_urgent(done, engine_slots::slot_at(state, i)) {
             return true;
         }
-        i += 1;
     }
     false
 }
@@ -126,14 +123,12 @@ fn first_next(state: &[u8], time: u64, waits: Waits, from: u64) -> Next
     ensures { result ≡ first_next (engine_in state.now) time waits from (read_table state.now) }
 {
     let n = area_at::open_count(state) as usize;
-    let mut i: usize = 0;
-    while i < n {
+    for i in 0..n {
         let kind = engine_due::kind_from(state, i, time, waits, from);
         if kind != 0 {
             let page = page_of(state, area_at::head(state, i, area::ID));
             return next_by(kind, page);
         }
-        i += 1;
     }
     if sync_due(state, time, waits) {
         return Next::Sync;
@@ -142,11 +137,11 @@ fn first_next(state: &[u8], time: u64, waits: Waits, from: u64) -> Next
 }
 
 // What is to be done next, of the Ids from `from` on. Nothing changes by asking.
-pub fn decide(state: &[u8], time: u64, waits: Waits, from: u64) -> Next
+pub fn decide(state: &[u8], time: u64, waits: Waits, from: u64) -> Result<Next, Refusal>
     ensures { result ≡ next_state state.now time waits from }
 {
     if !engine_state::held(state) {
-        return Next::Refused(refusals::refuse(22));
+        return Err(Fault::NoTable.into());
     }
-    first_next(state, time, waits, from)
+    Ok(first_next(state, time, waits, from))
 }

@@ -26,6 +26,7 @@ use Rattle.engine_open.specs.Opened.{meet_state, kept_state, made_state, opened_
 use Rattle.engine_open.specs.declared.Closed.{Closed}
 use Rattle.engine_open.specs.declared.Closed.TheVariants as closed
 use Rattle.engine_change.proofs.MadeLaws.{OpenFor, kept_known, ended_known, id_read_lem}
+use Rattle.std.specs.Prelude.{Result, Ok, Err}
 
 -- ---- METADATA
 
@@ -37,58 +38,58 @@ id_told : (s p : List ℕ) (m : Metadata) → OpenFor s p → m ≡ metadata_of 
 id_told s p m k e = ap (λ (x : Metadata). x.id) e ∙ sym (id_read_lem p k.fine)
 
 module _ (s p : List ℕ) (t : ℕ) (r : Sender) (b : Bool) where
-  by_meeting : (x : Meeting) → meet_state s p ≡ x → opened_by s t r p b x ≡ opened_state s t r p b
+  by_meeting : (x : Result Meeting Refusal) → meet_state s p ≡ x → opened_by s t r p b x ≡ opened_state s t r p b
   unfolding opened_state
   by_meeting x e = ap (opened_by s t r p b) (sym e)
 
-  pub opened_refused : (n : Refusal) → meet_state s p ≡ meeting.Refused n → s ≡ opened_state s t r p b
+  pub opened_refused : (n : Refusal) → meet_state s p ≡ Err n → s ≡ opened_state s t r p b
   unfolding opened_by
-  opened_refused n e = by_meeting (meeting.Refused n) e
+  opened_refused n e = by_meeting (Err n) e
 
-  pub opened_waits : meet_state s p ≡ meeting.Wait → s ≡ opened_state s t r p b
+  pub opened_waits : meet_state s p ≡ (Ok meeting.Wait) → s ≡ opened_state s t r p b
   unfolding opened_by
-  opened_waits e = by_meeting meeting.Wait e
+  opened_waits e = by_meeting (Ok meeting.Wait) e
 
-  pub opened_kept : (g : ℕ) → meet_state s p ≡ meeting.Kept g → (m : Metadata) → m ≡ metadata_of p → (c : List ℕ)
+  pub opened_kept : (g : ℕ) → meet_state s p ≡ Ok (meeting.Kept g) → (m : Metadata) → m ≡ metadata_of p → (c : List ℕ)
       → c ≡ kept_state s t r (suc (number_in s number_field)) m.id → c ≡ opened_state s t r p b
   unfolding opened_by
   opened_kept g e m f c h =
-      h ∙ ap (kept_state s t r (suc (number_in s number_field))) (id_told s p m (kept_known s p g e) f) ∙ by_meeting (meeting.Kept g) e
+      h ∙ ap (kept_state s t r (suc (number_in s number_field))) (id_told s p m (kept_known s p g e) f) ∙ by_meeting (Ok (meeting.Kept g)) e
 
-  pub opened_ended : (g : ℕ) → meet_state s p ≡ meeting.Ended g → (m : Metadata) → m ≡ metadata_of p → (c : List ℕ)
+  pub opened_ended : (g : ℕ) → meet_state s p ≡ Ok (meeting.Ended g) → (m : Metadata) → m ≡ metadata_of p → (c : List ℕ)
       → c ≡ changed_state (closed_state s m.id) → c ≡ opened_state s t r p b
   unfolding opened_by
   opened_ended g e m f c h =
-      h ∙ ap (λ (i : ℕ). changed_state (closed_state s i)) (id_told s p m (ended_known s p g e) f) ∙ by_meeting (meeting.Ended g) e
+      h ∙ ap (λ (i : ℕ). changed_state (closed_state s i)) (id_told s p m (ended_known s p g e) f) ∙ by_meeting (Ok (meeting.Ended g)) e
 
-module _ (s p : List ℕ) (t : ℕ) (r : Sender) (b : Bool) (f : Files) (e : meet_state s p ≡ meeting.Make f) where
+module _ (s p : List ℕ) (t : ℕ) (r : Sender) (b : Bool) (f : Files) (e : meet_state s p ≡ Ok (meeting.Make f)) where
   pub opened_made : b ≡ true → (c : List ℕ) → c ≡ made_state s t r p f → c ≡ opened_state s t r p b
   unfolding opened_by
-  opened_made w c h = h ∙ ap (λ (x : Bool). opened_by s t r p x (meeting.Make f)) (sym w) ∙ by_meeting s p t r b (meeting.Make f) e
+  opened_made w c h = h ∙ ap (λ (x : Bool). opened_by s t r p x (Ok (meeting.Make f))) (sym w) ∙ by_meeting s p t r b (Ok (meeting.Make f)) e
 
   pub opened_failed : b ≡ false → s ≡ opened_state s t r p b
   unfolding opened_by
-  opened_failed w = ap (λ (x : Bool). opened_by s t r p x (meeting.Make f)) (sym w) ∙ by_meeting s p t r b (meeting.Make f) e
+  opened_failed w = ap (λ (x : Bool). opened_by s t r p x (Ok (meeting.Make f))) (sym w) ∙ by_meeting s p t r b (Ok (meeting.Make f)) e
 
 -- ---- closing
 
 module _ (s : List ℕ) (i : ℕ) (spoilt : Bool) where
   -- the answer, and the state by it
-  abbrev Gives : Closed → List ℕ → Type 0
+  abbrev Gives : Result Closed Refusal → List ℕ → Type 0
   Gives x c = (x ≡ closing s i spoilt) × (c ≡ gone_state s i spoilt)
 
-  gives : (x : Closed) (c : List ℕ) → closing s i spoilt ≡ x → c ≡ gone_by s i x → Gives x c
+  gives : (x : Result Closed Refusal) (c : List ℕ) → closing s i spoilt ≡ x → c ≡ gone_by s i x → Gives x c
   unfolding gone_state
   gives x c e f = (sym e, f ∙ ap (gone_by s i) (sym e))
 
-  pub close_unheld : held_state s ≡ false → Gives (closed.Refused (refusal_of 22)) s
+  pub close_unheld : held_state s ≡ false → Gives (Err (refusal_of 22)) s
   unfolding closing gone_by
-  close_unheld h = gives (closed.Refused (refusal_of 22)) s (rw h) refl
+  close_unheld h = gives (Err (refusal_of 22)) s (rw h) refl
 
   module _ (h : held_state s ≡ true) where
-    pub close_none : is_open (snapshot_in s) i ≡ false → Gives (closed.Refused (refusal_of 12)) s
+    pub close_none : is_open (snapshot_in s) i ≡ false → Gives (Err (refusal_of 12)) s
     unfolding closing gone_by
-    close_none o = gives (closed.Refused (refusal_of 12)) s (rw (h, o)) refl
+    close_none o = gives (Err (refusal_of 12)) s (rw (h, o)) refl
 
     module _ (p : ℕ) (k : KeptAt i (read_table s) p) (x : Slot) (e : x ≡ slot_at s p)
         (b : Bool) (f : b ≡ is_complete (snapshot_in s) i && not (eqb x.reported 1)) (w : Bool) (v : w ≡ b && not spoilt) where
@@ -96,11 +97,11 @@ module _ (s : List ℕ) (i : ℕ) (spoilt : Bool) where
       unfolding must_wait
       waits = rw (busy_is s i p k x e b f) (sym v)
 
-      pub close_waits : w ≡ true → Gives closed.Wait s
+      pub close_waits : w ≡ true → Gives (Ok closed.Wait) s
       unfolding closing gone_by
-      close_waits t = gives closed.Wait s (rw (h, kept_open s i p k, waits, t)) refl
+      close_waits t = gives (Ok closed.Wait) s (rw (h, kept_open s i p k, waits, t)) refl
 
-      pub close_gone : w ≡ false → (c : List ℕ) → c ≡ changed_state (closed_state s i) → Gives (closed.Gone x.file) c
+      pub close_gone : w ≡ false → (c : List ℕ) → c ≡ changed_state (closed_state s i) → Gives (Ok (closed.Gone x.file)) c
       unfolding closing gone_by
       close_gone t c g =
-          gives (closed.Gone x.file) c (rw (h, kept_open s i p k, waits, t) (ap closed.Gone (sym (file_is s i p k x e)))) g
+          gives (Ok (closed.Gone x.file)) c (rw (h, kept_open s i p k, waits, t) (ap (λ (f : ℕ). Ok (closed.Gone f)) (sym (file_is s i p k x e)))) g

@@ -51,9 +51,9 @@ closed_is s i k b e f g =
 
 -- ---- one whose page is busy
 
-pub busy_not : (s : List ℕ) (i : ℕ) (c : Bool) → c ≡ is_complete (snapshot_in s) i → c ≡ false → false ≡ is_busy (snapshot_in s) i
+pub busy_not : (s : List ℕ) (i : ℕ) (c : Bool) → c ≡ is_complete (snapshot_in s) i → c ≡ false → c ≡ is_busy (snapshot_in s) i
 unfolding is_busy
-busy_not s i c f h = rw (← f, h)
+busy_not s i c f h = h ∙ rw (← f, h)
 
 pub busy_by : (s : List ℕ) (i p : ℕ) → p ≡ place_of i (read_table s) → OpenIn s i → (x : Slot) → x ≡ slot_at s p → (c : Bool)
     → c ≡ is_complete (snapshot_in s) i → c ≡ true → not (eqb x.reported 1) ≡ is_busy (snapshot_in s) i

@@ -11,7 +11,6 @@ use Rattle.octets.specs.Numbers.{Octets}
 use Rattle.header.specs.Start.{word_of}
 use Rattle.packet_data.specs.Data.{payload_at, data_refusal, data_of}
 use Rattle.packet_data.specs.declared.Data.{Data}
-use Rattle.packet_data.specs.declared.DataRead.TheVariants as data-read
 use Rattle.packet_data.proofs.DataLaws.{data_fine, data_accepted}
 use Rattle.transfer.specs.declared.Key.{Key}
 use Rattle.transfer.specs.Transfers.{Transfer}
@@ -36,6 +35,7 @@ use Rattle.engine_state.specs.State.{snapshot_in, number_in}
 use Rattle.engine_state.proofs.StateLaws.{held_known, kept_open, open_kept}
 use Rattle.engine_piece.specs.Piece.{piece_recorded, heard_state, piece_state}
 use Rattle.engine_piece.specs.Known.{Piece, Known}
+use Rattle.std.specs.Prelude.{Ok}
 
 -- R6.14: a packet that is read brings 16 octets, or none
 read_brings : (p : List ℕ) → data_refusal p ≡ 0 → Brings p (data_of p).timestamp
@@ -69,7 +69,7 @@ module _ (s p : List ℕ) (x : Stretch) (k : Piece s p x) (d : Data) (is : d ≡
     after_valid : Valid after
     after_valid =
         data_valid (read_table s) (piece_of d x) (stamp_in p d) (judged_passed s (held_known s k.held).now_judged).1 (piece_some d x k.some)
-        (stamp_known p d o (data_accepted p k.read ∙ ap data-read.Accepted (sym is)))
+        (stamp_known p d o (data_accepted p k.read ∙ ap Ok (sym is)))
 
     after_held : (judged (stored_in s after) ≡ true) × (read_table (stored_in s after) ≡ after)
     after_held = held_passed (stored_in s after) after (stored_held s after after_valid)

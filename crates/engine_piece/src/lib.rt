@@ -2,7 +2,7 @@
 // is busy.
 #![tactic(auto)]
 
-ghost use Rattle.std.specs.Prelude.{◌≡◌, true, cond, ◌||◌, ◌≤◌};
+ghost use Rattle.std.specs.Prelude.{◌≡◌, true, ◌||◌, ◌≤◌};
 ghost use Rattle.packet_data.specs.Data.{data_of};
 ghost use Rattle.engine_model.specs.Snapshots.{is_busy, heard_at};
 ghost use Rattle.engine_model.specs.Stretches.{piece_of};
@@ -14,6 +14,7 @@ use engine_slots::{Slot, Stretch};
 use packet_data::Data;
 
 // A stretch of DATA as DATA of its own. Whether the packet was the last was judged of the whole.
+#[tactic(auto, unfolding(engine_model::specs::Stretches::piece_of))]
 fn piece_of(d: Data, x: Stretch) -> Data
     requires { x.from ≤ x.to }
     ensures { result ≡ piece_of d x }
@@ -31,27 +32,17 @@ fn piece_of(d: Data, x: Stretch) -> Data
     }
 }
 
-// One number or another.
-fn either(test: bool, a: u64, b: u64) -> u64
-    ensures { result ≡ cond test a b }
-{
-    if test {
-        return a;
-    }
-    b
-}
-
 // A slot heard at a time. Where an answer is due, sync n will cover this question, and a first one that waits stays what is due; where it
 // was asked for, that is kept.
+#[tactic(auto, unfolding(engine_model::specs::Snapshots::heard_at))]
 fn heard_slot(s: Slot, time: u64, n: u64, answer: bool, asked: bool) -> Slot
     ensures { result ≡ heard_at time n answer asked s }
 {
     let owner = s.owner;
     let digest = s.digest;
     let first = engine_slots::first_due(s.due, n);
-    let due = either(answer, first, s.due);
-    let last = either(answer, n, s.last);
-    let sought = either(asked, 1, s.asked);
+    let due = if answer { first } else { s.due };
+    let last = if answer { n } else { s.last };
     Slot {
         file: s.file,
         owner,
@@ -59,7 +50,7 @@ fn heard_slot(s: Slot, time: u64, n: u64, answer: bool, asked: bool) -> Slot
         named: s.named,
         reported: s.reported,
         due,
-        asked: sought,
+        asked: if asked { 1 } else { s.asked },
         heard: time,
         last,
     }
@@ -69,10 +60,7 @@ fn heard_slot(s: Slot, time: u64, n: u64, answer: bool, asked: bool) -> Slot
 fn answer_due(wanted: bool, complete: bool) -> bool
     ensures { result ≡ wanted || complete }
 {
-    if wanted {
-        return true;
-    }
-    complete
+    wanted || complete
 }
 
 // The transfer of DATA d was heard at a time, n being the number of the next sync.
@@ -107,10 +95,7 @@ fn is_busy(state: &[u8], id: u64) -> bool
 {
     let place = area_find::find_place(state, id).at;
     let slot = engine_slots::slot_at(state, place);
-    if engine_state::is_complete(state, id) {
-        return slot.reported != 1;
-    }
-    false
+    engine_state::is_complete(state, id) && slot.reported != 1
 }
 
 // An open Id is taken out of what is now, and that is to be saved.

@@ -16,11 +16,12 @@ pub fn record_fields(area: &mut [u8], packet: &[u8], d: Data)
     requires { (judged area.old ≡ true) × (0 < d.length) × Brings packet.now d.timestamp }
     ensures { area.new ≡ stored_in area.old (record_data (read_table area.old) d (stamp_in packet.now d)).table }
 {
-    let t = area_locate::locate(area, 0, d);
-    let c = area_join::cut(area, t);
-    if c.number != 0 {
+    let Ok(t) = area_locate::locate(area, d) else {
         return;
-    }
+    };
+    let Ok(c) = area_join::cut(area, t) else {
+        return;
+    };
     let s = area_join::join(area, t, c);
     area_splice::put_runs(area, t.place, c.count, c.i, c.j, s.lo, s.hi);
     area_splice::keep_stamp(area, t.place, packet, d.timestamp);

@@ -7,8 +7,6 @@ ghost use Rattle.words.specs.Words.{word_at, put_word};
 ghost use Rattle.engine_slots.specs.Layout.{slot_words, slot_word_at, snapshot_octets};
 ghost use Rattle.engine_slots.specs.Slots.{slot_at, numbers_of, put_words, set_slot, insert_slot, remove_slot};
 
-use refusals::Refusal;
-
 // Who sends: an address and a port, as the shell tells them.
 #[derive(Clone, Copy)]
 pub struct Sender {
@@ -54,7 +52,6 @@ pub struct Stretch {
 // compared with its file; or a stretch that was not is written.
 #[derive(Clone, Copy)]
 pub enum Look {
-    Refused(Refusal),
     Stranger,
     Over,
     Known(Stretch),
@@ -74,7 +71,6 @@ pub struct Files {
 // it is the METADATA of the open transfer; the sender has ended the transfer, whose file is told; or files are made.
 #[derive(Clone, Copy)]
 pub enum Meeting {
-    Refused(Refusal),
     Wait,
     Kept(u64),
     Ended(u64),

@@ -51,7 +51,8 @@ pub fn set_number(state: &mut [u8], f: usize, v: u64)
     words::put_word(state, NUMBERS_AT + f, v);
 }
 
-// Whether the octets hold an engine. No is refusal 22.
+// Whether the octets hold an engine. No is refusal 22. Early returns: one chain of `&&` was tried, whose branches join at each test,
+// and search didn't close its proof.
 pub fn held(state: &[u8]) -> bool
     ensures { result ≡ held_state state.now }
 {

@@ -1,7 +1,7 @@
 // How far octets are alike, all received or none, over the rows of a transfer's runs.
 #![tactic(auto)]
 
-ghost use Rattle.std.specs.Prelude.{◌≡◌, min};
+ghost use Rattle.std.specs.Prelude.{◌≡◌};
 ghost use Rattle.run_rows.specs.Rows.{runs_in, RowsFit};
 ghost use Rattle.engine_stretch.specs.Stretch.{reach_from};
 
@@ -14,39 +14,26 @@ pub struct Reach {
     pub stop: u64,
 }
 
-// The lower of two.
-fn lower(x: u64, y: u64) -> u64
-    ensures { result ≡ min x y }
-{
-    if x < y {
-        return x;
-    }
-    y
-}
-
 // From offset a on, up to b.
 pub fn reach_from(area: &[u8], rows: Rows, a: u64, b: u64) -> Reach
     requires { RowsFit area.now rows }
     ensures { result ≡ reach_from (runs_in area.now rows) a b }
 {
-    let n = rows.count;
-    let mut i: usize = 0;
-    while i < n {
+    for i in 0..rows.count {
         let stop = words::word(area, rows.stops + i);
         if a < stop {
             let start = words::word(area, rows.starts + i);
             if a < start {
                 return Reach {
                     received: false,
-                    stop: lower(start, b),
+                    stop: start.min(b),
                 };
             }
             return Reach {
                 received: true,
-                stop: lower(stop, b),
+                stop: stop.min(b),
             };
         }
-        i += 1;
     }
     Reach {
         received: false,

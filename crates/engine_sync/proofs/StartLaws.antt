@@ -1,8 +1,8 @@
 -- Starting from what was saved: why it is refused, and what is left, by what the functions call.
 -- Assumes nothing.
 use Prim.Native.Nat.{ℕ, ◌≤◌, ◌<◌}
-use mathlib.Core.Path.{◌≡◌, refl, sym, ap, ◌∙◌}
-use mathlib.Core.Bool.{Bool, true, false, cond}
+use mathlib.Core.Path.{◌≡◌, sym, ap, ◌∙◌}
+use mathlib.Core.Bool.{true, false, cond}
 use mathlib.Core.List.{List}
 use native.Mathlib.Omega.{arith}
 use lib.ListN.{length, take}
@@ -57,9 +57,9 @@ module _ (s saved : List ℕ) (number : ℕ) where
       )
 
   module _ (next n : ℕ) (is : n ≡ start_refusal s saved number) where
-    pub start_refused : 0 < n → s ≡ started_state s saved number next
+    pub start_refused : (n ≡ 0 → ⊥) → s ≡ started_state s saved number next
     unfolding started_state
-    start_refused h = rw (← is, lt-ltb 0 n h)
+    start_refused h = rw (← is, lt-ltb 0 n (omega (arith, h)))
 
     pub start_done : n ≤ 0 → (a b : List ℕ) → a ≡ three_of s saved → b ≡ numbered a 0 number number next 0 0
         → (0 ≡ start_refusal s saved number) × (b ≡ started_state s saved number next)

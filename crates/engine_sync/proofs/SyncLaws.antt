@@ -2,13 +2,13 @@
 -- Assumes nothing.
 use Prim.Native.Nat.{ℕ, zero, suc, ◌+◌, ◌≤◌, ◌<◌}
 use mathlib.Core.Path.{◌≡◌, refl, sym, ap, ◌∙◌}
-use mathlib.Core.Bool.{Bool, true, false, true≢false, false≢true, cond, not, ◌&&◌}
+use mathlib.Core.Bool.{Bool, true, false, true≢false, false≢true, not}
 use mathlib.Core.List.{List}
 use mathlib.Core.Option.{Option, none, some}
 use native.Mathlib.Omega.{arith}
 use native.Mathlib.Numerals.{add-one}
-use lib.ListN.{length, drop}
-use lib.Dec.{ltb, eqb}
+use lib.ListN.{drop}
+use lib.Dec.{ltb}
 use borrow.Author.Tests.{lt-ltb, le-ltb, ltb-true, eq-eqb, ne_eqb}
 use Rattle.refusals.proofs.TestLaws.{and_iff}
 use Rattle.words.specs.Words.{moved_words}
@@ -18,7 +18,8 @@ use Rattle.engine_model.specs.Meetings.{last_number}
 use Rattle.engine_model.specs.Engine.{may_sync, current}
 use Rattle.engine_state.specs.Layout.{pending_at, synced_at, pending_octet, under_way_field, number_field, done_field, changed_field, begun_field}
 use Rattle.engine_state.specs.State.{snapshot_in, number_in, pending_if, engine_in, set_number, held_state}
-use Rattle.engine_sync.specs.declared.Begun.{Begun}
+use Rattle.refusals.specs.Refusals.{refusal_of}
+use Rattle.std.specs.Prelude.{Some, None, Ok, Err}
 use Rattle.engine_sync.specs.Syncs.{beginning, begun_as, begun_state, held_refusal, good_state, bad_state, ended_as, ended_state}
 
 -- a sync is under way where its word is not 0
@@ -48,21 +49,21 @@ module _ (s : List ℕ) where
   may_low e = ltb-true (number_in s number_field) last_number ((and_iff (not (is_some (engine_in s).pending)) (ltb (number_in s number_field) last_number)).0 e).1
 
   module _ (t : ℕ) where
-    pub begin_unheld : held_state s ≡ false → (record { number = 22; sync = 0 } ≡ beginning s) × (s ≡ begun_state s t)
+    pub begin_unheld : held_state s ≡ false → (Err (refusal_of 22) ≡ beginning s) × (s ≡ begun_state s t)
     unfolding beginning begun_state
     begin_unheld h = (rw h, rw h)
 
     module _ (h : held_state s ≡ true) where
-      pub begin_none : may_sync (engine_in s) ≡ false → (record { number = 0; sync = 0 } ≡ beginning s) × (s ≡ begun_state s t)
+      pub begin_none : may_sync (engine_in s) ≡ false → (Ok None ≡ beginning s) × (s ≡ begun_state s t)
       unfolding beginning begun_state
       begin_none m = (rw (h, m), rw (h, m))
 
       pub begin_done : may_sync (engine_in s) ≡ true → (n : ℕ) → n ≡ number_in s number_field → (b : List ℕ) → b ≡ begun_as s (n + 1) t
-          → (record { number = 0; sync = n + 1 } ≡ beginning s) × (b ≡ begun_state s t)
+          → (Ok (Some (n + 1)) ≡ beginning s) × (b ≡ begun_state s t)
       unfolding beginning begun_state
       begin_done m n e b f =
           let z : n + 1 ≡ suc (number_in s number_field) = add-one n ∙ ap suc e in
-          (rw (h, m) (λ k. record { number = 0; sync = z k }), f ∙ rw (h, m) (λ k. begun_as s (z k) t))
+          (rw (h, m) (λ k. Ok (Some (z k))), f ∙ rw (h, m) (λ k. begun_as s (z k) t))
 
   -- ---- ending
 

@@ -1,8 +1,9 @@
 -- Starting, and syncs: beginning one, and how it ended.
 -- Assumes nothing.
-use Rattle.std.specs.Prelude.{ℕ, suc, Bool, true, false, cond, ◌&&◌, List, length, take, ltb, leb}
-use Rattle.std.proofs.Math.Option.{Option, none, some}
-use Rattle.refusals.specs.Refusals.{◌▹◌, when}
+use Rattle.std.specs.Prelude.{ℕ, suc, Bool, true, false, cond, ◌&&◌, List, length, take, ltb, Option, Some, None, Result, Ok, Err}
+use Rattle.std.proofs.Math.Option.{Option as Maybe, none, some}
+use Rattle.refusals.specs.Refusals.{◌▹◌, when, refusal_of}
+use Rattle.refusals.specs.declared.Refusal.{Refusal}
 use Rattle.octets.specs.Put.{put}
 use Rattle.words.specs.Words.{moved_words}
 use Rattle.area.specs.Judge.{judged}
@@ -12,7 +13,6 @@ use Rattle.engine_model.specs.Meetings.{last_number}
 use Rattle.engine_model.specs.Engine.{may_sync, current}
 use Rattle.engine_state.specs.Layout.{pending_at, synced_at, pending_octet, synced_octet, under_way_field, number_field, done_field, next_field, changed_field, begun_field, state_octets}
 use Rattle.engine_state.specs.State.{engine_in, number_in, set_number, held_state}
-use Rattle.engine_sync.specs.declared.Begun.{Begun}
 
 -- ---- starting from what was saved
 
@@ -42,10 +42,9 @@ started_state s saved number next = started_as (start_refusal s saved number)
 
 -- ---- a sync begins
 
--- 22; else the number of the sync, or 0 where none may begin
-unfoldable pub beginning : List ℕ → Begun
-beginning s =
-    cond (held_state s) (record { number = 0; sync = cond (may_sync (engine_in s)) (suc (number_in s number_field)) 0 }) (record { number = 22; sync = 0 })
+-- 22; else the number of the sync, where one may begin
+unfoldable pub beginning : List ℕ → Result (Option ℕ) Refusal
+beginning s = cond (held_state s) (Ok (cond (may_sync (engine_in s)) (Some (suc (number_in s number_field))) None)) (Err (refusal_of 22))
 
 -- the sync of number n is under way, for what is now
 abbrev pub begun_as : List ℕ → ℕ → ℕ → List ℕ
@@ -65,7 +64,7 @@ good_state s = set_number (set_number (moved_words s pending_at synced_at snapsh
 unfoldable pub bad_state : List ℕ → List ℕ
 bad_state s = set_number (set_number (moved_words s synced_at 0 snapshot_words) under_way_field 0) changed_field 0
 
-unfoldable pub ended_as : List ℕ → Bool → Option Snapshot → List ℕ
+unfoldable pub ended_as : List ℕ → Bool → Maybe Snapshot → List ℕ
 ended_as s b none = s
 ended_as s true (some x) = good_state s
 ended_as s false (some x) = bad_state s

@@ -8,33 +8,29 @@ ghost use Rattle.engine_model.specs.Engine.{may_sync, current};
 ghost use Rattle.engine_state.specs.Layout.{state_octets};
 ghost use Rattle.engine_state.specs.State.{engine_in};
 ghost use Rattle.engine_sync.specs.Syncs.{start_refusal, three_of, numbered, started_state, beginning, begun_as, begun_state, held_refusal, good_state, bad_state, ended_state};
+ghost use Rattle.refusals.specs.Faults.{refused};
 
-// The refusal, 22 or 0; and the number of the sync that began, 0 for none.
-#[derive(Clone, Copy)]
-pub struct Begun {
-    pub number: u64,
-    pub sync: u64,
-}
+use refusals::{Fault, Refusal};
 
 // ---- starting from what was saved
 
-// Why nothing can start from what was saved, or 0.
-fn start_refusal(state: &[u8], saved: &[u8], number: u64) -> u64
-    ensures { result ≡ start_refusal state.now saved.now number }
+// Why nothing can start from what was saved.
+fn start_refusal(state: &[u8], saved: &[u8], number: u64) -> Result<(), Fault>
+    ensures { refused result ≡ start_refusal state.now saved.now number }
 {
     if state.len() < engine_state::STATE {
-        return 20;
+        return Err(Fault::NoRoom);
     }
     if saved.len() < engine_state::SNAPSHOT {
-        return 22;
+        return Err(Fault::NoTable);
     }
     if !area_judge::judge(saved) {
-        return 22;
+        return Err(Fault::NoTable);
     }
     if engine_state::LAST_NUMBER < number {
-        return 21;
+        return Err(Fault::Field);
     }
-    0
+    Ok(())
 }
 
 // All three snapshots become what was saved.
@@ -70,18 +66,14 @@ fn put_numbers(
 }
 
 // Starts from a snapshot that was saved. `number` is the number of the last sync, and `next` a file number above all that were used.
-// Answers a refusal, or 0.
-pub fn start(state: &mut [u8], saved: &[u8], number: u64, next: u64) -> u64
-    ensures { (result ≡ start_refusal state.old saved.now number)
+pub fn start(state: &mut [u8], saved: &[u8], number: u64, next: u64) -> Result<(), Fault>
+    ensures { (refused result ≡ start_refusal state.old saved.now number)
         × (state.new ≡ started_state state.old saved.now number next) }
 {
-    let refusal = start_refusal(state, saved, number);
-    if 0 < refusal {
-        return refusal;
-    }
+    start_refusal(state, saved, number)?;
     put_three(state, saved);
     put_numbers(state, 0, number, number, next, 0, 0);
-    0
+    Ok(())
 }
 
 // ---- a sync begins
@@ -116,22 +108,19 @@ fn put_begun(state: &mut [u8], number: u64, time: u64)
     engine_state::set_number(state, engine_state::BEGUN, time);
 }
 
-// A sync begins, of what is now, where none is under way.
-pub fn begin(state: &mut [u8], time: u64) -> Begun
+// A sync begins, of what is now, where none is under way. Answers its number, where one began.
+pub fn begin(state: &mut [u8], time: u64) -> Result<Option<u64>, Refusal>
     ensures { (result ≡ beginning state.old) × (state.new ≡ begun_state state.old time) }
 {
     if !engine_state::held(state) {
-        return Begun {
-            number: 22,
-            sync: 0,
-        };
+        return Err(Fault::NoTable.into());
     }
     if !may_begin(state) {
-        return Begun { number: 0, sync: 0 };
+        return Ok(None);
     }
     let sync = engine_state::number(state, engine_state::NUMBER) + 1;
     put_begun(state, sync, time);
-    Begun { number: 0, sync }
+    Ok(Some(sync))
 }
 
 // ---- and ends
@@ -168,20 +157,20 @@ fn put_bad(state: &mut [u8])
     engine_state::set_number(state, engine_state::CHANGED, 0);
 }
 
-// The sync of a number came back, good or bad. Answers a refusal, or 0.
-pub fn end(state: &mut [u8], sync: u64, good: bool) -> u64
-    ensures { (result ≡ held_refusal state.old) × (state.new ≡ ended_state state.old sync good) }
+// The sync of a number came back, good or bad.
+pub fn end(state: &mut [u8], sync: u64, good: bool) -> Result<(), Fault>
+    ensures { (refused result ≡ held_refusal state.old) × (state.new ≡ ended_state state.old sync good) }
 {
     if !engine_state::held(state) {
-        return 22;
+        return Err(Fault::NoTable);
     }
     if !is_current(state, sync) {
-        return 0;
+        return Ok(());
     }
     if good {
         put_good(state);
-        return 0;
+        return Ok(());
     }
     put_bad(state);
-    0
+    Ok(())
 }

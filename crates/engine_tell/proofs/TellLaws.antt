@@ -2,15 +2,12 @@
 -- Assumes nothing.
 use Prim.Native.Nat.{ℕ}
 use mathlib.Core.Path.{◌≡◌, refl, sym, ap, ◌∙◌}
-use mathlib.Core.Bool.{Bool, true, false, cond, not, ◌&&◌}
+use mathlib.Core.Bool.{Bool, true, false, not}
 use mathlib.Core.List.{List}
 use native.Mathlib.Omega.{arith}
-use lib.ListN.{drop}
 use lib.Dec.{eqb}
 use Rattle.refusals.specs.Refusals.{refusal_of}
 use Rattle.refusals.specs.declared.Refusal.{Refusal}
-use Rattle.refusals.specs.declared.Written.{Written}
-use Rattle.refusals.specs.declared.Written.TheVariants as written
 use Rattle.area.specs.Places.{read_table, place_in}
 use Rattle.area.specs.Judge.{judged}
 use Rattle.area.specs.Operations.{area_status_written, area_status_buffer}
@@ -23,12 +20,11 @@ use Rattle.engine_state.proofs.StateLaws.{rest_is, open_told}
 use Rattle.engine_open_slot.specs.OpenSlot.{synced_in, same_now, slot_state}
 use Rattle.engine_open_slot.proofs.OpenLaws.{lent}
 use Rattle.engine_tell.specs.declared.Letter.{Letter}
-use Rattle.engine_tell.specs.declared.Told.{Told}
-use Rattle.engine_tell.specs.declared.Told.TheVariants as told
 use Rattle.engine_tell.specs.Tell.{unasked, told_as, telling, letter_buffer, answered_state, told_by, told_state}
+use Rattle.std.specs.Prelude.{Result, Ok, Err}
 
 -- where a STATUS is written, the Id is open
-pub written_open : (a : List ℕ) (i k : ℕ) (u : Bool) (out : List ℕ) (n : ℕ) → judged a ≡ true → area_status_written a i k u out ≡ written.Size n
+pub written_open : (a : List ℕ) (i k : ℕ) (u : Bool) (out : List ℕ) (n : ℕ) → judged a ≡ true → area_status_written a i k u out ≡ Ok n
     → is_open (snapshot_in a) i ≡ true
 written_open a i k u out n j e = go (is_open (snapshot_in a) i) refl
   where
@@ -57,39 +53,39 @@ module _ (s : List ℕ) (i : ℕ) where
     unfolding letter_buffer
     letter_buffer_lem y g = g ∙ rw h (λ k. area_status_buffer (rest_is synced_octet s k) i 0 (asked k) out)
 
-    module _ (w : Written) (is : w ≡ area_status_written (lent s) i 0 u out) where
+    module _ (w : Result ℕ Refusal) (is : w ≡ area_status_written (lent s) i 0 u out) where
       as_written : telling s i out ≡ told_as s i w
       unfolding telling
       as_written = rw h (ap (told_as s i) (sym (is ∙ (λ k. area_status_written (rest_is synced_octet s k) i 0 (asked k) out))))
 
-      pub letter_refused : (r : Refusal) → w ≡ written.Refused r → told.Refused r ≡ telling s i out
+      pub letter_refused : (r : Refusal) → w ≡ Err r → Err r ≡ telling s i out
       unfolding told_as
       letter_refused r e = sym (as_written ∙ ap (told_as s i) e)
 
-      module _ (n : ℕ) (e : w ≡ written.Size n) where
+      module _ (n : ℕ) (e : w ≡ Ok n) where
         pub letter_open : judged (synced_in s) ≡ true → is_open (snapshot_in (synced_in s)) i ≡ true
         letter_open j =
             written_open (synced_in s) i 0 u out n j (sym (is ∙ (λ k. area_status_written (rest_is synced_octet s k) i 0 u out)) ∙ e)
 
-        pub letter_sent : (x : Slot) → x ≡ slot_of (snapshot_in (lent s)) i → told.Sent (record { size = n; to = x.owner }) ≡ telling s i out
+        pub letter_sent : (x : Slot) → x ≡ slot_of (snapshot_in (lent s)) i → Ok (record { size = n; to = x.owner }) ≡ telling s i out
         unfolding told_as
         letter_sent x f =
-            (λ k. told.Sent (record { size = n; to = ((f ∙ ap (λ (l : List ℕ). slot_of (snapshot_in l) i) (rest_is synced_octet s)) k).owner }))
+            (λ k. Ok (record { size = n; to = ((f ∙ ap (λ (l : List ℕ). slot_of (snapshot_in l) i) (rest_is synced_octet s)) k).owner }))
             ∙ sym (as_written ∙ ap (told_as s i) e)
 
   -- ---- and what is left
 
   pub tell_unheld : (out : List ℕ) → held_state s ≡ false
-      → (told.Refused (refusal_of 22) ≡ telling s i out) × (s ≡ told_state s i out) × (out ≡ letter_buffer s i out)
+      → (Err (refusal_of 22) ≡ telling s i out) × (s ≡ told_state s i out) × (out ≡ letter_buffer s i out)
   unfolding telling told_state told_by letter_buffer
   tell_unheld out h = (rw h, rw h, rw h)
 
-  module _ (out : List ℕ) (w : Told) (is : w ≡ telling s i out) where
-    pub tell_refused : (r : Refusal) → w ≡ told.Refused r → s ≡ told_state s i out
+  module _ (out : List ℕ) (w : Result Letter Refusal) (is : w ≡ telling s i out) where
+    pub tell_refused : (r : Refusal) → w ≡ Err r → s ≡ told_state s i out
     unfolding told_state told_by
     tell_refused r e = sym (ap (told_by s i) (sym is ∙ e))
 
-    pub tell_sent : (x : Letter) → w ≡ told.Sent x → (b : List ℕ) → b ≡ answered_state s i → b ≡ told_state s i out
+    pub tell_sent : (x : Letter) → w ≡ Ok x → (b : List ℕ) → b ≡ answered_state s i → b ≡ told_state s i out
     unfolding told_state told_by
     tell_sent x e b f = f ∙ sym (ap (told_by s i) (sym is ∙ e))
 

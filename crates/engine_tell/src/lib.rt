@@ -7,19 +7,13 @@ ghost use Rattle.engine_state.specs.State.{held_state};
 ghost use Rattle.engine_tell.specs.Tell.{unasked, telling, letter_buffer, answered_state, told_state};
 
 use engine_slots::{Sender, Slot};
-use refusals::{Refusal, Written};
+use refusals::{Fault, Refusal};
 
 // A STATUS: its octets in the lent buffer, and to whom it goes.
 #[derive(Clone, Copy)]
 pub struct Letter {
     pub size: usize,
     pub to: Sender,
-}
-
-#[derive(Clone, Copy)]
-pub enum Told {
-    Refused(Refusal),
-    Sent(Letter),
 }
 
 // Whether nobody asked for the answer, as far as that is kept for the file that it is about.
@@ -34,21 +28,18 @@ fn is_unasked(state: &[u8], id: u64) -> bool
 }
 
 // The STATUS of what is synced, and the owner there.
-fn write_letter(state: &[u8], id: u64, out: &mut [u8]) -> Told
+fn write_letter(state: &[u8], id: u64, out: &mut [u8]) -> Result<Letter, Refusal>
     requires { held_state state.now ≡ true }
     ensures { (result ≡ telling state.now id out.old)
         × (out.new ≡ letter_buffer state.now id out.old) }
 {
     let unasked = is_unasked(state, id);
-    let written = area_status::write_status(&state[engine_state::SYNCED..], id, 0, unasked, out);
-    match written {
-        Written::Refused(r) => Told::Refused(r),
-        Written::Size(size) => {
-            let slot = engine_open_slot::slot_of(&state[engine_state::SYNCED..], id);
-            let to = slot.owner;
-            Told::Sent(Letter { size, to })
-        }
-    }
+    let size = area_status::write_status(&state[engine_state::SYNCED..], id, 0, unasked, out)?;
+    let slot = engine_open_slot::slot_of(&state[engine_state::SYNCED..], id);
+    Ok(Letter {
+        size,
+        to: slot.owner,
+    })
 }
 
 // A number where there is a question after the first, else 0.
@@ -95,20 +86,15 @@ fn put_answered(state: &mut [u8], id: u64)
 }
 
 // Writes the STATUS of an Id, as of the last good sync, into a lent buffer: it counts as sent.
-pub fn tell(state: &mut [u8], id: u64, out: &mut [u8]) -> Told
+pub fn tell(state: &mut [u8], id: u64, out: &mut [u8]) -> Result<Letter, Refusal>
     ensures { (result ≡ telling state.old id out.old)
         × (state.new ≡ told_state state.old id out.old)
         × (out.new ≡ letter_buffer state.old id out.old) }
 {
     if !engine_state::held(state) {
-        return Told::Refused(refusals::refuse(22));
+        return Err(Fault::NoTable.into());
     }
-    let told = write_letter(state, id, out);
-    match told {
-        Told::Refused(r) => Told::Refused(r),
-        Told::Sent(letter) => {
-            put_answered(state, id);
-            Told::Sent(letter)
-        }
-    }
+    let letter = write_letter(state, id, out)?;
+    put_answered(state, id);
+    Ok(letter)
 }

@@ -1,31 +1,42 @@
 -- The first zero octet, one octet after the other, and what is known of a path that is not refused. Assumes nothing.
 use Prim.Native.Nat.{ℕ, zero, suc, ◌+◌, ◌<◌, ◌≤◌}
-use mathlib.Core.Path.{◌≡◌, refl, ap}
-use mathlib.Core.Bool.{◌&&◌}
+use mathlib.Core.Path.{◌≡◌, refl, sym, ap, ◌∙◌}
+use mathlib.Core.Bool.{Bool, true, false, not, cond, ◌&&◌}
 use mathlib.Core.List.{List, [], ◌∷◌, ◌++◌}
-use native.Mathlib.Numerals.{add-one}
 use native.Mathlib.Omega.{arith}
-use lib.ListN.{length, get_or, take, drop, length-append, drop_of_length-le}
-use lib.Seq.{drop-cons, length-take-le}
+use lib.ListN.{length, take, length-append}
+use lib.Seq.{length-take-le}
 use lib.Dec.{ltb, eqb}
 use borrow.Author.Tests.{ltb-false, eqb-true, eqb-false, not-false, le-ltb, eq-eqb, ne_eqb}
+use Rattle.std.specs.Prelude.{Option, Some, None}
+use Rattle.std.specs.Option.{unwrap_or}
+use Rattle.std.specs.List.{position_or_len}
+use Rattle.std.proofs.lemmas.List.Recursion.{is_position_or_len}
+use Rattle.std.proofs.lemmas.List.Sums.{prefix_len-le-length}
 use Rattle.refusals.specs.Refusals.{when}
 use Rattle.refusals.proofs.RefusalLaws.{first_none, rest_none, failed}
 use Rattle.entry_parts.specs.Path.{zero_at, path_refusal, path_write_refusal}
 
-zero_on : (x : ℕ) (xs : List ℕ) → (x ≡ 0 → ⊥) → zero_at (x ∷ xs) ≡ suc (zero_at xs)
-zero_on zero xs h = absurd (h refl)
-zero_on (suc x) xs h = refl
+-- the search for it
+abbrev pub is_zero : ℕ → Bool
+is_zero x = eqb x 0
 
--- the search from the place i on
-pub zero_step : (r : List ℕ) (i : ℕ) → i < length r → (get_or r i 0 ≡ 0 → ⊥) → i + zero_at (drop i r) ≡ i + 1 + zero_at (drop (i + 1) r)
-zero_step r i h n = rw (add-one, drop-cons r i 0, zero_on (get_or r i 0) (drop (suc i) r) n) (omega arith)
+pub zero_found : (r : List ℕ) (o : Option ℕ) → o ≡ cond (ltb (position_or_len is_zero r) (length r)) (Some (position_or_len is_zero r)) None
+    → unwrap_or o (length r) ≡ zero_at r
+zero_found r o e = rw e (go (ltb (position_or_len is_zero r) (length r)) refl)
+  where
+    first : zero_at r ≡ position_or_len is_zero r
+    first = is_position_or_len zero_at is_zero refl (λ x xs. step x xs) r
+      where
+        step : (x : ℕ) (xs : List ℕ) → zero_at (x ∷ xs) ≡ cond (is_zero x) 0 (1 + zero_at xs)
+        step zero xs = refl
+        step (suc x) xs =
+            let one : suc (zero_at xs) ≡ 1 + zero_at xs = omega arith in
+            one ∙ ap (λ (b : Bool). cond b 0 (1 + zero_at xs)) (sym (ne_eqb (suc x) 0 (λ e. omega arith)))
 
-pub zero_here : (r : List ℕ) (i : ℕ) → i < length r → get_or r i 0 ≡ 0 → i + zero_at (drop i r) ≡ i
-zero_here r i h e = rw (drop-cons r i 0, e) (omega arith)
-
-pub zero_end : (r : List ℕ) (i : ℕ) → length r ≤ i → i + zero_at (drop i r) ≡ i
-zero_end r i h = rw drop_of_length-le (omega arith)
+    go : (b : Bool) → ltb (position_or_len is_zero r) (length r) ≡ b → unwrap_or (cond b (Some (position_or_len is_zero r)) None) (length r) ≡ zero_at r
+    go true e = sym first
+    go false e = omega (arith, ltb-false (position_or_len is_zero r) (length r) e, prefix_len-le-length (λ (x : ℕ). not (is_zero x)) r, first)
 
 -- a path without a zero octet, closed by one
 pub zero_closed : (path : List ℕ) → zero_at path ≡ length path → zero_at (path ++ (0 ∷ [])) ≡ length path

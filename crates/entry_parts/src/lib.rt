@@ -4,6 +4,9 @@
 ghost use Rattle.std.specs.Prelude.{◌≡◌, ◌+◌, ◌<◌};
 ghost use Rattle.entry_parts.specs.Properties.{PropertiesOf, property_refusal, size_octets};
 ghost use Rattle.entry_parts.specs.Path.{zero_at, path_refusal, path_write_refusal};
+ghost use Rattle.refusals.specs.Faults.{refused};
+
+use refusals::Fault;
 
 // The fields of the properties: bits 6 and 7, bit 10, and bits 8 and 9.
 #[derive(Clone, Copy)]
@@ -32,69 +35,50 @@ pub fn size_octets(x: u64) -> usize
     descriptors::octets_of_width(p.width)
 }
 
-// Refusal 6 of properties; 0 for none.
-pub fn property_refusal(x: u64) -> u64
-    ensures { result ≡ property_refusal x }
+// Refusal 6 of properties.
+#[tactic(auto, unfolding(crate::specs::Properties::property_refusal))]
+pub fn property_refusal(x: u64) -> Result<(), Fault>
+    ensures { refused result ≡ property_refusal x }
 {
     let p = split_properties(x);
-    if p.special != 0 {
-        return 6;
+    if p.special != 0 || p.bundle != 0 {
+        return Err(Fault::NotAFile);
     }
-    if p.bundle != 0 {
-        return 6;
-    }
-    0
+    Ok(())
 }
 
 // How many octets stand before the first zero octet; all of them where there is none.
 fn zero_at(r: &[u8]) -> usize
     ensures { result ≡ zero_at r.now }
 {
-    let mut i = 0;
-    while i < r.len() {
-        if r[i] == 0 {
-            return i;
-        }
-        i += 1;
-    }
-    i
+    r.iter().position(|x| *x == 0).unwrap_or(r.len())
 }
 
-// Refusals 1 and 8 of what follows Ctime; 0 for none.
-pub fn path_refusal(r: &[u8]) -> u64
-    ensures { result ≡ path_refusal r.now }
+// Refusals 1 and 8 of what follows Ctime.
+#[tactic(auto, unfolding(crate::specs::Path::path_refusal))]
+pub fn path_refusal(r: &[u8]) -> Result<(), Fault>
+    ensures { refused result ≡ path_refusal r.now }
 {
     let z = zero_at(r);
     if z == r.len() {
         if r.len() < 1024 {
-            return 1;
+            return Err(Fault::Short);
         }
-        return 8;
+        return Err(Fault::Path);
     }
-    if z == 0 {
-        return 8;
+    if z == 0 || 1023 < z || z + 1 != r.len() {
+        return Err(Fault::Path);
     }
-    if 1023 < z {
-        return 8;
-    }
-    if z + 1 != r.len() {
-        return 8;
-    }
-    0
+    Ok(())
 }
 
-// Refusal 8 of a path to be written; 0 for none.
-pub fn path_write_refusal(path: &[u8]) -> u64
-    ensures { result ≡ path_write_refusal path.now }
+// Refusal 8 of a path to be written.
+#[tactic(auto, unfolding(crate::specs::Path::path_write_refusal))]
+pub fn path_write_refusal(path: &[u8]) -> Result<(), Fault>
+    ensures { refused result ≡ path_write_refusal path.now }
 {
-    if path.len() == 0 {
-        return 8;
+    if path.is_empty() || 1023 < path.len() || zero_at(path) != path.len() {
+        return Err(Fault::Path);
     }
-    if 1023 < path.len() {
-        return 8;
-    }
-    if zero_at(path) != path.len() {
-        return 8;
-    }
-    0
+    Ok(())
 }

@@ -5,10 +5,10 @@ use mathlib.Core.List.{List}
 use mathlib.Core.Logic.{◌⊎◌, ◌↔◌}
 use lib.ListN.{length}
 use Rattle.refusals.specs.Refusals.{refusal_of}
-use Rattle.refusals.specs.declared.Written.TheVariants.{Refused}
 use Rattle.refusals.proofs.LimitLaws.{written_iff}
 use Rattle.refusals.proofs.ReasonLaws.{Reasons, given, one, again, below, equal, reaches, ◌▸◌, named}
 use Rattle.failure_status.specs.WriteFailure.{failure_write_refusal, failure_written}
+use Rattle.std.specs.Prelude.{Err}
 
 module _ (id status room : ℕ) where
   abbrev tests : Reasons
@@ -35,6 +35,6 @@ module _ (id status room : ℕ) where
 
 -- the answer: refused with the number that these laws speak of
 pub write_refused_iff : (id status : ℕ) (old : List ℕ) (n : ℕ)
-    → (failure_written id status old ≡ Refused (refusal_of (suc n))) ↔ (failure_write_refusal id status (length old) ≡ suc n)
+    → (failure_written id status old ≡ Err (refusal_of (suc n))) ↔ (failure_write_refusal id status (length old) ≡ suc n)
 unfolding failure_written
 write_refused_iff id status old n = written_iff (failure_write_refusal id status (length old)) n 8

@@ -15,12 +15,13 @@ use Rattle.header.proofs.FirstWordLaws.{mark_for, type_for, flags_for}
 use Rattle.header.proofs.StartLaws.{type_known, TypeFine, type_fine, type_none}
 use Rattle.packet_status.specs.Status.{status_refusal, failure_of, read_status}
 use Rattle.failure_status.specs.WriteFailure.{failure_write_refusal, failure_octets, failure_buffer}
-use Rattle.packet_status.specs.declared.StatusRead.TheVariants.{Failure}
+use Rattle.packet_status.specs.declared.Status.TheVariants.{Failure}
 use Rattle.packet_status.proofs.StatusLaws.{failure_accepted}
 use Rattle.failure_status.proofs.FailureLaws.{FailureFine, failure_fine}
+use Rattle.std.specs.Prelude.{Ok}
 
 -- R2.12: what follows the Id of a failure STATUS is ignored
-pub failure_ignores_rest : (s : List ℕ) → type_refusal 4 s ≡ 0 → (status_of (word_of s) ≡ 0 → ⊥) → read_status s ≡ Failure (failure_of s)
+pub failure_ignores_rest : (s : List ℕ) → type_refusal 4 s ≡ 0 → (status_of (word_of s) ≡ 0 → ⊥) → read_status s ≡ Ok (Failure (failure_of s))
 unfolding read_status status_refusal
 failure_ignores_rest s e n = rw (e, ne_eqb (status_of (word_of s)) 0 n) (sym (failure_accepted (status_of (word_of s)) s n))
 
@@ -72,7 +73,7 @@ module _ (id status room : ℕ) (e : failure_write_refusal id status room ≡ 0)
   pub failure_typed : type_refusal 4 (failure_octets id status) ≡ 0
   failure_typed = type_none 4 _ typed
 
-  pub failure_read_written : read_status (failure_octets id status) ≡ Failure (record { flags = status; id = id; status = status })
+  pub failure_read_written : read_status (failure_octets id status) ≡ Ok (Failure (record { flags = status; id = id; status = status }))
   unfolding failure_of
   failure_read_written =
       let h : status ≤ 255 = fine.status_fits in
@@ -83,7 +84,7 @@ module _ (id status room : ℕ) (e : failure_write_refusal id status room ≡ 0)
 
   -- and so from the buffer that the writer leaves
   pub failure_read_buffer : (old : List ℕ) → length old ≡ room
-      → read_status (take 8 (failure_buffer id status old)) ≡ Failure (record { flags = status; id = id; status = status })
+      → read_status (take 8 (failure_buffer id status old)) ≡ Ok (Failure (record { flags = status; id = id; status = status }))
   unfolding failure_buffer put
   failure_read_buffer old h =
       let z : failure_write_refusal id status (length old) ≡ 0 = rw h e in

@@ -58,6 +58,15 @@ type_fine t s e =
     let p : type_of (word_of s) ≡ t = eqb-true _ _ (not-false _ (failed _ 3 (rest_none (start_refusal s) _ e))) in
     record { start = f; ptype = p; long = rw p at f.long }
 
+-- the word is there
+pub type_word : (t : ℕ) (s : List ℕ) → type_refusal t s ≡ 0 → 4 ≤ length s
+unfolding type_refusal
+type_word t s e = start_word s (first_none _ _ e)
+
+-- and so is the Id, where the type has one
+pub type_long : (t : ℕ) (s : List ℕ) → type_refusal t s ≡ 0 → octets_of_type t ≤ length s
+type_long t s e = (type_fine t s e).long
+
 pub type_known : (t : ℕ) (s : List ℕ) → length s ≤ 65535 → mark_of (word_of s) ≡ 1 → type_of (word_of s) ≡ t → octets_of_type t ≤ length s → TypeFine t s
 type_known t s short mark ptype long = record { start = record { short = short; mark = mark; long = rw ptype long }; ptype = ptype; long = long }
 

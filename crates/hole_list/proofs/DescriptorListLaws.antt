@@ -4,7 +4,7 @@ use mathlib.Core.Path.{◌≡◌, refl}
 use mathlib.Core.Bool.{true, not}
 use mathlib.Core.List.{List}
 use mathlib.Core.Logic.{◌⊎◌, inl, inr, ⊎_elim, ◌↔◌}
-use native.Mathlib.Nat.{suc-mul, mul-le-mul_right, lt_of_lt_of_le}
+use native.Mathlib.Nat.{suc-mul, mul_comm, mul_assoc, mul-le-mul_right, lt_of_lt_of_le}
 use native.Mathlib.Omega.{arith}
 use lib.ListN.{length, take, drop, length-drop}
 use borrow.Author.Tests.{le-ltb}
@@ -19,16 +19,30 @@ use Rattle.header.proofs.DescriptorLaws.{descriptor_small, descriptor_none}
 use Rattle.header.proofs.LimitLaws.{descriptor_all}
 use Rattle.hole_list.specs.DescriptorList.{descriptors_refusal}
 
+-- of n parts of d octets the one with the index i is there
+pub part_within : (d n i : ℕ) → i < n → i * d + d ≤ n * d
+part_within d n i h = let m : suc i * d ≤ n * d = mul-le-mul_right d h in omega (arith, suc-mul i d)
+
 module _ (d : ℕ) (s : List ℕ) where
   -- the first, and those after it
-  pub no_descriptors : (at : ℕ) → descriptors_refusal d 0 at s ≡ 0
+  pub no_descriptors : (n at : ℕ) → n ≡ 0 → descriptors_refusal d n at s ≡ 0
   unfolding descriptors_refusal
-  no_descriptors at = refl
+  no_descriptors zero at e = refl
+  no_descriptors (suc n) at e = absurd (omega arith)
 
   pub descriptors_step : (n at : ℕ) → 0 < n → descriptors_refusal d n at s ≡ descriptor_refusal d at s ▹ descriptors_refusal d (n - 1) (at + d) s
   unfolding descriptors_refusal
   descriptors_step zero at h = absurd (omega arith)
   descriptors_step (suc n) at h = let p : suc n - 1 ≡ n = omega arith in rw p
+
+  -- after i of them: the next, and those after it
+  pub descriptors_next : (n at i : ℕ) → i < n
+      → descriptors_refusal d (n - i) (at + i * d) s ≡ descriptor_refusal d (at + i * d) s ▹ descriptors_refusal d (n - (i + 1)) (at + (i + 1) * d) s
+  descriptors_next n at i h =
+      let one : i + 1 ≡ suc i = omega arith in
+      let e : n - i - 1 ≡ n - suc i = omega arith in
+      let a : at + i * d + d ≡ at + suc i * d = omega (arith, suc-mul i d) in
+      rw (descriptors_step (n - i) (at + i * d) (omega arith), one, e, a)
 
   pub each_none : (n at i : ℕ) → descriptors_refusal d n at s ≡ 0 → i < n → descriptor_refusal d (at + i * d) s ≡ 0
   unfolding descriptors_refusal
@@ -52,16 +66,32 @@ module _ (d : ℕ) (s : List ℕ) where
   pub fewer_none : (m n at : ℕ) → m ≤ n → descriptors_refusal d n at s ≡ 0 → descriptors_refusal d m at s ≡ 0
   fewer_none m n at l e = all_none m at (λ i h. each_none n at i e (lt_of_lt_of_le h l))
 
+  -- the pair with the index i
+  pub start_none : (n at i : ℕ) → descriptors_refusal d (2 * n) at s ≡ 0 → i < n → descriptor_refusal d (at + i * (2 * d)) s ≡ 0
+  start_none n at i e h =
+      let a : at + 2 * i * d ≡ at + i * (2 * d) = rw (mul_comm 2 i, mul_assoc i 2 d) in
+      rw a at (each_none (2 * n) at (2 * i) e (omega arith))
+
+  pub end_none : (n at i : ℕ) → descriptors_refusal d (2 * n) at s ≡ 0 → i < n → descriptor_refusal d (at + i * (2 * d) + d) s ≡ 0
+  end_none n at i e h =
+      let a : at + 2 * i * d ≡ at + i * (2 * d) = rw (mul_comm 2 i, mul_assoc i 2 d) in
+      let b : at + suc (2 * i) * d ≡ at + i * (2 * d) + d = omega (arith, suc-mul (2 * i) d) in
+      rw b at (each_none (2 * n) at (suc (2 * i)) e (omega arith))
+
   -- the first pair, and those after it
-  pub pair_none : (n at : ℕ) → 0 < n → descriptors_refusal d (2 * n) at s ≡ 0
-      → (descriptor_refusal d at s ≡ 0) × (descriptor_refusal d (at + d) s ≡ 0) × (descriptors_refusal d (2 * (n - 1)) (at + 2 * d) s ≡ 0)
+  pub first_start : (n at : ℕ) → descriptors_refusal d (2 * n) at s ≡ 0 → 0 < n → descriptor_refusal d at s ≡ 0
+  first_start n at e h = let a : at + 0 * d ≡ at = omega arith in rw a at (each_none (2 * n) at 0 e (omega arith))
+
+  pub first_end : (n at : ℕ) → descriptors_refusal d (2 * n) at s ≡ 0 → 0 < n → descriptor_refusal d (at + d) s ≡ 0
+  first_end n at e h = let a : at + 1 * d ≡ at + d = omega arith in rw a at (each_none (2 * n) at 1 e (omega arith))
+
+  pub later_none : (n at : ℕ) → descriptors_refusal d (2 * n) at s ≡ 0 → 0 < n → descriptors_refusal d (2 * (n - 1)) (at + 2 * d) s ≡ 0
   unfolding descriptors_refusal
-  pair_none n at h e =
+  later_none n at e h =
       let q : 2 * n ≡ suc (suc (2 * (n - 1))) = omega arith in
       let a : at + 2 * d ≡ at + d + d = omega arith in
       let f : descriptors_refusal d (suc (suc (2 * (n - 1)))) at s ≡ 0 = rw q at e in
-      let g = rest_none (descriptor_refusal d at s) _ f in
-      (first_none _ _ f, first_none _ _ g, rw a (rest_none (descriptor_refusal d (at + d) s) _ g))
+      rw a (rest_none (descriptor_refusal d (at + d) s) _ (rest_none (descriptor_refusal d at s) _ f))
 
   -- 1 and 5 alone are given
   pub descriptors_some : (P : ℕ → Type 0) (n at : ℕ) → P 0 → P 1 → P 5 → P (descriptors_refusal d n at s)

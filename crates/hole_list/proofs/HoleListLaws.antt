@@ -18,6 +18,15 @@ pub holes_step : (d n at : ℕ) (xs : List ℕ) → 0 < n → holes_of d n at xs
 holes_step d zero at xs h = absurd (omega arith)
 holes_step d (suc n) at xs h = let p : suc n - 1 ≡ n = omega arith in rw p
 
+-- after i of n holes: the next, and those after it
+pub holes_next : (d n at i : ℕ) (xs : List ℕ) → i < n
+    → holes_of d (n - i) (at + i * (2 * d)) xs ≡ hole_at d (at + i * (2 * d)) xs ∷ holes_of d (n - (i + 1)) (at + (i + 1) * (2 * d)) xs
+holes_next d n at i xs h =
+    let one : i + 1 ≡ suc i = omega arith in
+    let e : n - i - 1 ≡ n - suc i = omega arith in
+    let a : at + i * (2 * d) + 2 * d ≡ at + suc i * (2 * d) = omega (arith, suc-mul i (2 * d)) in
+    rw (holes_step d (n - i) (at + i * (2 * d)) xs (omega arith), one, e, a)
+
 -- as many holes as asked for
 pub length_holes : (d n at : ℕ) (xs : List ℕ) → length (holes_of d n at xs) ≡ n
 length_holes d zero at xs = refl

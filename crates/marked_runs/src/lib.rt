@@ -17,14 +17,14 @@ fn is_marked(marks: &[u8], n: usize) -> bool
 fn blank_octet(wanted: bool) -> u8
     ensures { result ≡ blank_octet wanted }
 {
-    if wanted { 0 } else { 255 }
+    if wanted { 0 } else { u8::MAX }
 }
 
 // A word of such octets.
 fn blank_word(wanted: bool) -> u64
     ensures { result ≡ blank_word wanted }
 {
-    if wanted { 0 } else { 18446744073709551615 }
+    if wanted { 0 } else { u64::MAX }
 }
 
 // A word from word `from` on, where none of the marks in the words before it is as wanted.
@@ -33,17 +33,15 @@ fn skip_words(marks: &[u8], from: usize, wanted: bool) -> usize
     ensures { AllAre (marked marks.now) (not wanted) (from * 64) (result * 64) × (result * 64 ≤ mark_count) }
 {
     let blank = blank_word(wanted);
-    let mut k = from;
-    while k < marks::OCTETS / 8 {
+    for k in from..marks::OCTETS / 8 {
         if words::word(marks, k) != blank {
             return k;
         }
-        k += 1;
     }
-    k
+    marks::OCTETS / 8
 }
 
-// The same by octets, and by words where a word begins.
+// The same by octets, and by words where a word begins. It is no `for`: the place jumps on over those words.
 fn skip_octets(marks: &[u8], from: usize, wanted: bool) -> usize
     requires { (mark_octets ≤ length marks.now) × (from ≤ mark_octets) }
     ensures { AllAre (marked marks.now) (not wanted) (from * 8) (result * 8) × (result ≤ mark_octets) }
@@ -62,7 +60,8 @@ fn skip_octets(marks: &[u8], from: usize, wanted: bool) -> usize
     k
 }
 
-// The first offset from `from` on whose mark is as wanted, and MARKS where there is none. Whole octets are passed over at once.
+// The first offset from `from` on whose mark is as wanted, and MARKS where there is none. Whole octets are passed over at once,
+// so that this is no `for` either.
 pub fn first(marks: &[u8], from: usize, wanted: bool) -> usize
     requires { (mark_octets ≤ length marks.now) × (from ≤ mark_count) }
     ensures { FirstWith (marked marks.now) wanted from mark_count result }
@@ -85,17 +84,19 @@ pub fn find_runs(marks: &[u8], rows: &mut [u8]) -> usize
     requires { (mark_octets ≤ length marks.now) × (1024 ≤ length rows.old) }
     ensures { RunsFound marks.now rows.new result }
 {
-    let mut n = 0;
     let mut start = first(marks, 0, true);
-    while start < marks::MARKS {
-        if n == marks::RUNS {
-            return marks::RUNS + 1;
+    for n in 0..marks::RUNS {
+        if start == marks::MARKS {
+            return n;
         }
         let stop = first(marks, start, false);
         words::put_word(rows, n, start as u64);
         words::put_word(rows, marks::RUNS + n, stop as u64);
-        n += 1;
         start = first(marks, stop, true);
     }
-    n
+    if start < marks::MARKS {
+        marks::RUNS + 1
+    } else {
+        marks::RUNS
+    }
 }

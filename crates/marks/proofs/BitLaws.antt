@@ -2,7 +2,7 @@
 use Prim.Native.Nat.{ℕ, zero, suc, ◌+◌, ◌*◌, ◌-◌, ◌/◌, ◌%◌, ◌^◌, ◌≤◌, ◌<◌}
 use mathlib.Core.Path.{◌≡◌, refl, sym, ◌∙◌}
 use mathlib.Core.Bool.{Bool, true, false, cond, not}
-use mathlib.Core.Logic.{◌⊎◌, ⊎_elim}
+use mathlib.Core.Logic.{⊎_elim}
 use native.Mathlib.Nat.{mod-lt, one-le-pow, pow-suc}
 use native.Mathlib.Omega.{arith}
 use lib.Dec.{eqb, ltb}
@@ -92,12 +92,6 @@ or_bit x i = go (eqb (x / 2 ^ (7 - i) % 2) 1) refl
     go : (b : Bool) → eqb (x / 2 ^ (7 - i) % 2) 1 ≡ b → bit_or x (2 ^ (7 - i)) ≡ cond b x (x + 2 ^ (7 - i))
     go true e = let u : x / 2 ^ (7 - i) % 2 ≡ 1 = eqb-true _ _ e in omega (arith, rw u at p)
     go false e = let u : x / 2 ^ (7 - i) % 2 ≡ 0 = bit_zero _ bit_small e in omega (arith, rw u at p)
-
--- all eight by one mask
-pub or_ones : (x : ℕ) → x < 256 → bit_or x 255 ≡ 255
-or_ones x h =
-    let p : bit_and x 255 ≡ x % 256 = and_mask x 8 in
-    omega (arith, or_add_and x 255)
 
 -- reading one
 pub read_bit : (x i : ℕ) → not (eqb (bit_and x (2 ^ (7 - i))) 0) ≡ bit_of x i

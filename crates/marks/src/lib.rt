@@ -20,12 +20,13 @@ pub fn bit_of(n: usize) -> u8
 }
 
 // Sets mark n. One that is set stays.
+#[tactic(auto, using(crate::proofs::MarkLaws::mark_written))]
 fn set_mark(marks: &mut [u8], n: usize)
     requires { n < 8 * length marks.old }
     ensures { marks.new ≡ with_mark n marks.old }
 {
     let k = n / 8;
-    marks[k] = marks[k] | bit_of(n);
+    marks[k] |= bit_of(n);
 }
 
 // Sets the marks from `from` on, up to `to` and not including it, one by one.
@@ -33,10 +34,8 @@ fn set_each(marks: &mut [u8], from: usize, to: usize)
     requires { (from ≤ to) × (to ≤ 8 * length marks.old) }
     ensures { marks.new ≡ with_marks from (to - from) marks.old }
 {
-    let mut n = from;
-    while n < to {
+    for n in from..to {
         set_mark(marks, n);
-        n += 1;
     }
 }
 
@@ -45,11 +44,7 @@ fn set_octets(marks: &mut [u8], from: usize, to: usize)
     requires { (from ≤ to) × (to ≤ length marks.old) }
     ensures { marks.new ≡ with_marks (from * 8) (to * 8 - from * 8) marks.old }
 {
-    let mut k = from;
-    while k < to {
-        marks[k] = marks[k] | 255;
-        k += 1;
-    }
+    marks[from..to].fill(255);
 }
 
 // Sets the marks from `from` on, up to `to` and not including it: whole octets at once, where there are any.
@@ -73,9 +68,5 @@ pub fn clear(marks: &mut [u8])
     requires { mark_octets ≤ length marks.old }
     ensures { marks.new ≡ cleared marks.old }
 {
-    let mut i = 0;
-    while i < OCTETS {
-        marks[i] = 0;
-        i += 1;
-    }
+    marks[..OCTETS].fill(0);
 }

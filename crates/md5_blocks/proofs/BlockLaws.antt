@@ -1,14 +1,15 @@
 -- Blocks of a message and of its parts.
 -- Assumes nothing.
-use Prim.Native.Nat.{ℕ, zero, suc, ◌+◌, ◌-◌, ◌*◌, ◌/◌, ◌≤◌, ◌<◌}
-use mathlib.Core.Path.{◌≡◌, sym, ap, ◌∙◌}
+use Prim.Native.Nat.{ℕ, zero, suc, ◌+◌, ◌*◌, ◌/◌, ◌≤◌, ◌<◌}
+use mathlib.Core.Path.{◌≡◌, refl, sym, ap, ◌∙◌}
 use mathlib.Core.List.{List, [], ◌∷◌, ◌++◌, append_assoc}
 use native.Mathlib.Nat.{zero-add, suc-add}
 use native.Mathlib.Omega.{arith}
 use lib.ListN.{length, take, drop, length-append, length-drop, take-append-drop}
-use lib.Seq.{drop-append-le, drop-append-add, drop-drop, length-take-le, take_all}
+use lib.Seq.{drop-append-le, drop-append-add, length-take-le}
+use Rattle.std.specs.List.{fold}
+use Rattle.std.specs.Simd.{first_chunks}
 use Rattle.md5_rounds.specs.Rounds.{compressed}
-use Rattle.md5_words.specs.Words.{words_at}
 use Rattle.md5_words.proofs.WordLaws.{words_append}
 use Rattle.md5_blocks.specs.Md5.{after_block, blocks, run, left_of}
 
@@ -79,14 +80,18 @@ module _ (v t b : List ℕ) where
   pub left_left : left_of (t ++ b) ≡ left_of (left_of t ++ b)
   left_left = ap (λ (l : List ℕ). left_of l) regroup ∙ left_append (length t / 64) whole (left_of t ++ b) whole_length
 
--- one block of those that are left
-pub block_step : (s w x : List ℕ) (at : ℕ) → at + 64 ≤ length s → x ≡ compressed w (words_at (take (length s - at) (drop at s)) 0 16)
-    → blocks ((length s - (at + 64)) / 64) x (drop (at + 64) s) ≡ blocks ((length s - at) / 64) w (drop at s)
-unfolding blocks after_block
-block_step s w x at h e =
-    let n = (length s - (at + 64)) / 64 in
-    let k : (length s - at) / 64 ≡ suc n = omega arith in
-    let t : take (length s - at) (drop at s) ≡ drop at s = take_all (length s - at) (drop at s) (simp length-drop (omega arith)) in
-    ap (λ (l : List ℕ). blocks n l (drop (at + 64) s)) (e ∙ ap (λ (l : List ℕ). compressed w (words_at l 0 16)) t)
-    ∙ ap (λ (l : List ℕ). blocks n (after_block w (drop at s)) l) (sym (drop-drop 64 at s))
-    ∙ ap (λ (m : ℕ). blocks m w (drop at s)) (sym k)
+-- the blocks one after the other, each cut out
+pub fold_chunks : (n : ℕ) (v s : List ℕ) → 64 * n ≤ length s → fold after_block v (first_chunks 64 n s) ≡ blocks n v s
+unfolding blocks
+fold_chunks zero v s h = refl
+fold_chunks (suc n) v s h =
+    ap (λ (w : List ℕ). fold after_block w (first_chunks 64 n (drop 64 s))) (cut_out (omega arith))
+    ∙ fold_chunks n (after_block v s) (drop 64 s) (simp length-drop (omega arith))
+  where
+    cut_out : 64 ≤ length s → after_block v (take 64 s) ≡ after_block v s
+    cut_out h =
+        let l : length (take 64 s) ≡ 64 = length-take-le 64 s h in
+        sym (after_append v (take 64 s) (drop 64 s) (omega arith)) ∙ ap (λ (l : List ℕ). after_block v l) (take-append-drop 64 s)
+
+pub fold_run : (v s : List ℕ) → fold after_block v (first_chunks 64 (length s / 64) s) ≡ run v s
+fold_run v s = fold_chunks (length s / 64) v s (omega arith)

@@ -1,7 +1,7 @@
 -- One part more: where it does not fill the block begun, and where it does. Both are laws over plain lists: what the functions called
 -- on the way ensure are their premises.
 -- Assumes nothing.
-use Rattle.std.proofs.Common.{◌≡◌, ℕ, ◌+◌, ◌-◌, ◌*◌, ◌/◌, ◌%◌, ◌^◌, ◌<◌, ◌≤◌, List, ◌++◌, length, take, drop, sym, ap, ◌∙◌, append_assoc, arith, length-append, length-drop, take-append-drop, length-take-le, take_all}
+use Rattle.std.proofs.Common.{◌≡◌, ℕ, ◌+◌, ◌-◌, ◌*◌, ◌/◌, ◌%◌, ◌^◌, ◌<◌, ◌≤◌, List, ◌++◌, length, take, drop, sym, ap, ◌∙◌, append_assoc, arith, length-append, length-drop, take-append-drop, length-take-le}
 use lib.ListN.{length-replicate}
 use Rattle.octets.specs.Numbers.{be_digits}
 use Rattle.octets.specs.Put.{put}
@@ -46,31 +46,22 @@ module _ (s p v r b1 b2 : List ℕ) (n m : ℕ) (hs : state_octets ≤ length s)
       ∙ ap (λ (k : ℕ). put 0 (state_of (run (words_of s) t) k t) s) counted
       ∙ ap (λ (l : List ℕ). put 0 (state_of (run (words_of s) t) ((count_of s + length p) % 2 ^ 64) l) s) (sym (left_short t short))
 
-  module _ (w x rest b3 : List ℕ) (h : 64 - n % 64 ≤ length p) (e2 : b2 ≡ put (n % 64) (take (64 - n % 64) p) b1)
-      (ew : w ≡ run v b2) (et : rest ≡ take (length p - (64 - n % 64)) (drop (64 - n % 64) p)) (ex : x ≡ run w rest)
-      (e3 : b3 ≡ put 0 (take (length rest - (length rest - length rest % 64)) (drop (length rest - length rest % 64) rest)) (zeros 64))
-      (er : r ≡ put 0 (word_octets x ++ (be_digits 8 m ++ b3)) s) where
-    first : List ℕ
-    first = take (64 - n % 64) p
-
+  -- the part is cut in two: what fills the block, and the rest; what is left of that is the block begun
+  module _ (w x first rest left b3 : List ℕ) (h : 64 - n % 64 ≤ length p) (ef : first ≡ take (64 - n % 64) p) (et : rest ≡ drop (64 - n % 64) p)
+      (e2 : b2 ≡ put (n % 64) first b1) (ew : w ≡ run v b2) (ex : x ≡ run w rest) (el : left ≡ drop (length rest / 64 * 64) rest)
+      (e3 : b3 ≡ put 0 left (zeros 64)) (er : r ≡ put 0 (word_octets x ++ (be_digits 8 m ++ b3)) s) where
     first_length : length first ≡ 64 - n % 64
-    unfolding first
-    first_length = length-take-le (64 - n % 64) p h
+    first_length = ap length ef ∙ length-take-le (64 - n % 64) p h
 
     block_length : length (begun_of s ++ first) ≡ 64 * 1
     block_length = length-append (begun_of s) first ∙ omega (arith, size, first_length)
 
     block_is : b2 ≡ begun_of s ++ first
-    unfolding first
     block_is = filled first (omega (arith, first_length)) e2 ∙ zero_covered (begun_of s ++ first) 64 block_length
 
-    rest_is : rest ≡ drop (64 - n % 64) p
-    rest_is = et ∙ take_all (length p - (64 - n % 64)) (drop (64 - n % 64) p) (simp length-drop (omega arith))
-
     whole : begun_of s ++ p ≡ (begun_of s ++ first) ++ rest
-    unfolding first
     whole =
-        ap (λ (l : List ℕ). begun_of s ++ l) (sym (take-append-drop (64 - n % 64) p) ∙ ap (λ (l : List ℕ). first ++ l) (sym rest_is))
+        ap (λ (l : List ℕ). begun_of s ++ l) (rw (ef, et) (sym (take-append-drop (64 - n % 64) p)))
         ∙ sym (append_assoc (begun_of s) first rest)
 
     run_is : x ≡ run (words_of s) (begun_of s ++ p)
@@ -80,10 +71,10 @@ module _ (s p v r b1 b2 : List ℕ) (n m : ℕ) (hs : state_octets ≤ length s)
         ∙ sym (run_append 1 (words_of s) (begun_of s ++ first) rest block_length)
         ∙ ap (λ (l : List ℕ). run (words_of s) l) (sym whole)
 
-    left_is : take (length rest - (length rest - length rest % 64)) (drop (length rest - length rest % 64) rest) ≡ left_of (begun_of s ++ p)
+    left_is : left ≡ left_of (begun_of s ++ p)
     left_is =
-        let at : length rest - length rest % 64 ≡ 64 * (length rest / 64) = omega arith in
-        take_all (length rest - (length rest - length rest % 64)) (drop (length rest - length rest % 64) rest) (simp length-drop (omega arith))
+        let at : length rest / 64 * 64 ≡ 64 * (length rest / 64) = omega arith in
+        el
         ∙ ap (λ (k : ℕ). drop k rest) at
         ∙ sym (left_append 1 (begun_of s ++ first) rest block_length)
         ∙ ap (λ (l : List ℕ). left_of l) (sym whole)

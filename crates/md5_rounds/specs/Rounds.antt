@@ -1,6 +1,6 @@
 -- R16.5, R16.6: the four rounds of MD5 by table, and the words A, B, C and D after a block of 16 words.
 -- Assumes nothing.
-use Rattle.std.specs.Prelude.{ℕ, zero, suc, ◌+◌, ◌*◌, ◌%◌, ◌^◌, List, [], ◌∷◌, slice_index}
+use Rattle.std.specs.Prelude.{ℕ, zero, suc, ◌+◌, ◌*◌, ◌%◌, ◌^◌, ◌<◌, List, [], ◌∷◌, slice_index}
 use Rattle.md5_steps.specs.Steps.{mix_f, mix_g, mix_h, mix_i, step}
 
 -- R16.5: a round: its function, its four shifts, the index of its first word and how far on the next one's is, and its 16 numbers
@@ -11,6 +11,17 @@ pub record Round : Type 0 where
   pub start : ℕ
   pub stride : ℕ
   pub sines : List ℕ
+
+-- a round by its parts
+abbrev pub round_by : (ℕ → ℕ → ℕ → ℕ) → List ℕ → ℕ → ℕ → List ℕ → Round
+round_by f t a d k = record { mix = f; shifts = t; start = a; stride = d; sines = k }
+
+-- four shifts by some of the bits of a word, and not all
+pub record Shifts (t : List ℕ) : Type 0 where
+  pub a : (0 < slice_index t 0) × (slice_index t 0 < 32)
+  pub b : (0 < slice_index t 1) × (slice_index t 1 < 32)
+  pub c : (0 < slice_index t 2) × (slice_index t 2 < 32)
+  pub d : (0 < slice_index t 3) × (slice_index t 3 < 32)
 
 abbrev pub first : Round
 first = record {

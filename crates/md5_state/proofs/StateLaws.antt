@@ -10,6 +10,8 @@ use lib.Dec.{ltb}
 use borrow.Author.Tests.{lt-ltb, le-ltb, ltb-true, ltb-false}
 use lib.ListN.{length, take, drop, length-append, length-drop, length-replicate, replicate-append-replicate}
 use lib.Seq.{length-take-le, drop_at}
+use Rattle.std.specs.Int.{w64, to_be_bytes}
+use Rattle.std.proofs.Math.Nat.{div-div-eq-div-mul}
 use Rattle.octets.specs.Numbers.{be_digits}
 use Rattle.octets.specs.Put.{put}
 use Rattle.octets.proofs.PutLaws.{put_next}
@@ -20,17 +22,30 @@ use Rattle.md5_words.proofs.WordLaws.{length_words}
 use Rattle.md5_blocks.specs.Md5.{zeros}
 use Rattle.md5_state.specs.State.{state_octets, state_refusal, count_of, begun_of}
 
+-- the number's octets, as the library writes them
+count_bytes : (n : ℕ) → be_digits 8 n ≡ to_be_bytes w64 n
+count_bytes n =
+    rw (
+      div-div-eq-div-mul n 256 256,
+      div-div-eq-div-mul n 65536 256,
+      div-div-eq-div-mul n 16777216 256,
+      div-div-eq-div-mul n 4294967296 256,
+      div-div-eq-div-mul n 1099511627776 256,
+      div-div-eq-div-mul n 281474976710656 256,
+    )
+    refl
+
 -- the words, the number, the block
 pub state_puts : (s l1 l2 l3 v t : List ℕ) (n : ℕ) → state_octets ≤ length s → length t ≡ 64
     → l1 ≡ put 0 (word_octets v) s
-    → l2 ≡ put 16 (be_digits 8 n) l1
+    → l2 ≡ put 16 (to_be_bytes w64 n) l1
     → l3 ≡ put 24 t l2
     → l3 ≡ put 0 (word_octets v ++ (be_digits 8 n ++ t)) s
 state_puts s l1 l2 l3 v t n hs ht e1 e2 e3 =
     let a = word_octets v in
     let b = be_digits 8 n in
     let f2 : l2 ≡ put 0 (a ++ b) s =
-    e2 ∙ ap (λ (l : List ℕ). put 16 b l) e1 ∙ put_next 0 16 a b s (omega (arith, length_words v)) (omega arith) in
+    e2 ∙ ap (λ (l : List ℕ). put 16 l l1) (sym (count_bytes n)) ∙ ap (λ (l : List ℕ). put 16 b l) e1 ∙ put_next 0 16 a b s (omega (arith, length_words v)) (omega arith) in
     e3
     ∙ ap (λ (l : List ℕ). put 24 t l) f2
     ∙ put_next 0 24 (a ++ b) t s (omega (arith, length-append a b, length_words v)) (omega arith)

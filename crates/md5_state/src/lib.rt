@@ -6,6 +6,9 @@ ghost use Rattle.octets.specs.Numbers.{be_digits};
 ghost use Rattle.octets.specs.Put.{put};
 ghost use Rattle.md5_words.specs.Words.{word_octets};
 ghost use Rattle.md5_state.specs.State.{state_octets, state_refusal, count_of, begun_of};
+ghost use Rattle.refusals.specs.Faults.{refused};
+
+use refusals::Fault;
 
 // The octets of a state, and where its number and its block stand.
 const OCTETS: usize = 88;
@@ -14,17 +17,19 @@ const COUNT_AT: usize = 16;
 
 const BLOCK_AT: usize = 24;
 
-// Refusal 20 of octets that are lent for a state; 0 for none.
-pub fn state_refusal(state: &[u8]) -> u64
-    ensures { result ≡ state_refusal state.now }
+// Refusal 20 of octets that are lent for a state.
+#[tactic(auto, unfolding(crate::specs::State::state_refusal))]
+pub fn state_refusal(state: &[u8]) -> Result<(), Fault>
+    ensures { refused result ≡ state_refusal state.now }
 {
     if state.len() < OCTETS {
-        return 20;
+        return Err(Fault::NoRoom);
     }
-    0
+    Ok(())
 }
 
 // The number of octets so far.
+#[tactic(auto, unfolding(crate::specs::State::count_of))]
 pub fn count(state: &[u8]) -> u64
     requires { state_octets ≤ length state.now }
     ensures { result ≡ count_of state.now }
@@ -33,6 +38,7 @@ pub fn count(state: &[u8]) -> u64
 }
 
 // The octets of the block begun come to the front of out; the others stay.
+#[tactic(auto, using(crate::proofs::StateLaws::begun_part))]
 pub fn copy_begun(out: &mut [u8], state: &[u8])
     requires { (state_octets ≤ length state.now) × (64 ≤ length out.old) }
     ensures { out.new ≡ put 0 (begun_of state.now) out.old }
@@ -43,11 +49,12 @@ pub fn copy_begun(out: &mut [u8], state: &[u8])
 }
 
 // Stores the words, the number and the 64 octets of the block. What is lent past the state stays.
-pub fn store(state: &mut [u8], v: [u32; 4], n: u64, block: &[u8])
-    requires { (state_octets ≤ length state.old) × (length block.now ≡ 64) }
+#[tactic(auto, using(crate::proofs::StateLaws::state_puts))]
+pub fn store(state: &mut [u8], v: [u32; 4], n: u64, block: &[u8; 64])
+    requires { state_octets ≤ length state.old }
     ensures { state.new ≡ put 0 (word_octets v ++ (be_digits 8 n ++ block.now)) state.old }
 {
     md5_words::write_words(state, v);
-    octets::write_number(state, COUNT_AT, 8, n);
+    octets::copy_into(state, COUNT_AT, &n.to_be_bytes());
     octets::copy_into(state, BLOCK_AT, block);
 }

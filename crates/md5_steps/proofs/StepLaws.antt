@@ -1,11 +1,23 @@
--- The sums of a step, a step by its parts, and one step after the other.
+-- The new word of a step, and a step by its parts.
 -- Assumes nothing.
-use Rattle.std.proofs.Common.{◌≡◌, ℕ, ◌+◌, ◌%◌, ◌^◌, List, [], ◌∷◌, get_or, ap, ◌∙◌, arith}
-use Rattle.md5_steps.specs.Steps.{turned, step}
+use Rattle.std.proofs.Common.{◌≡◌, ℕ, ◌+◌, ◌-◌, ◌%◌, ◌^◌, ◌<◌, List, refl, [], ◌∷◌, get_or, ap, ◌∙◌, arith}
+use Rattle.std.specs.Int.{w32, rotate_left}
+use Rattle.md5_steps.specs.Steps.{rotl, turned, step}
 
--- sums of two words, one after the other, are the sum of all
-pub sum_four : (a f x t p q m : ℕ) → p ≡ (x + t) % 2 ^ 32 → q ≡ (a + p) % 2 ^ 32 → m ≡ (q + f) % 2 ^ 32 → m ≡ (a + f + x + t) % 2 ^ 32
-sum_four a f x t p q m hp hq hm = omega arith
+-- the library's turning, by less than a word's bits
+rotl_is : (n s : ℕ) → 0 < s → s < 32 → rotate_left w32 n s ≡ rotl n s
+unfolding rotl
+rotl_is n s h k =
+    let e : s % 32 ≡ s = omega arith in
+    let f : (32 - s) % 32 ≡ 32 - s = omega arith in
+    rw (e, f) refl
+
+-- the new word: sums of two words, one after the other, are the sum of all
+pub turned_is : (a b f x t s r : ℕ) → 0 < s → s < 32 → r ≡ rotate_left w32 (((a + (x + t) % 2 ^ 32) % 2 ^ 32 + f) % 2 ^ 32) s
+    → (b + r) % 2 ^ 32 ≡ turned a b f x t s
+turned_is a b f x t s r h k e =
+    let m : ((a + (x + t) % 2 ^ 32) % 2 ^ 32 + f) % 2 ^ 32 ≡ (a + f + x + t) % 2 ^ 32 = omega arith in
+    rw (e, rotl_is _ s h k, m) refl
 
 -- a step, where the function gave m and the new word is w
 pub stepped : (f : ℕ → ℕ → ℕ → ℕ) (v : List ℕ) (x t s m w : ℕ)
@@ -16,7 +28,3 @@ unfolding step
 stepped f v x t s m w hm hw =
     ap (λ (n : ℕ). get_or v 3 0 ∷ n ∷ get_or v 1 0 ∷ get_or v 2 0 ∷ [])
     (hw ∙ ap (λ (n : ℕ). turned (get_or v 0 0) (get_or v 1 0) n x t s) hm)
-
--- a step whose words are known by an earlier one
-pub and_then : (f : ℕ → ℕ → ℕ → ℕ) (x t s : ℕ) {w v u : List ℕ} → w ≡ step f v x t s → v ≡ u → w ≡ step f u x t s
-and_then f x t s p q = p ∙ ap (λ (l : List ℕ). step f l x t s) q

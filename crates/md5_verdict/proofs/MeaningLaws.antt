@@ -17,7 +17,9 @@ use Rattle.md5_state.proofs.StateLaws.{state_fine, state_short}
 use Rattle.md5_verdict.specs.Verdict.{same_octets, checksum_type, checksum_of, verdict_of, verdict_refusal, check_md5}
 use Rattle.md5_verdict.specs.VerdictOn.{VerdictOn}
 use Rattle.md5_verdict.specs.declared.Verdict.{Verdict}
-use Rattle.md5_verdict.specs.declared.Verdict.TheVariants.{NotChecked, Agrees, Differs, Refused}
+use Rattle.md5_verdict.specs.declared.Verdict.TheVariants.{NotChecked, Agrees, Differs}
+use Rattle.std.specs.Prelude.{Result, Ok, Err}
+use Rattle.refusals.specs.declared.Refusal.{Refusal}
 
 -- octets are the same exactly when the lists are equal
 pub same_iff : (xs ys : List ℕ) → (same_octets xs ys ≡ true) ↔ (xs ≡ ys)
@@ -37,13 +39,13 @@ same_iff xs ys = (equal xs ys, λ e. ap (λ (l : List ℕ). same_octets xs l) (s
     itself (x ∷ xs) = rw (eq-eqb x x refl) (itself xs)
 
 -- a number for each verdict
-abbrev tag : Verdict → ℕ
-tag NotChecked = 0
-tag Agrees = 1
-tag Differs = 2
-tag (Refused r) = 3
+abbrev tag : Result Verdict Refusal → ℕ
+tag (Ok NotChecked) = 0
+tag (Ok Agrees) = 1
+tag (Ok Differs) = 2
+tag (Err r) = 3
 
-other : {v w : Verdict} {A : Type 0} → (tag v ≡ tag w → ⊥) → v ≡ w → A
+other : {v w : Result Verdict Refusal} {A : Type 0} → (tag v ≡ tag w → ⊥) → v ≡ w → A
 other h e = absurd (h (ap tag e))
 
 module _ (packet s : List ℕ) where
@@ -51,7 +53,7 @@ module _ (packet s : List ℕ) where
   Same = digest_of s ≡ checksum_of packet
 
   by_cases : (n : ℕ) (t b : Bool) → verdict_refusal packet s ≡ n → eqb (checksum_type packet) 2 ≡ t → same_octets (digest_of s) (checksum_of packet) ≡ b
-      → VerdictOn packet s (answered Refused n (cond t (cond b Agrees Differs) NotChecked))
+      → VerdictOn packet s (answered Err n (cond t (cond b (Ok Agrees) (Ok Differs)) (Ok NotChecked)))
   by_cases (suc n) t b en et eb = record {
     agrees_iff = (other (λ e. omega arith), λ p. absurd (omega (arith, en, p.0)));
     differs_iff = (other (λ e. omega arith), λ p. absurd (omega (arith, en, p.0)));

@@ -1,55 +1,47 @@
 -- Octets that are the same, and the verdict by what is known of a packet.
 -- Assumes nothing.
-use Prim.Native.Nat.{ℕ, zero, suc, ◌≤◌, ◌<◌}
-use mathlib.Core.Path.{◌≡◌, refl, sym, ap, ◌∙◌}
-use mathlib.Core.Bool.{Bool, true, false, not, ◌&&◌}
+use Prim.Native.Nat.{ℕ, zero, suc, ◌≤◌}
+use mathlib.Core.Path.{◌≡◌, refl, ◌∙◌}
+use mathlib.Core.Bool.{Bool, true, false, not}
 use mathlib.Core.List.{List, [], ◌∷◌}
 use native.Mathlib.Omega.{arith}
 use borrow.Author.Tests.{eq-eqb, ne_eqb, eqb-true}
 use lib.Dec.{eqb}
-use lib.ListN.{length, get_or, drop}
-use lib.Seq.{drop-cons, drop-length}
+use lib.ListN.{length, take, drop}
 use Rattle.refusals.specs.Refusals.{when}
 use Rattle.refusals.proofs.RefusalLaws.{first_none, rest_none}
 use Rattle.header.specs.FirstWord.{sum_words}
 use Rattle.header.specs.Start.{word_of}
 use Rattle.packet_metadata.specs.Checksum.{pair_allowed, pair_refusal}
 use Rattle.packet_metadata.proofs.MetadataLaws.{MetadataFine, metadata_fine}
-use Rattle.md5_state.specs.State.{state_octets, state_refusal}
-use Rattle.md5_state.proofs.StateLaws.{state_long}
+use Rattle.md5_state.specs.State.{state_octets, state_refusal, last_words, digest_of}
+use Rattle.md5_state.proofs.StateLaws.{state_long, zero_covered}
+use Rattle.octets.specs.Put.{put}
+use Rattle.md5_words.specs.Words.{word_octets}
+use Rattle.md5_words.proofs.WordLaws.{length_words}
+use Rattle.md5_blocks.specs.Md5.{zeros}
+use Rattle.std.specs.Cmp.Lexicographic.{pointwise}
 use Rattle.md5_verdict.specs.Verdict.{same_octets, checksum_type, checksum_of, verdict_of, verdict_refusal}
 use Rattle.md5_verdict.specs.declared.Verdict.TheVariants.{NotChecked, Agrees, Differs}
+use Rattle.std.specs.Prelude.{Ok}
 
--- ---- octet by octet
+-- ---- the digest and the checksum
 
-pub same_lengths : (xs ys : List ℕ) → (length xs ≡ length ys → ⊥) → same_octets xs ys ≡ false
+-- the definition is what `==` says of two slices
+same_is : (xs ys : List ℕ) → same_octets xs ys ≡ pointwise eqb xs ys
 unfolding same_octets
-same_lengths [] [] h = absurd (h refl)
-same_lengths [] (y ∷ ys) h = refl
-same_lengths (x ∷ xs) [] h = refl
-same_lengths (x ∷ xs) (y ∷ ys) h = rw (same_lengths xs ys (λ e. h (ap suc e))) (both_false (eqb x y))
-  where
-    both_false : (b : Bool) → b && false ≡ false
-    both_false true = refl
-    both_false false = refl
+same_is [] [] = refl
+same_is [] (y ∷ ys) = refl
+same_is (x ∷ xs) [] = refl
+same_is (x ∷ xs) (y ∷ ys) = rw (same_is xs ys) refl
 
-module _ (xs ys : List ℕ) (i : ℕ) (h : i < length xs) (l : i < length ys) where
-  here : same_octets (drop i xs) (drop i ys) ≡ eqb (get_or xs i 0) (get_or ys i 0) && same_octets (drop (suc i) xs) (drop (suc i) ys)
-  unfolding same_octets
-  here = rw (drop-cons xs i 0 h, drop-cons ys i 0 l)
-
-  pub same_on : get_or xs i 0 ≡ get_or ys i 0 → same_octets (drop (suc i) xs) (drop (suc i) ys) ≡ same_octets (drop i xs) (drop i ys)
-  same_on e = sym (here ∙ rw (eq-eqb (get_or xs i 0) (get_or ys i 0) e))
-
-  pub same_no_more : (get_or xs i 0 ≡ get_or ys i 0 → ⊥) → same_octets (drop i xs) (drop i ys) ≡ false
-  same_no_more n = here ∙ rw (ne_eqb (get_or xs i 0) (get_or ys i 0) n)
-
-pub same_end : (xs ys : List ℕ) (i : ℕ) → i ≡ length xs → i ≡ length ys → same_octets (drop i xs) (drop i ys) ≡ true
-unfolding same_octets
-same_end xs ys i e f = rw (drop_none xs i e, drop_none ys i f)
-  where
-    drop_none : (l : List ℕ) (i : ℕ) → i ≡ length l → drop i l ≡ []
-    drop_none l i e = ap (λ (k : ℕ). drop k l) e ∙ drop-length l
+-- of a digest that is written whole into 16 octets
+pub digest_same : (packet s digest v : List ℕ) (r : Bool) → r ≡ pointwise eqb digest (take 16 (drop 8 packet)) → v ≡ last_words s
+    → digest ≡ put 0 (word_octets v) (zeros 16) → r ≡ same_octets (digest_of s) (checksum_of packet)
+unfolding digest_of
+digest_same packet s digest v r e ev ed =
+    let d : digest ≡ word_octets v = ed ∙ zero_covered (word_octets v) 16 (length_words v) in
+    rw (e, d, ev, ← same_is (word_octets (last_words s)) (take 16 (drop 8 packet))) refl
 
 -- ---- what is known where nothing is refused
 
@@ -86,15 +78,15 @@ module _ (packet s : List ℕ) (e : verdict_refusal packet s ≡ 0) where
 -- ---- R16.12: the verdict, case by case
 
 module _ (packet digest : List ℕ) where
-  pub verdict_other : (checksum_type packet ≡ 2 → ⊥) → NotChecked ≡ verdict_of packet digest
+  pub verdict_other : (checksum_type packet ≡ 2 → ⊥) → (Ok NotChecked) ≡ verdict_of packet digest
   unfolding verdict_of
   verdict_other n = rw (ne_eqb (checksum_type packet) 2 n)
 
   module _ (t : checksum_type packet ≡ 2) where
-    pub verdict_same : same_octets digest (checksum_of packet) ≡ true → Agrees ≡ verdict_of packet digest
+    pub verdict_same : same_octets digest (checksum_of packet) ≡ true → (Ok Agrees) ≡ verdict_of packet digest
     unfolding verdict_of
     verdict_same h = rw (eq-eqb (checksum_type packet) 2 t, h)
 
-    pub verdict_unlike : same_octets digest (checksum_of packet) ≡ false → Differs ≡ verdict_of packet digest
+    pub verdict_unlike : same_octets digest (checksum_of packet) ≡ false → (Ok Differs) ≡ verdict_of packet digest
     unfolding verdict_of
     verdict_unlike h = rw (eq-eqb (checksum_type packet) 2 t, h)

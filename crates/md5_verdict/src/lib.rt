@@ -4,44 +4,27 @@
 ghost use Rattle.std.specs.Prelude.{◌≡◌, ◌≤◌, length};
 ghost use Rattle.md5_state.specs.State.{state_octets, digest_of};
 ghost use Rattle.md5_verdict.specs.Verdict.{same_octets, checksum_type, checksum_of, verdict_refusal, check_md5};
+ghost use Rattle.refusals.specs.Faults.{refused};
 
-use refusals::Refusal;
+use refusals::{Fault, Refusal};
 
-// What checking answers.
+// What checking answers; each discriminant is the verdict's number.
 #[derive(Clone, Copy)]
 pub enum Verdict {
-    NotChecked,
-    Agrees,
-    Differs,
-    Refused(Refusal),
+    NotChecked = 0,
+    Agrees = 1,
+    Differs = 2,
 }
 
 // The type of a checksum that is an MD5.
 const MD5: u64 = 2;
-
-fn same_octets(a: &[u8], b: &[u8]) -> bool
-    ensures { result ≡ same_octets a.now b.now }
-{
-    if a.len() != b.len() {
-        return false;
-    }
-    let mut i = 0;
-    while i < a.len() {
-        if a[i] != b[i] {
-            return false;
-        }
-        i += 1;
-    }
-    true
-}
 
 // The checksum's type, by the packet's first word.
 fn checksum_type(packet: &[u8]) -> u64
     requires { 4 ≤ length packet.now }
     ensures { result ≡ checksum_type packet.now }
 {
-    let h = first_word::split(first_word::word(packet));
-    h.sum
+    first_word::split(first_word::word(packet)).sum
 }
 
 // Whether the digest is the checksum, of a packet whose checksum has 16 octets.
@@ -51,31 +34,29 @@ fn agrees(packet: &[u8], state: &[u8]) -> bool
 {
     let mut digest = [0u8; 16];
     md5_words::write_words(&mut digest, md5_digest::last_words(state));
-    same_octets(&digest, &packet[8..24])
+    digest[..] == packet[8..24]
 }
 
-// Refusal 20 of the state, and then those of a packet that has to be METADATA; 0 for none.
-fn verdict_refusal(packet: &[u8], state: &[u8]) -> u64
-    ensures { result ≡ verdict_refusal packet.now state.now }
+// Refusal 20 of the state, and then those of a packet that has to be METADATA.
+#[tactic(auto, unfolding(crate::specs::Verdict::verdict_refusal))]
+fn verdict_refusal(packet: &[u8], state: &[u8]) -> Result<(), Fault>
+    ensures { refused result ≡ verdict_refusal packet.now state.now }
 {
-    let short = md5_state::state_refusal(state);
-    let unread = packet_metadata::metadata_refusal(packet);
-    refusals::first(short, unread)
+    md5_state::state_refusal(state)?;
+    packet_metadata::metadata_refusal(packet)
 }
 
 // The verdict on a packet that has to be METADATA, by what was added to the state.
-pub fn check(packet: &[u8], state: &[u8]) -> Verdict
+#[tactic(auto, using(refusals::proofs::FaultLaws::fault_answers, crate::proofs::VerdictLaws::word_there, crate::proofs::VerdictLaws::checksum_there, crate::proofs::VerdictLaws::state_there, crate::proofs::VerdictLaws::verdict_other, crate::proofs::VerdictLaws::verdict_same, crate::proofs::VerdictLaws::verdict_unlike), unfolding(crate::specs::Verdict::check_md5))]
+pub fn check(packet: &[u8], state: &[u8]) -> Result<Verdict, Refusal>
     ensures { result ≡ check_md5 packet.now state.now }
 {
-    let n = verdict_refusal(packet, state);
-    if n != 0 {
-        return Verdict::Refused(refusals::refuse(n));
-    }
+    verdict_refusal(packet, state)?;
     if checksum_type(packet) != MD5 {
-        return Verdict::NotChecked;
+        return Ok(Verdict::NotChecked);
     }
     if agrees(packet, state) {
-        return Verdict::Agrees;
+        return Ok(Verdict::Agrees);
     }
-    Verdict::Differs
+    Ok(Verdict::Differs)
 }

@@ -1,50 +1,51 @@
 -- Words and their octets: four words put into a buffer two at a time, read back, and the words of a longer list.
 -- Assumes nothing.
-use Prim.Native.Nat.{ℕ, zero, suc, ◌+◌, ◌*◌, ◌/◌, ◌%◌, ◌^◌, ◌≤◌, ◌<◌}
+use Prim.Native.Nat.{ℕ, zero, suc, ◌+◌, ◌*◌, ◌^◌, ◌≤◌, ◌<◌}
 use mathlib.Core.Path.{◌≡◌, refl, sym, ap, ◌∙◌}
-use mathlib.Core.List.{List, [], ◌∷◌, ◌++◌}
+use mathlib.Core.List.{List, [], ◌∷◌, ◌++◌, append_assoc}
 use native.Mathlib.Omega.{arith}
 use lib.ListN.{length, get_or, take, drop, length-drop}
 use lib.Seq.{take-append-le, drop-append-le}
+use Rattle.std.specs.Int.{w32, to_le_bytes}
+use Rattle.std.proofs.Math.Nat.{div-div-eq-div-mul}
 use Rattle.octets.specs.Numbers.{le_value, le_digits, Octets}
 use Rattle.octets.specs.Put.{put}
 use Rattle.octets.proofs.PutLaws.{put_next}
 use Rattle.octets.proofs.LowFirstLaws.{low_front_value, low_part_lt}
 use Rattle.md5_words.specs.Words.{word_at, words_at, word_octets}
 
--- one octet less, with c above
-low : (n a c : ℕ) → n ≡ a + c * 256 → n % 256 ≡ a % 256
-low n a c e = omega arith
-
-high : (n a c d : ℕ) → n ≡ a + c * 256 → c ≡ d → n / 256 ≡ a / 256 + d
-high n a c d e f = omega arith
-
--- two words as one number
-eight : (n a b : ℕ) → n ≡ a + b * 4294967296 → a < 2 ^ 32 → le_digits 8 n ≡ le_digits 4 a ++ le_digits 4 b
+-- the octets of a word, as the library writes them
+word_bytes : (n : ℕ) → le_digits 4 n ≡ to_le_bytes w32 n
 unfolding le_digits
-eight n a b e h =
-    let q1 : n / 256 ≡ a / 256 + b * 65536 * 256 = high n a (b * 16777216) _ (omega arith) (omega arith) in
-    let q2 : n / 256 / 256 ≡ a / 256 / 256 + b * 256 * 256 = high _ _ (b * 65536) _ q1 (omega arith) in
-    let q3 : n / 256 / 256 / 256 ≡ a / 256 / 256 / 256 + b * 256 = high _ _ (b * 256) _ q2 (omega arith) in
-    let q4 : n / 256 / 256 / 256 / 256 ≡ a / 256 / 256 / 256 / 256 + b = high _ _ b _ q3 (omega arith) in
-    let z : a / 256 / 256 / 256 / 256 + b ≡ b = omega arith in
-    rw (low n a (b * 16777216) (omega arith), low _ _ (b * 65536) q1, low _ _ (b * 256) q2, low _ _ b q3, q4, z)
+word_bytes n = rw (div-div-eq-div-mul n 256 256, div-div-eq-div-mul n 65536 256) refl
 
--- four words, two at a time
-pub word_puts : (s l1 l2 v : List ℕ) (m n : ℕ) → 16 ≤ length s → get_or v 0 0 < 2 ^ 32 → get_or v 2 0 < 2 ^ 32
-    → m ≡ get_or v 0 0 + get_or v 1 0 * 4294967296
-    → n ≡ get_or v 2 0 + get_or v 3 0 * 4294967296
-    → l1 ≡ put 0 (le_digits 8 m) s
-    → l2 ≡ put 8 (le_digits 8 n) l1
-    → l2 ≡ put 0 (word_octets v) s
-unfolding word_octets le_digits
-word_puts s l1 l2 v m n h a c hm hn e1 e2 =
-    let p = le_digits 4 (get_or v 0 0) ++ le_digits 4 (get_or v 1 0) in
-    let q = le_digits 4 (get_or v 2 0) ++ le_digits 4 (get_or v 3 0) in
+-- one word more
+word_next : (at : ℕ) (done : List ℕ) (n : ℕ) (s l1 l2 : List ℕ) → length done ≡ at → at + 4 ≤ length s → l1 ≡ put 0 done s
+    → l2 ≡ put at (to_le_bytes w32 n) l1 → l2 ≡ put 0 (done ++ le_digits 4 n) s
+unfolding le_digits
+word_next at done n s l1 l2 e h e1 e2 =
     e2
-    ∙ ap (λ (l : List ℕ). put 8 l l1) (eight n (get_or v 2 0) (get_or v 3 0) hn c)
-    ∙ ap (λ (l : List ℕ). put 8 q l) (e1 ∙ ap (λ (l : List ℕ). put 0 l s) (eight m (get_or v 0 0) (get_or v 1 0) hm a))
-    ∙ put_next 0 8 p q s refl (omega arith)
+    ∙ ap (λ (l : List ℕ). put at l l1) (sym (word_bytes n))
+    ∙ ap (λ (l : List ℕ). put at (le_digits 4 n) l) e1
+    ∙ put_next 0 at done (le_digits 4 n) s (omega arith) (omega arith)
+
+-- four words, one after the other
+pub word_puts : (s l1 l2 l3 l4 v : List ℕ) → 16 ≤ length s
+    → l1 ≡ put 0 (to_le_bytes w32 (get_or v 0 0)) s
+    → l2 ≡ put 4 (to_le_bytes w32 (get_or v 1 0)) l1
+    → l3 ≡ put 8 (to_le_bytes w32 (get_or v 2 0)) l2
+    → l4 ≡ put 12 (to_le_bytes w32 (get_or v 3 0)) l3
+    → l4 ≡ put 0 (word_octets v) s
+unfolding word_octets le_digits
+word_puts s l1 l2 l3 l4 v h e1 e2 e3 e4 =
+    let a = le_digits 4 (get_or v 0 0) in
+    let b = le_digits 4 (get_or v 1 0) in
+    let c = le_digits 4 (get_or v 2 0) in
+    let f1 : l1 ≡ put 0 a s = e1 ∙ ap (λ (l : List ℕ). put 0 l s) (sym (word_bytes (get_or v 0 0))) in
+    word_next 12 ((a ++ b) ++ c) (get_or v 3 0) s l3 l4 refl (omega arith)
+    (word_next 8 (a ++ b) (get_or v 2 0) s l2 l3 refl (omega arith) (word_next 4 a (get_or v 1 0) s l1 l2 refl (omega arith) f1 e2) e3)
+    e4
+    ∙ ap (λ (l : List ℕ). put 0 l s) (simp append_assoc)
 
 -- words that stand in the first of two lists
 word_append : (a b : List ℕ) (at : ℕ) → at + 4 ≤ length a → word_at (a ++ b) at ≡ word_at a at

@@ -16,7 +16,6 @@ use Rattle.transfer.specs.Record.{runs_refusal}
 use Rattle.table.specs.Tables.{Valid, keys, find, runs_of}
 use Rattle.table.proofs.FineLaws.{runs_canonical, table_unique}
 use Rattle.table_merge.specs.Merge.{keys_refusal, joined_runs, merge_refusal, merge_as, merge_table, merge_accepted}
-use Rattle.table_merge.specs.declared.Merged.{Merged}
 use Rattle.table_merge.proofs.MergeLaws.{Mergeable, merge_keys, merge_other, merge_stamp, merge_runs, merge_valid}
 use Rattle.area.specs.Judge.{table_of}
 use Rattle.area.specs.Operations.{OnArea}
@@ -27,6 +26,9 @@ use Rattle.area_merge.proofs.OperationLaws.{merge_held_tables, merge_leaves}
 use Rattle.merge_laws.specs.Laws.{left_first, right_first, EitherGrouping, MergeEitherGrouping}
 use Rattle.merge_laws.proofs.AcceptedLaws.{Tables, held_mergeable, accepted_tables}
 use Rattle.merge_laws.proofs.ReceivedLaws.{received_alike}
+use Rattle.std.specs.Prelude.{Result}
+use Rattle.refusals.specs.declared.Refusal.{Refusal}
+use Rattle.transfer.specs.declared.Reached.{Reached}
 
 -- ---- on tables
 
@@ -102,9 +104,9 @@ merge_either_grouping a b c id e f = grouped q.first q.second r.second q.first_h
         let first : table_of (merge_area a b id).area ≡ some (merge_table t u id).table = merge_leaves a b t u id h g in
         let second : table_of (merge_area b c id).area ≡ some (merge_table u x id).table = merge_leaves b c u x id g k in
         let answer : (merge_area (merge_area a b id).area c id).answer ≡ (merge_area a (merge_area b c id).area id).answer =
-        ap (λ (z : OnArea Merged). z.answer) (merge_held_tables (merge_area a b id).area c (merge_table t u id).table x id first k)
+        ap (λ (z : OnArea (Result Reached Refusal)). z.answer) (merge_held_tables (merge_area a b id).area c (merge_table t u id).table x id first k)
         ∙ answer_grouped t u x id v w y m n
-        ∙ sym (ap (λ (z : OnArea Merged). z.answer) (merge_held_tables a (merge_area b c id).area t (merge_table u x id).table id h second)) in
+        ∙ sym (ap (λ (z : OnArea (Result Reached Refusal)). z.answer) (merge_held_tables a (merge_area b c id).area t (merge_table u x id).table id h second)) in
         let table : merge_accepted (merge_area (merge_area a b id).area c id).answer ≡ true → table_of (left_first a b c id) ≡ table_of (right_first a b c id) =
         λ z.
         merge_leaves (merge_area a b id).area c (merge_table t u id).table x id first k

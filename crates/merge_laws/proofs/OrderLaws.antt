@@ -18,8 +18,6 @@ use Rattle.table.specs.Tables.{Valid, keys, find, runs_of}
 use Rattle.table.specs.Outcome.{Outcome}
 use Rattle.table.proofs.FineLaws.{runs_canonical}
 use Rattle.table_merge.specs.Merge.{keys_refusal, joined_runs, merge_refusal, merge_table}
-use Rattle.table_merge.specs.declared.Merged.{Merged}
-use Rattle.table_merge.specs.declared.Merged.TheVariants.{Joined, Refused}
 use Rattle.table_merge.proofs.MergeLaws.{Mergeable, merge_none, merge_taken, merge_given}
 use Rattle.area.specs.Judge.{table_of}
 use Rattle.area.specs.Operations.{OnArea}
@@ -29,6 +27,9 @@ use Rattle.area_merge.proofs.OperationLaws.{merge_first_unheld, merge_second_unh
 use Rattle.merge_laws.specs.Laws.{MergeEitherOrder}
 use Rattle.merge_laws.proofs.AcceptedLaws.{Tables, accepted_tables, first_valid, second_valid}
 use Rattle.merge_laws.proofs.ReceivedLaws.{left_received}
+use Rattle.std.specs.Prelude.{Result, Ok, Err}
+use Rattle.refusals.specs.declared.Refusal.{Refusal}
+use Rattle.transfer.specs.declared.Reached.{Reached}
 
 -- ---- on tables
 
@@ -64,13 +65,13 @@ module _ (t u : List Transfer) (id : ℕ) (v : Valid t) (w : Valid u) where
       go : (n : ℕ) → merge_refusal t u id ≡ n → (merge_table t u id).answer ≡ (merge_table u t id).answer
       go zero e =
           let m = merge_none t u id e in
-          ap (λ (x : Outcome Merged). x.answer) (merge_taken t u id m)
-          ∙ ap (λ (rs : List Run). Joined (reached m.key rs)) joined_turned
-          ∙ sym (ap (λ (x : Outcome Merged). x.answer) (merge_taken u t id (mergeable_turned m)))
+          ap (λ (x : Outcome (Result Reached Refusal)). x.answer) (merge_taken t u id m)
+          ∙ ap (λ (rs : List Run). Ok (reached m.key rs)) joined_turned
+          ∙ sym (ap (λ (x : Outcome (Result Reached Refusal)). x.answer) (merge_taken u t id (mergeable_turned m)))
       go (suc n) e =
-          ap (λ (x : Outcome Merged). x.answer) (merge_given t u id (λ z. omega arith))
-          ∙ ap (λ (k : ℕ). Refused (refusal_of k)) refusal_turned
-          ∙ sym (ap (λ (x : Outcome Merged). x.answer) (merge_given u t id (λ z. omega (arith, refusal_turned))))
+          ap (λ (x : Outcome (Result Reached Refusal)). x.answer) (merge_given t u id (λ z. omega arith))
+          ∙ ap (λ (k : ℕ). Err (refusal_of k)) refusal_turned
+          ∙ sym (ap (λ (x : Outcome (Result Reached Refusal)). x.answer) (merge_given u t id (λ z. omega (arith, refusal_turned))))
 
 -- ---- on areas
 
@@ -82,9 +83,9 @@ area_answer a b id = go (table_of a) (table_of b) refl refl
     go none (some u) e f = merge_first_unheld a b id e ∙ sym (merge_second_unheld b a u id f e)
     go (some t) none e f = merge_second_unheld a b t id e f ∙ sym (merge_first_unheld b a id f)
     go (some t) (some u) e f =
-        ap (λ (x : OnArea Merged). x.answer) (merge_held_tables a b t u id e f)
+        ap (λ (x : OnArea (Result Reached Refusal)). x.answer) (merge_held_tables a b t u id e f)
         ∙ answer_turned t u id (held_valid a t e) (held_valid b u f)
-        ∙ sym (ap (λ (x : OnArea Merged). x.answer) (merge_held_tables b a u t id f e))
+        ∙ sym (ap (λ (x : OnArea (Result Reached Refusal)). x.answer) (merge_held_tables b a u t id f e))
 
 -- the same tables, seen from the other side
 turned : (a b : List ℕ) (id : ℕ) → Tables a b id → Tables b a id

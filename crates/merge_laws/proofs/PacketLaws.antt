@@ -18,15 +18,11 @@ use Rattle.transfer.specs.Record.{stamp_in, receipt}
 use Rattle.table.specs.Tables.{Valid, keys, find, runs_of, set_runs}
 use Rattle.table.specs.Record.{grown, absorbed_in, adds_in, record_packet, record_accepted}
 use Rattle.table.specs.Outcome.{Outcome}
-use Rattle.table.specs.declared.Recorded.{Recorded}
-use Rattle.table.specs.declared.Recorded.TheVariants.{Accepted}
 use Rattle.table.proofs.TableLaws.{runs_set_same}
 use Rattle.table.proofs.FineLaws.{runs_canonical, table_unique}
 use Rattle.table.proofs.RecordLaws.{record_cases}
 use Rattle.table.proofs.ValidLaws.{record_valid}
 use Rattle.table_merge.specs.Merge.{joined_runs, merge_table}
-use Rattle.table_merge.specs.declared.Merged.{Merged}
-use Rattle.table_merge.specs.declared.Merged.TheVariants.{Joined}
 use Rattle.table_merge.proofs.MergeLaws.{Mergeable, merge_taken, merge_keys, merge_other, merge_stamp, merge_runs, merge_valid}
 use Rattle.area.specs.Judge.{table_of}
 use Rattle.area.specs.Operations.{OnArea, leaves, record_area}
@@ -40,6 +36,8 @@ use Rattle.any_order.proofs.CallLaws.{recorded, Records, fit_filled, id_is, rec_
 use Rattle.merge_laws.specs.Laws.{recorded_before, recorded_after, BeforeOrAfter, MergeBeforeOrAfter}
 use Rattle.merge_laws.proofs.AcceptedLaws.{Tables, held_mergeable, accepted_tables}
 use Rattle.merge_laws.proofs.ReceivedLaws.{received_alike}
+use Rattle.std.specs.Prelude.{Result, Ok}
+use Rattle.refusals.specs.declared.Refusal.{Refusal}
 
 -- ---- on tables
 
@@ -52,11 +50,11 @@ one_union i p xs ys h c d = go (ℕ_discrete (id_in p) i)
     go (no n) = ap (λ (l : List Run). union l ys) (one_other i p xs n) ∙ sym (one_other i p (union xs ys) n)
 
 -- an accepted recording tells of the runs that it leaves
-rec_reached : (t : List Transfer) (p : Packet) (y : Receipt) → (record_packet t p.octets).answer ≡ Accepted y
+rec_reached : (t : List Transfer) (p : Packet) (y : Receipt) → (record_packet t p.octets).answer ≡ Ok y
     → (k : Key) × (find (id_in p) (keys t) ≡ some k) × (y.reached ≡ reached k (runs_of (recorded t p) (id_in p)))
 rec_reached t p y =
     record_cases
-    (λ (o : Outcome Recorded). o.answer ≡ Accepted y → (k : Key) × (find (id_in p) (keys t) ≡ some k) × (y.reached ≡ reached k (runs_of o.table (id_in p))))
+    (λ (o : Outcome (Result Receipt Refusal)). o.answer ≡ Ok y → (k : Key) × (find (id_in p) (keys t) ≡ some k) × (y.reached ≡ reached k (runs_of o.table (id_in p))))
     t p.octets (λ r e. absurd (let z : ◌≡◌ {A = ℕ} 0 1 = cc in omega arith))
     (λ d k e f j l a.
     let is : receipt k (grown t d) (absorbed_in t d) (adds_in t d) ≡ y = cc in
@@ -105,19 +103,19 @@ module _ (t u : List Transfer) (id : ℕ) (p : Packet) (v : Valid t) (w : Valid 
       merge_stamp (recorded t p) u id i ∙ rec_stamp t p i first
       ∙ ap (λ (s : List ℕ). cond (stamps i p) (stamp_octets p) s) (sym (merge_stamp t u id i)) ∙ sym (rec_stamp merged p i last))
 
-  same_reached : id_in p ≡ id → (x : Reached) (y : Receipt) → (merge_table (recorded t p) u id).answer ≡ Joined x
-      → (record_packet merged p.octets).answer ≡ Accepted y → x ≡ y.reached
+  same_reached : id_in p ≡ id → (x : Reached) (y : Receipt) → (merge_table (recorded t p) u id).answer ≡ Ok x
+      → (record_packet merged p.octets).answer ≡ Ok y → x ≡ y.reached
   same_reached e x y a b =
       let r = rec_reached merged p y b in
       let is : reached then.key (joined_runs (recorded t p) u id) ≡ x =
-      joined (sym (ap (λ (o : Outcome Merged). o.answer) (merge_taken (recorded t p) u id then)) ∙ a) in
+      joined (sym (ap (λ (o : Outcome (Result Reached Refusal)). o.answer) (merge_taken (recorded t p) u id then)) ∙ a) in
       let key : then.key ≡ r.0 =
       keyed (sym then.first ∙ ap (find id) (rec_keys t p ∙ sym (merge_keys t u id)) ∙ ap (λ (i : ℕ). find i (keys merged)) (sym e) ∙ r.1) in
       sym is
       ∙ ap₂ reached key (sym (merge_runs (recorded t p) u id then) ∙ ap (λ (z : List Transfer). runs_of z id) same_table ∙ ap (runs_of after) (sym e))
       ∙ sym r.2
     where
-      joined : {q z : Reached} → Joined q ≡ Joined z → q ≡ z
+      joined : {q z : Reached} → ◌≡◌ {A = Result Reached Refusal} (Ok q) (Ok z) → q ≡ z
       joined h = cc
 
       keyed : {j k : Key} → some j ≡ some k → j ≡ k
@@ -145,9 +143,9 @@ merge_before_or_after a b id p n = go (accepted_tables a b id n.merged_first)
         record_held_lem (merge_area a b id).area p.octets merged merged_left in
         let on-recorded = merge_held_tables (record_area a p.octets).area b (recorded t p) u id first_left g in
         -- every step is accepted
-        let first : Records t p = ap (λ (o : OnArea Recorded). record_accepted o.answer) (sym on_first) ∙ n.recorded_first in
+        let first : Records t p = ap (λ (o : OnArea (Result Receipt Refusal)). record_accepted o.answer) (sym on_first) ∙ n.recorded_first in
         let then : Mergeable (recorded t p) u id = held_mergeable (record_area a p.octets).area b id (recorded t p) u first_left g n.merged_then in
-        let last : Records merged p = ap (λ (o : OnArea Recorded). record_accepted o.answer) (sym on_merged) ∙ n.recorded_then in
+        let last : Records merged p = ap (λ (o : OnArea (Result Receipt Refusal)). record_accepted o.answer) (sym on_merged) ∙ n.recorded_then in
         let table : table_of (recorded_before a b id p) ≡ table_of (recorded_after a b id p) =
         merge_leaves (record_area a p.octets).area b (recorded t p) u id first_left g
         ∙ ap some (same_table t u id p v w first then q.mergeable last)
@@ -157,5 +155,5 @@ merge_before_or_after a b id p n = go (accepted_tables a b id n.merged_first)
           same_table = table;
           same_reached = λ e x y k l.
               same_reached t u id p v w first then q.mergeable last e x y
-              (ap (λ (o : OnArea Merged). o.answer) (sym on-recorded) ∙ k) (ap (λ (o : OnArea Recorded). o.answer) (sym on_merged) ∙ l);
+              (ap (λ (o : OnArea (Result Reached Refusal)). o.answer) (sym on-recorded) ∙ k) (ap (λ (o : OnArea (Result Receipt Refusal)). o.answer) (sym on_merged) ∙ l);
         }

@@ -16,12 +16,13 @@ use Rattle.transfer.specs.Record.{runs_refusal}
 use Rattle.timestamp.specs.Timestamps.{renewed}
 use Rattle.table.specs.Tables.{Valid, keys, find, runs_of, set_runs}
 use Rattle.table_merge.specs.Merge.{keys_refusal, joined_runs, merge_refusal, merge_as, merge_table}
-use Rattle.table_merge.specs.declared.Merged.{Merged}
-use Rattle.table_merge.specs.declared.Merged.TheVariants.{Joined, Refused}
 use Rattle.area.specs.Operations.{OnArea}
 use Rattle.area_merge.specs.Merge.{merge_area}
 use Rattle.area_merge.proofs.OperationLaws.{merge_held_tables, merge_leaves}
 use Rattle.merge_laws.specs.Room.{octets_every, holding, fourths, middles, odds, GroupingRefused}
+use Rattle.std.specs.Prelude.{Result, Ok, Err}
+use Rattle.refusals.specs.declared.Refusal.{Refusal}
+use Rattle.transfer.specs.declared.Reached.{Reached}
 
 -- ---- they are tables
 
@@ -62,19 +63,19 @@ holding_valid step first n s few stops =
 
 -- ---- by computation
 
-first_two : (merge_table fourths middles 7).answer ≡ Refused (refusal_of 16)
+first_two : (merge_table fourths middles 7).answer ≡ Err (refusal_of 16)
 unfolding merge_table merge_as merge_refusal keys_refusal joined_runs runs_refusal keys find runs_of union insert octets_every
 first_two = refl
 
-two_turned : (merge_table middles fourths 7).answer ≡ Refused (refusal_of 16)
+two_turned : (merge_table middles fourths 7).answer ≡ Err (refusal_of 16)
 unfolding merge_table merge_as merge_refusal keys_refusal joined_runs runs_refusal keys find runs_of union insert octets_every
 two_turned = refl
 
-last_two : (merge_table middles odds 7).answer ≡ Joined (record { edge = 128; complete = false })
+last_two : (merge_table middles odds 7).answer ≡ Ok (record { edge = 128; complete = false })
 unfolding merge_table merge_as merge_refusal keys_refusal joined_runs runs_refusal keys find runs_of union insert octets_every reached edge_from progress complete
 last_two = refl
 
-all_three : (merge_table fourths (merge_table middles odds 7).table 7).answer ≡ Joined (record { edge = 129; complete = true })
+all_three : (merge_table fourths (merge_table middles odds 7).table 7).answer ≡ Ok (record { edge = 129; complete = true })
 unfolding merge_table merge_as merge_refusal keys_refusal joined_runs runs_refusal keys find runs_of set_runs renewed union insert octets_every reached edge_from progress complete
 all_three = refl
 
@@ -86,11 +87,11 @@ grouping_refused = record {
   second_valid = holding_valid 4 2 32 (omega arith) (omega arith) (omega arith);
   third_valid = holding_valid 2 1 64 (omega arith) (omega arith) (omega arith);
   refused = λ a b c h g k. record {
-    first_step = ap (λ (o : OnArea Merged). o.answer) (merge_held_tables a b fourths middles 7 h g) ∙ first_two;
-    turned = ap (λ (o : OnArea Merged). o.answer) (merge_held_tables b a middles fourths 7 g h) ∙ two_turned;
-    other_first = ap (λ (o : OnArea Merged). o.answer) (merge_held_tables b c middles odds 7 g k) ∙ last_two;
+    first_step = ap (λ (o : OnArea (Result Reached Refusal)). o.answer) (merge_held_tables a b fourths middles 7 h g) ∙ first_two;
+    turned = ap (λ (o : OnArea (Result Reached Refusal)). o.answer) (merge_held_tables b a middles fourths 7 g h) ∙ two_turned;
+    other_first = ap (λ (o : OnArea (Result Reached Refusal)). o.answer) (merge_held_tables b c middles odds 7 g k) ∙ last_two;
     other_then =
-        ap (λ (o : OnArea Merged). o.answer)
+        ap (λ (o : OnArea (Result Reached Refusal)). o.answer)
         (merge_held_tables a (merge_area b c 7).area fourths (merge_table middles odds 7).table 7 h (merge_leaves b c middles odds 7 g k)) ∙ all_three;
   };
 }

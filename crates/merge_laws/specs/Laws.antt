@@ -1,7 +1,7 @@
 -- R15.5 to R15.8: merging in either order, merging what is there already, three areas in either grouping, and a packet before a merge or
 -- after it.
 -- Assumes nothing.
-use Rattle.std.specs.Prelude.{ℕ, ◌≡◌, true, List, []}
+use Rattle.std.specs.Prelude.{ℕ, ◌≡◌, true, List, [], Ok}
 use Rattle.std.proofs.Math.Option.{some}
 use Rattle.octets.specs.Numbers.{Octets}
 use Rattle.runs.specs.Runs.{Run}
@@ -11,9 +11,7 @@ use Rattle.transfer.specs.declared.Receipt.{Receipt}
 use Rattle.transfer.specs.Transfers.{Transfer, reached}
 use Rattle.table.specs.Tables.{keys, find, runs_of}
 use Rattle.table.specs.Record.{record_accepted}
-use Rattle.table.specs.declared.Recorded.TheVariants.{Accepted}
 use Rattle.table_merge.specs.Merge.{merge_accepted}
-use Rattle.table_merge.specs.declared.Merged.TheVariants.{Joined}
 use Rattle.area.specs.Judge.{table_of}
 use Rattle.area.specs.Operations.{from_table, record_area}
 use Rattle.area_merge.specs.Merge.{merge_area}
@@ -50,7 +48,7 @@ pub record WithItself (a b : List ℕ) (id : ℕ) (s : SameRecord a b id) : Type
   -- no octet of the area changes
   pub area_stays : (merge_area a b id).area ≡ a
   -- and where the Id is open it is accepted
-  pub taken : (k : Key) → find id (keys s.first) ≡ some k → (merge_area a b id).answer ≡ Joined (reached k (runs_of s.first id))
+  pub taken : (k : Key) → find id (keys s.first) ≡ some k → (merge_area a b id).answer ≡ Ok (reached k (runs_of s.first id))
 
 abbrev pub MergeWithItself : Type 0
 MergeWithItself = (a b : List ℕ) (id : ℕ) → Octets a → (s : SameRecord a b id) → WithItself a b id s
@@ -96,8 +94,8 @@ pub record BeforeOrAfter (a b : List ℕ) (id : ℕ) (p : Packet) : Type 0 where
   pub same_received : received (recorded_before a b id p) id ≡ received (recorded_after a b id p) id
   pub same_table : table_of (recorded_before a b id p) ≡ table_of (recorded_after a b id p)
   -- and where the packet has the Id, the last answers tell of one edge and one completeness
-  pub same_reached : id_in p ≡ id → (x : Reached) (y : Receipt) → (merge_area (record_area a p.octets).area b id).answer ≡ Joined x
-      → (record_area (merge_area a b id).area p.octets).answer ≡ Accepted y → x ≡ y.reached
+  pub same_reached : id_in p ≡ id → (x : Reached) (y : Receipt) → (merge_area (record_area a p.octets).area b id).answer ≡ Ok x
+      → (record_area (merge_area a b id).area p.octets).answer ≡ Ok y → x ≡ y.reached
 
 abbrev pub MergeBeforeOrAfter : Type 0
 MergeBeforeOrAfter = (a b : List ℕ) (id : ℕ) (p : Packet) → NoneRefused a b id p → BeforeOrAfter a b id p

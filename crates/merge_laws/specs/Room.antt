@@ -2,13 +2,12 @@
 -- second the octets in the middle between them, and the third all odd ones: first and second are 65 runs of one octet, and all three are the
 -- whole transfer.
 -- Assumes nothing.
-use Rattle.std.specs.Prelude.{ℕ, zero, suc, ◌+◌, ◌≡◌, true, false, List, [], ◌∷◌}
+use Rattle.std.specs.Prelude.{ℕ, zero, suc, ◌+◌, ◌≡◌, true, false, List, [], ◌∷◌, Ok, Err}
 use Rattle.std.proofs.Math.Option.{some}
 use Rattle.refusals.specs.Refusals.{refusal_of}
 use Rattle.runs.specs.Runs.{Run, run}
 use Rattle.transfer.specs.Transfers.{Transfer}
 use Rattle.table.specs.Tables.{Valid}
-use Rattle.table_merge.specs.declared.Merged.TheVariants.{Joined, Refused}
 use Rattle.area.specs.Judge.{table_of}
 use Rattle.area_merge.specs.Merge.{merge_area}
 
@@ -36,12 +35,12 @@ odds = holding (octets_every 2 1 64)
 -- three areas that hold them
 pub record RefusedForRoom (a b c : List ℕ) : Type 0 where
   -- the first two are refused with 16, whichever is merged into the other
-  pub first_step : (merge_area a b 7).answer ≡ Refused (refusal_of 16)
-  pub turned : (merge_area b a 7).answer ≡ Refused (refusal_of 16)
+  pub first_step : (merge_area a b 7).answer ≡ Err (refusal_of 16)
+  pub turned : (merge_area b a 7).answer ≡ Err (refusal_of 16)
   -- the last two are not: 1 to 3, 5 to 7 and so on, 32 runs
-  pub other_first : (merge_area b c 7).answer ≡ Joined (record { edge = 128; complete = false })
+  pub other_first : (merge_area b c 7).answer ≡ Ok (record { edge = 128; complete = false })
   -- and with the first they are complete
-  pub other_then : (merge_area a (merge_area b c 7).area 7).answer ≡ Joined (record { edge = 129; complete = true })
+  pub other_then : (merge_area a (merge_area b c 7).area 7).answer ≡ Ok (record { edge = 129; complete = true })
 
 pub record GroupingRefused : Type 0 where
   -- each of them is a table that an area may hold

@@ -1,11 +1,10 @@
 -- R10.6, R15.9: the sum of absorbed runs over a stretch of calls that begins after a merge: the joined runs are those held when it began.
 -- Assumes nothing.
-use Rattle.std.specs.Prelude.{ℕ, ◌+◌, ◌≡◌, List, length}
+use Rattle.std.specs.Prelude.{ℕ, ◌+◌, ◌≡◌, List, length, Ok}
 use Rattle.std.proofs.Math.Option.{some}
 use Rattle.transfer.specs.declared.Reached.{Reached}
 use Rattle.transfer.specs.Transfers.{Transfer}
 use Rattle.table_merge.specs.Merge.{joined_runs}
-use Rattle.table_merge.specs.declared.Merged.TheVariants.{Joined}
 use Rattle.area.specs.Judge.{table_of}
 use Rattle.area.specs.Operations.{runs_held}
 use Rattle.area_merge.specs.Merge.{merge_area}
@@ -20,5 +19,5 @@ pub record SumFrom (a b m : List ℕ) (id : ℕ) (cs : List AnyCall) : Type 0 wh
   pub sum : absorbed_sum id m cs + runs_held (after_all m cs) id ≡ recordings_taken id m cs + length (joined_runs first second id)
 
 abbrev pub SumAfterMerge : Type 0
-SumAfterMerge = (a b : List ℕ) (id : ℕ) (x : Reached) → (merge_area a b id).answer ≡ Joined x → (cs : List AnyCall) → KeptOpen id cs
+SumAfterMerge = (a b : List ℕ) (id : ℕ) (x : Reached) → (merge_area a b id).answer ≡ Ok x → (cs : List AnyCall) → KeptOpen id cs
     → SumFrom a b (merge_area a b id).area id cs

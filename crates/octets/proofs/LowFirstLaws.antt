@@ -1,16 +1,16 @@
 -- Numbers with the lowest octet first, by the laws of those with the highest first. Assumes nothing.
-use Prim.Native.Nat.{ℕ, suc, ◌+◌, ◌*◌, ◌-◌, ◌/◌, ◌%◌, ◌^◌, ◌<◌, ◌≤◌}
-use mathlib.Core.Path.{◌≡◌, sym, ap, ◌∙◌}
-use mathlib.Core.List.{List, [], ◌∷◌, ◌++◌, reverse, reverse-append, reverse-reverse}
+use Prim.Native.Nat.{ℕ, ◌+◌, ◌*◌, ◌^◌, ◌<◌, ◌≤◌}
+use mathlib.Core.Path.{◌≡◌, refl, ap, ◌∙◌}
+use mathlib.Core.List.{List, ◌++◌, reverse, reverse-append, reverse-reverse}
 use native.Mathlib.Omega.{arith}
-use lib.ListN.{length, get_or, take, drop, set, length-drop, length-reverse}
+use lib.ListN.{length, get_or, take, drop, length-drop, length-reverse}
 use lib.Seq.{take-add, take_at, drop-drop, length-take-le}
 use Rattle.octets.specs.Numbers.{be_value, be_digits, le_value, le_digits, Octets}
-use Rattle.octets.specs.Put.{put}
-use Rattle.octets.proofs.NumberLaws.{length_digits, value_digits, digits_value, value_lt, onto_append, part_octets, part_length}
+use Rattle.std.specs.Int.{w64, to_le_bytes}
+use Rattle.std.proofs.Math.Nat.{div-div-eq-div-mul}
+use Rattle.octets.proofs.NumberLaws.{length_digits, value_digits, digits_value, value_lt, part_octets, part_length}
 use Rattle.octets.proofs.OctetLaws.{octets_reverse, digits_octets}
 use Rattle.octets.proofs.PartLaws.{first_octet, append_value}
-use Rattle.octets.proofs.PutLaws.{put_cons, put_nil}
 
 pub length_low_digits : (d v : ℕ) → length (le_digits d v) ≡ d
 unfolding le_digits
@@ -74,18 +74,29 @@ low_four_octets s at h =
     )
     (omega arith)
 
--- writing: one octet more, from the first to the last
-low_digits_suc : (d v : ℕ) → le_digits (suc d) v ≡ v % 256 ∷ le_digits d (v / 256)
-unfolding le_digits
-low_digits_suc d v = ap reverse (onto_append d (v / 256) (v % 256 ∷ [])) ∙ reverse-append (be_digits d (v / 256)) (v % 256 ∷ [])
+pub low_eight_octets : (s : List ℕ) (at : ℕ) → at + 8 ≤ length s
+    → le_value (take 8 (drop at s))
+    ≡ get_or s at 0 + get_or s (at + 1) 0 * 256 + get_or s (at + 2) 0 * 65536 + get_or s (at + 3) 0 * 16777216
+    + get_or s (at + 4) 0 * 4294967296
+    + get_or s (at + 5) 0 * 1099511627776
+    + get_or s (at + 6) 0 * 281474976710656
+    + get_or s (at + 7) 0 * 72057594037927936
+low_eight_octets s at h =
+    let a : at + 4 + 1 ≡ at + 5 = omega arith in
+    let b : at + 4 + 2 ≡ at + 6 = omega arith in
+    let c : at + 4 + 3 ≡ at + 7 = omega arith in
+    low_parts_value s at 4 4 (omega arith) ∙ rw (low_four_octets s at (omega arith), low_four_octets s (at + 4) (omega arith), a, b, c) (omega arith)
 
-pub low_write_step : (l : List ℕ) (at i v : ℕ) → i < 8 → at + 8 ≤ length l
-    → put (at + i) (le_digits (8 - i) v) l ≡ put (at + (i + 1)) (le_digits (8 - (i + 1)) (v / 256)) (set l (at + i) (v % 256))
-low_write_step l at i v h r =
-    let e : 8 - i ≡ suc (8 - (i + 1)) = omega arith in
-    let a : at + (i + 1) ≡ suc (at + i) = omega arith in
-    rw (e, a, low_digits_suc) (sym (put_cons (at + i) (v % 256) (le_digits (8 - (i + 1)) (v / 256)) l (omega arith)))
-
-pub low_write_end : (l : List ℕ) (at v : ℕ) → put (at + 8) (le_digits 0 v) l ≡ l
+-- the octets of a number, as the library writes them
+pub low_eight_bytes : (n : ℕ) → le_digits 8 n ≡ to_le_bytes w64 n
 unfolding le_digits
-low_write_end l at v = put_nil (at + 8) l
+low_eight_bytes n =
+    rw (
+      div-div-eq-div-mul n 256 256,
+      div-div-eq-div-mul n 65536 256,
+      div-div-eq-div-mul n 16777216 256,
+      div-div-eq-div-mul n 4294967296 256,
+      div-div-eq-div-mul n 1099511627776 256,
+      div-div-eq-div-mul n 281474976710656 256,
+    )
+    refl

@@ -2,10 +2,11 @@
 use Prim.Native.Nat.{ℕ, zero, suc, ◌+◌, ◌*◌, ◌-◌, ◌/◌, ◌%◌, ◌^◌, ◌<◌, ◌≤◌}
 use mathlib.Core.Path.{◌≡◌, refl, sym, ap, ◌∙◌}
 use mathlib.Core.List.{List, [], ◌∷◌, ◌++◌, append-nil}
-use native.Mathlib.Nat.{div-add-mod', div-lt_iff_lt-mul, pow-suc, le_of_lt, not-suc-le-zero, add-zero, zero-add, add-suc, suc-add, mul-suc, suc-mul, div-mul-le_self, one-le-pow, eq-zero-or-pos, le_trans}
+use native.Mathlib.Nat.{div-add-mod', div-lt_iff_lt-mul, pow-suc, le_of_lt, not-suc-le-zero, add-zero, zero-add, add-suc, suc-add, mul-suc, suc-mul, div-mul-le_self, lt_of_lt_of_le, pow-le-pow_right, one-le-pow, eq-zero-or-pos, le_trans}
 use native.Mathlib.Omega.{arith}
 use mathlib.Core.Logic.{⊎_elim}
 use borrow.Author.Tests.{lt-ltb, le-ltb, ne_eqb}
+use mathlib.Core.Bool.{true}
 use lib.Dec.{ltb, eqb}
 use lib.Pow.{pow-add}
 use lib.Arith.{digits_lt, digits_div, digits_mod, lt-one}
@@ -166,3 +167,7 @@ shifted_out v d = rw octet_pow (⊎_elim below above (eq-zero-or-pos (v / 256 ^ 
     above p =
         let h : 256 ^ d ≤ v = le_trans (at_least_once (v / 256 ^ d) (256 ^ d) p) (div-mul-le_self v (256 ^ d)) in
         rw (ne_eqb (v / 256 ^ d) 0 (omega arith), le-ltb v (256 ^ d) h)
+
+-- what is below 2 ^ 64 is below 256 ^ d from d = 8 on
+pub wide_fits : (v d : ℕ) → 8 ≤ d → v < 2 ^ 64 → ltb v (256 ^ d) ≡ true
+wide_fits v d h l = lt-ltb v (256 ^ d) (lt_of_lt_of_le l (pow-le-pow_right {n = 256} (omega arith) {i = 8} {j = d} h))

@@ -44,7 +44,16 @@ four_octets s at h =
     let a : at + 2 + 1 ≡ at + 3 = omega arith in
     parts_value s at 2 2 h ∙ rw (two_octets s at (omega arith), two_octets s (at + 2) (omega arith), a) (omega arith)
 
--- eight octets from two halves of four
-pub two_halves : (s : List ℕ) (at low high : ℕ) → at + 8 ≤ length s → low ≡ be_value (take 4 (drop (at + 4) s)) → high ≡ be_value (take 4 (drop at s))
-    → low + high * 4294967296 ≡ be_value (take 8 (drop at s))
-two_halves s at low high h l u = rw (l, u) (omega (arith, parts_value s at 4 4 h))
+pub eight_octets : (s : List ℕ) (at : ℕ) → at + 8 ≤ length s
+    → be_value (take 8 (drop at s))
+    ≡ get_or s at 0 * 72057594037927936 + get_or s (at + 1) 0 * 281474976710656 + get_or s (at + 2) 0 * 1099511627776
+    + get_or s (at + 3) 0 * 4294967296
+    + get_or s (at + 4) 0 * 16777216
+    + get_or s (at + 5) 0 * 65536
+    + get_or s (at + 6) 0 * 256
+    + get_or s (at + 7) 0
+eight_octets s at h =
+    let a : at + 4 + 1 ≡ at + 5 = omega arith in
+    let b : at + 4 + 2 ≡ at + 6 = omega arith in
+    let c : at + 4 + 3 ≡ at + 7 = omega arith in
+    parts_value s at 4 4 h ∙ rw (four_octets s at (omega arith), four_octets s (at + 4) (omega arith), a, b, c) (omega arith)

@@ -1,11 +1,12 @@
 -- What stands in a buffer after one part, or several one after the other, were put into it. Assumes nothing.
-use Prim.Native.Nat.{ℕ, suc, ◌+◌, ◌≤◌, ◌<◌}
+use Prim.Native.Nat.{ℕ, suc, ◌+◌, ◌-◌, ◌≤◌, ◌<◌}
 use mathlib.Core.Path.{◌≡◌, ◌∙◌}
 use mathlib.Core.List.{List, [], ◌∷◌, ◌++◌, append_assoc}
 use native.Mathlib.Nat.{le_refl, add-zero}
 use native.Mathlib.Omega.{arith}
-use lib.ListN.{length, take, drop, set, length-append, take-append-drop}
+use lib.ListN.{length, take, drop, set, length-append, length-drop, take-append-drop}
 use lib.Seq.{paste, take-length, length-paste, take_at, length-take-le, drop-append-add, drop-drop, take-suc-set, drop-set-lt, append_snoc}
+use Rattle.std.specs.List.{copy_within}
 use Rattle.octets.specs.Put.{put}
 
 -- what a copy of the whole list leaves
@@ -58,3 +59,11 @@ refold s m d n e = rw (← e, ← drop-drop) (take-append-drop d (drop m s))
 pub take_put : (n : ℕ) (bs old : List ℕ) → length bs ≡ n → take n (put 0 bs old) ≡ bs
 unfolding put
 take_put n bs old e = take_at bs (drop (0 + length bs) old) n e
+
+-- what a part of a buffer, copied to another place of it, leaves
+pub copied_put : (l : List ℕ) (from end to n : ℕ) → from + n ≡ end → end ≤ length l → copy_within l from end to ≡ put to (take n (drop from l)) l
+unfolding put
+copied_put l from end to n e h =
+    let m : end - from ≡ n = omega arith in
+    let w : length (take n (drop from l)) ≡ n = length-take-le n (drop from l) (omega (arith, length-drop from l)) in
+    rw (m, w) (append_assoc (take to l) (take n (drop from l)) (drop (to + n) l))

@@ -11,7 +11,8 @@ use lib.Dec.{eqb}
 use lib.ListN.{length, take, drop, replicate, length-append, length-drop, length-replicate, take-append-drop}
 use lib.Seq.{take-take, length-take-le}
 use Rattle.octets.specs.Numbers.{be_from, be_value, be_digits, Octets, all_zero, upper_octets, upper_zero, number_in}
-use Rattle.octets.specs.declared.Number.{Number}
+use Rattle.std.specs.Prelude.{Some, None}
+use Rattle.std.proofs.lemmas.Option.{none-some, same_Some}
 use Rattle.octets.proofs.NumberLaws.{length_digits, value_digits, digits_value, value_lt, octets_drop}
 use Rattle.octets.proofs.PartLaws.{append_value, parts_value}
 use Rattle.octets.proofs.OctetLaws.{octets_append, digits_octets}
@@ -69,11 +70,11 @@ module _ (xs : List ℕ) where
   small_iff o = (small_lt o, lt_small)
 
   -- what the reader of a descriptor tells of them
-  pub number_small : upper_zero xs ≡ true → number_in xs ≡ record { small = true; value = be_value xs }
+  pub number_small : upper_zero xs ≡ true → number_in xs ≡ Some (be_value xs)
   unfolding number_in
   number_small e = rw e
 
-  pub number_large : upper_zero xs ≡ false → number_in xs ≡ record { small = false; value = 0 }
+  pub number_large : upper_zero xs ≡ false → number_in xs ≡ None
   unfolding number_in
   number_large e = rw e
 
@@ -98,16 +99,20 @@ module _ (s : List ℕ) (at n : ℕ) (h : at + (n + 8) ≤ length s) where
   wide_value u = lower_value (eqb-true _ _ (sym upper_test ∙ u))
 
   pub wide_small : be_value (take n (drop at s)) ≡ 0
-      → record { small = true; value = be_value (take 8 (drop (at + n) s)) } ≡ number_in (take (n + 8) (drop at s))
+      → Some (be_value (take 8 (drop (at + n) s))) ≡ number_in (take (n + 8) (drop at s))
   wide_small z =
       sym (number_small (take (n + 8) (drop at s)) (upper_test ∙ eq-eqb _ 0 z)
-      ∙ ap {B = Number} (λ v. record { small = true; value = v }) (lower_value z))
+      ∙ ap Some (lower_value z))
 
-  pub wide_large : (be_value (take n (drop at s)) ≡ 0 → ⊥) → record { small = false; value = 0 } ≡ number_in (take (n + 8) (drop at s))
+  pub wide_large : (be_value (take n (drop at s)) ≡ 0 → ⊥) → None ≡ number_in (take (n + 8) (drop at s))
   wide_large z = sym (number_large (take (n + 8) (drop at s)) (upper_test ∙ ne_eqb _ 0 z))
 
+-- sixteen octets of which the upper eight are not all zero
+pub sixteen_large : (s : List ℕ) (at : ℕ) → at + 16 ≤ length s → 0 < be_value (take 8 (drop at s)) → None ≡ number_in (take 16 (drop at s))
+sixteen_large s at h some = wide_large s at 8 h (λ z. omega arith)
+
 -- at most eight octets at a place
-pub short_number : (s : List ℕ) (at d : ℕ) → d ≤ 8 → at + d ≤ length s → record { small = true; value = be_value (take d (drop at s)) } ≡ number_in (take d (drop at s))
+pub short_number : (s : List ℕ) (at d : ℕ) → d ≤ 8 → at + d ≤ length s → Some (be_value (take d (drop at s))) ≡ number_in (take d (drop at s))
 short_number s at d w h =
     let l : length (take d (drop at s)) ≡ d = length-take-le d (drop at s) (simp length-drop (omega arith)) in
     sym (number_small (take d (drop at s)) (upper_none (take d (drop at s)) (omega arith)))
@@ -136,9 +141,15 @@ module _ (d v : ℕ) (h : v < 256 ^ d) (l : v < 2 ^ 64) where
   digits_small = lt_small (be_digits d v) (rw (value_digits d v h) l)
 
   -- reading what was written
-  pub number_digits : number_in (be_digits d v) ≡ record { small = true; value = v }
+  pub number_digits : number_in (be_digits d v) ≡ Some v
   number_digits = number_small (be_digits d v) digits_small ∙ rw (value_digits d v h)
 
 -- writing what was read
-pub digits_number : (xs : List ℕ) → Octets xs → upper_zero xs ≡ true → be_digits (length xs) (number_in xs).value ≡ xs
-digits_number xs o e = rw (number_small xs e) (digits_value xs o)
+pub digits_number : (xs : List ℕ) (v : ℕ) → Octets xs → number_in xs ≡ Some v → be_digits (length xs) v ≡ xs
+digits_number xs v o e = go (upper_zero xs) refl
+  where
+    go : (b : Bool) → upper_zero xs ≡ b → be_digits (length xs) v ≡ xs
+    go true u =
+        let same : be_value xs ≡ v = same_Some (be_value xs) v (sym (number_small xs u) ∙ e) in
+        rw (← same) (digits_value xs o)
+    go false u = absurd (none-some v (sym (number_large xs u) ∙ e))

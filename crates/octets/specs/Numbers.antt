@@ -1,7 +1,6 @@
 -- R1.1 to R1.3: the octets of a number, highest first, and the number that octets stand for. The same lowest first.
 -- Assumes nothing.
-use Rattle.std.specs.Prelude.{ℕ, zero, suc, ◌+◌, ◌*◌, ◌-◌, ◌/◌, ◌%◌, ◌<◌, Bool, true, cond, ◌&&◌, List, [], ◌∷◌, reverse, length, get_or, take, eqb}
-use Rattle.octets.specs.declared.Number.{Number}
+use Rattle.std.specs.Prelude.{ℕ, zero, suc, ◌+◌, ◌*◌, ◌-◌, ◌/◌, ◌%◌, ◌<◌, Bool, true, cond, ◌&&◌, List, [], ◌∷◌, reverse, length, get_or, take, eqb, Option, Some, None}
 
 -- R1.1: the number so far, with the octets that are left to read
 abbrev pub be_from : ℕ → List ℕ → ℕ
@@ -52,6 +51,6 @@ upper_octets xs = take (length xs - 8) xs
 unfoldable pub upper_zero : List ℕ → Bool
 upper_zero xs = all_zero (upper_octets xs)
 
--- R1.3: what the octets of a descriptor tell: whether the upper ones are zero, and the number where they are
-unfoldable pub number_in : List ℕ → Number
-number_in xs = record { small = upper_zero xs; value = cond (upper_zero xs) (be_value xs) 0 }
+-- R1.3: what the octets of a descriptor tell: the number, where the upper ones are zero
+unfoldable pub number_in : List ℕ → Option ℕ
+number_in xs = cond (upper_zero xs) (Some (be_value xs)) None

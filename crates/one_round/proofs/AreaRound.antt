@@ -15,7 +15,6 @@ use Rattle.transfer.specs.Transfers.{Transfer}
 use Rattle.table.specs.Tables.{Valid, runs_of}
 use Rattle.table.specs.Record.{record_packet, record_accepted}
 use Rattle.table.specs.WriteStatus.{status_written, status_buffer}
-use Rattle.table.specs.declared.Recorded.{Recorded}
 use Rattle.area.specs.Judge.{table_of}
 use Rattle.area.specs.Operations.{OnArea, record_area, area_status_written, area_status_buffer}
 use Rattle.area.proofs.JudgeLaws.{held_valid}
@@ -23,6 +22,9 @@ use Rattle.area.proofs.OperationLaws.{record_held_lem, record_leaves, from_held}
 use Rattle.one_round.specs.Rounds.{Pairwise, Carries, record_all, NoneRefused, Round}
 use Rattle.one_round.specs.OneRound.{Made, planned, size_for, Prepared, status_for, TableRound, record_all_area, NoneRefusedArea, area_status_for, OneRound}
 use Rattle.one_round.proofs.StatusRound.{carried, table_one_round}
+use Rattle.std.specs.Prelude.{Result}
+use Rattle.refusals.specs.declared.Refusal.{Refusal}
+use Rattle.transfer.specs.declared.Receipt.{Receipt}
 
 -- ---- packets one after the other
 
@@ -36,7 +38,7 @@ same_answers : (a : List ℕ) (t : List Transfer) (packets : List (List ℕ)) �
     → NoneRefusedArea a packets
 same_answers a t [] h o n = tt
 same_answers a t (s ∷ ss) h o n = (
-  ap (λ (x : OnArea Recorded). record_accepted x.answer) (record_held_lem a s t h) ∙ n.0,
+  ap (λ (x : OnArea (Result Receipt Refusal)). record_accepted x.answer) (record_held_lem a s t h) ∙ n.0,
   same_answers (record_area a s).area (record_packet t s).table ss (record_leaves a t h s o.0) o.1 n.1,
 )
 
@@ -64,7 +66,7 @@ one_round a t i k unasked buffer m old h g =
     let e : status_for t i k unasked buffer ≡ area_status_for a t i k unasked buffer =
     ap (λ (b : List ℕ). take (size_for t i k) b) (sym (same_buffer a t h i unasked buffer)) in
     record {
-      status_written_lem = same_written a t h i unasked buffer ∙ r.status_written_lem;
+      status_written = same_written a t h i unasked buffer ∙ r.status_written;
       prepared = subst (λ (s : List ℕ). Prepared t i k unasked s m old) e r.prepared;
       round = λ packets made.
           let on_table_lem : Pairwise (Made i k.width) (planned m (status_for t i k unasked buffer) old) packets =

@@ -8,7 +8,6 @@ use mathlib.Core.List.{List, [], ◌∷◌, ◌++◌}
 use lib.ListN.{length, take, replicate}
 use Rattle.octets.specs.Numbers.{upper_zero}
 use Rattle.octets.specs.Put.{put}
-use Rattle.refusals.specs.declared.Written.TheVariants.{Size}
 use Rattle.refusals.specs.Writing.{room_refusal}
 use Rattle.header.specs.Start.{start_refusal, type_refusal, file_refusal}
 use Rattle.header.specs.Descriptor.{descriptor_refusal}
@@ -34,6 +33,7 @@ use Rattle.table.specs.WriteStatus.{written_for, buffer_for, status_written, sta
 use Rattle.one_round.specs.Fills.{filled}
 use Rattle.one_round.specs.Rounds.{record_all, NoneRefused}
 use Rattle.one_round.specs.OneRound.{planned}
+use Rattle.std.specs.Prelude.{Ok}
 
 -- ---- Id 7 of 30 octets lacks 0 and 1, 5 to 9, and 12 to 19; its last octet came. Beside it Id 3. Both keep a timestamp
 
@@ -51,7 +51,7 @@ before = with_runs_lem (run 2 5 ∷ run 10 12 ∷ run 20 30 ∷ [])
 abbrev status : List ℕ
 status = 68 ∷ 8 ∷ 0 ∷ 0 ∷ 0 ∷ 0 ∷ 0 ∷ 7 ∷ (replicate 16 5 ++ (0 ∷ 0 ∷ 0 ∷ 30 ∷ 0 ∷ 0 ∷ 0 ∷ 2 ∷ 0 ∷ 5 ∷ 0 ∷ 10 ∷ 0 ∷ 12 ∷ 0 ∷ 20 ∷ []))
 
-says : (status_written before 7 0 false (replicate 40 255) ≡ Size 40) × (status_buffer before 7 0 false (replicate 40 255) ≡ status)
+says : (status_written before 7 0 false (replicate 40 255) ≡ Ok 40) × (status_buffer before 7 0 false (replicate 40 255) ≡ status)
 unfolding keys find runs_of stamp_of edge_from holes_from progress complete stamped put skips_too_many least_room size_refusal hole_room holes_sent partial_sent width_bits status_flags front_octets pairs status_octets last_offset response_sent status_packet transfer_written transfer_buffer written_for buffer_for status_written status_buffer
 says = (refl, refl)
 
@@ -72,7 +72,7 @@ packet flags n offset size = take (10 + size) (data_buffer flags 7 [] offset (re
 abbrev packets : List (List ℕ)
 packets = packet 0 1 0 2 ∷ packet 0 2 5 4 ∷ packet 0 3 9 1 ∷ packet 0 4 12 4 ∷ packet 65536 5 16 4 ∷ []
 
-writes : (data_written 65536 7 [] 16 (replicate 4 5) (replicate 20 255) ≡ Size 14) × (packet 65536 5 16 4 ≡ 67 ∷ 1 ∷ 0 ∷ 0 ∷ 0 ∷ 0 ∷ 0 ∷ 7 ∷ 0 ∷ 16 ∷ 5 ∷ 5 ∷ 5 ∷ 5 ∷ [])
+writes : (data_written 65536 7 [] 16 (replicate 4 5) (replicate 20 255) ≡ Ok 14) × (packet 65536 5 16 4 ≡ 67 ∷ 1 ∷ 0 ∷ 0 ∷ 0 ∷ 0 ∷ 0 ∷ 7 ∷ 0 ∷ 16 ∷ 5 ∷ 5 ∷ 5 ∷ 5 ∷ [])
 unfolding put file_refusal room_refusal data_excess data_write_refusal data_octets data_written data_buffer
 writes = (refl, refl)
 

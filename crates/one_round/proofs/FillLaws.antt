@@ -1,7 +1,7 @@
 -- Pieces of a good plan, recorded in their order: after each of them all offsets below its end are received, and above it nothing
 -- has changed. So the runs are those of the start with one stretch from 0 inserted, and there is at most one more of them.
 -- Assumes nothing.
-use Prim.Native.Nat.{ℕ, zero, suc, ◌+◌, ◌-◌, ◌≤◌, ◌<◌}
+use Prim.Native.Nat.{ℕ, zero, suc, ◌+◌, ◌≤◌, ◌<◌}
 use mathlib.Core.Path.{◌≡◌, refl, sym, ap, subst, ◌∙◌}
 use mathlib.Core.Bool.{Bool, true, false, cond, false≢true}
 use mathlib.Core.List.{List, [], ◌∷◌}

@@ -13,7 +13,6 @@ use Rattle.octets.proofs.NumberLaws.{width_le}
 use Rattle.octets.proofs.OctetLaws.{octets_append, digits_octets}
 use Rattle.octets.proofs.PutLaws.{take_put}
 use Rattle.refusals.specs.Writing.{room_refusal}
-use Rattle.refusals.specs.declared.Written.TheVariants.{Size}
 use Rattle.header.specs.FirstWord.{descriptor_octets, timestamp_octets, kind_of, word_for}
 use Rattle.header.specs.Start.{file_refusal}
 use Rattle.packet_data.specs.Data.{payload_at}
@@ -24,6 +23,7 @@ use Rattle.plan_check.specs.GoodPlan.{Each}
 use Rattle.success_status.specs.SuccessStatus.{width_bits}
 use Rattle.one_round.specs.Rounds.{Pairwise, Carries}
 use Rattle.one_round.specs.OneRound.{PieceFlags, Made, WriterTakes}
+use Rattle.std.specs.Prelude.{Ok}
 
 -- there are such flags, for each width: the width bits alone
 pub piece_flags : (width : ℕ) → Width width → PieceFlags width (width_bits width * 2 ^ 22)
@@ -67,7 +67,7 @@ module _ (i width : ℕ) (p : Piece) (x : Fit i width p) (f : ℕ) (payload : Li
         le-ltb (length buffer) n room,
       )
 
-  pub written_is : data_written f i [] p.offset payload buffer ≡ Size (payload_at f + length payload)
+  pub written_is : data_written f i [] p.offset payload buffer ≡ Ok (payload_at f + length payload)
   unfolding data_written
   written_is = rw writes
 

@@ -23,7 +23,6 @@ use Rattle.transfer.specs.Record.{stop_of, stamp_in, key_refusal, extended}
 use Rattle.table.specs.Tables.{Valid, keys, find, runs_of, stamp_of, set_runs}
 use Rattle.table.specs.Record.{data_judged, grown, record_packet, record_accepted}
 use Rattle.table.specs.Outcome.{Outcome}
-use Rattle.table.specs.declared.Recorded.{Recorded}
 use Rattle.table.proofs.TableLaws.{keys_set, runs_set_same, runs_set_other, stamp_set_same, stamp_set_other}
 use Rattle.table.proofs.FindLaws.{found_fine}
 use Rattle.table.proofs.RecordLaws.{recorded_as, record_taken}
@@ -31,6 +30,9 @@ use Rattle.table.proofs.ValidLaws.{record_valid}
 use Rattle.one_round.specs.Fills.{filled, whole, Fills}
 use Rattle.one_round.specs.Rounds.{Pairwise, Carries, record_all, NoneRefused, GoodPlanRound}
 use Rattle.one_round.proofs.FillLaws.{Below, pieces_below, good_plan_fills}
+use Rattle.std.specs.Prelude.{Result}
+use Rattle.refusals.specs.declared.Refusal.{Refusal}
+use Rattle.transfer.specs.declared.Receipt.{Receipt}
 
 -- ---- one packet
 
@@ -60,12 +62,12 @@ module _ (t : List Transfer) (i : ℕ) (k : Key) (open_is : find i (keys t) ≡ 
 
   taken_table : p.offset + p.length ≤ k.length → length after ≤ 64 → (record_packet t s).table ≡ set_runs i after [] t
   taken_table l n =
-      ap (λ (o : Outcome Recorded). o.table) (taken_as l n)
+      ap (λ (o : Outcome (Result Receipt Refusal)). o.table) (taken_as l n)
       ∙ ap (λ (x : List ℕ). set_runs c.brought.id (grown t c.brought) x t) no_stamp
       ∙ ap₂ (λ (j : ℕ) (rs : List Run). set_runs j rs [] t) c.id_is grown_is
 
   taken_accepted : p.offset + p.length ≤ k.length → length after ≤ 64 → record_accepted (record_packet t s).answer ≡ true
-  taken_accepted l n = ap (λ (o : Outcome Recorded). record_accepted o.answer) (taken_as l n)
+  taken_accepted l n = ap (λ (o : Outcome (Result Receipt Refusal)). record_accepted o.answer) (taken_as l n)
 
 -- no timestamp changes, of whatever Id
 stamps_stay : (i : ℕ) (rs : List Run) (t : List Transfer) (k : Key) → find i (keys t) ≡ some k → (j : ℕ) → stamp_of (set_runs i rs [] t) j ≡ stamp_of t j

@@ -1,11 +1,10 @@
 -- One round on tables: the STATUS that is written reads back with every hole, its plan is made into DATA, and the DATA fills the holes.
 -- Assumes nothing.
-use Prim.Native.Nat.{ℕ, zero, suc, ◌+◌, ◌*◌, ◌-◌, ◌^◌, ◌≤◌, ◌<◌}
+use Prim.Native.Nat.{ℕ, zero, suc, ◌*◌, ◌-◌, ◌^◌, ◌≤◌, ◌<◌}
 use mathlib.Core.Path.{◌≡◌, refl, sym, ap, subst, ◌∙◌}
 use mathlib.Core.Bool.{Bool, false, cond}
 use mathlib.Core.List.{List, [], ◌∷◌}
 use mathlib.Core.Logic.{inl}
-use mathlib.Core.Option.{some}
 use native.Mathlib.Nat.{mul-suc}
 use native.Mathlib.Omega.{arith}
 use lib.ListN.{length, take, drop}
@@ -14,14 +13,13 @@ use lib.Dec.{eqb}
 use borrow.Author.Tests.{le-leb, lt-ltb, le-ltb, eq-eqb, ne_eqb}
 use Rattle.octets.proofs.NumberLaws.{width_some}
 use Rattle.refusals.specs.Refusals.{answered}
-use Rattle.refusals.specs.declared.Written.TheVariants.{Size}
 use Rattle.header.specs.FirstWord.{status_of}
 use Rattle.header.specs.Start.{word_of}
 use Rattle.packet_status.specs.Status.{hole_list, status_refusal, accepted_status, read_status}
 use Rattle.packet_status.specs.declared.SuccessStatus.{SuccessStatus}
-use Rattle.packet_status.specs.declared.StatusRead.TheVariants as status_read
+use Rattle.packet_status.specs.declared.Status.TheVariants as status_read
 use Rattle.packet.specs.Read.{of_status, read_type, read_packet}
-use Rattle.packet.specs.declared.Read.TheVariants as read
+use Rattle.packet.specs.declared.Packet.TheVariants as read
 use Rattle.packet.proofs.CaseLaws.{read_typed}
 use Rattle.runs.specs.Runs.{Run}
 use Rattle.runs.specs.Holes.{edge, holes}
@@ -39,7 +37,7 @@ use Rattle.transfer.specs.Transfers.{Transfer, TransferFine, transfer_of}
 use Rattle.transfer_status.specs.WriteStatus.{skips_too_many, least_room, size_refusal, hole_room, holes_sent, partial_sent, fields_sent, status_packet, transfer_refused}
 use Rattle.transfer_status.proofs.StatusSize.{hole_room_iff}
 use Rattle.transfer_status.proofs.StatusReads.{status_typed, status_read, status_stamp_read}
-use Rattle.table.specs.Tables.{Valid, keys, find, runs_of, stamp_of}
+use Rattle.table.specs.Tables.{Valid, runs_of, stamp_of}
 use Rattle.table.specs.WriteStatus.{status_written, status_buffer}
 use Rattle.table.proofs.FindLaws.{Found, found_fine}
 use Rattle.table.proofs.StatusWritten.{status_written_size, status_buffer_packet, status_buffer_holes}
@@ -49,6 +47,7 @@ use Rattle.one_round.specs.OneRound.{Made, WriterTakes, planned, size_for, Given
 use Rattle.one_round.proofs.FillLaws.{Below, holes_spaced, pieces_below}
 use Rattle.one_round.proofs.RoundLaws.{good_plan_round}
 use Rattle.one_round.proofs.MadeLaws.{Fit, writer_takes, packets_made, made_carries}
+use Rattle.std.specs.Prelude.{Ok, Err}
 
 -- ---- the STATUS has room, and holds every hole
 
@@ -75,20 +74,20 @@ module _ (ts d : ℕ) (wide : 0 < d) (hs : List Hole) (room : ℕ) (enough : sta
 
 -- ---- a STATUS that reads as a success is not refused, and its code is 0
 
-module _ (s : List ℕ) (x : SuccessStatus) (e : read_status s ≡ status_read.Success x) where
+module _ (s : List ℕ) (x : SuccessStatus) (e : read_status s ≡ Ok (status_read.Success x)) where
   read_taken : status_refusal s ≡ 0
   unfolding read_status
   read_taken = go (status_refusal s) refl e
     where
-      go : (n : ℕ) → status_refusal s ≡ n → answered status_read.Refused n (accepted_status (status_of (word_of s)) s) ≡ status_read.Success x → status_refusal s ≡ 0
+      go : (n : ℕ) → status_refusal s ≡ n → answered Err n (accepted_status (status_of (word_of s)) s) ≡ Ok (status_read.Success x) → status_refusal s ≡ 0
       go zero q z = q
       go (suc n) q z = absurd (let y : ◌≡◌ {A = ℕ} 0 1 = cc in omega arith)
 
   read_success : status_of (word_of s) ≡ 0
   unfolding read_status
-  read_success = go (status_of (word_of s)) refl (ap (λ (n : ℕ). answered status_read.Refused n (accepted_status (status_of (word_of s)) s)) (sym read_taken) ∙ e)
+  read_success = go (status_of (word_of s)) refl (ap (λ (n : ℕ). answered Err n (accepted_status (status_of (word_of s)) s)) (sym read_taken) ∙ e)
     where
-      go : (n : ℕ) → status_of (word_of s) ≡ n → accepted_status n s ≡ status_read.Success x → status_of (word_of s) ≡ 0
+      go : (n : ℕ) → status_of (word_of s) ≡ n → accepted_status n s ≡ Ok (status_read.Success x) → status_of (word_of s) ≡ 0
       go zero q z = q
       go (suc n) q z = absurd (let y : ◌≡◌ {A = ℕ} 0 1 = cc in omega arith)
 
@@ -156,9 +155,9 @@ module _ (t : List Transfer) (i : ℕ) (k : Key) (unasked : Bool) (buffer : List
   sent : holes_sent (length stamp) k.width 0 (length buffer) (holes rs) ≡ holes rs
   sent = all_sent (length stamp) k.width wide (holes rs) (length buffer) g.room
 
-  written : status_written t i 0 unasked buffer ≡ Size (size_for t i k)
+  written : status_written t i 0 unasked buffer ≡ Ok (size_for t i k)
   written =
-      subst (λ (hs : List Hole). status_written t i 0 unasked buffer ≡ Size (status_size (length stamp) k.width (length hs))) sent
+      subst (λ (hs : List Hole). status_written t i 0 unasked buffer ≡ Ok (status_size (length stamp) k.width (length hs))) sent
       (status_written_size t v i 0 unasked buffer k g.found taken)
 
   packet_is : s ≡ status_packet k rs stamp 0 unasked (length buffer)
@@ -175,13 +174,13 @@ module _ (t : List Transfer) (i : ℕ) (k : Key) (unasked : Bool) (buffer : List
   abbrev told : SuccessStatus
   told = fields_read (fields_sent k rs false unasked) stamp (length (holes rs))
 
-  reads : read_status s ≡ status_read.Success told
+  reads : read_status s ≡ Ok (status_read.Success told)
   reads =
       ap read_status packet_is
       ∙ status_read (transfer_of k rs stamp) 0 unasked (length buffer) known.fine (inl refl)
       ∙ rw (sent, none_left_out (length stamp) k.width wide (holes rs) (length buffer) g.room) refl
 
-  reads_packet : read_packet s ≡ read.Success told
+  reads_packet : read_packet s ≡ Ok (read.Success told)
   unfolding read_type
   reads_packet =
       read_typed 4 s (rw packet_is (status_typed (transfer_of k rs stamp) 0 unasked (length buffer) known.fine (inl refl))) ∙ ap of_status reads
@@ -226,7 +225,7 @@ module _ (t : List Transfer) (i : ℕ) (k : Key) (unasked : Bool) (buffer : List
 pub table_one_round : TableOneRound
 table_one_round t i k unasked buffer m old v g =
     record {
-      status_written_lem = written t i k unasked buffer m old v g;
+      status_written = written t i k unasked buffer m old v g;
       prepared = prepares t i k unasked buffer m old v g;
       round = fills t i k unasked buffer m old v g;
     }

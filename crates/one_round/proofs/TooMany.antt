@@ -18,18 +18,19 @@ use Rattle.plan.specs.declared.Piece.{Piece}
 use Rattle.transfer.specs.Record.{stamp_in, runs_refusal}
 use Rattle.table.specs.Tables.{Valid, keys, find, runs_of}
 use Rattle.table.specs.Record.{record_refusal, grown, record_read, record_packet, record_accepted}
-use Rattle.table.specs.declared.Recorded.{Recorded}
-use Rattle.table.specs.declared.Recorded.TheVariants.{Refused}
 use Rattle.table.proofs.AnswerLaws.{record_refused_iff}
 use Rattle.area.specs.Stored.{stored_in}
 use Rattle.area.specs.Operations.{OnArea, record_area}
 use Rattle.area.proofs.StoredLaws.{stored_held}
 use Rattle.area.proofs.OperationLaws.{record_held_lem}
 use Rattle.one_round.specs.Rounds.{Pairwise, Carries}
-use Rattle.one_round.specs.OneRound.{Made, size_for, Given, planned, NoneRefusedArea, area_status_for, RoundWith}
+use Rattle.one_round.specs.OneRound.{Made, size_for, Given, NoneRefusedArea, RoundWith}
 use Rattle.one_round.specs.TooMany.{scattered, full_key, full, OneTooMany}
 use Rattle.one_round.proofs.RoundLaws.{judged_none, grown_is}
 use Rattle.one_round.proofs.MadeLaws.{Fit, made_carries}
+use Rattle.std.specs.Prelude.{Result, Err}
+use Rattle.refusals.specs.declared.Refusal.{Refusal}
+use Rattle.transfer.specs.declared.Receipt.{Receipt}
 
 scattered_canonical : (k at n : ℕ) → k ≤ at → CanonicalFrom k (scattered at n)
 unfolding scattered
@@ -89,7 +90,7 @@ module _ (packet : List ℕ) (c : Carries 7 2 (piece 0 1) packet) where
       let f : find d.id (keys full) ≡ some full_key = ap (λ (i : ℕ). find i (keys full)) c.id_is ∙ full_found in
       rw (f, judged_none full_key d c.width_is (omega (arith, c.offset_is, c.length_is)) c.no_eod, g)
 
-  refused_by_lem : (record_packet full packet).answer ≡ Refused (refusal_of 16)
+  refused_by_lem : (record_packet full packet).answer ≡ Err (refusal_of 16)
   unfolding record_packet record_read
   refused_by_lem = rw c.read ((record_refused_iff full d (stamp_in packet d) 15).1 judged)
 
@@ -131,7 +132,7 @@ given =
 made_refused : (packet : List ℕ) → Made 7 2 (piece 0 1) packet → record_accepted (record_area area packet).answer ≡ false
 made_refused packet made =
     let c : Carries 7 2 (piece 0 1) packet = made_carries 7 2 (piece 0 1) packet first_fits made in
-    ap (λ (o : OnArea Recorded). record_accepted o.answer) (record_held_lem area packet full (stored_held [] full full_valid))
+    ap (λ (o : OnArea (Result Receipt Refusal)). record_accepted o.answer) (record_held_lem area packet full (stored_held [] full full_valid))
     ∙ ap record_accepted (refused_by_lem packet c)
 
 -- so whatever packets are made of the plan, the first of them is refused

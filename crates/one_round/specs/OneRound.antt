@@ -1,16 +1,15 @@
 -- R17.1 to R17.5, from the STATUS to the last packet recorded, on tables and on areas. What is given stands in four places, each
 -- with what goes wrong without it: `PieceFlags`, `Made`, `Given`, and the order in `TableRound`.
 -- Assumes nothing.
-use Rattle.std.specs.Prelude.{ℕ, ◌+◌, ◌^◌, ◌≤◌, ◌<◌, ◌≡◌, Bool, true, false, List, [], ◌∷◌, length, take, drop}
+use Rattle.std.specs.Prelude.{ℕ, ◌+◌, ◌^◌, ◌≤◌, ◌<◌, ◌≡◌, Bool, true, false, List, [], ◌∷◌, length, take, drop, Ok}
 use Rattle.std.proofs.Math.Option.{some}
 use Rattle.octets.specs.Numbers.{Octets}
-use Rattle.refusals.specs.declared.Written.TheVariants.{Size}
 use Rattle.header.specs.FirstWord.{descriptor_octets, timestamp_octets, kind_of, eod_of}
 use Rattle.packet_data.specs.Data.{payload_at}
 use Rattle.packet_data.specs.WriteData.{data_written, data_buffer}
 use Rattle.packet_status.specs.Status.{hole_list}
 use Rattle.packet.specs.Read.{read_packet}
-use Rattle.packet.specs.declared.Read.TheVariants.{Success}
+use Rattle.packet.specs.declared.Packet.TheVariants.{Success}
 use Rattle.runs.specs.Holes.{holes}
 use Rattle.plan.specs.Pieces.{plan_of}
 use Rattle.plan.specs.Planning.{resend_refusal, plan_refusal, planned_of, records_after}
@@ -61,7 +60,7 @@ pub record Made (i width : ℕ) (p : Piece) (packet : List ℕ) : Type 0 where
 -- R17.3: the writer never refuses a piece
 abbrev pub WriterTakes : ℕ → ℕ → Piece → Type 0
 WriterTakes i width p = (flags : ℕ) (payload buffer : List ℕ) → PieceFlags width flags → length payload ≡ p.length
-    → payload_at flags + length payload ≤ length buffer → data_written flags i [] p.offset payload buffer ≡ Size (payload_at flags + length payload)
+    → payload_at flags + length payload ≤ length buffer → data_written flags i [] p.offset payload buffer ≡ Ok (payload_at flags + length payload)
 
 -- ---- what the round is given
 
@@ -94,7 +93,7 @@ planned m s old =
 -- R17.3: the octets s are the STATUS of the Id i, which is open in t with the key k; it may have been asked for or not
 pub record Prepared (t : List Transfer) (i : ℕ) (k : Key) (unasked : Bool) (s : List ℕ) (m : ℕ) (old : List Piece) : Type 0 where
   -- it reads as a success, with bit 14 clear, the timestamp that is kept, and every hole
-  pub status_read : read_packet s ≡ Success (fields_read (fields_sent k (runs_of t i) false unasked) (stamp_of t i) (length (holes (runs_of t i))))
+  pub status_read : read_packet s ≡ Ok (Success (fields_read (fields_sent k (runs_of t i) false unasked) (stamp_of t i) (length (holes (runs_of t i)))))
   pub stamp_read : take (length (stamp_of t i)) (drop 8 s) ≡ stamp_of t i
   pub every_hole : hole_list s ≡ holes (runs_of t i)
   -- counting tells how many records are needed, planning is not refused, and what it stores is the plan of these holes
@@ -112,7 +111,7 @@ abbrev pub status_for : List Transfer → ℕ → Key → Bool → List ℕ → 
 status_for t i k unasked buffer = take (size_for t i k) (status_buffer t i 0 unasked buffer)
 
 pub record TableRound (t : List Transfer) (i : ℕ) (k : Key) (unasked : Bool) (buffer : List ℕ) (m : ℕ) (old : List Piece) : Type 0 where
-  pub status_written_lem : status_written t i 0 unasked buffer ≡ Size (size_for t i k)
+  pub status_written : status_written t i 0 unasked buffer ≡ Ok (size_for t i k)
   pub prepared : Prepared t i k unasked (status_for t i k unasked buffer) m old
   -- R17.1: one packet for each piece, in the plan's order, and nothing else between. In another order each piece may make a run of its own,
   -- and recording gives 16; what comes between may take up the room of the 64th run, close the transfer, or leave other holes
@@ -143,7 +142,7 @@ pub record RoundOnArea (a : List ℕ) (t : List Transfer) (i : ℕ) (k : Key) (p
   pub filled : Filled t table i k
 
 pub record AreaRound (a : List ℕ) (t : List Transfer) (i : ℕ) (k : Key) (unasked : Bool) (buffer : List ℕ) (m : ℕ) (old : List Piece) : Type 0 where
-  pub status_written_lem : area_status_written a i 0 unasked buffer ≡ Size (size_for t i k)
+  pub status_written : area_status_written a i 0 unasked buffer ≡ Ok (size_for t i k)
   pub prepared : Prepared t i k unasked (area_status_for a t i k unasked buffer) m old
   pub round : (packets : List (List ℕ)) → Pairwise (Made i k.width) (planned m (area_status_for a t i k unasked buffer) old) packets
       → RoundOnArea a t i k packets

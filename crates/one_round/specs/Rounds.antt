@@ -1,11 +1,10 @@
 -- R17.3 to R17.5 of a table: DATA for the pieces of a plan, recorded one after the other.
 -- Assumes nothing.
-use Rattle.std.specs.Prelude.{ℕ, suc, ◌≤◌, ◌≡◌, true, List, [], ◌∷◌, ◌↔◌, length}
+use Rattle.std.specs.Prelude.{ℕ, suc, ◌≤◌, ◌≡◌, true, List, [], ◌∷◌, ◌↔◌, length, Ok}
 use Rattle.std.proofs.Math.Option.{some}
 use Rattle.octets.specs.Numbers.{Octets}
 use Rattle.packet_data.specs.Data.{read_data}
 use Rattle.packet_data.specs.declared.Data.{Data}
-use Rattle.packet_data.specs.declared.DataRead.TheVariants as data-read
 use Rattle.runs.specs.Runs.{Member}
 use Rattle.runs.specs.Holes.{edge, holes, complete}
 use Rattle.plan.specs.declared.Piece.{Piece}
@@ -27,7 +26,7 @@ Pairwise R (x ∷ xs) (y ∷ ys) = R x y × Pairwise R xs ys
 pub record Carries (i width : ℕ) (p : Piece) (packet : List ℕ) : Type 0 where
   pub octets : Octets packet
   pub brought : Data
-  pub read : read_data packet ≡ data-read.Accepted brought
+  pub read : read_data packet ≡ Ok brought
   pub id_is : brought.id ≡ i
   pub width_is : brought.width ≡ width
   pub no_timestamp : brought.timestamp ≡ 0

@@ -14,41 +14,38 @@ use Rattle.header.specs.Start.{word_of, start_refusal, type_refusal}
 use Rattle.header.proofs.StartLaws.{StartFine}
 use Rattle.header.proofs.LimitLaws as header
 use Rattle.packet_beacon.specs.Beacon.{read_beacon}
-use Rattle.packet_beacon.specs.declared.BeaconRead.{BeaconRead}
-use Rattle.packet_beacon.specs.declared.BeaconRead.TheVariants as beacon-read
 use Rattle.packet_beacon.proofs.LimitLaws as beacon
 use Rattle.packet_metadata.specs.Metadata.{read_metadata}
-use Rattle.packet_metadata.specs.declared.MetadataRead.{MetadataRead}
-use Rattle.packet_metadata.specs.declared.MetadataRead.TheVariants as metadata-read
 use Rattle.packet_metadata.proofs.LimitLaws as metadata
 use Rattle.packet_data.specs.Data.{read_data}
-use Rattle.packet_data.specs.declared.DataRead.{DataRead}
-use Rattle.packet_data.specs.declared.DataRead.TheVariants as data-read
 use Rattle.packet_data.proofs.LimitLaws as data-packet
 use Rattle.packet_status.specs.Status.{read_status}
-use Rattle.packet_status.specs.declared.StatusRead.{StatusRead}
-use Rattle.packet_status.specs.declared.StatusRead.TheVariants as status_read
+use Rattle.packet_status.specs.declared.Status.{Status}
+use Rattle.packet_status.specs.declared.Status.TheVariants as status_read
 use Rattle.packet_status.proofs.LimitLaws as status
 use Rattle.packet.specs.Read.{of_beacon, of_metadata, of_data, of_status, read_type, read_packet}
-use Rattle.packet.specs.declared.Read.TheVariants.{Refused}
+use Rattle.std.specs.Prelude.{Result, Ok, Err}
+use Rattle.packet_metadata.specs.declared.Metadata.{Metadata}
+use Rattle.packet_beacon.specs.declared.Beacon.{Beacon}
+use Rattle.packet_data.specs.declared.Data.{Data}
 
 -- what is refused is what the reader of the type refused
-beacon_refused_lem : (a : BeaconRead) (r : Refusal) → of_beacon a ≡ Refused r → a ≡ beacon-read.Refused r
-beacon_refused_lem (beacon-read.Accepted b) r e = absurd (let z : ◌≡◌ {A = ℕ} 0 1 = cc in omega arith)
-beacon_refused_lem (beacon-read.Refused q) r e = cc
+beacon_refused_lem : (a : Result Beacon Refusal) (r : Refusal) → of_beacon a ≡ Err r → a ≡ Err r
+beacon_refused_lem (Ok b) r e = absurd (let z : ◌≡◌ {A = ℕ} 0 1 = cc in omega arith)
+beacon_refused_lem (Err q) r e = cc
 
-metadata_refused : (a : MetadataRead) (r : Refusal) → of_metadata a ≡ Refused r → a ≡ metadata-read.Refused r
-metadata_refused (metadata-read.Accepted m) r e = absurd (let z : ◌≡◌ {A = ℕ} 0 1 = cc in omega arith)
-metadata_refused (metadata-read.Refused q) r e = cc
+metadata_refused : (a : Result Metadata Refusal) (r : Refusal) → of_metadata a ≡ Err r → a ≡ Err r
+metadata_refused (Ok m) r e = absurd (let z : ◌≡◌ {A = ℕ} 0 1 = cc in omega arith)
+metadata_refused (Err q) r e = cc
 
-data_refused_lem : (a : DataRead) (r : Refusal) → of_data a ≡ Refused r → a ≡ data-read.Refused r
-data_refused_lem (data-read.Accepted d) r e = absurd (let z : ◌≡◌ {A = ℕ} 0 1 = cc in omega arith)
-data_refused_lem (data-read.Refused q) r e = cc
+data_refused_lem : (a : Result Data Refusal) (r : Refusal) → of_data a ≡ Err r → a ≡ Err r
+data_refused_lem (Ok d) r e = absurd (let z : ◌≡◌ {A = ℕ} 0 1 = cc in omega arith)
+data_refused_lem (Err q) r e = cc
 
-status_refused : (a : StatusRead) (r : Refusal) → of_status a ≡ Refused r → a ≡ status_read.Refused r
-status_refused (status_read.Success x) r e = absurd (let z : ◌≡◌ {A = ℕ} 0 1 = cc in omega arith)
-status_refused (status_read.Failure x) r e = absurd (let z : ◌≡◌ {A = ℕ} 0 1 = cc in omega arith)
-status_refused (status_read.Refused q) r e = cc
+status_refused : (a : Result Status Refusal) (r : Refusal) → of_status a ≡ Err r → a ≡ Err r
+status_refused (Ok (status_read.Success x)) r e = absurd (let z : ◌≡◌ {A = ℕ} 0 1 = cc in omega arith)
+status_refused (Ok (status_read.Failure x)) r e = absurd (let z : ◌≡◌ {A = ℕ} 0 1 = cc in omega arith)
+status_refused (Err q) r e = cc
 
 module _ (s : List ℕ) where
   abbrev type : ℕ
@@ -66,7 +63,7 @@ module _ (s : List ℕ) where
   own_type t e = ((header.four_iff t s).0 e).1
 
   by_type : (v x y z : Bool) → eqb type 0 ≡ v → eqb type 2 ≡ x → eqb type 3 ≡ y → eqb type 4 ≡ z
-      → cond v (of_beacon (read_beacon s)) (cond x (of_metadata (read_metadata s)) (cond y (of_data (read_data s)) (cond z (of_status (read_status s)) (Refused (refusal_of 4))))) ≡ Refused (refusal_of 4)
+      → cond v (of_beacon (read_beacon s)) (cond x (of_metadata (read_metadata s)) (cond y (of_data (read_data s)) (cond z (of_status (read_status s)) (Err (refusal_of 4))))) ≡ Err (refusal_of 4)
       → NoType
   by_type true x y z a b c d e =
       absurd (own_type 0 ((beacon.start_iff s 4 (omega arith) (omega arith)).0 ((beacon.read_refused_iff s 3).0 (beacon_refused_lem (read_beacon s) (refusal_of 4) e))) (eqb-true type 0 a))
@@ -79,13 +76,13 @@ module _ (s : List ℕ) where
   by_type false false false false a b c d e =
       record { not_beacon = eqb-false type 0 a; not_metadata = eqb-false type 2 b; not_data = eqb-false type 3 c; not_status = eqb-false type 4 d }
 
-  by_start : (n : ℕ) → start_refusal s ≡ n → answered Refused n (read_type type s) ≡ Refused (refusal_of 4) → StartFine s × NoType
+  by_start : (n : ℕ) → start_refusal s ≡ n → answered Err n (read_type type s) ≡ Err (refusal_of 4) → StartFine s × NoType
   unfolding read_type
   by_start zero q e = ((header.start_none_iff s).0 q, by_type (eqb type 0) (eqb type 2) (eqb type 3) (eqb type 4) refl refl refl refl e)
   by_start (suc n) q e = absurd (let r : refusal_of (suc n) ≡ refusal_of 4 = cc in omega (arith, header.start_le s, ap (λ (x : Refusal). x.number) r))
 
   -- 4: what it begins with is there and as it should be, and the type is none that is read
-  pub four_iff : (read_packet s ≡ Refused (refusal_of 4)) ↔ (StartFine s × NoType)
+  pub four_iff : (read_packet s ≡ Err (refusal_of 4)) ↔ (StartFine s × NoType)
   unfolding read_packet read_type
   four_iff = (
     by_start (start_refusal s) refl,

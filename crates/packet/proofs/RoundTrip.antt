@@ -8,7 +8,6 @@ use Rattle.octets.specs.Numbers.{Octets}
 use Rattle.octets.specs.Put.{put}
 use Rattle.octets.proofs.PutLaws.{take_put}
 use Rattle.header.specs.FirstWord.{descriptor_octets, timestamp_octets, wanted_of, eod_of}
-use Rattle.refusals.specs.declared.Written.TheVariants.{Size}
 use Rattle.refusals.proofs.RefusalLaws.{first_none}
 use Rattle.refusals.proofs.WritingLaws.{written_size}
 use Rattle.entry_parts.specs.Properties.{path_at}
@@ -31,11 +30,12 @@ use Rattle.packet_data.proofs.RoundTrip as data-trip
 use Rattle.failure_status.specs.WriteFailure.{failure_write_refusal, failure_octets, failure_written, failure_buffer}
 use Rattle.failure_status.proofs.RoundTrip as status
 use Rattle.packet.specs.Read.{of_beacon, of_metadata, of_status, read_type, read_packet}
-use Rattle.packet.specs.declared.Read.TheVariants as read
+use Rattle.packet.specs.declared.Packet.TheVariants as read
 use Rattle.packet.proofs.CaseLaws.{read_typed, data_taken, packet_beacon, packet_metadata, packet_data}
+use Rattle.std.specs.Prelude.{Ok}
 
 -- BEACON, written and read; a free space is handed over as a number of 64 bits
-module _ (flags free : ℕ) (endpoint old : List ℕ) (n : ℕ) (held : free < 2 ^ 64) (ok : beacon_written flags free endpoint old ≡ Size n) where
+module _ (flags free : ℕ) (endpoint old : List ℕ) (n : ℕ) (held : free < 2 ^ 64) (ok : beacon_written flags free endpoint old ≡ Ok n) where
   taken : (beacon_refused flags free endpoint old ≡ 0) × (endpoint_at flags + length endpoint ≡ n)
   unfolding beacon_written
   taken = written_size _ _ n ok
@@ -46,7 +46,7 @@ module _ (flags free : ℕ) (endpoint old : List ℕ) (n : ℕ) (held : free < 2
       rw taken.0
       (take_put n (beacon_octets flags free endpoint) old (beacon-trip.beacon_octets_length flags free endpoint (length old) held taken.0 ∙ taken.1))
 
-  pub beacon_reads_back : read_packet (take n (beacon_buffer flags free endpoint old)) ≡ read.Beacon (record {
+  pub beacon_reads_back : read_packet (take n (beacon_buffer flags free endpoint old)) ≡ Ok (read.Beacon (record {
     flags = flags;
     largest = descriptor_octets flags;
     bundles = bundles_of flags;
@@ -57,7 +57,7 @@ module _ (flags free : ℕ) (endpoint old : List ℕ) (n : ℕ) (held : free < 2
     free = free;
     start = endpoint_at flags;
     length = length endpoint;
-  })
+  }))
   unfolding read_type beacon_refusal
   beacon_reads_back =
       let s = beacon_octets flags free endpoint in
@@ -68,12 +68,12 @@ module _ (flags free : ℕ) (endpoint old : List ℕ) (n : ℕ) (held : free < 2
   endpoint_reads_back = rw beacon_packet_written (beacon-trip.endpoint_read_written flags free endpoint (length old) held taken.0)
 
 -- BEACON, read and written; the endpoint is the octets at its place
-module _ (s : List ℕ) (os : Octets s) (b : Beacon) (ok : read_packet s ≡ read.Beacon b) (old : List ℕ) (room : length s ≤ length old) where
+module _ (s : List ℕ) (os : Octets s) (b : Beacon) (ok : read_packet s ≡ Ok (read.Beacon b)) (old : List ℕ) (room : length s ≤ length old) where
   nought : (beacon_refusal s ≡ 0) × (beacon_of s ≡ b)
   nought = beacon_given s b (packet_beacon s b ok)
 
   pub beacon_writes_back :
-      (beacon_written b.flags b.free (drop b.start s) old ≡ Size (length s))
+      (beacon_written b.flags b.free (drop b.start s) old ≡ Ok (length s))
       × (beacon_buffer b.flags b.free (drop b.start s) old ≡ put 0 s old)
   unfolding beacon_of
   beacon_writes_back =
@@ -82,7 +82,7 @@ module _ (s : List ℕ) (os : Octets s) (b : Beacon) (ok : read_packet s ≡ rea
 
 -- DATA, written and read; an offset is handed over as a number of 64 bits
 module _ (flags id : ℕ) (timestamp : List ℕ) (offset : ℕ) (payload old : List ℕ) (n : ℕ) (held : offset < 2 ^ 64)
-    (ok : data_written flags id timestamp offset payload old ≡ Size n) where
+    (ok : data_written flags id timestamp offset payload old ≡ Ok n) where
   accepted : (data_refused flags id timestamp offset payload old ≡ 0) × (payload_at flags + length payload ≡ n)
   unfolding data_written
   accepted = written_size _ _ n ok
@@ -94,7 +94,7 @@ module _ (flags id : ℕ) (timestamp : List ℕ) (offset : ℕ) (payload old : L
       (take_put n (data_octets flags id timestamp offset payload) old
       (data-trip.data_octets_length flags id timestamp offset payload (length old) held accepted.0 ∙ accepted.1))
 
-  pub data_reads_back : read_packet (take n (data_buffer flags id timestamp offset payload old)) ≡ read.Data (record {
+  pub data_reads_back : read_packet (take n (data_buffer flags id timestamp offset payload old)) ≡ Ok (read.Data (record {
     flags = flags;
     id = id;
     width = descriptor_octets flags;
@@ -104,11 +104,11 @@ module _ (flags id : ℕ) (timestamp : List ℕ) (offset : ℕ) (payload old : L
     offset = offset;
     start = payload_at flags;
     length = length payload;
-  })
+  }))
   data_reads_back =
       let s = data_octets flags id timestamp offset payload in
       let g = data_given s _ (data-trip.data_read_written flags id timestamp offset payload (length old) held accepted.0) in
-      rw data_packet_written (data_taken s g.0 ∙ ap read.Data g.1)
+      rw data_packet_written (data_taken s g.0 ∙ ap (λ (d : Data). Ok (read.Data d)) g.1)
 
   pub payload_reads_back : payload_of (take n (data_buffer flags id timestamp offset payload old)) ≡ payload
   payload_reads_back = rw data_packet_written (data-trip.payload_read_written flags id timestamp offset payload (length old) held accepted.0)
@@ -117,12 +117,12 @@ module _ (flags id : ℕ) (timestamp : List ℕ) (offset : ℕ) (payload old : L
   timestamp_reads_back = rw data_packet_written (data-trip.timestamp_read_written flags id timestamp offset payload (length old) held accepted.0)
 
 -- DATA, read and written
-module _ (s : List ℕ) (os : Octets s) (d : Data) (ok : read_packet s ≡ read.Data d) (old : List ℕ) (room : length s ≤ length old) where
+module _ (s : List ℕ) (os : Octets s) (d : Data) (ok : read_packet s ≡ Ok (read.Data d)) (old : List ℕ) (room : length s ≤ length old) where
   none : (data_refusal s ≡ 0) × (data_of s ≡ d)
   none = data_given s d (packet_data s d ok)
 
   pub data_writes_back :
-      (data_written d.flags d.id (take d.timestamp (drop 8 s)) d.offset (payload_of s) old ≡ Size (length s))
+      (data_written d.flags d.id (take d.timestamp (drop 8 s)) d.offset (payload_of s) old ≡ Ok (length s))
       × (data_buffer d.flags d.id (take d.timestamp (drop 8 s)) d.offset (payload_of s) old ≡ put 0 s old)
   unfolding data_of payload_of
   data_writes_back =
@@ -131,7 +131,7 @@ module _ (s : List ℕ) (os : Octets s) (d : Data) (ok : read_packet s ≡ read.
 
 -- METADATA, written and read; so is a size
 module _ (flags id : ℕ) (checksum : List ℕ) (properties size mtime ctime : ℕ) (path old : List ℕ) (n : ℕ) (held : size < 2 ^ 64)
-    (ok : metadata_written flags id checksum properties size mtime ctime path old ≡ Size n) where
+    (ok : metadata_written flags id checksum properties size mtime ctime path old ≡ Ok n) where
   fine : (metadata_write_refusal flags id checksum properties size mtime ctime path (length old) ≡ 0)
       × (metadata_size flags properties (length path) ≡ n)
   unfolding metadata_written
@@ -145,14 +145,14 @@ module _ (flags id : ℕ) (checksum : List ℕ) (properties size mtime ctime : �
       (take_put n (metadata_octets flags id checksum properties size mtime ctime path) old
       (metadata.metadata_octets_length flags id checksum properties size mtime ctime path (length old) held fine.0 ∙ fine.1))
 
-  pub metadata_reads_back : read_packet (take n (metadata_buffer flags id checksum properties size mtime ctime path old)) ≡ read.Metadata (record {
+  pub metadata_reads_back : read_packet (take n (metadata_buffer flags id checksum properties size mtime ctime path old)) ≡ Ok (read.Metadata (record {
     flags = flags;
     id = id;
     width = descriptor_octets flags;
     checksum = length checksum;
     entry = record
         { properties = properties; size = size; mtime = mtime; ctime = ctime; path = entry_at flags + path_at properties; length = length path };
-  })
+  }))
   unfolding read_type metadata_refusal
   metadata_reads_back =
       let s = metadata_octets flags id checksum properties size mtime ctime path in
@@ -170,7 +170,7 @@ module _ (flags id : ℕ) (checksum : List ℕ) (properties size mtime ctime : �
       rw metadata_packet_written (metadata.path_read_written flags id checksum properties size mtime ctime path (length old) held fine.0)
 
 -- METADATA, read and written; checksum and path are the octets at their places
-module _ (s : List ℕ) (os : Octets s) (m : Metadata) (ok : read_packet s ≡ read.Metadata m) (old : List ℕ) (room : length s ≤ length old) where
+module _ (s : List ℕ) (os : Octets s) (m : Metadata) (ok : read_packet s ≡ Ok (read.Metadata m)) (old : List ℕ) (room : length s ≤ length old) where
   nothing : (metadata_refusal s ≡ 0) × (metadata_of s ≡ m)
   nothing = metadata_given s m (packet_metadata s m ok)
 
@@ -182,7 +182,7 @@ module _ (s : List ℕ) (os : Octets s) (m : Metadata) (ok : read_packet s ≡ r
 
   pub metadata_writes_back :
       (metadata_written m.flags m.id checksum_read m.entry.properties m.entry.size m.entry.mtime m.entry.ctime path_read old
-      ≡ Size (length s))
+      ≡ Ok (length s))
       × (metadata_buffer m.flags m.id checksum_read m.entry.properties m.entry.size m.entry.mtime m.entry.ctime path_read old
       ≡ put 0 s old)
   metadata_writes_back =
@@ -190,12 +190,12 @@ module _ (s : List ℕ) (os : Octets s) (m : Metadata) (ok : read_packet s ≡ r
       (metadata.written_again s os nothing.0 old room, metadata.buffer_again s os nothing.0 old room)
 
 -- a failure STATUS, written and read
-module _ (id code : ℕ) (old : List ℕ) (n : ℕ) (ok : failure_written id code old ≡ Size n) where
+module _ (id code : ℕ) (old : List ℕ) (n : ℕ) (ok : failure_written id code old ≡ Ok n) where
   allowed : (failure_write_refusal id code (length old) ≡ 0) × (8 ≡ n)
   unfolding failure_written
   allowed = written_size _ _ n ok
 
-  pub failure_reads_back : read_packet (take n (failure_buffer id code old)) ≡ read.Failure (record { flags = code; id = id; status = code })
+  pub failure_reads_back : read_packet (take n (failure_buffer id code old)) ≡ Ok (read.Failure (record { flags = code; id = id; status = code }))
   unfolding read_type failure_buffer
   failure_reads_back =
       let s = failure_octets id code in

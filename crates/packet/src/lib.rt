@@ -1,83 +1,48 @@
 // Reading a packet of any type.
 #![tactic(auto)]
 
-ghost use Rattle.std.specs.Prelude.{◌≡◌};
-ghost use Rattle.packet.specs.Read.{of_beacon, of_metadata, of_data, of_status, read_packet};
+ghost use Rattle.std.specs.Prelude.{◌≡◌, Ok};
+ghost use Rattle.packet.specs.Read.{of_status, read_packet};
 
-use packet_beacon::{Beacon, BeaconRead};
-use packet_data::{Data, DataRead};
-use packet_metadata::{Metadata, MetadataRead};
-use packet_status::{FailureStatus, StatusRead, SuccessStatus};
-use refusals::Refusal;
+use packet_beacon::Beacon;
+use packet_data::Data;
+use packet_metadata::Metadata;
+use packet_status::{FailureStatus, Status, SuccessStatus};
+use refusals::{Fault, Refusal};
 
-// What a packet holds, by its type, or why it is refused.
+// What a packet holds, by its type.
 #[derive(Clone, Copy)]
-pub enum Read {
+pub enum Packet {
     Beacon(Beacon),
     Metadata(Metadata),
     Data(Data),
     Success(SuccessStatus),
     Failure(FailureStatus),
-    Refused(Refusal),
 }
 
-fn of_beacon(a: BeaconRead) -> Read
-    ensures { result ≡ of_beacon a }
-{
-    match a {
-        BeaconRead::Accepted(b) => Read::Beacon(b),
-        BeaconRead::Refused(r) => Read::Refused(r),
-    }
-}
+impl From<Status> for Packet {
+    ghost from_gives = { λ status r. of_status (Ok status) ≡ Ok r };
 
-fn of_metadata(a: MetadataRead) -> Read
-    ensures { result ≡ of_metadata a }
-{
-    match a {
-        MetadataRead::Accepted(m) => Read::Metadata(m),
-        MetadataRead::Refused(r) => Read::Refused(r),
-    }
-}
-
-fn of_data(a: DataRead) -> Read
-    ensures { result ≡ of_data a }
-{
-    match a {
-        DataRead::Accepted(d) => Read::Data(d),
-        DataRead::Refused(r) => Read::Refused(r),
-    }
-}
-
-fn of_status(a: StatusRead) -> Read
-    ensures { result ≡ of_status a }
-{
-    match a {
-        StatusRead::Success(s) => Read::Success(s),
-        StatusRead::Failure(f) => Read::Failure(f),
-        StatusRead::Refused(r) => Read::Refused(r),
+    fn from(status: Status) -> Packet {
+        match status {
+            Status::Success(s) => Packet::Success(s),
+            Status::Failure(f) => Packet::Failure(f),
+        }
     }
 }
 
 // Reads a packet of any of the four types. BEACON comes most seldom, so that its type is tested last.
-pub fn read_packet(p: &[u8]) -> Read
+#[tactic(auto, using(refusals::proofs::FaultLaws::fault_answers, header::proofs::StartLaws::start_word), unfolding(crate::specs::Read::read_type, crate::specs::Read::read_packet))]
+pub fn read_packet(p: &[u8]) -> Result<Packet, Refusal>
     ensures { result ≡ read_packet p.now }
 {
-    let n = packet_start::start_refusal(p);
-    if n != 0 {
-        return Read::Refused(refusals::refuse(n));
-    }
+    packet_start::start_refusal(p)?;
     let h = first_word::split(first_word::word(p));
-    if h.ptype == 2 {
-        return of_metadata(packet_metadata::read_metadata(p));
+    match h.ptype {
+        2 => Ok(Packet::Metadata(packet_metadata::read_metadata(p)?)),
+        3 => Ok(Packet::Data(packet_data::read_data(p)?)),
+        4 => Ok(Packet::from(status_fields::read_status(p)?)),
+        0 => Ok(Packet::Beacon(packet_beacon::read_beacon(p)?)),
+        _ => Err(Fault::OtherType.into()),
     }
-    if h.ptype == 3 {
-        return of_data(packet_data::read_data(p));
-    }
-    if h.ptype == 4 {
-        return of_status(status_fields::read_status(p));
-    }
-    if h.ptype == 0 {
-        return of_beacon(packet_beacon::read_beacon(p));
-    }
-    Read::Refused(refusals::refuse(4))
 }

@@ -13,7 +13,7 @@ use Rattle.header.proofs.DescriptorLaws.{descriptor_there}
 use Rattle.beacon_flags.specs.Flags.{free_octets, flags_refusal}
 use Rattle.packet_beacon.specs.Beacon.{endpoint_at, beacon_refusal, beacon_of, read_beacon}
 use Rattle.packet_beacon.specs.declared.Beacon.{Beacon}
-use Rattle.packet_beacon.specs.declared.BeaconRead.TheVariants.{Accepted, Refused}
+use Rattle.std.specs.Prelude.{Ok, Err}
 
 pub record BeaconFine (s : List ℕ) : Type 0 where
   pub head : TypeFine 0 s
@@ -34,10 +34,10 @@ beacon_fine s e =
     }
 
 -- an accepted read was not refused, and its fields are those of the definition
-pub beacon_given : (s : List ℕ) (b : Beacon) → read_beacon s ≡ Accepted b → (beacon_refusal s ≡ 0) × (beacon_of s ≡ b)
+pub beacon_given : (s : List ℕ) (b : Beacon) → read_beacon s ≡ Ok b → (beacon_refusal s ≡ 0) × (beacon_of s ≡ b)
 unfolding read_beacon
 beacon_given s b e = go (beacon_refusal s) e
   where
-    go : (n : ℕ) → answered Refused n (Accepted (beacon_of s)) ≡ Accepted b → (n ≡ 0) × (beacon_of s ≡ b)
+    go : (n : ℕ) → answered Err n (Ok (beacon_of s)) ≡ Ok b → (n ≡ 0) × (beacon_of s ≡ b)
     go zero q = (refl, cc)
     go (suc n) q = absurd (let z : ◌≡◌ {A = ℕ} 0 1 = cc in omega arith)

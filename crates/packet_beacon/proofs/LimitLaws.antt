@@ -14,7 +14,7 @@ use Rattle.header.proofs.StartLaws.{TypeFine}
 use Rattle.header.proofs.LimitLaws as header
 use Rattle.beacon_flags.specs.Flags.{sending_pair, receiving_pair, last_octet, free_octets, flags_refusal}
 use Rattle.packet_beacon.specs.Beacon.{endpoint_at, beacon_refusal, beacon_of, read_beacon}
-use Rattle.packet_beacon.specs.declared.BeaconRead.TheVariants.{Accepted, Refused}
+use Rattle.std.specs.Prelude.{Ok, Err}
 
 -- ---- the flags
 
@@ -69,7 +69,7 @@ module _ (s : List ℕ) where
 
 -- ---- the answers: refused with the number that these laws speak of
 
-pub read_refused_iff : (s : List ℕ) (n : ℕ) → (read_beacon s ≡ Refused (refusal_of (suc n))) ↔ (beacon_refusal s ≡ suc n)
+pub read_refused_iff : (s : List ℕ) (n : ℕ) → (read_beacon s ≡ Err (refusal_of (suc n))) ↔ (beacon_refusal s ≡ suc n)
 unfolding read_beacon
 read_refused_iff s n =
-    chains.answered_iff Refused (beacon_refusal s) n (Accepted (beacon_of s)) (λ r e. let z : ◌≡◌ {A = ℕ} 0 1 = cc in omega arith) (λ q r e. cc)
+    chains.answered_iff Err (beacon_refusal s) n (Ok (beacon_of s)) (λ r e. let z : ◌≡◌ {A = ℕ} 0 1 = cc in omega arith) (λ q r e. cc)

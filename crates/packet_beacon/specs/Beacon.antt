@@ -1,14 +1,13 @@
 -- R2.13, R3.8: BEACON, read: which packets are refused, and the fields of the others.
 -- Assumes nothing.
-use Rattle.std.specs.Prelude.{ℕ, ◌+◌, ◌-◌, List, length, drop}
+use Rattle.std.specs.Prelude.{ℕ, ◌+◌, ◌-◌, List, length, drop, Result, Ok, Err}
 use Rattle.refusals.specs.Refusals.{◌▹◌, answered}
 use Rattle.header.specs.FirstWord.{flags_of}
 use Rattle.header.specs.Start.{word_of, type_refusal}
 use Rattle.header.specs.Descriptor.{descriptor_at, descriptor_refusal}
 use Rattle.beacon_flags.specs.Flags.{largest_width, bundles_of, streams_of, sending_pair, receiving_pair, free_octets, willingness_of, flags_refusal}
 use Rattle.packet_beacon.specs.declared.Beacon.{Beacon}
-use Rattle.packet_beacon.specs.declared.BeaconRead.{BeaconRead}
-use Rattle.packet_beacon.specs.declared.BeaconRead.TheVariants.{Accepted, Refused}
+use Rattle.refusals.specs.declared.Refusal.{Refusal}
 
 -- R2.13: where the endpoint begins: after the word and the free space
 abbrev pub endpoint_at : ℕ → ℕ
@@ -45,5 +44,5 @@ beacon_of s =
     }
 
 -- R1.4: the fields, or the refusal
-unfoldable pub read_beacon : List ℕ → BeaconRead
-read_beacon s = answered Refused (beacon_refusal s) (Accepted (beacon_of s))
+unfoldable pub read_beacon : List ℕ → Result Beacon Refusal
+read_beacon s = answered Err (beacon_refusal s) (Ok (beacon_of s))

@@ -6,9 +6,10 @@ ghost use Rattle.beacon_flags.specs.Flags.{free_octets};
 ghost use Rattle.header.specs.Start.{word_of};
 ghost use Rattle.header.specs.Descriptor.{descriptor_refusal};
 ghost use Rattle.packet_beacon.specs.Beacon.{endpoint_at, free_space, beacon_refusal, beacon_of, read_beacon};
+ghost use Rattle.refusals.specs.Faults.{refused};
 
 use beacon_flags::Willingness;
-use refusals::Refusal;
+use refusals::{Fault, Refusal};
 
 // The fields of a BEACON packet. `largest` counts the octets of the largest descriptor, and `width` those of the free space, 0
 // where there is none; the endpoint is `length` octets from `start` on.
@@ -26,12 +27,6 @@ pub struct Beacon {
     pub length: usize,
 }
 
-#[derive(Clone, Copy)]
-pub enum BeaconRead {
-    Accepted(Beacon),
-    Refused(Refusal),
-}
-
 // Where the endpoint starts, by the first word or the flags.
 pub fn endpoint_at(w: u64) -> usize
     ensures { result ≡ endpoint_at w }
@@ -39,32 +34,31 @@ pub fn endpoint_at(w: u64) -> usize
     4 + beacon_flags::free_octets(w)
 }
 
-// Refusals 1 and 5 of the free space; 0 for none, and where there is no free space.
-fn free_refusal(p: &[u8]) -> u64
+// Refusals 1 and 5 of the free space, and where there is no free space.
+#[tactic(auto, using(beacon_flags::proofs::FlagLaws::free_width, beacon_flags::proofs::FlagLaws::free_none, beacon_flags::proofs::FlagLaws::free_le))]
+fn free_refusal(p: &[u8]) -> Result<(), Fault>
     requires { 4 ≤ length p.now }
-    ensures { result ≡ descriptor_refusal (free_octets (word_of p.now)) 4 p.now }
+    ensures { refused result ≡ descriptor_refusal (free_octets (word_of p.now)) 4 p.now }
 {
     let width = beacon_flags::free_octets(first_word::word(p));
     if width == 0 {
-        return 0;
+        return Ok(());
     }
     descriptors::descriptor_refusal(p, 4, width)
 }
 
-// The refusal of a packet that has to be BEACON; 0 for none.
-pub fn beacon_refusal(p: &[u8]) -> u64
-    ensures { result ≡ beacon_refusal p.now }
+// The refusal of a packet that has to be BEACON.
+#[tactic(auto, using(header::proofs::StartLaws::type_fine), unfolding(crate::specs::Beacon::beacon_refusal))]
+pub fn beacon_refusal(p: &[u8]) -> Result<(), Fault>
+    ensures { refused result ≡ beacon_refusal p.now }
 {
-    let n = packet_start::type_refusal(p, 0);
-    if n != 0 {
-        return n;
-    }
-    let f = beacon_flags::flags_refusal(first_word::word(p));
-    let g = free_refusal(p);
-    refusals::first(f, g)
+    packet_start::type_refusal(p, 0)?;
+    beacon_flags::flags_refusal(first_word::word(p))?;
+    free_refusal(p)
 }
 
 // The free space of a packet that is not refused, 0 where it has none.
+#[tactic(auto, using(beacon_flags::proofs::FlagLaws::free_width, crate::proofs::BeaconLaws::beacon_fine))]
 fn free_space(p: &[u8]) -> u64
     requires { beacon_refusal p.now ≡ 0 }
     ensures { result ≡ free_space p.now }
@@ -77,6 +71,7 @@ fn free_space(p: &[u8]) -> u64
 }
 
 // The fields of a packet that is not refused.
+#[tactic(auto, using(crate::proofs::BeaconLaws::beacon_fine), unfolding(crate::specs::Beacon::beacon_of))]
 pub fn beacon_fields(p: &[u8]) -> Beacon
     requires { beacon_refusal p.now ≡ 0 }
     ensures { result ≡ beacon_of p.now }
@@ -100,12 +95,10 @@ pub fn beacon_fields(p: &[u8]) -> Beacon
 }
 
 // Reads a packet that has to be BEACON.
-pub fn read_beacon(p: &[u8]) -> BeaconRead
+#[tactic(auto, using(refusals::proofs::FaultLaws::fault_answers), unfolding(crate::specs::Beacon::read_beacon))]
+pub fn read_beacon(p: &[u8]) -> Result<Beacon, Refusal>
     ensures { result ≡ read_beacon p.now }
 {
-    let n = beacon_refusal(p);
-    if n != 0 {
-        return BeaconRead::Refused(refusals::refuse(n));
-    }
-    BeaconRead::Accepted(beacon_fields(p))
+    beacon_refusal(p)?;
+    Ok(beacon_fields(p))
 }

@@ -7,7 +7,6 @@ use native.Mathlib.Omega.{arith}
 use lib.ListN.{length}
 use Rattle.refusals.specs.Refusals.{◌▹◌, refusal_of}
 use Rattle.refusals.specs.Writing.{room_refusal}
-use Rattle.refusals.specs.declared.Written.TheVariants as written
 use Rattle.refusals.proofs.LimitLaws as chains
 use Rattle.refusals.proofs.ReasonLaws.{Reasons, given, one, below, equal, reaches, ◌▸◌, named, Alone, sole, ◌or◌, alone, of_start}
 use Rattle.header.specs.FirstWord.{kind_of, descriptor_octets, timestamp_octets}
@@ -16,8 +15,8 @@ use Rattle.header.specs.Descriptor.{descriptor_refusal}
 use Rattle.header.proofs.StartLaws.{TypeFine}
 use Rattle.header.proofs.LimitLaws as header
 use Rattle.packet_data.specs.Data.{offset_at, payload_at, data_refusal, data_of, read_data}
-use Rattle.packet_data.specs.declared.DataRead.TheVariants.{Accepted, Refused}
 use Rattle.packet_data.specs.WriteData.{data_excess, data_write_refusal, data_refused, data_written}
+use Rattle.std.specs.Prelude.{Ok, Err}
 
 -- ---- read
 
@@ -121,12 +120,12 @@ module _ (flags id timestamp offset : ℕ) where
 
 -- ---- the answers: refused with the number that these laws speak of
 
-pub read_refused_iff : (s : List ℕ) (n : ℕ) → (read_data s ≡ Refused (refusal_of (suc n))) ↔ (data_refusal s ≡ suc n)
+pub read_refused_iff : (s : List ℕ) (n : ℕ) → (read_data s ≡ Err (refusal_of (suc n))) ↔ (data_refusal s ≡ suc n)
 unfolding read_data
 read_refused_iff s n =
-    chains.answered_iff Refused (data_refusal s) n (Accepted (data_of s)) (λ r e. let z : ◌≡◌ {A = ℕ} 0 1 = cc in omega arith) (λ q r e. cc)
+    chains.answered_iff Err (data_refusal s) n (Ok (data_of s)) (λ r e. let z : ◌≡◌ {A = ℕ} 0 1 = cc in omega arith) (λ q r e. cc)
 
 pub write_refused_iff : (flags id : ℕ) (timestamp : List ℕ) (offset : ℕ) (payload old : List ℕ) (n : ℕ)
-    → (data_written flags id timestamp offset payload old ≡ written.Refused (refusal_of (suc n))) ↔ (data_refused flags id timestamp offset payload old ≡ suc n)
+    → (data_written flags id timestamp offset payload old ≡ Err (refusal_of (suc n))) ↔ (data_refused flags id timestamp offset payload old ≡ suc n)
 unfolding data_written
 write_refused_iff flags id timestamp offset payload old n = chains.written_iff (data_refused flags id timestamp offset payload old) n (payload_at flags + length payload)

@@ -14,16 +14,15 @@ use Rattle.octets.proofs.NumberLaws.{value_digits, length_digits, part_digits, p
 use Rattle.header.specs.FirstWord.{flags_of, descriptor_octets, timestamp_octets, wanted_of, eod_of, mark_of, type_of, word_for}
 use Rattle.header.specs.Start.{word_of, id_of}
 use Rattle.refusals.specs.Writing.{room_refusal}
-use Rattle.refusals.specs.declared.Written.TheVariants.{Size}
 use Rattle.header.specs.Descriptor.{descriptor_at, descriptor_refusal}
 use Rattle.header.proofs.DescriptorLaws.{descriptor_none}
 use Rattle.header.proofs.StartLaws.{type_known, type_none}
 use Rattle.header.proofs.FirstWordLaws.{mark_for, type_for, flags_for, octets_for, timestamp_for, file_for, octets_flags, timestamp_flags, file_flags, flags_lt, word_again}
 use Rattle.packet_data.specs.Data.{offset_at, offset_of, payload_at, data_refusal, data_of, read_data, payload_of}
 use Rattle.packet_data.specs.WriteData.{data_excess, data_write_refusal, data_octets, data_written, data_buffer}
-use Rattle.packet_data.specs.declared.DataRead.TheVariants.{Accepted}
 use Rattle.packet_data.proofs.DataLaws.{DataFine, data_fine}
 use Rattle.packet_data.proofs.WriteDataLaws.{Writable, writable}
+use Rattle.std.specs.Prelude.{Ok}
 
 -- fields that are not refused, in a buffer with room; an offset is handed over as a number of 64 bits
 module _ (f i : ℕ) (t : List ℕ) (o : ℕ) (p : List ℕ) (room : ℕ) (held : o < 2 ^ 64) (ok : data_write_refusal f i (length t) o (length p) room ≡ 0) where
@@ -96,7 +95,7 @@ module _ (f i : ℕ) (t : List ℕ) (o : ℕ) (p : List ℕ) (room : ℕ) (held 
         ne_eqb n (payload_at f) (omega (arith, fine.some)),
       )
 
-  pub data_read_written : read_data (data_octets f i t o p) ≡ Accepted (record {
+  pub data_read_written : read_data (data_octets f i t o p) ≡ Ok (record {
     flags = f;
     id = i;
     width = descriptor_octets f;
@@ -197,7 +196,7 @@ module _ (s : List ℕ) (os : Octets s) (ok : data_refusal s ≡ 0) where
 
   -- the fields as they were read, written into a buffer with room for the packet: its size, and the very packet
   module _ (old : List ℕ) (room : length s ≤ length old) where
-    pub data_written_read : data_written (flags_of w) (id_of s) timestamp_read offset_read payload_read old ≡ Size (length s)
+    pub data_written_read : data_written (flags_of w) (id_of s) timestamp_read offset_read payload_read old ≡ Ok (length s)
     unfolding data_written
     data_written_read =
         let m : payload_at w < length s = read.more in

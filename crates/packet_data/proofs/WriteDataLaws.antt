@@ -1,21 +1,23 @@
 -- What is known of fields of DATA that are not refused, and the parts of the packet written one after the other. Assumes nothing.
 use Prim.Native.Nat.{ℕ, ◌+◌, ◌^◌, ◌<◌, ◌≤◌}
-use mathlib.Core.Path.{◌≡◌, ◌∙◌}
+use mathlib.Core.Path.{◌≡◌, refl, ◌∙◌}
 use mathlib.Core.Bool.{not}
 use mathlib.Core.List.{List, ◌++◌, append_assoc}
 use native.Mathlib.Omega.{arith}
 use lib.ListN.{length, length-append}
 use lib.Dec.{ltb, eqb}
 use borrow.Author.Tests.{ltb-true, ltb-false, eqb-false, not-false}
+use Rattle.octets.specs.Numbers.{be_digits}
 use Rattle.octets.specs.Put.{put}
+use Rattle.octets.proofs.NumberLaws.{length_digits}
 use Rattle.octets.proofs.PutLaws.{put_next}
 use Rattle.refusals.specs.Refusals.{when}
-use Rattle.header.specs.FirstWord.{descriptor_octets, timestamp_octets}
+use Rattle.header.specs.FirstWord.{descriptor_octets, timestamp_octets, word_for}
 use Rattle.header.specs.Start.{file_refusal}
 use Rattle.refusals.proofs.RefusalLaws.{first_none, rest_none, failed}
 use Rattle.refusals.proofs.WritingLaws.{RoomFine, room_fine}
-use Rattle.packet_data.specs.Data.{payload_at}
-use Rattle.packet_data.specs.WriteData.{data_excess, data_write_refusal, DataFits}
+use Rattle.packet_data.specs.Data.{offset_at, payload_at}
+use Rattle.packet_data.specs.WriteData.{data_excess, data_write_refusal, data_octets, DataFits}
 
 record NoExcess (flags id timestamp offset : ℕ) : Type 0 where
   pub flags_fit : flags < 2 ^ 24
@@ -65,6 +67,10 @@ writable flags id timestamp offset payload room e =
       short = room_ok.short;
     }
 
+pub write_fits : (flags id timestamp offset payload room : ℕ)
+    → data_write_refusal flags id timestamp offset payload room ≡ 0 → DataFits flags timestamp payload room
+write_fits flags id timestamp offset payload room e = (writable flags id timestamp offset payload room e).fine
+
 -- word, Id, timestamp, offset and payload, put one after the other
 pub puts : (w i t o p old : List ℕ) (a b c d : ℕ)
     → length w ≡ a → a + length i ≡ b → b + length t ≡ c → c + length o ≡ d → d + length p ≤ length old
@@ -80,3 +86,12 @@ puts w i t o p old a b c d ha hb hc hd h =
       put_next 0 d (w ++ i ++ t ++ o) p old (omega arith) (omega arith),
     )
     (simp append_assoc)
+
+pub data_put : (flags id : ℕ) (timestamp : List ℕ) (offset : ℕ) (payload old : List ℕ)
+    → DataFits flags (length timestamp) (length payload) (length old)
+    → put (payload_at flags) payload (put (offset_at flags) (be_digits (descriptor_octets flags) offset) (put 8 timestamp (put 4 (be_digits 4 id) (put 0 (be_digits 4 (word_for 3 flags)) old))))
+    ≡ put 0 (data_octets flags id timestamp offset payload) old
+unfolding data_octets
+data_put flags id timestamp offset payload old f =
+    puts (be_digits 4 (word_for 3 flags)) (be_digits 4 id) timestamp (be_digits (descriptor_octets flags) offset) payload old
+    4 8 (offset_at flags) (payload_at flags) refl refl (omega (arith, f.timestamp_is)) (rw length_digits refl) f.fits

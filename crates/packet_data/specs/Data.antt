@@ -1,13 +1,12 @@
 -- R2.10, R3.4: DATA, read: which packets are refused, the fields of the others, and the payload.
 -- Assumes nothing.
-use Rattle.std.specs.Prelude.{ℕ, zero, suc, ◌+◌, ◌-◌, List, [], length, drop, eqb}
+use Rattle.std.specs.Prelude.{ℕ, zero, suc, ◌+◌, ◌-◌, List, [], length, drop, eqb, Result, Ok, Err}
 use Rattle.refusals.specs.Refusals.{◌▹◌, when, answered}
 use Rattle.header.specs.FirstWord.{flags_of, descriptor_octets, timestamp_octets, wanted_of, eod_of}
 use Rattle.header.specs.Start.{word_of, id_of, type_refusal, file_refusal}
 use Rattle.header.specs.Descriptor.{descriptor_at, descriptor_refusal}
 use Rattle.packet_data.specs.declared.Data.{Data}
-use Rattle.packet_data.specs.declared.DataRead.{DataRead}
-use Rattle.packet_data.specs.declared.DataRead.TheVariants.{Accepted, Refused}
+use Rattle.refusals.specs.declared.Refusal.{Refusal}
 
 -- R2.10: where the offset begins, after the timestamp, and where the payload begins
 abbrev pub offset_at : ℕ → ℕ
@@ -44,8 +43,8 @@ data_of s =
     }
 
 -- R1.4: the fields, or the refusal
-unfoldable pub read_data : List ℕ → DataRead
-read_data s = answered Refused (data_refusal s) (Accepted (data_of s))
+unfoldable pub read_data : List ℕ → Result Data Refusal
+read_data s = answered Err (data_refusal s) (Ok (data_of s))
 
 -- R3.11: the payload as the part of the packet that holds it, an empty part where the packet is refused
 abbrev pub payload_part : ℕ → List ℕ → List ℕ

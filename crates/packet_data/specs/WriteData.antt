@@ -1,13 +1,13 @@
 -- R4.5: DATA, written: which fields are refused, and the octets of the others.
 -- Assumes nothing.
-use Rattle.std.specs.Prelude.{ℕ, ◌+◌, ◌^◌, ◌<◌, ◌≤◌, ◌≡◌, not, List, ◌++◌, length, ltb, eqb}
+use Rattle.std.specs.Prelude.{ℕ, ◌+◌, ◌^◌, ◌<◌, ◌≤◌, ◌≡◌, not, List, ◌++◌, length, ltb, eqb, Result}
 use Rattle.octets.specs.Numbers.{be_digits}
 use Rattle.refusals.specs.Refusals.{◌▹◌, when}
 use Rattle.header.specs.FirstWord.{descriptor_octets, timestamp_octets, word_for}
 use Rattle.header.specs.Start.{file_refusal}
 use Rattle.refusals.specs.Writing.{room_refusal, written_of, buffer_after}
-use Rattle.refusals.specs.declared.Written.{Written}
 use Rattle.packet_data.specs.Data.{payload_at}
+use Rattle.refusals.specs.declared.Refusal.{Refusal}
 
 -- R4.3: 21 for a field over its bits, a timestamp longer than the flags say among them
 unfoldable pub data_excess : ℕ → ℕ → ℕ → ℕ → ℕ
@@ -43,7 +43,7 @@ module _ (flags id : ℕ) (timestamp : List ℕ) (offset : ℕ) (payload old : L
   abbrev pub data_refused : ℕ
   data_refused = data_write_refusal flags id (length timestamp) offset (length payload) (length old)
 
-  unfoldable pub data_written : Written
+  unfoldable pub data_written : Result ℕ Refusal
   data_written = written_of data_refused (payload_at flags + length payload)
 
   unfoldable pub data_buffer : List ℕ

@@ -3,8 +3,9 @@
 
 ghost use Rattle.std.specs.Prelude.{◌≡◌, ◌+◌, length};
 ghost use Rattle.packet_data.specs.Data.{offset_at, payload_at, data_refusal, data_of, read_data, payload_of};
+ghost use Rattle.refusals.specs.Faults.{refused};
 
-use refusals::Refusal;
+use refusals::{Fault, Refusal};
 
 // The fields of a DATA packet. `width` and `timestamp` count octets; the payload is `length` octets from `start` on.
 #[derive(Clone, Copy)]
@@ -18,12 +19,6 @@ pub struct Data {
     pub offset: u64,
     pub start: usize,
     pub length: usize,
-}
-
-#[derive(Clone, Copy)]
-pub enum DataRead {
-    Accepted(Data),
-    Refused(Refusal),
 }
 
 // Where the offset stands, by the first word or the flags.
@@ -40,35 +35,24 @@ pub fn payload_at(w: u64) -> usize
     offset_at(w) + descriptors::descriptor_octets(w)
 }
 
-// The refusal of a packet that has to be DATA; 0 for none.
-pub fn data_refusal(p: &[u8]) -> u64
-    ensures { result ≡ data_refusal p.now }
+// The refusal of a packet that has to be DATA.
+#[tactic(auto, using(header::proofs::StartLaws::type_word, header::proofs::FirstWordLaws::octets_width, header::proofs::FirstWordLaws::octets_le), unfolding(crate::specs::Data::data_refusal))]
+pub fn data_refusal(p: &[u8]) -> Result<(), Fault>
+    ensures { refused result ≡ data_refusal p.now }
 {
-    let n = packet_start::type_refusal(p, 3);
-    if n != 0 {
-        return n;
-    }
+    packet_start::type_refusal(p, 3)?;
     let w = first_word::word(p);
-    let f = packet_start::file_refusal(w);
-    if f != 0 {
-        return f;
-    }
+    packet_start::file_refusal(w)?;
     let start = payload_at(w);
-    let offset = descriptors::descriptor_refusal(
-        p,
-        offset_at(w),
-        descriptors::descriptor_octets(w),
-    );
-    if offset != 0 {
-        return offset;
-    }
+    descriptors::descriptor_refusal(p, offset_at(w), descriptors::descriptor_octets(w))?;
     if p.len() == start {
-        return 10; // nothing after the offset
+        return Err(Fault::NoPayload); // nothing after the offset
     }
-    0
+    Ok(())
 }
 
 // The fields of a packet that is not refused.
+#[tactic(auto, using(header::proofs::FirstWordLaws::octets_width, crate::proofs::DataLaws::data_long, crate::proofs::DataLaws::data_more, crate::proofs::DataLaws::data_offset), unfolding(crate::specs::Data::data_of))]
 pub fn data_fields(p: &[u8]) -> Data
     requires { data_refusal p.now ≡ 0 }
     ensures { result ≡ data_of p.now }
@@ -91,21 +75,20 @@ pub fn data_fields(p: &[u8]) -> Data
 }
 
 // Reads a packet that has to be DATA.
-pub fn read_data(p: &[u8]) -> DataRead
+#[tactic(auto, using(refusals::proofs::FaultLaws::fault_answers), unfolding(crate::specs::Data::read_data))]
+pub fn read_data(p: &[u8]) -> Result<Data, Refusal>
     ensures { result ≡ read_data p.now }
 {
-    let n = data_refusal(p);
-    if n != 0 {
-        return DataRead::Refused(refusals::refuse(n));
-    }
-    DataRead::Accepted(data_fields(p))
+    data_refusal(p)?;
+    Ok(data_fields(p))
 }
 
 // The payload of DATA: the very part of the packet, empty where the packet is refused.
+#[tactic(auto, using(refusals::proofs::FaultLaws::fault_some, crate::proofs::DataLaws::data_long, crate::proofs::DataLaws::data_more, crate::proofs::DataLaws::part_refused, crate::proofs::DataLaws::payload_rest), unfolding(crate::specs::Data::payload_of))]
 pub fn payload(p: &[u8]) -> &[u8]
     ensures { result.now ≡ payload_of p.now }
 {
-    if data_refusal(p) != 0 {
+    if data_refusal(p).is_err() {
         return &p[..0];
     }
     let start = payload_at(first_word::word(p));

@@ -11,7 +11,6 @@ use lib.Dec.{ltb, eqb}
 use borrow.Author.Tests.{eqb-true, eq-eqb, eqb-false, ne_eqb}
 use Rattle.refusals.specs.Refusals.{◌▹◌, when, refusal_of}
 use Rattle.refusals.specs.Writing.{room_refusal}
-use Rattle.refusals.specs.declared.Written.TheVariants as written
 use Rattle.refusals.proofs.TestLaws.{not_iff}
 use Rattle.refusals.proofs.LimitLaws as chains
 use Rattle.refusals.proofs.ReasonLaws.{Reasons, given, one, below, reaches, denied, says, ◌▸◌, again, named, Alone, sole, ◌or◌, alone, of_start}
@@ -26,8 +25,8 @@ use Rattle.entry_parts.proofs.PathLaws.{PathFine}
 use Rattle.directory_entry.proofs.LimitLaws as entry
 use Rattle.packet_metadata.specs.Checksum.{pair_allowed, pair_refusal, checksum_octets}
 use Rattle.packet_metadata.specs.Metadata.{entry_at, metadata_refusal, metadata_of, read_metadata}
-use Rattle.packet_metadata.specs.declared.MetadataRead.TheVariants.{Accepted, Refused}
 use Rattle.packet_metadata.specs.WriteMetadata.{metadata_excess, checksum_refusal, metadata_size, metadata_write_refusal, metadata_written}
+use Rattle.std.specs.Prelude.{Ok, Err}
 
 -- ---- the checksum pair
 
@@ -221,13 +220,13 @@ module _ (flags id : ℕ) (checksum : List ℕ) (properties size mtime ctime : �
 
 -- ---- the answers: refused with the number that these laws speak of
 
-pub read_refused_iff : (s : List ℕ) (n : ℕ) → (read_metadata s ≡ Refused (refusal_of (suc n))) ↔ (metadata_refusal s ≡ suc n)
+pub read_refused_iff : (s : List ℕ) (n : ℕ) → (read_metadata s ≡ Err (refusal_of (suc n))) ↔ (metadata_refusal s ≡ suc n)
 unfolding read_metadata
 read_refused_iff s n =
-    chains.answered_iff Refused (metadata_refusal s) n (Accepted (metadata_of s)) (λ r e. let z : ◌≡◌ {A = ℕ} 0 1 = cc in omega arith) (λ q r e. cc)
+    chains.answered_iff Err (metadata_refusal s) n (Ok (metadata_of s)) (λ r e. let z : ◌≡◌ {A = ℕ} 0 1 = cc in omega arith) (λ q r e. cc)
 
 module _ (flags id : ℕ) (checksum : List ℕ) (properties size mtime ctime : ℕ) (path old : List ℕ) (n : ℕ) where
-  pub write_refused_iff : (metadata_written flags id checksum properties size mtime ctime path old ≡ written.Refused (refusal_of (suc n)))
+  pub write_refused_iff : (metadata_written flags id checksum properties size mtime ctime path old ≡ Err (refusal_of (suc n)))
       ↔ (metadata_write_refusal flags id checksum properties size mtime ctime path (length old) ≡ suc n)
   unfolding metadata_written
   write_refused_iff =

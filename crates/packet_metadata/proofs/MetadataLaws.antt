@@ -15,7 +15,7 @@ use Rattle.directory_entry.specs.Entry.{entry_refusal}
 use Rattle.packet_metadata.specs.Checksum.{pair_refusal}
 use Rattle.packet_metadata.specs.Metadata.{entry_at, metadata_refusal, metadata_of, read_metadata}
 use Rattle.packet_metadata.specs.declared.Metadata.{Metadata}
-use Rattle.packet_metadata.specs.declared.MetadataRead.TheVariants.{Accepted, Refused}
+use Rattle.std.specs.Prelude.{Ok, Err}
 
 pub record MetadataFine (s : List ℕ) : Type 0 where
   pub start : TypeFine 2 s
@@ -39,11 +39,21 @@ metadata_fine s e =
       entry = rest_none (when (ltb (length s) (entry_at w)) 1) _ r3;
     }
 
+-- the Id is there, then the checksum, and then an entry that is not refused
+pub metadata_long : (s : List ℕ) → metadata_refusal s ≡ 0 → 8 ≤ length s
+metadata_long s e = (metadata_fine s e).start.long
+
+pub metadata_room : (s : List ℕ) → metadata_refusal s ≡ 0 → entry_at (word_of s) ≤ length s
+metadata_room s e = (metadata_fine s e).room
+
+pub metadata_entry : (s : List ℕ) → metadata_refusal s ≡ 0 → entry_refusal (descriptor_octets (word_of s)) (drop (entry_at (word_of s)) s) ≡ 0
+metadata_entry s e = (metadata_fine s e).entry
+
 -- an accepted read was not refused, and its fields are those of the definition
-pub metadata_given : (s : List ℕ) (m : Metadata) → read_metadata s ≡ Accepted m → (metadata_refusal s ≡ 0) × (metadata_of s ≡ m)
+pub metadata_given : (s : List ℕ) (m : Metadata) → read_metadata s ≡ Ok m → (metadata_refusal s ≡ 0) × (metadata_of s ≡ m)
 unfolding read_metadata
 metadata_given s m e = go (metadata_refusal s) e
   where
-    go : (n : ℕ) → answered Refused n (Accepted (metadata_of s)) ≡ Accepted m → (n ≡ 0) × (metadata_of s ≡ m)
+    go : (n : ℕ) → answered Err n (Ok (metadata_of s)) ≡ Ok m → (n ≡ 0) × (metadata_of s ≡ m)
     go zero q = (refl, cc)
     go (suc n) q = absurd (let z : ◌≡◌ {A = ℕ} 0 1 = cc in omega arith)

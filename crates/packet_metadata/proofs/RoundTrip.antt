@@ -13,7 +13,6 @@ use Rattle.octets.proofs.NumberLaws.{value_digits, part_digits, part_lt, octets_
 use Rattle.header.specs.FirstWord.{mark_of, type_of, flags_of, descriptor_octets, word_for}
 use Rattle.header.specs.Start.{word_of, id_of, file_refusal}
 use Rattle.refusals.specs.Writing.{room_refusal}
-use Rattle.refusals.specs.declared.Written.TheVariants.{Size}
 use Rattle.header.proofs.StartLaws.{type_known, type_none}
 use Rattle.header.proofs.FirstWordLaws.{mark_for, type_for, flags_for, octets_for, file_for, octets_flags, file_flags, flags_lt, word_again}
 use Rattle.entry_parts.specs.Properties.{path_at}
@@ -24,10 +23,10 @@ use Rattle.packet_metadata.specs.Checksum.{pair_refusal, checksum_octets}
 use Rattle.packet_metadata.specs.Metadata.{entry_at, metadata_refusal, metadata_of, read_metadata}
 use Rattle.packet_metadata.specs.WriteMetadata.{metadata_excess, checksum_refusal, metadata_size, metadata_write_refusal, metadata_octets, metadata_written, metadata_buffer}
 use Rattle.packet_metadata.specs.declared.Metadata.{Metadata}
-use Rattle.packet_metadata.specs.declared.MetadataRead.TheVariants.{Accepted}
 use Rattle.packet_metadata.proofs.ChecksumLaws.{checksum_for, pair_for, checksum_flags, pair_flags}
 use Rattle.packet_metadata.proofs.MetadataLaws.{MetadataFine, metadata_fine}
 use Rattle.packet_metadata.proofs.WriteLaws.{WriteFine, write_fine, length_metadata}
+use Rattle.std.specs.Prelude.{Ok}
 
 -- reading what was written; a size is handed over as a number of 64 bits
 module _ (flags id : ℕ) (checksum : List ℕ) (properties size mtime ctime : ℕ) (path : List ℕ) (room : ℕ) (held : size < 2 ^ 64)
@@ -89,7 +88,7 @@ module _ (flags id : ℕ) (checksum : List ℕ) (properties size mtime ctime : �
       (entry_taken (descriptor_octets flags) properties size mtime ctime path held fine.excess fine.entry)
 
   pub metadata_read_written : read_metadata s
-      ≡ Accepted
+      ≡ Ok
       (record {
         flags = flags;
         id = id;
@@ -144,7 +143,7 @@ module _ (s : List ℕ) (o : Octets s) (ok : metadata_refusal s ≡ 0) where
   known = metadata_fine s ok
 
   -- the fields are those that reading gives
-  pub metadata_accepted : read_metadata s ≡ Accepted m
+  pub metadata_accepted : read_metadata s ≡ Ok m
   unfolding read_metadata
   metadata_accepted = rw ok
 
@@ -209,9 +208,9 @@ module _ (s : List ℕ) (o : Octets s) (ok : metadata_refusal s ≡ 0) where
 
   -- so the writer gives the packet back, and leaves what follows it in the buffer
   module _ (old : List ℕ) (h : length s ≤ length old) where
-    pub written_again : metadata_written m.flags m.id checksum_part m.entry.properties m.entry.size m.entry.mtime m.entry.ctime path_octets old ≡ Size (length s)
+    pub written_again : metadata_written m.flags m.id checksum_part m.entry.properties m.entry.size m.entry.mtime m.entry.ctime path_octets old ≡ Ok (length s)
     unfolding metadata_written
-    written_again = rw (metadata_writable (length old) h) (ap Size size_is)
+    written_again = rw (metadata_writable (length old) h) (ap Ok size_is)
 
     pub buffer_again : metadata_buffer m.flags m.id checksum_part m.entry.properties m.entry.size m.entry.mtime m.entry.ctime path_octets old ≡ put 0 s old
     unfolding metadata_buffer

@@ -1,20 +1,21 @@
 -- What is known of METADATA fields that are not refused, and four parts put one after the other. Assumes nothing.
 use Prim.Native.Nat.{ℕ, ◌+◌, ◌^◌, ◌<◌, ◌≤◌}
-use mathlib.Core.Path.{◌≡◌}
+use mathlib.Core.Path.{◌≡◌, refl}
 use mathlib.Core.Bool.{not}
 use mathlib.Core.List.{List, ◌++◌, append_assoc}
 use native.Mathlib.Omega.{arith}
 use lib.ListN.{length, length-append}
 use lib.Dec.{ltb}
 use borrow.Author.Tests.{ltb-true, ltb-false, not-false}
+use Rattle.octets.specs.Numbers.{be_digits}
 use Rattle.octets.specs.Put.{put}
 use Rattle.octets.proofs.PutLaws.{put_next}
 use Rattle.refusals.specs.Refusals.{when}
-use Rattle.header.specs.FirstWord.{descriptor_octets}
+use Rattle.header.specs.FirstWord.{descriptor_octets, word_for}
 use Rattle.header.specs.Start.{file_refusal}
 use Rattle.refusals.proofs.RefusalLaws.{first_none, rest_none, failed}
 use Rattle.refusals.proofs.WritingLaws.{room_fine}
-use Rattle.directory_entry.specs.WriteEntry.{entry_excess, entry_write_refusal, entry_size}
+use Rattle.directory_entry.specs.WriteEntry.{entry_excess, entry_write_refusal, entry_octets, entry_size}
 use Rattle.directory_entry.proofs.EntryLaws.{length_entry}
 use Rattle.packet_metadata.specs.Checksum.{pair_refusal, checksum_octets}
 use Rattle.packet_metadata.specs.WriteMetadata.{metadata_excess, checksum_refusal, metadata_size, metadata_write_refusal, metadata_octets, MetadataFits}
@@ -84,6 +85,9 @@ module _ (flags id : ℕ) (checksum : List ℕ) (properties size mtime ctime : �
         short = r.short;
       }
 
+  pub write_fits : metadata_write_refusal flags id checksum properties size mtime ctime path room ≡ 0 → MetadataFits flags (length checksum) properties (length path) room
+  write_fits e = (write_fine e).fits
+
 pub length_metadata : (flags id : ℕ) (checksum : List ℕ) (properties size mtime ctime : ℕ) (path : List ℕ)
     → length (metadata_octets flags id checksum properties size mtime ctime path) ≡ 8 + length checksum + entry_size properties (length path)
 unfolding metadata_octets
@@ -101,3 +105,13 @@ puts a b c d old k l m hk hl hm h =
       put_next 0 m (a ++ b ++ c) d old em h,
     )
     (simp append_assoc)
+
+-- the parts of a packet, put one after the other
+pub metadata_put : (flags id : ℕ) (checksum : List ℕ) (properties size mtime ctime : ℕ) (path old : List ℕ)
+    → MetadataFits flags (length checksum) properties (length path) (length old)
+    → put (8 + length checksum) (entry_octets properties size mtime ctime path) (put 8 checksum (put 4 (be_digits 4 id) (put 0 (be_digits 4 (word_for 2 flags)) old)))
+    ≡ put 0 (metadata_octets flags id checksum properties size mtime ctime path) old
+unfolding metadata_octets
+metadata_put flags id checksum properties size mtime ctime path old f =
+    puts (be_digits 4 (word_for 2 flags)) (be_digits 4 id) checksum (entry_octets properties size mtime ctime path) old 4 8 (8 + length checksum)
+    refl refl refl (rw length_entry (omega (arith, f.checksum_is, f.fits)))

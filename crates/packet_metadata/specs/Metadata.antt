@@ -1,14 +1,13 @@
 -- R2.6, R3.3: METADATA, read: which packets are refused, and the fields of the others.
 -- Assumes nothing.
-use Rattle.std.specs.Prelude.{ℕ, ◌+◌, List, length, drop, ltb}
+use Rattle.std.specs.Prelude.{ℕ, ◌+◌, List, length, drop, ltb, Result, Ok, Err}
 use Rattle.refusals.specs.Refusals.{◌▹◌, when, answered}
 use Rattle.header.specs.FirstWord.{flags_of, descriptor_octets}
 use Rattle.header.specs.Start.{word_of, id_of, type_refusal, file_refusal}
 use Rattle.directory_entry.specs.Entry.{entry_refusal, entry_of}
 use Rattle.packet_metadata.specs.Checksum.{pair_refusal, checksum_octets}
 use Rattle.packet_metadata.specs.declared.Metadata.{Metadata}
-use Rattle.packet_metadata.specs.declared.MetadataRead.{MetadataRead}
-use Rattle.packet_metadata.specs.declared.MetadataRead.TheVariants.{Accepted, Refused}
+use Rattle.refusals.specs.declared.Refusal.{Refusal}
 
 -- R2.6: where the directory entry begins: after the Id and the checksum
 abbrev pub entry_at : ℕ → ℕ
@@ -35,5 +34,5 @@ metadata_of s =
     }
 
 -- R1.4: the fields, or the refusal
-unfoldable pub read_metadata : List ℕ → MetadataRead
-read_metadata s = answered Refused (metadata_refusal s) (Accepted (metadata_of s))
+unfoldable pub read_metadata : List ℕ → Result Metadata Refusal
+read_metadata s = answered Err (metadata_refusal s) (Ok (metadata_of s))

@@ -1,15 +1,15 @@
 -- R4.4: METADATA, written: which fields are refused, and the octets of the others.
 -- Assumes nothing.
-use Rattle.std.specs.Prelude.{ℕ, ◌+◌, ◌^◌, ◌<◌, ◌≤◌, ◌≡◌, not, List, ◌++◌, length, ltb}
+use Rattle.std.specs.Prelude.{ℕ, ◌+◌, ◌^◌, ◌<◌, ◌≤◌, ◌≡◌, not, List, ◌++◌, length, ltb, Result}
 use Rattle.octets.specs.Numbers.{be_digits}
 use Rattle.refusals.specs.Refusals.{◌▹◌, when}
 use Rattle.header.specs.FirstWord.{descriptor_octets, word_for}
 use Rattle.header.specs.Start.{file_refusal}
 use Rattle.refusals.specs.Writing.{room_refusal, written_of, buffer_after}
-use Rattle.refusals.specs.declared.Written.{Written}
 use Rattle.directory_entry.specs.WriteEntry.{entry_excess, entry_write_refusal, entry_octets, entry_size}
 use Rattle.packet_metadata.specs.Checksum.{pair_refusal, checksum_octets}
 use Rattle.packet_metadata.specs.Metadata.{entry_at}
+use Rattle.refusals.specs.declared.Refusal.{Refusal}
 
 -- R4.3: 21 of the fields before the entry, a checksum longer than the flags say among them. The checksum is its length
 unfoldable pub metadata_excess : ℕ → ℕ → ℕ → ℕ
@@ -45,7 +45,7 @@ module _ (flags id : ℕ) (checksum : List ℕ) (properties size mtime ctime : �
       be_digits 4 (word_for 2 flags) ++ (be_digits 4 id ++ (checksum ++ entry_octets properties size mtime ctime path))
 
   -- R4.1: the writer's answer, and the buffer at exit
-  unfoldable pub metadata_written : List ℕ → Written
+  unfoldable pub metadata_written : List ℕ → Result ℕ Refusal
   metadata_written old =
       written_of (metadata_write_refusal (length old)) (metadata_size flags properties (length path))
 

@@ -4,9 +4,10 @@
 ghost use Rattle.std.specs.Prelude.{◌≡◌, ◌+◌, ◌<◌};
 ghost use Rattle.packet_metadata.specs.Checksum.{pair_allowed, pair_refusal, checksum_octets};
 ghost use Rattle.packet_metadata.specs.Metadata.{metadata_refusal, metadata_of, read_metadata};
+ghost use Rattle.refusals.specs.Faults.{refused};
 
 use directory_entry::Entry;
-use refusals::Refusal;
+use refusals::{Fault, Refusal};
 
 // The fields of a METADATA packet. `width` and `checksum` count octets; the checksum stands from place 8 on.
 #[derive(Clone, Copy)]
@@ -18,37 +19,30 @@ pub struct Metadata {
     pub entry: Entry,
 }
 
-#[derive(Clone, Copy)]
-pub enum MetadataRead {
-    Accepted(Metadata),
-    Refused(Refusal),
-}
-
 // Whether a checksum of this type may have so many words.
+#[tactic(auto, using(crate::proofs::ChecksumLaws::pair_other), unfolding(crate::specs::Checksum::pair_allowed))]
 fn pair_allowed(sum: u64, words: u64) -> bool
     ensures { result ≡ pair_allowed sum words }
 {
-    if sum == 0 {
-        return words == 0;
+    match sum {
+        0 => words == 0,
+        1 => words == 1,
+        2 => words == 4,
+        3 => words == 5,
+        _ => words != 0,
     }
-    if sum == 1 {
-        return words == 1;
-    }
-    if sum == 2 {
-        return words == 4;
-    }
-    if sum == 3 {
-        return words == 5;
-    }
-    words != 0
 }
 
-// Refusal 7 of the first word, or the flags; 0 for none.
-pub fn pair_refusal(w: u64) -> u64
-    ensures { result ≡ pair_refusal w }
+// Refusal 7 of the first word, or the flags.
+#[tactic(auto, unfolding(crate::specs::Checksum::pair_refusal))]
+pub fn pair_refusal(w: u64) -> Result<(), Fault>
+    ensures { refused result ≡ pair_refusal w }
 {
     let h = first_word::split(w);
-    if pair_allowed(h.sum, h.words) { 0 } else { 7 }
+    if !pair_allowed(h.sum, h.words) {
+        return Err(Fault::ChecksumPair);
+    }
+    Ok(())
 }
 
 // The octets of the checksum, by the first word or the flags.
@@ -59,31 +53,24 @@ pub fn checksum_octets(w: u64) -> usize
     4 * (h.words as usize)
 }
 
-// The refusal of a packet that has to be METADATA; 0 for none.
-pub fn metadata_refusal(p: &[u8]) -> u64
-    ensures { result ≡ metadata_refusal p.now }
+// The refusal of a packet that has to be METADATA.
+#[tactic(auto, using(header::proofs::StartLaws::type_word, directory_entry::proofs::EntryLaws::rest_part), unfolding(crate::specs::Metadata::metadata_refusal))]
+pub fn metadata_refusal(p: &[u8]) -> Result<(), Fault>
+    ensures { refused result ≡ metadata_refusal p.now }
 {
-    let n = packet_start::type_refusal(p, 2);
-    if n != 0 {
-        return n;
-    }
+    packet_start::type_refusal(p, 2)?;
     let w = first_word::word(p);
-    let file = packet_start::file_refusal(w);
-    let pair = pair_refusal(w);
-    if file != 0 {
-        return file;
-    }
-    if pair != 0 {
-        return pair;
-    }
+    packet_start::file_refusal(w)?;
+    pair_refusal(w)?;
     let at = 8 + checksum_octets(w);
     if p.len() < at {
-        return 1;
+        return Err(Fault::Short);
     }
     directory_entry::entry_refusal(&p[at..], descriptors::descriptor_octets(w))
 }
 
 // The fields of a packet that is not refused.
+#[tactic(auto, using(directory_entry::proofs::EntryLaws::rest_part, crate::proofs::MetadataLaws::metadata_long, crate::proofs::MetadataLaws::metadata_room, crate::proofs::MetadataLaws::metadata_entry), unfolding(crate::specs::Metadata::metadata_of))]
 pub fn metadata_fields(p: &[u8]) -> Metadata
     requires { metadata_refusal p.now ≡ 0 }
     ensures { result ≡ metadata_of p.now }
@@ -104,12 +91,10 @@ pub fn metadata_fields(p: &[u8]) -> Metadata
 }
 
 // Reads a packet that has to be METADATA.
-pub fn read_metadata(p: &[u8]) -> MetadataRead
+#[tactic(auto, using(refusals::proofs::FaultLaws::fault_answers), unfolding(crate::specs::Metadata::read_metadata))]
+pub fn read_metadata(p: &[u8]) -> Result<Metadata, Refusal>
     ensures { result ≡ read_metadata p.now }
 {
-    let n = metadata_refusal(p);
-    if n != 0 {
-        return MetadataRead::Refused(refusals::refuse(n));
-    }
-    MetadataRead::Accepted(metadata_fields(p))
+    metadata_refusal(p)?;
+    Ok(metadata_fields(p))
 }

@@ -3,6 +3,9 @@
 
 ghost use Rattle.std.specs.Prelude.{◌≡◌};
 ghost use Rattle.header.specs.Start.{start_octets, start_refusal, type_refusal, file_refusal};
+ghost use Rattle.refusals.specs.Faults.{refused};
+
+use refusals::Fault;
 
 // Where the first word ends, and where the Id.
 const WORD_END: usize = 4;
@@ -23,49 +26,49 @@ fn start_octets(w: u64) -> usize
     ID_END
 }
 
-// Refusals 2, 1, 3 of any packet; 0 for none.
-pub fn start_refusal(p: &[u8]) -> u64
-    ensures { result ≡ start_refusal p.now }
+// Refusals 2, 1, 3 of any packet.
+#[tactic(auto, using(header::proofs::StartLaws::start_between), unfolding(header::specs::Start::start_refusal))]
+pub fn start_refusal(p: &[u8]) -> Result<(), Fault>
+    ensures { refused result ≡ start_refusal p.now }
 {
     if 65535 < p.len() {
-        return 2;
+        return Err(Fault::Long);
     }
     if p.len() < WORD_END {
-        return 1;
+        return Err(Fault::Short);
     }
     let w = first_word::word(p);
     if p.len() < start_octets(w) {
-        return 1;
+        return Err(Fault::Short);
     }
     let h = first_word::split(w);
     if h.mark != 1 {
-        return 3;
+        return Err(Fault::Version);
     }
-    0
+    Ok(())
 }
 
-// Refusals 2, 1, 3, 4 of a packet that has to be of type `ptype`; 0 for none.
-pub fn type_refusal(p: &[u8], ptype: u64) -> u64
-    ensures { result ≡ type_refusal ptype p.now }
+// Refusals 2, 1, 3, 4 of a packet that has to be of type `ptype`.
+#[tactic(auto, using(header::proofs::StartLaws::start_word), unfolding(header::specs::Start::type_refusal))]
+pub fn type_refusal(p: &[u8], ptype: u64) -> Result<(), Fault>
+    ensures { refused result ≡ type_refusal ptype p.now }
 {
-    let n = start_refusal(p);
-    if n != 0 {
-        return n;
-    }
+    start_refusal(p)?;
     let h = first_word::split(first_word::word(p));
     if h.ptype != ptype {
-        return 4;
+        return Err(Fault::OtherType);
     }
-    0
+    Ok(())
 }
 
-// Refusal 6 of the first word, or the flags, of METADATA and DATA; 0 for none.
-pub fn file_refusal(w: u64) -> u64
-    ensures { result ≡ file_refusal w }
+// Refusal 6 of the first word, or the flags, of METADATA and DATA.
+#[tactic(auto, unfolding(header::specs::Start::file_refusal))]
+pub fn file_refusal(w: u64) -> Result<(), Fault>
+    ensures { refused result ≡ file_refusal w }
 {
     let h = first_word::split(w);
     if h.kind != 0 {
-        return 6;
+        return Err(Fault::NotAFile);
     }
-    0
+    Ok(())
 }

@@ -21,9 +21,9 @@ use Rattle.header.proofs.LimitLaws as header
 use Rattle.hole_list.specs.HoleList.{list_well}
 use Rattle.hole_list.specs.DescriptorList.{descriptors_refusal}
 use Rattle.packet_status.specs.Status.{progress_at, response_at, holes_at, progress_of, response_of, list_octets, list_descriptors, hole_list, partial_told, unasked_told, list_refusal, success_refusal, status_refusal, accepted_status, read_status}
-use Rattle.packet_status.specs.declared.StatusRead.TheVariants.{Refused}
 use Rattle.hole_list.proofs.DescriptorListLaws.{AllSmall, descriptors_some, descriptors_all, descriptors_none_iff, descriptors_five_iff}
 use Rattle.hole_list.proofs.AcceptedLaws.{ListAccepted, list_well_iff}
+use Rattle.std.specs.Prelude.{Err}
 
 -- ---- read
 
@@ -140,11 +140,11 @@ module _ (s : List ℕ) where
 
 -- ---- the answers: refused with the number that these laws speak of
 
-accepted_apart : (code : ℕ) (s : List ℕ) (r : Refusal) → accepted_status code s ≡ Refused r → ⊥
+accepted_apart : (code : ℕ) (s : List ℕ) (r : Refusal) → accepted_status code s ≡ Err r → ⊥
 accepted_apart zero s r e = let z : ◌≡◌ {A = ℕ} 0 1 = cc in omega arith
 accepted_apart (suc code) s r e = let z : ◌≡◌ {A = ℕ} 0 1 = cc in omega arith
 
-pub read_refused_iff : (s : List ℕ) (n : ℕ) → (read_status s ≡ Refused (refusal_of (suc n))) ↔ (status_refusal s ≡ suc n)
+pub read_refused_iff : (s : List ℕ) (n : ℕ) → (read_status s ≡ Err (refusal_of (suc n))) ↔ (status_refusal s ≡ suc n)
 unfolding read_status
 read_refused_iff s n =
-    chains.answered_iff Refused (status_refusal s) n (accepted_status (status_of (word_of s)) s) (accepted_apart (status_of (word_of s)) s) (λ q r e. cc)
+    chains.answered_iff Err (status_refusal s) n (accepted_status (status_of (word_of s)) s) (accepted_apart (status_of (word_of s)) s) (λ q r e. cc)

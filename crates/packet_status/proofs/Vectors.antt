@@ -10,8 +10,8 @@ use Rattle.header.specs.Descriptor.{descriptor_refusal}
 use Rattle.hole_list.specs.HoleList.{starts_well, holes_well, points_to_last, list_well}
 use Rattle.hole_list.specs.DescriptorList.{descriptors_refusal}
 use Rattle.packet_status.specs.Status.{hole_list, list_refusal, success_refusal, status_refusal, success_of, failure_of, read_status, hole_refusal, indexed_hole, read_hole}
-use Rattle.packet_status.specs.declared.HoleRead.TheVariants as hole-read
-use Rattle.packet_status.specs.declared.StatusRead.TheVariants.{Success, Failure, Refused}
+use Rattle.packet_status.specs.declared.Status.TheVariants.{Success, Failure}
+use Rattle.std.specs.Prelude.{Ok, Err}
 
 -- 44 00 00 00 00 00 00 07 03 E8 0B B8 03 E8 07 D0
 abbrev one_hole_lem : List ℕ
@@ -23,20 +23,20 @@ complete = 68 ∷ 1 ∷ 0 ∷ 0 ∷ 0 ∷ 0 ∷ 0 ∷ 7 ∷ 11 ∷ 184 ∷ 11 �
 
 -- the hole from 1,000 to 2,000, with Progress 1,000 and In-Response-To 3,000
 one_hole :
-    (read_status one_hole_lem ≡ Success (record { flags = 0; id = 7; width = 2; timestamp = 0; progress = 1000; response = 3000; holes = 12; count = 1 }))
-    × (read_hole 0 one_hole_lem ≡ hole-read.Accepted (record { start = 1000; end = 2000 }))
-    × (read_hole 1 one_hole_lem ≡ hole-read.Refused (refusal_of 19))
+    (read_status one_hole_lem ≡ Ok (Success (record { flags = 0; id = 7; width = 2; timestamp = 0; progress = 1000; response = 3000; holes = 12; count = 1 })))
+    × (read_hole 0 one_hole_lem ≡ Ok (record { start = 1000; end = 2000 }))
+    × (read_hole 1 one_hole_lem ≡ Err (refusal_of 19))
 unfolding read_status status_refusal type_refusal start_refusal success_refusal descriptors_refusal descriptor_refusal upper_zero list_refusal hole_list list_well points_to_last holes_well starts_well success_of read_hole hole_refusal indexed_hole
 one_hole = (refl, refl, refl)
 
 -- with the last octet gone
-cut_short : read_status (take 15 one_hole_lem) ≡ Refused (refusal_of 11)
+cut_short : read_status (take 15 one_hole_lem) ≡ Err (refusal_of 11)
 unfolding read_status status_refusal type_refusal start_refusal success_refusal descriptors_refusal descriptor_refusal upper_zero list_refusal
 cut_short = refl
 
 -- complete: In-Response-To points to the last octet, Progress after it, and there is no hole
-completed : (read_status complete ≡ Success (record { flags = 65536; id = 7; width = 2; timestamp = 0; progress = 3000; response = 2999; holes = 12; count = 0 }))
-    × (read_hole 0 complete ≡ hole-read.Refused (refusal_of 19))
+completed : (read_status complete ≡ Ok (Success (record { flags = 65536; id = 7; width = 2; timestamp = 0; progress = 3000; response = 2999; holes = 12; count = 0 })))
+    × (read_hole 0 complete ≡ Err (refusal_of 19))
 unfolding read_status status_refusal type_refusal start_refusal success_refusal descriptors_refusal descriptor_refusal upper_zero list_refusal hole_list list_well points_to_last holes_well starts_well success_of read_hole hole_refusal
 completed = (refl, refl)
 
@@ -63,7 +63,7 @@ two_holes_lem second =
     68 ∷ 0 ∷ 0 ∷ 0 ∷ 0 ∷ 0 ∷ 0 ∷ 7 ∷ 3 ∷ 232 ∷ 11 ∷ 184 ∷ 3 ∷ 232 ∷ 3 ∷ 234 ∷ 3 ∷ second ∷ 7 ∷ 208 ∷ []
 
 -- the second hole may not touch the first
-touching : (status_refusal (two_holes_lem 234) ≡ 11) × (status_refusal (two_holes_lem 235) ≡ 0) × (read_hole 1 (two_holes_lem 235) ≡ hole-read.Accepted (record { start = 1003; end = 2000 }))
+touching : (status_refusal (two_holes_lem 234) ≡ 11) × (status_refusal (two_holes_lem 235) ≡ 0) × (read_hole 1 (two_holes_lem 235) ≡ Ok (record { start = 1003; end = 2000 }))
 unfolding status_refusal type_refusal start_refusal success_refusal descriptors_refusal descriptor_refusal upper_zero list_refusal hole_list list_well points_to_last holes_well starts_well read_hole hole_refusal indexed_hole
 touching = (refl, refl, refl)
 
@@ -76,7 +76,7 @@ unfolding status_refusal type_refusal start_refusal success_refusal descriptors_
 bit_fourteen = (refl, refl, refl, refl, refl)
 
 -- a failure with code 6, width bits 11 and garbage after its Id is accepted, and has no holes to read
-failed : (read_status (68 ∷ 192 ∷ 0 ∷ 6 ∷ 0 ∷ 0 ∷ 0 ∷ 7 ∷ 1 ∷ 2 ∷ 3 ∷ []) ≡ Failure (record { flags = 12582918; id = 7; status = 6 }))
-    × (read_hole 0 (68 ∷ 192 ∷ 0 ∷ 6 ∷ 0 ∷ 0 ∷ 0 ∷ 7 ∷ 1 ∷ 2 ∷ 3 ∷ []) ≡ hole-read.Refused (refusal_of 11))
+failed : (read_status (68 ∷ 192 ∷ 0 ∷ 6 ∷ 0 ∷ 0 ∷ 0 ∷ 7 ∷ 1 ∷ 2 ∷ 3 ∷ []) ≡ Ok (Failure (record { flags = 12582918; id = 7; status = 6 })))
+    × (read_hole 0 (68 ∷ 192 ∷ 0 ∷ 6 ∷ 0 ∷ 0 ∷ 0 ∷ 7 ∷ 1 ∷ 2 ∷ 3 ∷ []) ≡ Err (refusal_of 11))
 unfolding read_status status_refusal type_refusal start_refusal failure_of read_hole hole_refusal
 failed = (refl, refl)

@@ -1,6 +1,6 @@
 -- R2.11, R2.12, R3.5, R3.12: STATUS, read: which packets are refused, the fields of the others, and one hole of the list.
 -- Assumes nothing.
-use Rattle.std.specs.Prelude.{ℕ, zero, suc, ◌+◌, ◌*◌, ◌-◌, ◌/◌, ◌%◌, ◌≡◌, Bool, not, List, length, ltb, eqb}
+use Rattle.std.specs.Prelude.{ℕ, zero, suc, ◌+◌, ◌*◌, ◌-◌, ◌/◌, ◌%◌, ◌≡◌, Bool, not, List, length, ltb, eqb, Result, Ok, Err}
 use Rattle.refusals.specs.Refusals.{◌▹◌, when, answered}
 use Rattle.header.specs.FirstWord.{bits, flags_of, descriptor_octets, timestamp_octets, partial_of, status_of}
 use Rattle.header.specs.Start.{word_of, id_of, type_refusal}
@@ -8,12 +8,11 @@ use Rattle.header.specs.Descriptor.{descriptor_at, descriptor_refusal}
 use Rattle.hole_list.specs.HoleList.{hole_at, holes_of, list_well}
 use Rattle.hole_list.specs.DescriptorList.{descriptors_refusal}
 use Rattle.runs.specs.declared.Hole.{Hole}
-use Rattle.packet_status.specs.declared.HoleRead.{HoleRead}
-use Rattle.packet_status.specs.declared.HoleRead.TheVariants as hole-read
 use Rattle.packet_status.specs.declared.SuccessStatus.{SuccessStatus}
 use Rattle.packet_status.specs.declared.FailureStatus.{FailureStatus}
-use Rattle.packet_status.specs.declared.StatusRead.{StatusRead}
-use Rattle.packet_status.specs.declared.StatusRead.TheVariants.{Success, Failure, Refused}
+use Rattle.packet_status.specs.declared.Status.{Status}
+use Rattle.packet_status.specs.declared.Status.TheVariants.{Success, Failure}
+use Rattle.refusals.specs.declared.Refusal.{Refusal}
 
 -- R2.11: where Progress, In-Response-To and the holes begin
 abbrev pub progress_at : ℕ → ℕ
@@ -96,12 +95,12 @@ unfoldable pub failure_of : List ℕ → FailureStatus
 failure_of s = record { flags = flags_of (word_of s); id = id_of s; status = status_of (word_of s) }
 
 -- R1.4: the fields, by the status code, or the refusal
-abbrev pub accepted_status : ℕ → List ℕ → StatusRead
-accepted_status zero s = Success (success_of s)
-accepted_status (suc code) s = Failure (failure_of s)
+abbrev pub accepted_status : ℕ → List ℕ → Result Status Refusal
+accepted_status zero s = Ok (Success (success_of s))
+accepted_status (suc code) s = Ok (Failure (failure_of s))
 
-unfoldable pub read_status : List ℕ → StatusRead
-read_status s = answered Refused (status_refusal s) (accepted_status (status_of (word_of s)) s)
+unfoldable pub read_status : List ℕ → Result Status Refusal
+read_status s = answered Err (status_refusal s) (accepted_status (status_of (word_of s)) s)
 
 -- R3.12: one pair of the hole list: the reader's refusals, 11 for a failure STATUS, 19 for an index that the list doesn't have
 unfoldable pub hole_refusal : ℕ → List ℕ → ℕ
@@ -116,5 +115,5 @@ indexed_hole index s =
     let d = descriptor_octets (word_of s) in
     hole_at d (holes_at (word_of s) + index * (2 * d)) s
 
-unfoldable pub read_hole : ℕ → List ℕ → HoleRead
-read_hole index s = answered hole-read.Refused (hole_refusal index s) (hole-read.Accepted (indexed_hole index s))
+unfoldable pub read_hole : ℕ → List ℕ → Result Hole Refusal
+read_hole index s = answered Err (hole_refusal index s) (Ok (indexed_hole index s))

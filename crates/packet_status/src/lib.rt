@@ -3,8 +3,9 @@
 
 ghost use Rattle.std.specs.Prelude.{◌≡◌, ◌≤◌, length};
 ghost use Rattle.packet_status.specs.Status.{DescriptorsFine, list_refusal, success_refusal, status_refusal};
+ghost use Rattle.refusals.specs.Faults.{refused};
 
-use refusals::Refusal;
+use refusals::{Fault, Refusal};
 use runs::Hole;
 
 // The fields of a success STATUS. `width` and `timestamp` count octets; `count` holes stand from the place `holes` on.
@@ -28,23 +29,18 @@ pub struct FailureStatus {
     pub status: u64,
 }
 
+// A STATUS: of a transfer that goes on or is complete, or of a failure.
 #[derive(Clone, Copy)]
-pub enum StatusRead {
+pub enum Status {
     Success(SuccessStatus),
     Failure(FailureStatus),
-    Refused(Refusal),
 }
 
-#[derive(Clone, Copy)]
-pub enum HoleRead {
-    Accepted(Hole),
-    Refused(Refusal),
-}
-
-// Refusal 11 of the hole list of a success STATUS, none of whose descriptors is refused; 0 for none.
-fn list_refusal(p: &[u8]) -> u64
+// Refusal 11 of the hole list of a success STATUS, none of whose descriptors is refused.
+#[tactic(auto, using(crate::proofs::StatusLaws::fields_there, crate::proofs::StatusLaws::pairs_none, crate::proofs::StatusLaws::whole_within, header::proofs::FirstWordLaws::octets_width, octets::proofs::NumberLaws::width_some, hole_list::proofs::HoleListLaws::length_holes), unfolding(crate::specs::Status::list_refusal, crate::specs::Status::hole_list, hole_list::specs::HoleList::list_well))]
+fn list_refusal(p: &[u8]) -> Result<(), Fault>
     requires { DescriptorsFine p.now }
-    ensures { result ≡ list_refusal p.now }
+    ensures { refused result ≡ list_refusal p.now }
 {
     let w = first_word::word(p);
     let h = first_word::split(w);
@@ -53,7 +49,7 @@ fn list_refusal(p: &[u8]) -> u64
     let holes = at + 2 * d;
     let rest = p.len() - holes;
     if rest % (2 * d) != 0 {
-        return 11;
+        return Err(Fault::Holes);
     }
     let count = rest / (2 * d);
     let partial = h.partial == 1;
@@ -61,52 +57,41 @@ fn list_refusal(p: &[u8]) -> u64
     let unasked = h.wanted == 1;
     let progress = descriptors::descriptor(p, at, d);
     let top = descriptors::descriptor(p, at + d, d);
-    if holes_judged::points_to_last(partial, unasked, count, progress, top) {
-        return 0;
+    if holes_judged::points_to_last(partial, unasked, count, progress, top)
+        || holes_judged::holes_well(p, holes, d, count, partial, progress, top)
+    {
+        Ok(())
+    } else {
+        Err(Fault::Holes)
     }
-    if holes_judged::holes_well(p, holes, d, count, partial, progress, top) {
-        return 0;
-    }
-    11
 }
 
-// Refusals 1, 5 and 11 of a success STATUS; 0 for none.
-fn success_refusal(p: &[u8]) -> u64
+// Refusals 1, 5 and 11 of a success STATUS.
+#[tactic(auto, using(header::proofs::FirstWordLaws::octets_width, header::proofs::DescriptorLaws::descriptor_there, header::proofs::FirstWordLaws::octets_le, octets::proofs::NumberLaws::width_some, crate::proofs::StatusLaws::whole_within), unfolding(crate::specs::Status::success_refusal))]
+fn success_refusal(p: &[u8]) -> Result<(), Fault>
     requires { 8 ≤ length p.now }
-    ensures { result ≡ success_refusal p.now }
+    ensures { refused result ≡ success_refusal p.now }
 {
     let w = first_word::word(p);
     let d = descriptors::descriptor_octets(w);
     let at = 8 + descriptors::timestamp_octets(w);
-    let f = descriptors::descriptor_refusal(p, at, d);
-    if f != 0 {
-        return f;
-    }
-    let g = descriptors::descriptor_refusal(p, at + d, d);
-    if g != 0 {
-        return g;
-    }
-    let pair = 2 * d;
-    let holes = at + pair;
+    descriptors::descriptor_refusal(p, at, d)?;
+    descriptors::descriptor_refusal(p, at + d, d)?;
+    let holes = at + 2 * d;
     let rest = p.len() - holes;
-    let l = hole_list::descriptors_refusal(p, holes, d, rest / d);
-    if l != 0 {
-        return l;
-    }
+    hole_list::descriptors_refusal(p, holes, d, rest / d)?;
     list_refusal(p)
 }
 
-// The refusal of a packet that has to be STATUS; 0 for none.
-pub fn status_refusal(p: &[u8]) -> u64
-    ensures { result ≡ status_refusal p.now }
+// The refusal of a packet that has to be STATUS.
+#[tactic(auto, using(header::proofs::StartLaws::type_long), unfolding(crate::specs::Status::status_refusal))]
+pub fn status_refusal(p: &[u8]) -> Result<(), Fault>
+    ensures { refused result ≡ status_refusal p.now }
 {
-    let n = packet_start::type_refusal(p, 4);
-    if n != 0 {
-        return n;
-    }
+    packet_start::type_refusal(p, 4)?;
     let h = first_word::split(first_word::word(p));
     if h.status != 0 {
-        return 0;
+        return Ok(());
     }
     success_refusal(p)
 }

@@ -6,7 +6,6 @@ use mathlib.Core.Bool.{Bool, true, false}
 use mathlib.Core.List.{List, [], ◌∷◌}
 use mathlib.Core.Option.{none, some}
 use native.Mathlib.Omega.{arith}
-use lib.ListN.{length}
 use lib.Dec.{eqb}
 use borrow.Author.Tests.{eqb-true, eqb-false, eq-eqb}
 use Rattle.octets.specs.Numbers.{upper_zero}
@@ -20,8 +19,6 @@ use Rattle.packet_metadata.specs.Checksum.{pair_allowed, pair_refusal}
 use Rattle.packet_metadata.specs.Metadata.{metadata_refusal, metadata_of, read_metadata}
 use Rattle.packet_data.specs.Data.{read_data}
 use Rattle.packet_data.specs.declared.Data.{Data}
-use Rattle.packet_data.specs.declared.DataRead.{DataRead}
-use Rattle.packet_data.specs.declared.DataRead.TheVariants as data-read
 use Rattle.transfer.specs.declared.Key.{Key}
 use Rattle.transfer.specs.Opening.{new_refusal}
 use Rattle.transfer.specs.Transfers.{Transfer, transfer_of}
@@ -29,11 +26,12 @@ use Rattle.transfer.specs.Record.{stamp_in}
 use Rattle.table.specs.Tables.{keys, find, add}
 use Rattle.table.specs.Open.{judge_found, judge_open, open_as, open_key, open_read, open_packet}
 use Rattle.table.specs.Record.{data_judged, record_refusal, record_as, record_data, record_read, record_packet, record_accepted}
-use Rattle.table.specs.declared.Recorded.TheVariants as recorded
 use Rattle.transfer.proofs.FieldLaws.{data_some}
 use Rattle.transfer.proofs.LimitLaws.{thirteen_iff, fourteen_iff}
 use Rattle.table.proofs.LimitLaws.{twelve_iff}
 use Rattle.passes.specs.Passes.{empty_file}
+use Rattle.std.specs.Prelude.{Result, Ok, Err}
+use Rattle.refusals.specs.declared.Refusal.{Refusal}
 
 abbrev key : Key
 key = record { id = 7; width = 2; length = 0 }
@@ -48,7 +46,7 @@ empty_is = refl
 -- ---- the number of the refusal: 14, and 12 or 13 where Id or width are others
 
 record_refused : (t : List Transfer) (d : Data) (s : List ℕ) (n : ℕ) → data_judged (find d.id (keys t)) d ≡ suc n
-    → (record_data t d s).answer ≡ recorded.Refused (refusal_of (suc n))
+    → (record_data t d s).answer ≡ Err (refusal_of (suc n))
 unfolding record_data record_refusal record_as
 record_refused t d s n e = rw e
 
@@ -78,17 +76,17 @@ never d s p = go (eqb 7 d.id) refl (eqb d.width 2) refl
 
 -- ---- any octets
 
-read_never : (packet : List ℕ) (r : DataRead) → ((d : Data) → r ≡ data-read.Accepted d → 0 < d.length) → record_accepted (record_read table packet r).answer ≡ false
+read_never : (packet : List ℕ) (r : Result Data Refusal) → ((d : Data) → r ≡ Ok d → 0 < d.length) → record_accepted (record_read table packet r).answer ≡ false
 unfolding record_read
-read_never packet (data-read.Accepted d) f = never d (stamp_in packet d) (f d refl)
-read_never packet (data-read.Refused r) f = refl
+read_never packet (Ok d) f = never d (stamp_in packet d) (f d refl)
+read_never packet (Err r) f = refl
 
 pub empty_never : (packet : List ℕ) → record_accepted (record_packet empty_file packet).answer ≡ false
 unfolding record_packet
 empty_never packet = rw empty_is (read_never packet (read_data packet) (data_some packet))
 
-pub empty_fourteen : (packet : List ℕ) (d : Data) → read_data packet ≡ data-read.Accepted d → d.id ≡ 7 → d.width ≡ 2
-    → (record_packet empty_file packet).answer ≡ recorded.Refused (refusal_of 14)
+pub empty_fourteen : (packet : List ℕ) (d : Data) → read_data packet ≡ Ok d → d.id ≡ 7 → d.width ≡ 2
+    → (record_packet empty_file packet).answer ≡ Err (refusal_of 14)
 unfolding record_packet record_read
 empty_fourteen packet d e i w =
     rw (empty_is, e) (record_refused table d (stamp_in packet d) 13 (judged_fourteen d (data_some packet d e) (eq-eqb 7 d.id (sym i)) w))

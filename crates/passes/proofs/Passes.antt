@@ -41,6 +41,6 @@ passes =
       touching_joined = (refl, refl, refl);
       start_missing = (refl, refl, refl, refl);
       runs_full = (refl, refl, refl);
-      last_offset_lem = (refl, refl, refl);
+      last_offset = (refl, refl, refl);
       table_full = (refl, refl, refl, refl);
     }

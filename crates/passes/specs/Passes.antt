@@ -1,13 +1,11 @@
 -- R10.7: the recorded passes, one statement over all ten, about the definitions.
 -- Every table is made from the empty one by packets that are written out as octets, payloads of 1,000 octets too.
 -- Assumes nothing.
-use Rattle.std.specs.Prelude.{ℕ, zero, suc, ◌+◌, ◌*◌, ◌-◌, ◌^◌, ◌≡◌, Bool, true, false, List, [], ◌∷◌, ◌++◌, length, replicate}
+use Rattle.std.specs.Prelude.{ℕ, zero, suc, ◌+◌, ◌*◌, ◌-◌, ◌^◌, ◌≡◌, Bool, true, false, List, [], ◌∷◌, ◌++◌, length, replicate, Ok, Err}
 use Rattle.octets.specs.Numbers.{be_digits}
 use Rattle.refusals.specs.Refusals.{refusal_of}
-use Rattle.refusals.specs.declared.Written.TheVariants as written
 use Rattle.packet_data.specs.Data.{read_data}
 use Rattle.packet_data.specs.declared.Data.{Data}
-use Rattle.packet_data.specs.declared.DataRead.TheVariants as data-read
 use Rattle.runs.specs.Runs.{run}
 use Rattle.runs.specs.Holes.{edge, hole, holes, progress}
 use Rattle.transfer.specs.Transfers.{Transfer}
@@ -19,8 +17,6 @@ use Rattle.table.specs.WriteStatus.{status_written, status_buffer}
 use Rattle.transfer.specs.declared.Reached.{Reached}
 use Rattle.transfer.specs.declared.Receipt.{Receipt}
 use Rattle.table.specs.declared.Opened.TheVariants as opened
-use Rattle.table.specs.declared.Recorded.TheVariants as recorded
-use Rattle.table.specs.declared.Finished.TheVariants as finished
 
 -- ---- packets, octet by octet
 
@@ -97,29 +93,29 @@ pub record Passes : Type 0 where
   -- the STATUS with one hole is 44 00 00 00 00 00 00 07 03 E8 0B B8 03 E8 07 D0
   pub hole_reported :
       (runs_of two_parts 7 ≡ run 0 1000 ∷ run 2000 3000 ∷ [])
-      × (status_written two_parts 7 0 false (buffer 16) ≡ written.Size 16)
+      × (status_written two_parts 7 0 false (buffer 16) ≡ Ok 16)
       × (status_buffer two_parts 7 0 false (buffer 16)
       ≡ 68 ∷ 0 ∷ 0 ∷ 0 ∷ 0 ∷ 0 ∷ 0 ∷ 7 ∷ 3 ∷ 232 ∷ 11 ∷ 184 ∷ 3 ∷ 232 ∷ 7 ∷ 208 ∷ [])
   -- one octet of room too few: 20
   pub buffer_too_small :
-      (status_written two_parts 7 0 false (buffer 15) ≡ written.Refused (refusal_of 20))
+      (status_written two_parts 7 0 false (buffer 15) ≡ Err (refusal_of 20))
       × (status_buffer two_parts 7 0 false (buffer 15) ≡ buffer 15)
   -- the hole is filled: complete, and the STATUS is 44 01 00 00 00 00 00 07 0B B8 0B B7
   pub completed :
-      ((record_packet two_parts middle).answer ≡ recorded.Accepted (joining 3000 true 2))
-      × (status_written (takes two_parts middle) 7 0 false (buffer 12) ≡ written.Size 12)
+      ((record_packet two_parts middle).answer ≡ Ok (joining 3000 true 2))
+      × (status_written (takes two_parts middle) 7 0 false (buffer 12) ≡ Ok 12)
       × (status_buffer (takes two_parts middle) 7 0 false (buffer 12)
       ≡ 68 ∷ 1 ∷ 0 ∷ 0 ∷ 0 ∷ 0 ∷ 0 ∷ 7 ∷ 11 ∷ 184 ∷ 11 ∷ 183 ∷ [])
   -- a file of no octets is complete when it is opened; DATA of its Id and width is refused with 14
   pub empty_complete :
-      ((open_packet [] (metadata 7 0 0)).answer ≡ opened.New (up_to 0 true))
+      ((open_packet [] (metadata 7 0 0)).answer ≡ Ok (opened.New (up_to 0 true)))
       × ((packet : List ℕ) → record_accepted (record_packet empty_file packet).answer ≡ false)
-      × ((packet : List ℕ) (d : Data) → read_data packet ≡ data-read.Accepted d → d.id ≡ 7 → d.width ≡ 2
-      → (record_packet empty_file packet).answer ≡ recorded.Refused (refusal_of 14))
+      × ((packet : List ℕ) (d : Data) → read_data packet ≡ Ok d → d.id ≡ 7 → d.width ≡ 2
+      → (record_packet empty_file packet).answer ≡ Err (refusal_of 14))
   -- at width 16, 65,535 octets open, and 65,536 are refused with 9
   pub longest_of_width :
-      ((open_packet [] (metadata 7 0 65535)).answer ≡ opened.New (up_to 0 false))
-      × ((open_packet [] (metadata 7 0 65536)).answer ≡ opened.Refused (refusal_of 9))
+      ((open_packet [] (metadata 7 0 65535)).answer ≡ Ok (opened.New (up_to 0 false)))
+      × ((open_packet [] (metadata 7 0 65536)).answer ≡ Err (refusal_of 9))
   -- stretches that touch are one run, with edge 20 and no hole
   pub touching_joined :
       (runs_of one_after_other 7 ≡ run 0 20 ∷ []) × (edge (runs_of one_after_other 7) ≡ 20) × (holes (runs_of one_after_other 7) ≡ [])
@@ -129,16 +125,16 @@ pub record Passes : Type 0 where
   -- with 64 runs, a packet apart from all is refused with 16, and one that touches a run is accepted
   pub runs_full :
       (length (runs_of (scattered 64) 7) ≡ 64)
-      × ((record_packet (scattered 64) (zeros 7 0 192 1)).answer ≡ recorded.Refused (refusal_of 16))
-      × ((record_packet (scattered 64) (zeros 7 0 190 1)).answer ≡ recorded.Accepted (joining 191 false 1))
+      × ((record_packet (scattered 64) (zeros 7 0 192 1)).answer ≡ Err (refusal_of 16))
+      × ((record_packet (scattered 64) (zeros 7 0 190 1)).answer ≡ Ok (joining 191 false 1))
   -- in a file of 2^64 - 1 octets, an octet at 2^64 - 1 is refused with 14, and no sum wraps; the octet before it is taken
-  pub last_offset_lem :
-      ((open_packet [] (metadata 7 2 (2 ^ 64 - 1))).answer ≡ opened.New (up_to 0 false))
-      × ((record_packet longest (zeros 7 2 (2 ^ 64 - 1) 1)).answer ≡ recorded.Refused (refusal_of 14))
-      × ((record_packet longest (zeros 7 2 (2 ^ 64 - 2) 1)).answer ≡ recorded.Accepted (joining (2 ^ 64 - 1) false 0))
+  pub last_offset :
+      ((open_packet [] (metadata 7 2 (2 ^ 64 - 1))).answer ≡ Ok (opened.New (up_to 0 false)))
+      × ((record_packet longest (zeros 7 2 (2 ^ 64 - 1) 1)).answer ≡ Err (refusal_of 14))
+      × ((record_packet longest (zeros 7 2 (2 ^ 64 - 2) 1)).answer ≡ Ok (joining (2 ^ 64 - 1) false 0))
   -- a seventeenth Id is refused with 17, and opens once another is closed
   pub table_full :
       (length (numbered 16) ≡ 16)
-      × ((open_packet (numbered 16) (metadata 17 0 3000)).answer ≡ opened.Refused (refusal_of 17))
-      × ((close_id (numbered 16) 5).answer ≡ finished.Done)
-      × ((open_packet (close_id (numbered 16) 5).table (metadata 17 0 3000)).answer ≡ opened.New (up_to 0 false))
+      × ((open_packet (numbered 16) (metadata 17 0 3000)).answer ≡ Err (refusal_of 17))
+      × ((close_id (numbered 16) 5).answer ≡ Ok tt)
+      × ((open_packet (close_id (numbered 16) 5).table (metadata 17 0 3000)).answer ≡ Ok (opened.New (up_to 0 false)))

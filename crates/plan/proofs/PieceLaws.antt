@@ -1,14 +1,15 @@
 -- The pieces of a hole, one after the other, and how many they are. Assumes nothing.
-use Prim.Native.Nat.{ℕ, zero, suc, ◌+◌, ◌-◌, ◌/◌, ◌≤◌, ◌<◌, min}
+use Prim.Native.Nat.{ℕ, zero, suc, ◌+◌, ◌-◌, ◌*◌, ◌/◌, ◌%◌, ◌≤◌, ◌<◌, min}
 use mathlib.Core.Path.{◌≡◌, refl, sym, ap, ◌∙◌}
 use mathlib.Core.Bool.{Bool, true, false}
 use mathlib.Core.List.{List, [], ◌∷◌}
-use native.Mathlib.Nat.{div-eq_of_lt, div-eq-sub-div, div-le_self, min-eq_left, min-eq_right}
+use native.Mathlib.Nat.{div-eq_of_lt, div-eq-sub-div, div-eq_of_lt-le, suc-mul, div-le_self, min-eq_left, min-eq_right}
 use native.Mathlib.Omega.{arith}
 use lib.ListN.{length, get_or, drop, length-append}
 use lib.Seq.{drop-cons}
 use lib.Dec.{leb}
 use borrow.Author.Tests.{leb-true, leb-false}
+use Rattle.std.proofs.lemmas.Grind.{div_ceil_times}
 use Rattle.runs.specs.declared.Hole.{Hole}
 use Rattle.plan.specs.Pieces.{piece, cut, piece_count, hole_pieces, plan_of}
 
@@ -23,7 +24,16 @@ module _ (m start end : ℕ) (some : 0 < m) where
   count_none h = div-eq_of_lt (omega arith)
 
   -- as the code counts them
-  pub count_counted : start < end → (end - start - 1) / m + 1 ≡ piece_count m (hole start end)
+  pub count_ceil : (end - start) / m + min 1 ((end - start) % m) ≡ piece_count m (hole start end)
+  unfolding piece_count
+  count_ceil =
+      let k = (end - start) / m + min 1 ((end - start) % m) in
+      let t = div_ceil_times (end - start) m some in
+      let one : k + 1 ≡ suc k = omega arith in
+      let above : end - start + (m - 1) < (k + 1) * m = rw one (omega (arith, t.0, suc-mul k m)) in
+      sym (div-eq_of_lt-le m (omega (arith, t.1)) above)
+
+  count_counted : start < end → (end - start - 1) / m + 1 ≡ piece_count m (hole start end)
   unfolding piece_count
   count_counted h =
       let e : end - start + (m - 1) - m ≡ end - start - 1 = omega arith in

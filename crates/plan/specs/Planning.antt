@@ -1,14 +1,15 @@
 -- R11.2, R11.3: planning: what is refused, what is answered and stored, and how a plan is made piece by piece.
 -- Assumes nothing.
-use Rattle.std.specs.Prelude.{ℕ, zero, suc, ◌+◌, ◌-◌, ◌<◌, min, ◌≡◌, Bool, cond, not, ◌&&◌, List, ◌++◌, length, get_or, drop, ltb, leb, eqb}
+use Rattle.std.specs.Prelude.{ℕ, zero, suc, ◌+◌, ◌-◌, ◌<◌, min, ◌≡◌, Bool, cond, not, ◌&&◌, List, ◌++◌, length, get_or, drop, ltb, leb, eqb, Result, Ok, Err}
 use Rattle.refusals.specs.Refusals.{◌▹◌, when}
+use Rattle.refusals.specs.Faults.{number_of}
+use Rattle.refusals.specs.declared.Fault.{Fault}
 use Rattle.header.specs.FirstWord.{status_of}
 use Rattle.header.specs.Start.{word_of}
 use Rattle.packet_status.specs.Status.{status_refusal, hole_list, hole_refusal}
 use Rattle.runs.specs.declared.Hole.{Hole}
 use Rattle.plan.specs.Pieces.{piece, plan_of}
 use Rattle.plan.specs.declared.Piece.{Piece}
-use Rattle.plan.specs.declared.Judged.{Judged}
 use Rattle.plan.specs.declared.Plan.{Plan}
 use Rattle.plan.specs.declared.Cursor.{Cursor}
 
@@ -31,15 +32,20 @@ plan_refusal m room s = resend_refusal m s ▹ when (ltb room (length (plan_of m
 
 -- ---- answers
 
--- how many holes there are to plan for: none where a refusal stands
-abbrev pub judged_of : ℕ → ℕ → Judged
-judged_of zero holes = record { number = 0; holes = holes }
-judged_of (suc n) holes = record { number = suc n; holes = 0 }
+-- what is told of a plan: the refusal, 0 for none, and how many pieces there are, of how many holes
+pub record ToldPlan : Type 0 where
+  pub number : ℕ
+  pub count : ℕ
+  pub holes : ℕ
 
--- the refusal, or how many pieces there are, of how many holes
-abbrev pub planned_of : ℕ → ℕ → List Hole → Plan
+abbrev pub planned_of : ℕ → ℕ → List Hole → ToldPlan
 planned_of zero m hs = record { number = 0; count = length (plan_of m hs); holes = length hs }
 planned_of (suc n) m hs = record { number = suc n; count = 0; holes = 0 }
+
+-- what the code's answer tells
+abbrev pub told_plan : Result Plan Fault → ToldPlan
+told_plan (Ok p) = record { number = 0; count = p.count; holes = p.holes }
+told_plan (Err f) = record { number = number_of f; count = 0; holes = 0 }
 
 -- R11.2: the lent records at exit: those past the plan stay, and all of them on refusal
 abbrev pub records_after : ℕ → List Piece → List Piece → List Piece

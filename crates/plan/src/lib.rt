@@ -1,10 +1,13 @@
 // What to send again: the pieces that fill the holes of a STATUS, and which STATUS can be planned for.
 #![tactic(auto)]
 
-ghost use Rattle.std.specs.Prelude.{◌≡◌, ◌-◌, ◌<◌, not, length, eqb};
+ghost use Rattle.std.specs.Prelude.{◌≡◌, not, length, IfOk};
 ghost use Rattle.packet_status.specs.Status.{hole_list};
 ghost use Rattle.refusals.specs.Refusals.{when};
-ghost use Rattle.plan.specs.Planning.{allowed, resend_refusal, judged_of};
+ghost use Rattle.plan.specs.Planning.{allowed, resend_refusal};
+ghost use Rattle.refusals.specs.Faults.{refused};
+
+use refusals::Fault;
 
 // Octets to send: the first one's offset, and how many. struct saratoga_piece.
 #[repr(C)]
@@ -14,17 +17,9 @@ pub struct Piece {
     pub length: u64,
 }
 
-// The refusal of a STATUS or of a largest payload, 0 for none, and the number of holes to fill.
-#[derive(Clone, Copy)]
-pub struct Judged {
-    pub number: u64,
-    pub holes: usize,
-}
-
-// The refusal of a plan, 0 for none; how many pieces it has, and of how many holes.
+// How many pieces a plan has, and of how many holes.
 #[derive(Clone, Copy)]
 pub struct Plan {
-    pub number: u64,
     pub count: u64,
     pub holes: usize,
 }
@@ -39,56 +34,38 @@ pub struct Cursor {
     pub count: usize,
 }
 
-// Refusal 21 of a largest payload; 0 for none.
-fn largest_refusal(largest: u64) -> u64
-    ensures { result ≡ when (not (allowed largest)) 21 }
+// Refusal 21 of a largest payload.
+fn largest_refusal(largest: u64) -> Result<(), Fault>
+    ensures { refused result ≡ when (not (allowed largest)) 21 }
 {
     if largest == 0 {
-        return 21;
+        return Err(Fault::Field);
     }
     if 65000 < largest {
-        return 21;
+        return Err(Fault::Field);
     }
-    0
+    Ok(())
 }
 
-// Refusal 11 of a STATUS with this code, by which it is a failure; 0 for none.
-fn failure_refusal(code: u64) -> u64
-    ensures { result ≡ when (not (eqb code 0)) 11 }
+// The refusal of a packet that has to be a success STATUS, and of the largest payload.
+#[tactic(auto, using(packet_status::proofs::StatusLaws::status_long), unfolding(crate::specs::Planning::resend_refusal))]
+fn resend_refusal(status: &[u8], largest: u64) -> Result<(), Fault>
+    ensures { refused result ≡ resend_refusal largest status.now }
 {
-    if code != 0 {
-        return 11;
-    }
-    0
-}
-
-// The refusal of a packet that has to be a success STATUS, and of the largest payload; 0 for none.
-fn resend_refusal(status: &[u8], largest: u64) -> u64
-    ensures { result ≡ resend_refusal largest status.now }
-{
-    let unread = packet_status::status_refusal(status);
-    if unread != 0 {
-        return unread;
-    }
+    packet_status::status_refusal(status)?;
     let h = first_word::split(first_word::word(status));
-    let failure = failure_refusal(h.status);
-    let payload = largest_refusal(largest);
-    refusals::first(failure, payload)
+    if h.status != 0 {
+        return Err(Fault::Holes);
+    }
+    largest_refusal(largest)
 }
 
 // The same, with the number of holes to fill.
-pub fn judge(status: &[u8], largest: u64) -> Judged
-    ensures { result ≡ judged_of (resend_refusal largest status.now) (length (hole_list status.now)) }
+#[tactic(auto, using(crate::proofs::ResendLaws::resend_read, crate::proofs::ResendLaws::resend_success, packet_status::proofs::StatusLaws::length_list))]
+pub fn judge(status: &[u8], largest: u64) -> Result<usize, Fault>
+    ensures number { refused result ≡ resend_refusal largest status.now }
+    ensures holes { IfOk result (λ n. n ≡ length (hole_list status.now)) }
 {
-    let n = resend_refusal(status, largest);
-    if n != 0 {
-        return Judged {
-            number: n,
-            holes: 0,
-        };
-    }
-    Judged {
-        number: 0,
-        holes: status_fields::hole_count(status),
-    }
+    resend_refusal(status, largest)?;
+    Ok(status_fields::hole_count(status))
 }

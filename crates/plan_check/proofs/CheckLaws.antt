@@ -1,4 +1,4 @@
--- A check, one piece more: it reads no more holes than it began with, and its refusal stays. Assumes nothing.
+-- A check, one piece more: it reads no more holes than it began with. Assumes nothing.
 use Prim.Native.Nat.{ℕ, zero, suc, ◌+◌, ◌<◌}
 use mathlib.Core.Path.{◌≡◌, refl, sym, ◌∙◌}
 use mathlib.Core.Bool.{Bool, true, false, cond, ◌&&◌}
@@ -38,23 +38,14 @@ count_step : (hs : List Hole) (m : ℕ) (k : Check) (p : Piece) → (check_step 
 unfolding check_step
 count_step hs m k p = whichever (k.fine && fits m k.cursor.offset k.cursor.end p) _ _ k.cursor.count (count_advanced hs p.length k.cursor) refl
 
+pub holes_readable : (m : ℕ) (s : List ℕ) → resend_refusal m s ≡ 0 → Readable s (length (hole_list s))
+holes_readable m s e = readable m s (resend_fine m s e)
+
 pub start_readable : (m : ℕ) (s : List ℕ) (n : ℕ) → resend_refusal m s ≡ n → Readable s (check_start n (hole_list s)).cursor.count
 start_readable m s zero e = rw (count_at (hole_list s) (length (hole_list s)) 0) (readable m s (resend_fine m s e))
 start_readable m s (suc n) e = rw (count_at (hole_list s) 0 0) (λ i l. absurd (omega arith))
 
-number_by : (t : Bool) (a b : Check) (n : ℕ) → a.number ≡ n → b.number ≡ n → (cond t a b).number ≡ n
-number_by true a b n e f = e
-number_by false a b n e f = f
-
-number_step : (hs : List Hole) (m : ℕ) (k : Check) (p : Piece) → (check_step hs m k p).number ≡ k.number
-unfolding check_step
-number_step hs m k p = number_by (k.fine && fits m k.cursor.offset k.cursor.end p) _ _ k.number refl refl
-
 module _ (hs : List Hole) (m : ℕ) where
-  pub number_all : (ps : List Piece) (k : Check) → (check_all hs m k ps).number ≡ k.number
-  number_all [] k = refl
-  number_all (p ∷ ps) k = number_all ps (check_step hs m k p) ∙ number_step hs m k p
-
   pub count_all : (ps : List Piece) (k : Check) → (check_all hs m k ps).cursor.count ≡ k.cursor.count
   count_all [] k = refl
   count_all (p ∷ ps) k = count_all ps (check_step hs m k p) ∙ count_step hs m k p
@@ -71,7 +62,3 @@ module _ (hs : List Hole) (m : ℕ) where
 
   pub check_done : (k : Check) (ps : List Piece) → check_all hs m k (take (length ps) ps) ≡ check_all hs m k ps
   check_done k ps = rw (take-length ps)
-
-pub number_start : (n : ℕ) (hs : List Hole) → (check_start n hs).number ≡ n
-number_start zero hs = refl
-number_start (suc n) hs = refl

@@ -37,14 +37,14 @@ module _ (hs : List Hole) (full : (i : ℕ) → i < length hs → (nth hs i).sta
 
   checked_by : (k : Check) (p : Piece) (ps : List Piece) → Reached hs k.cursor → (a b : Bool) → k.fine ≡ a → fits m k.cursor.offset k.cursor.end p ≡ b
       → ((k : Check) → Reached hs k.cursor → passed (check_all hs m k ps) ≡ k.fine && goes m (left hs k.cursor) ps)
-      → passed (check_all hs m (cond (a && b) (record { number = k.number; fine = true; cursor = advanced hs p.length k.cursor }) (record { number = k.number; fine = false; cursor = k.cursor })) ps)
+      → passed (check_all hs m (cond (a && b) (record { fine = true; cursor = advanced hs p.length k.cursor }) (record { fine = false; cursor = k.cursor })) ps)
       ≡ a && goes m (left hs k.cursor) (p ∷ ps)
-  checked_by k p ps r false b e f later = later (record { number = k.number; fine = false; cursor = k.cursor }) r
+  checked_by k p ps r false b e f later = later (record { fine = false; cursor = k.cursor }) r
   checked_by k p ps r true false e f later =
-      later (record { number = k.number; fine = false; cursor = k.cursor }) r ∙ sym (fails_by k.cursor p ps r f (ltb k.cursor.offset k.cursor.end) refl)
+      later (record { fine = false; cursor = k.cursor }) r ∙ sym (fails_by k.cursor p ps r f (ltb k.cursor.offset k.cursor.end) refl)
   checked_by k p ps r true true e f later =
       let g = fits_means m k.cursor.offset k.cursor.end p f in
-      later (record { number = k.number; fine = true; cursor = advanced hs p.length k.cursor }) (reached_advanced hs full p.length k.cursor r g.ends) ∙ sym (goes_on k.cursor p ps r f)
+      later (record { fine = true; cursor = advanced hs p.length k.cursor }) (reached_advanced hs full p.length k.cursor r g.ends) ∙ sym (goes_on k.cursor p ps r f)
 
   pub checked : (ps : List Piece) (k : Check) → Reached hs k.cursor → passed (check_all hs m k ps) ≡ k.fine && goes m (left hs k.cursor) ps
   unfolding passed check_step

@@ -13,6 +13,7 @@ use Rattle.runs.specs.declared.Hole.{Hole}
 use Rattle.refusals.proofs.TestLaws.{and_iff}
 use Rattle.plan_check.specs.GoodPlan.{Each, Some, InPiece, InHole, LiesIn, GoodPlan}
 use Rattle.plan_check.specs.Checking.{fits}
+use Rattle.plan.specs.Pieces.{piece}
 use Rattle.plan.specs.declared.Piece.{Piece}
 use Rattle.plan.proofs.PieceLaws.{hole}
 use Rattle.plan.proofs.CursorLaws.{after_done}
@@ -65,6 +66,9 @@ fits_means m at end p e =
     let b = (and_iff (ltb 0 p.length) _).0 a.1 in
     let d = (and_iff (leb p.length m) _).0 b.1 in
     record { begins = eqb-true _ _ a.0; some = ltb-true _ _ b.0; short = leb-true _ _ d.0; ends = leb-true _ _ d.1 }
+
+pub fits_ends : (m at end offset length : ℕ) → fits m at end (piece offset length) ≡ true → at + length ≤ end
+fits_ends m at end offset length e = (fits_means m at end (piece offset length) e).ends
 
 pub means_fits : (m at end : ℕ) (p : Piece) → Fits m at end p → fits m at end p ≡ true
 unfolding fits

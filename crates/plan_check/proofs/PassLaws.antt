@@ -51,10 +51,10 @@ module _ (m : ℕ) (s : List ℕ) (ps : List Piece) where
       checked hs (full m s f) m ps (check_start 0 hs) (reached_at hs (full m s f) 0) ∙ ap (λ (l : List Hole). goes m l ps) (left_at hs (full m s f) 0)
 
   -- a check that has begun with a refusal stays so
-  never : (n : ℕ) (k : Check) → k.fine ≡ false → (qs : List Piece) → passed (check_all (hole_list s) m k qs) ≡ false
+  never : (k : Check) → k.fine ≡ false → (qs : List Piece) → passed (check_all (hole_list s) m k qs) ≡ false
   unfolding passed check_step
-  never n k e [] = rw e
-  never n k e (q ∷ qs) = rw e (never n (record { number = k.number; fine = false; cursor = k.cursor }) refl qs)
+  never k e [] = rw e
+  never k e (q ∷ qs) = rw e (never (record { fine = false; cursor = k.cursor }) refl qs)
 
   pub passes_iff : (n : ℕ) → resend_refusal m s ≡ n
       → (passed (check_all (hole_list s) m (check_start n (hole_list s)) ps) ≡ true) ↔ ((n ≡ 0) × GoodPlan m (hole_list s) ps)
@@ -64,7 +64,7 @@ module _ (m : ℕ) (s : List ℕ) (ps : List Piece) where
         (λ g. start_passes e ∙ means_goes m 0 (hole_list s) ps (spaced m s f) g.1),
       )
   passes_iff (suc n) e = (
-    (λ t. absurd (false≢true (sym (never n (check_start (suc n) (hole_list s)) refl ps) ∙ t))),
+    (λ t. absurd (false≢true (sym (never (check_start (suc n) (hole_list s)) refl ps) ∙ t))),
     (λ g. absurd (omega (arith, g.0))),
   )
 

@@ -13,15 +13,15 @@ fits m at end p = eqb p.offset at && (ltb 0 p.length && (leb p.length m && leb (
 
 -- before the first piece, where a refusal stands and where none does
 abbrev pub check_start : ℕ → List Hole → Check
-check_start zero hs = record { number = 0; fine = true; cursor = cursor_at hs (length hs) 0 }
-check_start (suc n) hs = record { number = suc n; fine = false; cursor = cursor_at hs 0 0 }
+check_start zero hs = record { fine = true; cursor = cursor_at hs (length hs) 0 }
+check_start (suc n) hs = record { fine = false; cursor = cursor_at hs 0 0 }
 
 -- one more piece
 unfoldable pub check_step : List Hole → ℕ → Check → Piece → Check
 check_step hs m k p =
     cond (k.fine && fits m k.cursor.offset k.cursor.end p)
-    (record { number = k.number; fine = true; cursor = advanced hs p.length k.cursor })
-    (record { number = k.number; fine = false; cursor = k.cursor })
+    (record { fine = true; cursor = advanced hs p.length k.cursor })
+    (record { fine = false; cursor = k.cursor })
 
 -- all of them
 abbrev pub check_all : List Hole → ℕ → Check → List Piece → Check

@@ -3,3 +3,4 @@ pub mod RefusalLaws
 pub mod WritingLaws
 pub mod LimitLaws
 pub mod ReasonLaws
+pub mod FaultLaws

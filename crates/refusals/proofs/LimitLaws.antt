@@ -7,9 +7,9 @@ use native.Mathlib.Omega.{arith}
 use Rattle.refusals.specs.Refusals.{◌▹◌, refusal_of, answered}
 use Rattle.refusals.specs.Writing.{room_refusal, written_of}
 use Rattle.refusals.specs.declared.Refusal.{Refusal}
-use Rattle.refusals.specs.declared.Written.TheVariants.{Size, Refused}
 pub use Rattle.refusals.proofs.RefusalLaws.{when_all, chain_all, link_all}
 use Rattle.refusals.proofs.ReasonLaws.{Reasons, given, one, below, ◌▸◌}
+use Rattle.std.specs.Prelude.{Ok, Err}
 
 -- ---- chains
 
@@ -53,5 +53,5 @@ pub answered_iff : {A : Type 0} (refused : Refusal → A) (m n : ℕ) (result : 
     → ((q r : Refusal) → refused q ≡ refused r → q ≡ r) → (answered refused m result ≡ refused (refusal_of (suc n))) ↔ (m ≡ suc n)
 answered_iff refused m n result apart same = refused_iff refused (λ i. answered refused i result) (λ i. refl) apart same m n
 
-pub written_iff : (m n size : ℕ) → (written_of m size ≡ Refused (refusal_of (suc n))) ↔ (m ≡ suc n)
-written_iff m n size = answered_iff Refused m n (Size size) (λ r e. let z : ◌≡◌ {A = ℕ} 0 1 = cc in omega arith) (λ q r e. cc)
+pub written_iff : (m n size : ℕ) → (written_of m size ≡ Err (refusal_of (suc n))) ↔ (m ≡ suc n)
+written_iff m n size = answered_iff Err m n (Ok size) (λ r e. let z : ◌≡◌ {A = ℕ} 0 1 = cc in omega arith) (λ q r e. cc)

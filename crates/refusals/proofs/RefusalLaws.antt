@@ -1,7 +1,7 @@
 -- What a chain of refusals says: one that stands, one that is none, and when the number n comes; and the code of a number.
 -- Assumes nothing.
 use Prim.Native.Nat.{ℕ, zero, suc}
-use mathlib.Core.Path.{◌≡◌, refl, sym, ap}
+use mathlib.Core.Path.{◌≡◌, refl, sym}
 use mathlib.Core.Bool.{Bool, true, false, cond, true≢false, false≢true}
 use mathlib.Core.List.{List, [], ◌∷◌}
 use mathlib.Core.Logic.{◌⊎◌, inl, inr, ⊎_elim, ◌↔◌}
@@ -91,9 +91,6 @@ answered_refused refused zero result h = absurd (h refl)
 answered_refused refused (suc n) result h = refl
 
 -- ---- codes
-
-pub code_same : (n m : ℕ) → n ≡ m → code_of m ≡ code_of n
-code_same n m e = ap code_of (sym e)
 
 -- each of these has code 0 where its number is n
 abbrev Sendless : List (ℕ × ℕ) → ℕ → Type 0

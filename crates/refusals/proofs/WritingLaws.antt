@@ -7,14 +7,14 @@ use lib.Dec.{ltb}
 use borrow.Author.Tests.{ltb-false}
 use Rattle.refusals.specs.Refusals.{when, refusal_of}
 use Rattle.refusals.specs.Writing.{room_refusal, written_of, buffer_after}
-use Rattle.refusals.specs.declared.Written.TheVariants.{Size, Refused}
 use Rattle.refusals.proofs.RefusalLaws.{first_none, rest_none, failed, answered_refused}
+use Rattle.std.specs.Prelude.{Ok, Err}
 
-pub written_refused : (n size : ℕ) → (n ≡ 0 → ⊥) → Refused (refusal_of n) ≡ written_of n size
-written_refused n size h = answered_refused Refused n (Size size) h
+pub written_refused : (n size : ℕ) → (n ≡ 0 → ⊥) → Err (refusal_of n) ≡ written_of n size
+written_refused n size h = answered_refused Err n (Ok size) h
 
 -- a writer that answers a size refused nothing, and the size is the packet's
-pub written_size : (n size m : ℕ) → written_of n size ≡ Size m → (n ≡ 0) × (size ≡ m)
+pub written_size : (n size m : ℕ) → written_of n size ≡ Ok m → (n ≡ 0) × (size ≡ m)
 written_size zero size m e = (refl, cc)
 written_size (suc n) size m e = absurd (let z : ◌≡◌ {A = ℕ} 0 1 = cc in omega arith)
 

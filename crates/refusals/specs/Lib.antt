@@ -1,3 +1,4 @@
 pub mod Refusals
 pub mod Writing
 pub mod Tests
+pub mod Faults

@@ -33,11 +33,9 @@ fn check_pieces(status: &[u8], largest: u64, s: &[u8], n: usize, first: Check) -
     ensures { result ≡ check_all (hole_list status.now) largest first (pieces_in s.now n) }
 {
     let mut k = first;
-    let mut i: usize = 0;
-    while i < n {
+    for i in 0..n {
         let p = piece_in(s, i);
         k = plan_check::check_step(status, k, largest, p);
-        i += 1;
     }
     k
 }
@@ -55,12 +53,11 @@ fn put_check(
     requires { (at ≤ length out.old) × (16 * n ≤ length s.now) }
     ensures { Added out.old at (check_line number largest status.now (pieces_in s.now n)) out.new result }
 {
-    let first = plan_check::check_start(status, largest);
+    let first = match plan_check::check_start(status, largest) {
+        Ok(first) => first,
+        Err(fault) => return replay_lines::put_refused(out, at, number, fault.into()),
+    };
     let k = check_pieces(status, largest, s, n, first);
-    if k.number != 0 {
-        let x = refusals::refuse(k.number);
-        return replay_lines::put_refused(out, at, number, x);
-    }
     let passes = flag_of(plan_check::check_passed(k));
     let a = text::put_decimal(out, at, number);
     let b = put_field(out, a, b" check passes=", passes);

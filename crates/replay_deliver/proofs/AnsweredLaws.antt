@@ -12,7 +12,8 @@ use Rattle.header.specs.FirstWord.{mark_of, type_of}
 use Rattle.header.specs.Start.{word_of, start_octets, start_refusal}
 use Rattle.header.proofs.StartLaws.{start_fine}
 use Rattle.packet.specs.Read.{read_type, read_packet}
-use Rattle.packet.specs.declared.Read.TheVariants as read
+use Rattle.packet.specs.declared.Packet.TheVariants as read
+use Rattle.std.specs.Prelude.{Err}
 
 -- 2, 1 and 3, which come before all others, have no code
 start_code : (s : List ℕ) → code_of (start_refusal s) ≡ 0
@@ -25,11 +26,11 @@ start_code s = go (ltb 65535 (length s)) (ltb (length s) (start_octets (word_of 
     go false false true = refl
     go false false false = refl
 
-pub coded_begins : (s : List ℕ) (x : Refusal) → read_packet s ≡ read.Refused x → (x.code ≡ 0 → ⊥) → mark_of (word_of s) ≡ 1
+pub coded_begins : (s : List ℕ) (x : Refusal) → read_packet s ≡ Err x → (x.code ≡ 0 → ⊥) → mark_of (word_of s) ≡ 1
 unfolding read_packet
 coded_begins s x e coded = go (start_refusal s) refl e
   where
-    go : (n : ℕ) → start_refusal s ≡ n → answered read.Refused n (read_type (type_of (word_of s)) s) ≡ read.Refused x → mark_of (word_of s) ≡ 1
+    go : (n : ℕ) → start_refusal s ≡ n → answered Err n (read_type (type_of (word_of s)) s) ≡ Err x → mark_of (word_of s) ≡ 1
     go zero z f = (start_fine s z).mark
     go (suc n) z f =
         let same : x ≡ refusal_of (suc n) = cc in

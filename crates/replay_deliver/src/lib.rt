@@ -8,13 +8,14 @@ ghost use Rattle.packet.specs.Read.{read_packet};
 ghost use Rattle.text.specs.Added.{Added};
 ghost use Rattle.replay_deliver.specs.Deliver.{refusal_lines, opened_code, opened_lines, recorded_sent, recorded_lines, deliver_lines, deliver_area};
 
-use packet::Read;
+use packet::Packet;
 use packet_data::Data;
 use packet_metadata::Metadata;
 use refusals::Refusal;
 use replay_answers::{put_opening, put_recording};
 use replay_status::{put_failure_sent, put_wanted_sent};
-use table::{Opened, Recorded};
+use table::Opened;
+use transfer::Receipt;
 
 // A refusal of the packet p, and the failure STATUS to send for it.
 fn put_refusal(
@@ -33,13 +34,13 @@ fn put_refusal(
 }
 
 // The code of a refusal to open, and 0 where it was accepted.
-fn opened_code(a: Opened) -> u64
+fn opened_code(a: Result<Opened, Refusal>) -> u64
     ensures { result ≡ opened_code a }
 {
     match a {
-        Opened::New(_) => 0,
-        Opened::AlreadyOpen(_) => 0,
-        Opened::Refused(x) => x.code,
+        Ok(Opened::New(_)) => 0,
+        Ok(Opened::AlreadyOpen(_)) => 0,
+        Err(x) => x.code,
     }
 }
 
@@ -50,7 +51,7 @@ fn put_opened(
     number: u64,
     p: &[u8],
     m: Metadata,
-    a: Opened,
+    a: Result<Opened, Refusal>,
     lent: &mut [u8],
 ) -> usize
     requires { at ≤ length out.old }
@@ -68,15 +69,15 @@ fn put_recorded_sent(
     area: &[u8],
     p: &[u8],
     d: Data,
-    a: Recorded,
+    a: Result<Receipt, Refusal>,
     lent: &mut [u8],
 ) -> usize
     requires { at ≤ length out.old }
     ensures { Added out.old at (recorded_sent number p.now d a area.now lent.old) out.new result }
 {
     match a {
-        Recorded::Accepted(_) => put_wanted_sent(out, at, number, area, d, lent),
-        Recorded::Refused(x) => put_failure_sent(out, at, number, p, x.code, lent),
+        Ok(_) => put_wanted_sent(out, at, number, area, d, lent),
+        Err(x) => put_failure_sent(out, at, number, p, x.code, lent),
     }
 }
 
@@ -88,7 +89,7 @@ fn put_recorded(
     area: &[u8],
     p: &[u8],
     d: Data,
-    a: Recorded,
+    a: Result<Receipt, Refusal>,
     lent: &mut [u8],
 ) -> usize
     requires { at ≤ length out.old }
@@ -128,13 +129,15 @@ pub fn deliver(area: &mut [u8], number: u64, p: &[u8], lent: &mut [u8], out: &mu
     ensures { (Added out.old 0 (deliver_lines number p.now (read_packet p.now) area.old lent.old) out.new result)
         × (area.new ≡ deliver_area p.now (read_packet p.now) area.old) }
 {
-    let r = packet::read_packet(p);
-    match r {
-        Read::Beacon(b) => replay_beacon::put_beacon(out, 0, number, p, b),
-        Read::Metadata(m) => open(area, number, p, m, lent, out),
-        Read::Data(d) => record(area, number, p, d, lent, out),
-        Read::Success(s) => replay_success::put_success(out, 0, number, p, s),
-        Read::Failure(f) => replay_packets::put_failure(out, 0, number, f),
-        Read::Refused(x) => put_refusal(out, 0, number, p, x, lent),
+    let packet = match packet::read_packet(p) {
+        Ok(packet) => packet,
+        Err(x) => return put_refusal(out, 0, number, p, x, lent),
+    };
+    match packet {
+        Packet::Beacon(b) => replay_beacon::put_beacon(out, 0, number, p, b),
+        Packet::Metadata(m) => open(area, number, p, m, lent, out),
+        Packet::Data(d) => record(area, number, p, d, lent, out),
+        Packet::Success(s) => replay_success::put_success(out, 0, number, p, s),
+        Packet::Failure(f) => replay_packets::put_failure(out, 0, number, f),
     }
 }

@@ -52,7 +52,7 @@ pub fn put_in_list(out: &mut [u8], at: usize, index: u64, sign: &[u8], a: u64, b
     if index == 0 {
         return put_pair(out, at, sign, a, b);
     }
-    let next = text::push(out, at, 44);
+    let next = text::push(out, at, b',');
     put_pair(out, next, sign, a, b)
 }
 
@@ -60,26 +60,19 @@ pub fn put_in_list(out: &mut [u8], at: usize, index: u64, sign: &[u8], a: u64, b
 pub fn bits_of(width: usize) -> u64
     ensures { result ≡ bits_of width }
 {
-    if width == 2 {
-        return 16;
+    match width {
+        2 => 16,
+        4 => 32,
+        8 => 64,
+        _ => 128,
     }
-    if width == 4 {
-        return 32;
-    }
-    if width == 8 {
-        return 64;
-    }
-    128
 }
 
 // 1 for yes and 0 for no.
 pub fn flag_of(b: bool) -> u64
     ensures { result ≡ flag_of b }
 {
-    if b {
-        return 1;
-    }
-    0
+    u64::from(b)
 }
 
 // How far a transfer has come.
@@ -95,22 +88,13 @@ pub fn put_reached(out: &mut [u8], at: usize, x: Reached) -> usize
 pub fn part(p: &[u8], at: usize, n: usize) -> &[u8]
     ensures { result.now ≡ take n (drop at p.now) }
 {
-    if p.len() <= at {
-        return &p[..0];
-    }
-    if p.len() - at < n {
-        return &p[at..];
-    }
-    let end = at + n;
-    &p[at..end]
+    let rest = &p[at.min(p.len())..];
+    &rest[..n.min(rest.len())]
 }
 
 // As many octets as are asked for, and at most as many as there is room for.
 pub fn within(asked: u64, room: usize) -> usize
     ensures { result ≡ min asked room }
 {
-    if asked < room as u64 {
-        return asked as usize;
-    }
-    room
+    asked.min(room as u64) as usize
 }

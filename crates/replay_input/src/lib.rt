@@ -31,41 +31,29 @@ fn body_length(head: &[u8]) -> u64
 fn read_full<R: Read>(input: &mut R, buf: &mut [u8]) -> usize
     ensures { result ≤ length buf.new }
 {
-    let mut done = 0;
+    let mut done = 0; // a read gives as many octets as it has: how many turns there are is not known before, so this is a `while`
     while done < buf.len() {
-        let n = input.read(&mut buf[done..]).unwrap_or(0);
-        if n == 0 {
-            break;
+        match input.read(&mut buf[done..]) {
+            Ok(0) | Err(_) => break,
+            Ok(n) => done += n,
         }
-        done += n;
     }
     done
 }
 
 // Passes over n octets of the input, and says whether they were there.
 fn skip<R: Read>(input: &mut R, n: u64) -> bool {
-    let mut left = n;
+    let mut space = [0u8; 4096];
+    let mut left = n; // likewise
     while 0 < left {
-        let got = skip_some(input, left);
+        let room = within(left, space.len());
+        let got = read_full(input, &mut space[..room]);
         if got == 0 {
             return false;
         }
-        if left < got {
-            return true;
-        }
-        left -= got;
+        left -= got as u64;
     }
     true
-}
-
-// Passes over some octets, at most n, and says how many; 0 at the end of the input.
-fn skip_some<R: Read>(input: &mut R, n: u64) -> u64 {
-    let mut space = [0u8; 4096];
-    if n < 4096 {
-        let room = n as usize;
-        return read_full(input, &mut space[..room]) as u64;
-    }
-    read_full(input, &mut space) as u64
 }
 
 // Reads the next record: its body into `body`, and what there is no room for is passed over. A read that fails is the end of the input.
@@ -82,11 +70,7 @@ pub fn next<R: Read>(input: &mut R, body: &mut [u8]) -> Input
     }
     let n = body_length(&head);
     let keep = within(n, body.len());
-    let had = read_full(input, &mut body[..keep]);
-    if had < keep {
-        return Input::CutShort;
-    }
-    if !skip(input, n - keep as u64) {
+    if read_full(input, &mut body[..keep]) < keep || !skip(input, n - keep as u64) {
         return Input::CutShort;
     }
     Input::Record(head[0], keep)

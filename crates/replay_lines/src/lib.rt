@@ -13,12 +13,13 @@ use replay_fields::{bits_of, put_field, put_number, put_octets, put_reached};
 use transfer::{Reached, Receipt};
 
 // Words alone; they end the line themselves.
+#[tactic(auto, unfolding(crate::specs::Lines::plain_line))]
 pub fn put_plain(out: &mut [u8], at: usize, number: u64, words: &[u8]) -> usize
     requires { at ≤ length out.old }
     ensures { Added out.old at (plain_line number words.now) out.new result }
 {
-    let next = text::put_decimal(out, at, number);
-    text::put_text(out, next, words)
+    let at = text::put_decimal(out, at, number);
+    text::put_text(out, at, words)
 }
 
 // A body that is not as long as its kind asks for.
@@ -34,10 +35,10 @@ pub fn put_refused(out: &mut [u8], at: usize, number: u64, x: Refusal) -> usize
     requires { at ≤ length out.old }
     ensures { Added out.old at (refused_line number x) out.new result }
 {
-    let a = text::put_decimal(out, at, number);
-    let b = put_field(out, a, b" refused ", x.number);
-    let c = put_field(out, b, b" code=", x.code);
-    text::push(out, c, 10)
+    let at = text::put_decimal(out, at, number);
+    let at = put_field(out, at, b" refused ", x.number);
+    let at = put_field(out, at, b" code=", x.code);
+    text::push(out, at, b'\n')
 }
 
 // A transfer closed.
@@ -45,19 +46,20 @@ pub fn put_closed(out: &mut [u8], at: usize, number: u64, id: u64) -> usize
     requires { at ≤ length out.old }
     ensures { Added out.old at (close_line number id) out.new result }
 {
-    let a = text::put_decimal(out, at, number);
-    let b = put_field(out, a, b" close id=", id);
-    text::push(out, b, 10)
+    let at = text::put_decimal(out, at, number);
+    let at = put_field(out, at, b" close id=", id);
+    text::push(out, at, b'\n')
 }
 
 // A word and octets: a STATUS that was written, or is to be sent.
+#[tactic(auto, unfolding(crate::specs::Lines::octets_line))]
 pub fn put_packet(out: &mut [u8], at: usize, number: u64, word: &[u8], s: &[u8]) -> usize
     requires { at ≤ length out.old }
     ensures { Added out.old at (octets_line number word.now s.now) out.new result }
 {
-    let a = text::put_decimal(out, at, number);
-    let b = put_octets(out, a, word, s);
-    text::push(out, b, 10)
+    let at = text::put_decimal(out, at, number);
+    let at = put_octets(out, at, word, s);
+    text::push(out, at, b'\n')
 }
 
 // A kind of record that there is not.
@@ -65,9 +67,9 @@ pub fn put_unknown(out: &mut [u8], at: usize, number: u64, kind: u64) -> usize
     requires { at ≤ length out.old }
     ensures { Added out.old at (unknown_line number kind) out.new result }
 {
-    let a = text::put_decimal(out, at, number);
-    let b = put_number(out, a, b" unknown kind ", 1, kind);
-    text::push(out, b, 10)
+    let at = text::put_decimal(out, at, number);
+    let at = put_number(out, at, b" unknown kind ", 1, kind);
+    text::push(out, at, b'\n')
 }
 
 // A transfer opened, by METADATA m; `last` says whether it is new, and ends the line.
@@ -82,12 +84,12 @@ pub fn put_opened(
     requires { at ≤ length out.old }
     ensures { Added out.old at (opened_line number m x last.now) out.new result }
 {
-    let a = text::put_decimal(out, at, number);
-    let b = put_field(out, a, b" open id=", m.id);
-    let c = put_field(out, b, b" width=", bits_of(m.width));
-    let d = put_field(out, c, b" length=", m.entry.size);
-    let e = put_reached(out, d, x);
-    text::put_text(out, e, last)
+    let at = text::put_decimal(out, at, number);
+    let at = put_field(out, at, b" open id=", m.id);
+    let at = put_field(out, at, b" width=", bits_of(m.width));
+    let at = put_field(out, at, b" length=", m.entry.size);
+    let at = put_reached(out, at, x);
+    text::put_text(out, at, last)
 }
 
 // DATA d recorded.
@@ -95,11 +97,11 @@ pub fn put_recorded(out: &mut [u8], at: usize, number: u64, d: Data, x: Receipt)
     requires { at ≤ length out.old }
     ensures { Added out.old at (record_line number d x) out.new result }
 {
-    let a = text::put_decimal(out, at, number);
-    let b = put_field(out, a, b" record id=", d.id);
-    let c = put_field(out, b, b" offset=", d.offset);
-    let e = put_field(out, c, b" length=", d.length as u64);
-    let f = put_reached(out, e, x.reached);
-    let g = put_field(out, f, b" absorbed=", x.absorbed);
-    text::push(out, g, 10)
+    let at = text::put_decimal(out, at, number);
+    let at = put_field(out, at, b" record id=", d.id);
+    let at = put_field(out, at, b" offset=", d.offset);
+    let at = put_field(out, at, b" length=", d.length as u64);
+    let at = put_reached(out, at, x.reached);
+    let at = put_field(out, at, b" absorbed=", x.absorbed);
+    text::push(out, at, b'\n')
 }

@@ -98,8 +98,8 @@ pub fn replay<R: Read, W: Write>(
 )
     requires { Room body.old lent.old out.old }
 {
-    area_fresh::fresh(zero);
-    area_fresh::fresh(one);
+    let _ = area_fresh::fresh(zero); // 20 alone is refused, and both are long enough
+    let _ = area_fresh::fresh(one);
     let mut next = Next {
         on: true,
         chosen: 0,

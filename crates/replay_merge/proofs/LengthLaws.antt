@@ -5,8 +5,6 @@ use mathlib.Core.List.{List}
 use native.Mathlib.Omega.{arith}
 use lib.Dec.{eqb}
 use lib.ListN.{length, get_or}
-use Rattle.table_merge.specs.declared.Merged.{Merged}
-use Rattle.table_merge.specs.declared.Merged.TheVariants.{Joined, Refused}
 use Rattle.area_merge.specs.Merge.{merge_area}
 use Rattle.text.proofs.LengthLaws.{AtMost, words, ◌and◌, at_most, decimal_most_lem, decimal_most}
 use Rattle.replay_fields.specs.LineWords.{newline, w_bad, w_merge, w_table}
@@ -14,6 +12,9 @@ use Rattle.replay_fields.proofs.LengthLaws.{field_most_lem, field_most, reached_
 use Rattle.replay_lines.specs.Body.{number_at, bad_line}
 use Rattle.replay_lines.proofs.LengthLaws.{plain_most, refused_most}
 use Rattle.replay_merge.specs.MergeLines.{names_table, table_line, choose_lines, merged_line, merge_text, merge_lines}
+use Rattle.std.specs.Prelude.{Result, Ok, Err}
+use Rattle.refusals.specs.declared.Refusal.{Refusal}
+use Rattle.transfer.specs.declared.Reached.{Reached}
 
 -- none is longer than that of a transfer merged
 abbrev pub merge_most : ℕ
@@ -31,10 +32,10 @@ choose_lines_most n body = go (names_table body)
     go true = table_line_most n (get_or body 0 0)
     go false = at_most (plain_most n w_bad) (omega arith)
 
-pub merge_text_most : (n id : ℕ) (a : Merged) → AtMost (merge_text n id a) merge_most
+pub merge_text_most : (n id : ℕ) (a : Result Reached Refusal) → AtMost (merge_text n id a) merge_most
 unfolding merge_text merged_line
-merge_text_most n id (Joined x) = decimal_most n and field_most w_merge id and reached_most x and words newline
-merge_text_most n id (Refused x) = at_most (refused_most n x) (omega arith)
+merge_text_most n id (Ok x) = decimal_most n and field_most w_merge id and reached_most x and words newline
+merge_text_most n id (Err x) = at_most (refused_most n x) (omega arith)
 
 pub merge_lines_most : (n : ℕ) (body area other : List ℕ) → AtMost (merge_lines n body area other) merge_most
 unfolding merge_lines

@@ -5,13 +5,15 @@ use mathlib.Core.Path.{◌≡◌, ap, ◌∙◌}
 use mathlib.Core.List.{List}
 use lib.ListN.{length}
 use borrow.Author.Tests.{eq-eqb}
-use Rattle.table_merge.specs.declared.Merged.{Merged}
 use Rattle.area_merge.specs.Merge.{merge_area}
 use Rattle.replay_lines.specs.Body.{number_at}
 use Rattle.replay_merge.specs.MergeLines.{merge_text, merge_lines, merge_after}
+use Rattle.std.specs.Prelude.{Result}
+use Rattle.refusals.specs.declared.Refusal.{Refusal}
+use Rattle.transfer.specs.declared.Reached.{Reached}
 
 module _ (body area other : List ℕ) {id : ℕ} (h : length body ≡ 8) (read : id ≡ number_at 0 8 body) where
-  pub merge_lines_are : (n : ℕ) {x : Merged} → x ≡ (merge_area area other id).answer → merge_text n id x ≡ merge_lines n body area other
+  pub merge_lines_are : (n : ℕ) {x : Result Reached Refusal} → x ≡ (merge_area area other id).answer → merge_text n id x ≡ merge_lines n body area other
   unfolding merge_lines
   merge_lines_are n e =
       rw (eq-eqb (length body) 8 h)

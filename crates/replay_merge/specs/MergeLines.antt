@@ -1,15 +1,14 @@
 -- R14.2: the records `T` and `M` (docs/REPLAY.md), of two tables: which one is chosen, and the other's transfer merged into the chosen one's.
 -- Assumes nothing.
-use Rattle.std.specs.Prelude.{ℕ, Bool, false, cond, List, ◌++◌, eqb, ltb, length, get_or}
+use Rattle.std.specs.Prelude.{ℕ, Bool, false, cond, List, ◌++◌, eqb, ltb, length, get_or, Result, Ok, Err}
 use Rattle.transfer.specs.declared.Reached.{Reached}
-use Rattle.table_merge.specs.declared.Merged.{Merged}
-use Rattle.table_merge.specs.declared.Merged.TheVariants.{Joined, Refused}
 use Rattle.area_merge.specs.Merge.{merge_area}
 use Rattle.text.specs.Decimal.{decimal_of}
 use Rattle.replay_fields.specs.LineWords.{newline, w_merge, w_table}
 use Rattle.replay_fields.specs.Fields.{field, reached_text}
 use Rattle.replay_lines.specs.Lines.{refused_line}
 use Rattle.replay_lines.specs.Body.{number_at, bad_line}
+use Rattle.refusals.specs.declared.Refusal.{Refusal}
 
 -- ---- `T`
 
@@ -34,9 +33,9 @@ chosen_after kind body chosen = cond (eqb kind 0x54) (cond (names_table body) (g
 unfoldable pub merged_line : ℕ → ℕ → Reached → List ℕ
 merged_line n id x = decimal_of n ++ (field w_merge id ++ (reached_text x ++ newline))
 
-unfoldable pub merge_text : ℕ → ℕ → Merged → List ℕ
-merge_text n id (Joined x) = merged_line n id x
-merge_text n id (Refused x) = refused_line n x
+unfoldable pub merge_text : ℕ → ℕ → Result Reached Refusal → List ℕ
+merge_text n id (Ok x) = merged_line n id x
+merge_text n id (Err x) = refused_line n x
 
 -- eight octets for the Id. `area` holds the chosen table, which is the first, and `other` the other one
 unfoldable pub merge_lines : ℕ → List ℕ → List ℕ → List ℕ → List ℕ

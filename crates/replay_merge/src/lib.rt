@@ -5,9 +5,9 @@ ghost use Rattle.std.specs.Prelude.{◌≡◌, ◌≤◌, length};
 ghost use Rattle.text.specs.Added.{Added};
 ghost use Rattle.replay_merge.specs.MergeLines.{names_table, table_line, choose_lines, chosen_after, merged_line, merge_text, merge_lines, merge_after};
 
+use refusals::Refusal;
 use replay_fields::{put_field, put_reached};
 use replay_lines::put_bad_length;
-use table_merge::Merged;
 use transfer::Reached;
 
 // Whether the body of a `T` names a table.
@@ -66,13 +66,13 @@ fn put_joined(out: &mut [u8], at: usize, number: u64, id: u64, x: Reached) -> us
 }
 
 // What merging answered.
-fn put_merged(out: &mut [u8], at: usize, number: u64, id: u64, a: Merged) -> usize
+fn put_merged(out: &mut [u8], at: usize, number: u64, id: u64, a: Result<Reached, Refusal>) -> usize
     requires { at ≤ length out.old }
     ensures { Added out.old at (merge_text number id a) out.new result }
 {
     match a {
-        Merged::Joined(x) => put_joined(out, at, number, id, x),
-        Merged::Refused(x) => replay_lines::put_refused(out, at, number, x),
+        Ok(x) => put_joined(out, at, number, id, x),
+        Err(x) => replay_lines::put_refused(out, at, number, x),
     }
 }
 

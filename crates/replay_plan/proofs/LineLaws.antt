@@ -8,9 +8,7 @@ use Rattle.refusals.specs.Refusals.{refusal_of}
 use Rattle.packet_status.specs.Status.{hole_list}
 use Rattle.plan_check.specs.GoodPlan.{GoodPlan}
 use Rattle.plan.specs.Planning.{resend_refusal}
-use Rattle.plan_check.specs.Checking.{check_start, check_all}
 use Rattle.plan.specs.declared.Piece.{Piece}
-use Rattle.plan_check.proofs.CheckLaws.{number_all, number_start}
 use Rattle.plan_check.proofs.PassLaws.{passes_iff}
 use Rattle.replay_lines.specs.Lines.{refused_line}
 use Rattle.replay_plan.specs.PlanLines.{planned_text, check_passes, checked_text}
@@ -18,9 +16,6 @@ use Rattle.replay_plan.specs.PlanLines.{planned_text, check_passes, checked_text
 pub planned_refused : (n number : ℕ) (ps : List Piece) → (number ≡ 0 → ⊥) → refused_line n (refusal_of number) ≡ planned_text n number ps
 planned_refused n zero ps h = absurd (h refl)
 planned_refused n (suc number) ps h = refl
-
-pub checked_number : (m : ℕ) (s : List ℕ) (ps : List Piece) → (check_all (hole_list s) m (check_start (resend_refusal m s) (hole_list s)) ps).number ≡ resend_refusal m s
-checked_number m s ps = number_all (hole_list s) m ps (check_start (resend_refusal m s) (hole_list s)) ∙ number_start (resend_refusal m s) (hole_list s)
 
 pub checked_refused : (n number : ℕ) (passes : Bool) → (number ≡ 0 → ⊥) → refused_line n (refusal_of number) ≡ checked_text n number passes
 checked_refused n zero passes h = absurd (h refl)

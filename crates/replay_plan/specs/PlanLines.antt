@@ -4,10 +4,9 @@ use Rattle.std.specs.Prelude.{ℕ, zero, suc, ◌+◌, ◌*◌, Bool, List, [], 
 use Rattle.refusals.specs.Refusals.{refusal_of}
 use Rattle.packet_status.specs.Status.{hole_list}
 use Rattle.plan.specs.Pieces.{piece, plan_of}
-use Rattle.plan.specs.Planning.{resend_refusal, plan_refusal, planned_of}
+use Rattle.plan.specs.Planning.{ToldPlan, resend_refusal, plan_refusal, planned_of}
 use Rattle.plan_check.specs.Checking.{check_start, check_all, passed}
 use Rattle.plan.specs.declared.Piece.{Piece}
-use Rattle.plan.specs.declared.Plan.{Plan}
 use Rattle.text.specs.Decimal.{decimal_of}
 use Rattle.replay_fields.specs.LineWords.{newline, plus, w_check, w_pieces, w_plan}
 use Rattle.replay_fields.specs.Fields.{field, pair_text, in_list, flag_of}
@@ -30,7 +29,7 @@ abbrev pub records_lent : ℕ
 records_lent = 4096
 
 -- what planning answers where so many are lent
-abbrev pub plan_for : ℕ → List ℕ → Plan
+abbrev pub plan_for : ℕ → List ℕ → ToldPlan
 plan_for m s = planned_of (plan_refusal m records_lent s) m (hole_list s)
 
 -- `14 plan count=2 pieces=1000+400,1400+200`: every piece of the plan; or the refusal

@@ -1,10 +1,10 @@
 // The record `L`: the line of a plan. No list of pieces is held: it is put piece by piece, as crate planner makes it.
 #![tactic(auto)]
 
-ghost use Rattle.std.specs.Prelude.{◌≡◌, ◌+◌, ◌≤◌, length};
+ghost use Rattle.std.specs.Prelude.{◌≡◌, ◌+◌, ◌≤◌, length, Ok};
 ghost use Rattle.packet_status.specs.Status.{hole_list};
 ghost use Rattle.plan.specs.Pieces.{plan_of};
-ghost use Rattle.plan.specs.Planning.{plan_refusal, cursor_at};
+ghost use Rattle.plan.specs.Planning.{plan_refusal, told_plan, cursor_at};
 ghost use Rattle.text.specs.Added.{Added};
 ghost use Rattle.replay_plan.specs.PlanLines.{pieces_text, records_lent, plan_for, plan_line};
 ghost use Rattle.replay_plan.specs.PlanRecords.{plan_lines};
@@ -27,12 +27,10 @@ fn put_pieces(
 {
     let mut cursor = first;
     let mut next = at;
-    let mut i: u64 = 0;
-    while i < count {
+    for i in 0..count {
         let p = planner::piece_at(cursor, largest);
         next = put_in_list(out, next, i, b"+", p.offset, p.length);
         cursor = planner::next_cursor(status, cursor, largest);
-        i += 1;
     }
     next
 }
@@ -46,7 +44,7 @@ fn put_planned(
     largest: u64,
     p: Plan,
 ) -> usize
-    requires { (at ≤ length out.old) × (plan_refusal largest records_lent status.now ≡ 0) × (p ≡ plan_for largest status.now) }
+    requires { (at ≤ length out.old) × (plan_refusal largest records_lent status.now ≡ 0) × (told_plan (Ok p) ≡ plan_for largest status.now) }
     ensures { Added out.old at (plan_line number largest status.now) out.new result }
 {
     let first = planner::cursor_at(status, p.holes, 0);
@@ -62,12 +60,10 @@ fn put_plan(out: &mut [u8], at: usize, number: u64, status: &[u8], largest: u64)
     requires { at ≤ length out.old }
     ensures { Added out.old at (plan_line number largest status.now) out.new result }
 {
-    let p = planner::plan_within(status, largest, 4096);
-    if p.number != 0 {
-        let x = refusals::refuse(p.number);
-        return replay_lines::put_refused(out, at, number, x);
+    match planner::plan_within(status, largest, 4096) {
+        Ok(p) => put_planned(out, at, number, status, largest, p),
+        Err(fault) => replay_lines::put_refused(out, at, number, fault.into()),
     }
-    put_planned(out, at, number, status, largest, p)
 }
 
 // A record `L`: the plan for a STATUS. The body is the largest payload, of 8 octets, and the packet.

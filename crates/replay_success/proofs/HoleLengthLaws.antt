@@ -12,12 +12,12 @@ use Rattle.header.specs.FirstWord.{width_of, descriptor_octets, timestamp_octets
 use Rattle.header.specs.Start.{word_of}
 use Rattle.runs.specs.declared.Hole.{Hole}
 use Rattle.packet_status.specs.Status.{holes_at, list_octets, hole_count, hole_refusal, indexed_hole, read_hole, success_of}
-use Rattle.packet_status.specs.declared.HoleRead.TheVariants as hole-read
 use Rattle.text.proofs.LengthLaws.{AtMost, words, ◌and◌, at_most, taken, decimal_octets}
 use Rattle.replay_fields.specs.LineWords.{comma, dash, newline, w_holes, w_progress, w_response, w_success, w_timestamp}
 use Rattle.replay_fields.proofs.LengthLaws.{field_most_lem, field_most, octets_field_most, in_list_most}
 use Rattle.replay_success.specs.SuccessLine.{hole_text, hole_after, holes_text, success_line}
 use Rattle.replay_packets.proofs.LengthLaws.{head_most_lem, head_most}
+use Rattle.std.specs.Prelude.{Ok, Err}
 
 -- what d octets from any place on stand for
 part_below : (s : List ℕ) (at d : ℕ) → Octets s → be_value (take d (drop at s)) < 256 ^ d
@@ -39,7 +39,7 @@ module _ (p : List ℕ) (o : Octets p) where
   unfolding read_hole hole_after indexed_hole
   after_most i = go (hole_refusal i p)
     where
-      go : (n : ℕ) → AtMost (hole_after i (answered hole-read.Refused n (hole-read.Accepted (indexed_hole i p)))) (3 * pair_octets)
+      go : (n : ℕ) → AtMost (hole_after i (answered Err n (Ok (indexed_hole i p)))) (3 * pair_octets)
       go zero =
           let d = descriptor_octets (word_of p) in
           let at = holes_at (word_of p) + i * (2 * d) in

@@ -6,7 +6,7 @@ ghost use Rattle.packet_status.specs.Status.{read_status, read_hole};
 ghost use Rattle.text.specs.Added.{Added};
 ghost use Rattle.replay_success.specs.SuccessLine.{holes_listed, hole_after, holes_text, success_line};
 
-use packet_status::{StatusRead, SuccessStatus};
+use packet_status::{Status, SuccessStatus};
 use replay_fields::{part, put_field, put_in_list, put_octets};
 use replay_packets::put_head;
 
@@ -15,9 +15,9 @@ fn hole_count(p: &[u8]) -> usize
     ensures { result ≡ holes_listed (read_status p.now) }
 {
     match status_fields::read_status(p) {
-        StatusRead::Success(s) => s.count,
-        StatusRead::Failure(_) => 0,
-        StatusRead::Refused(_) => 0,
+        Ok(Status::Success(s)) => s.count,
+        Ok(Status::Failure(_)) => 0,
+        Err(_) => 0,
     }
 }
 
@@ -40,10 +40,8 @@ fn put_holes(out: &mut [u8], at: usize, p: &[u8], count: usize) -> usize
 {
     let listed = hole_count(p);
     let mut next = at;
-    let mut i = 0;
-    while i < count {
+    for i in 0..count {
         next = put_hole(out, next, p, listed, i);
-        i += 1;
     }
     next
 }

@@ -14,6 +14,7 @@ use timestamp::Kept;
 use transfer::Key;
 
 // What stands before the holes.
+#[tactic(auto, unfolding(transfer_status::specs::WriteStatus::response_sent))]
 pub fn put_front(
     buf: &[u8],
     key: Key,
@@ -28,7 +29,6 @@ pub fn put_front(
         ≡ put 0 (front_octets (fields_sent key (runs_in buf.now rows) partial unasked) (kept_octets kept)) out.old }
 {
     let done = run_rows::is_complete(buf, rows, key.length);
-    let told = transfer_status::unasked_or_complete(unasked, done);
     let progress = run_rows::progress_of(buf, rows);
     let edge = run_rows::edge_of(buf, rows);
     let response = transfer_status::response_sent(key.length, done, edge);
@@ -36,7 +36,7 @@ pub fn put_front(
         id: key.id,
         width: key.width,
         partial,
-        unasked: told,
+        unasked: unasked || done,
         progress,
         response,
     };

@@ -26,14 +26,10 @@ fn put_pairs(
         ≡ put from (pairs width (take count (drop first (holes (runs_in buf.now rows))))) out.old }
 {
     let mut at = from;
-    let mut j = first;
-    let mut left = count;
-    while 0 < left {
-        let h = run_rows::hole_at(buf, rows, j);
+    for k in 0..count {
+        let h = run_rows::hole_at(buf, rows, first + k);
         hole_list::put_hole(out, at, width, h);
-        at = at + 2 * width;
-        j += 1;
-        left -= 1;
+        at += 2 * width;
     }
 }
 
@@ -52,17 +48,10 @@ pub fn put_holes(
     ensures { out.new
         ≡ put from (pairs width (take count (drop first (holes (runs_in buf.now rows))))) out.old }
 {
-    if width == 2 {
-        put_pairs(buf, rows, 2, first, count, out, from);
-        return;
+    match width {
+        2 => put_pairs(buf, rows, 2, first, count, out, from),
+        4 => put_pairs(buf, rows, 4, first, count, out, from),
+        8 => put_pairs(buf, rows, 8, first, count, out, from),
+        _ => put_pairs(buf, rows, 16, first, count, out, from),
     }
-    if width == 4 {
-        put_pairs(buf, rows, 4, first, count, out, from);
-        return;
-    }
-    if width == 8 {
-        put_pairs(buf, rows, 8, first, count, out, from);
-        return;
-    }
-    put_pairs(buf, rows, 16, first, count, out, from);
 }

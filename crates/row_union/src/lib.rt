@@ -1,7 +1,7 @@
 // The union of the runs of two pairs of rows, in one buffer each, by a walk over both at once. It is left in two arrays.
 #![tactic(auto)]
 
-ghost use Rattle.std.specs.Prelude.{◌≡◌, ◌+◌, ◌<◌, max};
+ghost use Rattle.std.specs.Prelude.{◌≡◌, ◌+◌, ◌<◌};
 ghost use Rattle.run_rows.specs.Rows.{runs_in, RowsFit, RowsFine};
 ghost use Rattle.run_union.specs.Union.{union};
 ghost use Rattle.row_union.specs.Joined.{Ahead, RowsPast, Stepped, Put, Joined};
@@ -19,8 +19,8 @@ pub struct Next {
     pub second: u64,
 }
 
-// Above every start, since a run stops above its start.
-const NO_START: u64 = 18446744073709551615;
+// Above every start, since a run stops above its start. It is no Option, so that one comparison tells which run is next.
+const NO_START: u64 = u64::MAX;
 
 // Where run i of the rows starts; above every start where there is none.
 fn start_ahead(buf: &[u8], rows: Rows, i: usize) -> u64
@@ -35,6 +35,7 @@ fn start_ahead(buf: &[u8], rows: Rows, i: usize) -> u64
 
 // The run with the lowest start of those that are left: the runs from i on of the rows x, the next of which starts at `first`, and
 // those from j on of the rows y, the next of which starts at `second`. No word is read twice.
+#[tactic(auto, using(crate::proofs::StepLaws::first_there, crate::proofs::StepLaws::second_there))]
 fn next_run(
     a: &[u8],
     x: Rows,
@@ -49,37 +50,23 @@ fn next_run(
     ensures { Stepped a.now x i b.now y j result }
 {
     if first <= second {
-        let stop = words::word(a, x.stops + i);
-        let ahead = start_ahead(a, x, i + 1);
         return Next {
             start: first,
-            stop,
+            stop: words::word(a, x.stops + i),
             i: i + 1,
             j,
-            first: ahead,
+            first: start_ahead(a, x, i + 1),
             second,
         };
     }
-    let stop = words::word(b, y.stops + j);
-    let ahead = start_ahead(b, y, j + 1);
     Next {
         start: second,
-        stop,
+        stop: words::word(b, y.stops + j),
         i,
         j: j + 1,
         first,
-        second: ahead,
+        second: start_ahead(b, y, j + 1),
     }
-}
-
-// The higher of two numbers.
-fn higher(p: u64, q: u64) -> u64
-    ensures { result ≡ max p q }
-{
-    if p < q {
-        return q;
-    }
-    p
 }
 
 // A number kept at place n, where there is such a place.
@@ -111,18 +98,18 @@ pub fn join_rows(
     let mut next = next_run(a, x, 0, start_ahead(a, x, 0), b, y, 0, start_ahead(b, y, 0));
     let mut lo = next.start;
     let mut hi = next.stop;
-    let mut n: usize = 0;
-    while next.i + next.j < total {
+    let mut n = 0;
+    for passed in 1..total {
         next = next_run(a, x, next.i, next.first, b, y, next.j, next.second);
         if next.start <= hi {
-            hi = higher(hi, next.stop);
-        } else {
-            keep(starts, n, lo);
-            keep(stops, n, hi);
-            n += 1;
-            lo = next.start;
-            hi = next.stop;
+            hi = hi.max(next.stop);
+            continue;
         }
+        keep(starts, n, lo);
+        keep(stops, n, hi);
+        n += 1;
+        lo = next.start;
+        hi = next.stop;
     }
     keep(starts, n, lo);
     keep(stops, n, hi);

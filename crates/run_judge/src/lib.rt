@@ -8,6 +8,7 @@ ghost use Rattle.run_judge.specs.Judge.{runs_test};
 use run_rows::Rows;
 
 // Whether the words of the rows are the runs of a transfer of this length. They rise, so the last stop alone is compared with it.
+#[tactic(auto, using(crate::proofs::LoopLaws::runs_none, crate::proofs::LoopLaws::first_not, crate::proofs::LoopLaws::first_more, crate::proofs::LoopLaws::later_more, crate::proofs::LoopLaws::later_end))]
 pub fn runs_ok(buf: &[u8], rows: Rows, size: u64) -> bool
     requires { RowsFit buf.now rows }
     ensures { result ≡ runs_test size (runs_in buf.now rows) }
@@ -22,8 +23,7 @@ pub fn runs_ok(buf: &[u8], rows: Rows, size: u64) -> bool
     if last <= words::word(buf, s) {
         return false;
     }
-    let mut k = 1;
-    while k < n {
+    for k in 1..n {
         let start = words::word(buf, s + k);
         if start <= last {
             return false;
@@ -32,7 +32,6 @@ pub fn runs_ok(buf: &[u8], rows: Rows, size: u64) -> bool
         if last <= start {
             return false;
         }
-        k += 1;
     }
     last <= size
 }

@@ -20,6 +20,7 @@ pub struct Rows {
 // ---- what the runs say of their transfer
 
 // One more than the highest received offset; 0 where there is none.
+#[tactic(auto, using(crate::proofs::RowReads::edge_none, crate::proofs::RowReads::edge_some))]
 pub fn edge_of(buf: &[u8], rows: Rows) -> u64
     requires { RowsFit buf.now rows }
     ensures { result ≡ edge (runs_in buf.now rows) }
@@ -32,20 +33,19 @@ pub fn edge_of(buf: &[u8], rows: Rows) -> u64
 }
 
 // The lowest offset that is not received.
+#[tactic(auto, using(crate::proofs::RowReads::progress_none, crate::proofs::RowReads::progress_low, crate::proofs::RowReads::progress_high))]
 pub fn progress_of(buf: &[u8], rows: Rows) -> u64
     requires { RowsFit buf.now rows }
     ensures { result ≡ progress (runs_in buf.now rows) }
 {
-    if rows.count == 0 {
-        return 0;
-    }
-    if words::word(buf, rows.starts) != 0 {
+    if rows.count == 0 || words::word(buf, rows.starts) != 0 {
         return 0;
     }
     words::word(buf, rows.stops)
 }
 
 // Whether all offsets below `length` are received.
+#[tactic(auto, using(crate::proofs::RowReads::complete_by))]
 pub fn is_complete(buf: &[u8], rows: Rows, length: u64) -> bool
     requires { RowsFit buf.now rows }
     ensures { result ≡ complete length (runs_in buf.now rows) }
@@ -54,23 +54,22 @@ pub fn is_complete(buf: &[u8], rows: Rows, length: u64) -> bool
 }
 
 // How many offsets are received. No sum wraps: the runs before a run have no more of them than lie below its start.
+#[tactic(auto, using(crate::proofs::RowReads::sum_next, crate::proofs::RowReads::sum_whole), unfolding(runs::specs::Received::received))]
 pub fn received_of(buf: &[u8], rows: Rows) -> u64
     requires { RowsFine buf.now rows }
     ensures { result ≡ received (runs_in buf.now rows) }
 {
-    let n = rows.count;
-    let mut sum: u64 = 0;
-    let mut k: usize = 0;
-    while k < n {
+    let mut sum = 0;
+    for k in 0..rows.count {
         let start = words::word(buf, rows.starts + k);
         let stop = words::word(buf, rows.stops + k);
         sum += stop - start;
-        k += 1;
     }
     sum
 }
 
 // How many holes there are below the edge.
+#[tactic(auto, using(crate::proofs::RowReads::holes_none, crate::proofs::RowReads::holes_low, crate::proofs::RowReads::holes_high))]
 pub fn hole_count(buf: &[u8], rows: Rows) -> usize
     requires { RowsFine buf.now rows }
     ensures { result ≡ length (holes (runs_in buf.now rows)) }
@@ -87,6 +86,7 @@ pub fn hole_count(buf: &[u8], rows: Rows) -> usize
 }
 
 // Hole j, from the lowest.
+#[tactic(auto, using(crate::proofs::RowReads::hole_low, crate::proofs::RowReads::hole_first, crate::proofs::RowReads::hole_next))]
 pub fn hole_at(buf: &[u8], rows: Rows, j: usize) -> Hole
     requires { RowsFine buf.now rows × (j < length (holes (runs_in buf.now rows))) }
     ensures { result ≡ get_or (holes (runs_in buf.now rows)) j (hole 0 0) }

@@ -11,25 +11,25 @@ ghost use Rattle.answer_packets.specs.PacketAnswers.{packet_answer};
 
 use answer_packets::PacketAnswer;
 use answers::{HoleAnswer, WrittenAnswer};
-use packet::Read;
+use packet::Packet;
 
 // DATA comes most often and is answered first, without the enum. Each case has its own `return`, and stands here and not in one
 // function below: where the cases met in one place, the compiler would bring 33 fields there over the stack.
+#[tactic(auto, using(packet::proofs::CaseLaws::data_taken))]
 #[unsafe(no_mangle)]
 pub extern "C" fn saratoga_read(packet: &[u8]) -> PacketAnswer
     ensures { result ≡ packet_answer (read_packet packet.now) }
 {
-    if packet_data::data_refusal(packet) == 0 {
+    if packet_data::data_refusal(packet).is_ok() {
         return answer_packets::data_packet(packet_data::data_fields(packet));
     }
-    let a = packet::read_packet(packet);
-    match a {
-        Read::Beacon(b) => return answer_packets::beacon_packet(b),
-        Read::Metadata(m) => return answer_packets::metadata_packet(m),
-        Read::Data(d) => return answer_packets::data_packet(d),
-        Read::Success(s) => return answer_packets::success_packet(s),
-        Read::Failure(f) => return answer_packets::failure_packet(f),
-        Read::Refused(r) => return answer_packets::refused_packet(r),
+    match packet::read_packet(packet) {
+        Ok(Packet::Beacon(b)) => return answer_packets::beacon_packet(b),
+        Ok(Packet::Metadata(m)) => return answer_packets::metadata_packet(m),
+        Ok(Packet::Data(d)) => return answer_packets::data_packet(d),
+        Ok(Packet::Success(s)) => return answer_packets::success_packet(s),
+        Ok(Packet::Failure(f)) => return answer_packets::failure_packet(f),
+        Err(r) => return answer_packets::refused_packet(r),
     }
 }
 

@@ -1,6 +1,6 @@
 -- R18.6: one pair of a settings file, at the start of s, which is all that is left of the file.
 -- Assumes nothing.
-use Rattle.std.specs.Prelude.{ℕ, zero, suc, ◌+◌, List}
+use Rattle.std.specs.Prelude.{ℕ, ◌+◌, List}
 use Rattle.refusals.specs.Refusals.{◌▹◌}
 use Rattle.varint.specs.Varint.{varint_refusal, varint_value, varint_size, after_varint}
 use Rattle.settings.specs.Settings.{key_refusal, value_refusal}
@@ -24,10 +24,6 @@ unfoldable pub pair_refusal : ℕ → ℕ → List ℕ → ℕ
 pair_refusal version last s =
     varint_refusal s ▹ key_refusal version last (key_in s) ▹ varint_refusal (after_varint s) ▹ value_refusal (key_in s) (value_in s)
 
--- the pair with its size, or the refusal
-abbrev pub pair_or : ℕ → ℕ → ℕ → ℕ → Pair
-pair_or zero key value size = record { refusal = 0; key = key; value = value; size = size }
-pair_or (suc n) key value size = record { refusal = suc n; key = 0; value = 0; size = 0 }
-
-unfoldable pub pair_in : ℕ → ℕ → List ℕ → Pair
-pair_in version last s = pair_or (pair_refusal version last s) (key_in s) (value_in s) (pair_size s)
+-- a pair that is not refused, with its size
+abbrev pub pair_in : List ℕ → Pair
+pair_in s = record { key = key_in s; value = value_in s; size = pair_size s }

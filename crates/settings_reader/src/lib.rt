@@ -4,15 +4,8 @@
 ghost use Rattle.std.specs.Prelude.{◌≡◌, ◌≤◌, length, drop};
 ghost use Rattle.settings_reader.specs.ReadSettings.{no_settings, with_pair, settings_from, read_settings};
 
-use refusals::Refusal;
+use refusals::{Fault, Refusal};
 use settings::Settings;
-
-// What the reader answers.
-#[derive(Clone, Copy)]
-pub enum SettingsRead {
-    Accepted(Settings),
-    Refused(Refusal),
-}
 
 // No pair was read yet.
 fn no_settings(version: u64) -> Settings
@@ -29,80 +22,58 @@ fn no_settings(version: u64) -> Settings
 }
 
 // The settings with one pair more.
+#[tactic(auto, unfolding(crate::specs::ReadSettings::with_pair))]
 fn with_pair(key: u64, value: u64, got: Settings) -> Settings
     ensures { result ≡ with_pair key value got }
 {
-    if key == 1 {
-        return Settings {
-            version: got.version,
+    match key {
+        1 => Settings {
             largest: value,
-            timed: got.timed,
-            interval: got.interval,
-            paired: got.paired,
-            partner: got.partner,
-        };
-    }
-    if key == 2 {
-        return Settings {
-            version: got.version,
-            largest: got.largest,
+            ..got
+        },
+        2 => Settings {
             timed: true,
             interval: value,
-            paired: got.paired,
-            partner: got.partner,
-        };
-    }
-    Settings {
-        version: got.version,
-        largest: got.largest,
-        timed: got.timed,
-        interval: got.interval,
-        paired: true,
-        partner: value,
+            ..got
+        },
+        _ => Settings {
+            paired: true,
+            partner: value,
+            ..got
+        },
     }
 }
 
-// Reads the pairs, `count` of them, from `start` on. Keys rise and are at most 3, so the loop has at most three turns, whatever the
-// count.
-fn read_pairs(file: &[u8], start: usize, version: u64, count: u64) -> SettingsRead
+// Reads the pairs, `count` of them, from `start` on. Keys rise and are at most 3, so the loop has at most four turns, whatever the
+// count. Refusals 1 and 25.
+#[tactic(auto, using(refusals::proofs::FaultLaws::fault_answers, settings_pairs::proofs::PairLaws::after_both, crate::proofs::WalkLaws::from_step))]
+fn read_pairs(file: &[u8], start: usize, version: u64, count: u64) -> Result<Settings, Refusal>
     requires { start ≤ length file.now }
     ensures { result ≡ settings_from version 0 (no_settings version) count (drop start file.now) }
 {
     let mut at = start;
-    let mut left = count;
     let mut last: u64 = 0;
     let mut got = no_settings(version);
-    while 0 < left {
-        let p = settings_pairs::read_pair(file, at, version, last);
-        if p.refusal != 0 {
-            return SettingsRead::Refused(refusals::refuse(p.refusal));
-        }
-        got = with_pair(p.key, p.value, got);
-        last = p.key;
-        at = at + p.size;
-        left = left - 1;
+    // named, since the invariant speaks of it
+    for _turn in 0..count {
+        let pair = settings_pairs::read_pair(file, at, version, last)?;
+        got = with_pair(pair.key, pair.value, got);
+        last = pair.key;
+        at += pair.size;
     }
-    if at < file.len() {
-        return SettingsRead::Refused(refusals::refuse(25));
+    if at < file.len() || got.largest == 0 {
+        return Err(Fault::Settings.into());
     }
-    if got.largest == 0 {
-        return SettingsRead::Refused(refusals::refuse(25));
-    }
-    SettingsRead::Accepted(got)
+    Ok(got)
 }
 
 // Reads a plant's settings file; `known` is the highest version that the reader knows.
-pub fn read_settings(file: &[u8], known: u64) -> SettingsRead
+#[tactic(auto, using(refusals::proofs::FaultLaws::fault_answers, settings_pairs::proofs::PairLaws::after_number), unfolding(crate::specs::ReadSettings::read_settings, crate::specs::ReadSettings::head_refusal))]
+pub fn read_settings(file: &[u8], known: u64) -> Result<Settings, Refusal>
     ensures { result ≡ read_settings known file.now }
 {
-    let v = varint::read(file, 0);
-    let n = refusals::first(v.refusal, settings::version_refusal(known, v.value));
-    if n != 0 {
-        return SettingsRead::Refused(refusals::refuse(n));
-    }
-    let count = varint::read(file, v.size);
-    if count.refusal != 0 {
-        return SettingsRead::Refused(refusals::refuse(count.refusal));
-    }
-    read_pairs(file, v.size + count.size, v.value, count.value)
+    let version = varint::read(file, 0)?;
+    settings::version_refusal(known, version.value)?;
+    let count = varint::read(file, version.size)?;
+    read_pairs(file, version.size + count.size, version.value, count.value)
 }

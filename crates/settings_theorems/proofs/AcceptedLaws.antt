@@ -14,7 +14,6 @@ use Rattle.varint.proofs.WrittenLaws.{length_small, length_most}
 use Rattle.settings.specs.Settings.{value_refusal}
 use Rattle.settings.specs.declared.Settings.{Settings}
 use Rattle.settings.proofs.LimitLaws.{version_known_iff, payload_iff, interval_iff, partner_iff, value_lt}
-use Rattle.settings_reader.specs.declared.SettingsRead.{SettingsRead}
 use Rattle.settings_writer.specs.WriteSettings.{option_refusal, settings_refusal, option_octets, pair_count, settings_octets}
 use Rattle.settings_writer.proofs.WritingLaws.{settings_length}
 use Rattle.settings_writer.proofs.LimitLaws.{given_taken, SettingsFine, settings_fine}
@@ -22,6 +21,8 @@ use Rattle.settings_theorems.specs.Theorems.{number_in, number_of}
 use Rattle.settings_theorems.proofs.NumberLaws.{read_accepted}
 use Rattle.settings_theorems.proofs.ReadsBack.{octets_read}
 use Rattle.settings_theorems.proofs.WritesBack.{version_le, same_octets_lem, read_fine}
+use Rattle.std.specs.Prelude.{Result}
+use Rattle.refusals.specs.declared.Refusal.{Refusal}
 
 -- R18.11, R18.12
 pub accepted_iff : (known : ℕ) (s : List ℕ) → Octets s
@@ -36,7 +37,7 @@ accepted_iff known s o = (to, from)
     from : (st : Settings) × (settings_refusal st ≡ 0) × (st.version ≤ known) × (settings_octets st ≡ s) → number_of known s ≡ 0
     from p =
         ap (λ (l : List ℕ). number_of known l) (sym p.3)
-        ∙ ap (λ (r : SettingsRead). number_in r) (octets_read known p.0 p.1 p.2)
+        ∙ ap (λ (r : Result Settings Refusal). number_in r) (octets_read known p.0 p.1 p.2)
 
 -- a key that may be left out has its own octet and at most g + 1 groups
 option_length : (version key value g : ℕ) → key < 128 → (value_refusal key value ≡ 0 → value < 128 ^ suc g) → (given : Bool)

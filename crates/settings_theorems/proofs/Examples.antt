@@ -7,9 +7,9 @@ use Rattle.varint.specs.Varint.{octet_refusal, varint_octets, varint_refusal}
 use Rattle.settings.specs.Settings.{version_refusal, key_refusal, range_refusal, value_refusal}
 use Rattle.settings_pairs.specs.Pairs.{pair_refusal}
 use Rattle.settings_reader.specs.ReadSettings.{with_pair, head_refusal, read_settings}
-use Rattle.settings_reader.specs.declared.SettingsRead.TheVariants.{Accepted}
 use Rattle.settings_writer.specs.WriteSettings.{option_refusal, settings_refusal, settings_octets, settings_write_refusal}
 use Rattle.settings_theorems.specs.Theorems.{number_of}
+use Rattle.std.specs.Prelude.{Ok}
 
 -- the version: unfinished, too long a form, 3, 0, and 2 for a reader that knows 1
 versions :
@@ -56,8 +56,8 @@ ends = (refl, refl)
 
 -- taken: a payload of 1,024, and all three keys
 taken :
-    (read_settings 1 (1 ∷ 1 ∷ 1 ∷ 0x80 ∷ 8 ∷ []) ≡ Accepted (record { version = 1; largest = 1024; timed = false; interval = 0; paired = false; partner = 0 }))
-    × (read_settings 2 (2 ∷ 3 ∷ 1 ∷ 0x80 ∷ 8 ∷ 2 ∷ 60 ∷ 3 ∷ 0 ∷ []) ≡ Accepted (record { version = 2; largest = 1024; timed = true; interval = 60; paired = true; partner = 0 }))
+    (read_settings 1 (1 ∷ 1 ∷ 1 ∷ 0x80 ∷ 8 ∷ []) ≡ Ok (record { version = 1; largest = 1024; timed = false; interval = 0; paired = false; partner = 0 }))
+    × (read_settings 2 (2 ∷ 3 ∷ 1 ∷ 0x80 ∷ 8 ∷ 2 ∷ 60 ∷ 3 ∷ 0 ∷ []) ≡ Ok (record { version = 2; largest = 1024; timed = true; interval = 60; paired = true; partner = 0 }))
 unfolding read_settings head_refusal version_refusal varint_refusal octet_refusal pair_refusal key_refusal value_refusal range_refusal with_pair
 taken = (refl, refl)
 

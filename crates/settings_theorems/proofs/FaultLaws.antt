@@ -18,10 +18,10 @@ use Rattle.settings.specs.declared.Settings.{Settings}
 use Rattle.settings_pairs.specs.Pairs.{key_in, value_in, after_pair, pair_refusal}
 use Rattle.settings_pairs.proofs.PairLaws.{value_part, PairFine, pair_fine}
 use Rattle.settings_reader.specs.ReadSettings.{no_settings, with_pair, settings_from}
-use Rattle.settings_reader.specs.declared.SettingsRead.{SettingsRead}
-use Rattle.settings_reader.specs.declared.SettingsRead.TheVariants.{Accepted, Refused}
 use Rattle.settings_theorems.specs.Theorems.{number_in, number_of, FaultDecides, BeginningUnfinished, NothingAfter}
 use Rattle.settings_theorems.proofs.NumberLaws.{number_answered, number_is, pairs_number, number_all}
+use Rattle.std.specs.Prelude.{Result, Ok, Err}
+use Rattle.refusals.specs.declared.Refusal.{Refusal}
 
 -- a chain in which each part stays as long as it isn't 1, and the same where its end becomes 25
 chain_same : (a a' r r' : ℕ) → (a ▹ r ≡ 1 → ⊥) → ((a ≡ 1 → ⊥) → a' ≡ a) → (a ≡ 0 → (r ≡ 1 → ⊥) → r' ≡ r) → a' ▹ r' ≡ a ▹ r
@@ -35,7 +35,7 @@ chain_longer (suc a) a' r r' h f g = rw (f h)
 same_pairs : (v w m n : ℕ) (k l : List ℕ) → v ≡ w → m ≡ n → k ≡ l → number_in (settings_from v 0 (no_settings v) m k) ≡ number_in (settings_from w 0 (no_settings w) n l)
 same_pairs v w m n k l a b c =
     let e : settings_from v 0 (no_settings v) m k ≡ settings_from w 0 (no_settings w) n l = rw (a, b, c) in
-    ap (λ (r : SettingsRead). number_in r) e
+    ap (λ (r : Result Settings Refusal). number_in r) e
 
 module _ (t : List ℕ) where
   value_longer_after : (version last : ℕ) (s : List ℕ) → varint_refusal s ≡ 0 → (value_part version last s ≡ 1 → ⊥)
@@ -74,7 +74,7 @@ module _ (t : List ℕ) where
         rw (lt-ltb 0 (length (s ++ t)) (omega (arith, length-append s t)))
         (go (ltb 0 (length s)) (eqb got.largest 0))
       where
-        go : (a b : Bool) → 25 ≡ number_in (answered Refused (when a 25 ▹ when b 25) (Accepted got)) ▹ 25
+        go : (a b : Bool) → 25 ≡ number_in (answered Err (when a 25 ▹ when b 25) (Ok got)) ▹ 25
         go true b = refl
         go false true = refl
         go false false = refl

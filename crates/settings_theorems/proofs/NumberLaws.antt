@@ -21,11 +21,10 @@ use Rattle.settings.proofs.LimitLaws.{version_unknown_iff, version_all}
 use Rattle.settings_pairs.specs.Pairs.{key_in, value_in, after_pair, pair_refusal}
 use Rattle.settings_pairs.proofs.PairLaws.{pair_all}
 use Rattle.settings_reader.specs.ReadSettings.{no_settings, with_pair, end_refusal, settings_from, head_refusal, read_settings}
-use Rattle.settings_reader.specs.declared.SettingsRead.{SettingsRead}
-use Rattle.settings_reader.specs.declared.SettingsRead.TheVariants.{Accepted, Refused}
 use Rattle.settings_theorems.specs.Theorems.{number_in, number_of}
+use Rattle.std.specs.Prelude.{Result, Ok, Err}
 
-pub number_answered : (n : ℕ) (r : SettingsRead) → number_in (answered Refused n r) ≡ n ▹ number_in r
+pub number_answered : (n : ℕ) (r : Result Settings Refusal) → number_in (answered Err n r) ≡ n ▹ number_in r
 number_answered zero r = refl
 number_answered (suc n) r = refl
 
@@ -41,7 +40,7 @@ module _ (version : ℕ) where
 
   pub pairs_iff : (k last : ℕ) (got : Settings) (n : ℕ) (s : List ℕ) → (k ≡ 0 → ⊥)
       → (number_in (settings_from version last got n s) ≡ k) ↔ PairsGive k last got n s
-  pairs_iff k last got zero s h = rw (number_answered (end_refusal got s) (Accepted got), nothing_after (end_refusal got s)) Iff.rfl
+  pairs_iff k last got zero s h = rw (number_answered (end_refusal got s) (Ok got), nothing_after (end_refusal got s)) Iff.rfl
   pairs_iff k last got (suc n) s h =
       rw (number_answered (pair_refusal version last s) _)
       (Iff.trans (chain_iff (pair_refusal version last s) _ k h)
@@ -49,7 +48,7 @@ module _ (version : ℕ) where
 
   pairs_all : (P : ℕ → Type 0) (last : ℕ) (got : Settings) (n : ℕ) (s : List ℕ) → P 0 → P 1 → P 25 → P (number_in (settings_from version last got n s))
   pairs_all P last got zero s z a b =
-      rw (number_answered (end_refusal got s) (Accepted got))
+      rw (number_answered (end_refusal got s) (Ok got))
       (chain_all P (end_refusal got s) 0 (link_all P (ltb 0 (length s)) 25 _ b (when_all P (eqb got.largest 0) 25 z b)) z)
   pairs_all P last got (suc n) s z a b =
       rw (number_answered (pair_refusal version last s) _)
@@ -110,11 +109,11 @@ module _ (known : ℕ) (s : List ℕ) where
 
 -- ---- R9.27: a refused file has code 0: nothing is sent
 
-abbrev code_in : SettingsRead → ℕ
-code_in (Accepted s) = 0
-code_in (Refused r) = r.code
+abbrev code_in : Result Settings Refusal → ℕ
+code_in (Ok s) = 0
+code_in (Err r) = r.code
 
-code_answered : (n : ℕ) (r : SettingsRead) → code_of n ≡ 0 → code_in r ≡ 0 → code_in (answered Refused n r) ≡ 0
+code_answered : (n : ℕ) (r : Result Settings Refusal) → code_of n ≡ 0 → code_in r ≡ 0 → code_in (answered Err n r) ≡ 0
 code_answered zero r e f = f
 code_answered (suc n) r e f = e
 
@@ -124,12 +123,12 @@ Sendless n = code_of n ≡ 0
 pairs_code : (version last : ℕ) (got : Settings) (n : ℕ) (s : List ℕ) → code_in (settings_from version last got n s) ≡ 0
 unfolding code_of
 pairs_code version last got zero s =
-    code_answered (end_refusal got s) (Accepted got) (link_all Sendless (ltb 0 (length s)) 25 _ refl (when_all Sendless (eqb got.largest 0) 25 refl refl)) refl
+    code_answered (end_refusal got s) (Ok got) (link_all Sendless (ltb 0 (length s)) 25 _ refl (when_all Sendless (eqb got.largest 0) 25 refl refl)) refl
 pairs_code version last got (suc n) s =
     code_answered (pair_refusal version last s) _ (pair_all version last s Sendless refl refl refl)
     (pairs_code version (key_in s) (with_pair (key_in s) (value_in s) got) n (after_pair s))
 
-pub code_none : (known : ℕ) (s : List ℕ) (r : Refusal) → read_settings known s ≡ Refused r → r.code ≡ 0
+pub code_none : (known : ℕ) (s : List ℕ) (r : Refusal) → read_settings known s ≡ Err r → r.code ≡ 0
 unfolding read_settings head_refusal code_of
 code_none known s r e =
     let v = varint_value s in
@@ -142,19 +141,19 @@ code_none known s r e =
 
 -- ---- a file with the number 0 is taken
 
-accepted_of : (n : ℕ) (r : SettingsRead) → (number_in r ≡ 0 → (st : Settings) × (r ≡ Accepted st)) → number_in (answered Refused n r) ≡ 0
-    → (st : Settings) × (answered Refused n r ≡ Accepted st)
+accepted_of : (n : ℕ) (r : Result Settings Refusal) → (number_in r ≡ 0 → (st : Settings) × (r ≡ Ok st)) → number_in (answered Err n r) ≡ 0
+    → (st : Settings) × (answered Err n r ≡ Ok st)
 accepted_of zero r f e = f e
 accepted_of (suc n) r f e = absurd (omega arith)
 
 pairs_accepted : (version last : ℕ) (got : Settings) (n : ℕ) (s : List ℕ) → number_in (settings_from version last got n s) ≡ 0
-    → (st : Settings) × (settings_from version last got n s ≡ Accepted st)
-pairs_accepted version last got zero s e = accepted_of (end_refusal got s) (Accepted got) (λ q. (got, refl)) e
+    → (st : Settings) × (settings_from version last got n s ≡ Ok st)
+pairs_accepted version last got zero s e = accepted_of (end_refusal got s) (Ok got) (λ q. (got, refl)) e
 pairs_accepted version last got (suc n) s e =
     let next = settings_from version (key_in s) (with_pair (key_in s) (value_in s) got) n (after_pair s) in
     accepted_of (pair_refusal version last s) next (λ q. pairs_accepted version (key_in s) (with_pair (key_in s) (value_in s) got) n (after_pair s) q) e
 
-pub read_accepted : (known : ℕ) (s : List ℕ) → number_of known s ≡ 0 → (st : Settings) × (read_settings known s ≡ Accepted st)
+pub read_accepted : (known : ℕ) (s : List ℕ) → number_of known s ≡ 0 → (st : Settings) × (read_settings known s ≡ Ok st)
 unfolding read_settings
 read_accepted known s e =
     let v = varint_value s in

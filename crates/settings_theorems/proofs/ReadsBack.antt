@@ -19,13 +19,13 @@ use Rattle.settings.proofs.LimitLaws.{version_known_iff, key_taken_iff, highest_
 use Rattle.settings_pairs.specs.Pairs.{key_in, value_in, after_pair, pair_refusal}
 use Rattle.settings_pairs.proofs.PairLaws.{pair_none}
 use Rattle.settings_reader.specs.ReadSettings.{no_settings, with_pair, settings_from, read_settings}
-use Rattle.settings_reader.specs.declared.SettingsRead.TheVariants.{Accepted}
 use Rattle.settings_reader.proofs.WalkLaws.{end_taken}
 use Rattle.settings_reader.proofs.FileLaws.{pairs_next}
 use Rattle.settings_writer.specs.WriteSettings.{option_refusal, settings_refusal, pair_octets, option_octets, pair_count, settings_octets, settings_write_refusal, settings_written, settings_buffer}
 use Rattle.settings_writer.proofs.WritingLaws.{writable}
 use Rattle.settings_writer.proofs.LimitLaws.{given_taken, left_out_iff, SettingsFine, settings_fine}
 use Rattle.settings_theorems.specs.Theorems.{ReadsBack}
+use Rattle.std.specs.Prelude.{Ok}
 
 -- ---- one pair
 
@@ -117,7 +117,7 @@ module _ (s : Settings) (fine : SettingsFine s) where
 
   from_all : settings_from v 0 (no_settings v) (pair_count s)
       (pair_octets 1 s.largest ++ (option_octets s.timed 2 s.interval ++ option_octets s.paired 3 s.partner))
-      ≡ Accepted s
+      ≡ Ok s
   from_all =
       let o2 = option_octets s.timed 2 s.interval in
       let o3 = option_octets s.paired 3 s.partner in
@@ -135,7 +135,7 @@ module _ (s : Settings) (fine : SettingsFine s) where
 
 -- ---- the file, by every reader that knows its version
 
-pub octets_read : (known : ℕ) (s : Settings) → settings_refusal s ≡ 0 → s.version ≤ known → read_settings known (settings_octets s) ≡ Accepted s
+pub octets_read : (known : ℕ) (s : Settings) → settings_refusal s ≡ 0 → s.version ≤ known → read_settings known (settings_octets s) ≡ Ok s
 unfolding settings_octets
 octets_read known s ok h =
     let fine : SettingsFine s = settings_fine s ok in

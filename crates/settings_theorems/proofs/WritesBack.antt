@@ -24,19 +24,19 @@ use Rattle.settings.proofs.LimitLaws.{version_known_iff, highest_le, payload_iff
 use Rattle.settings_pairs.specs.Pairs.{key_in, value_in, after_pair}
 use Rattle.settings_pairs.proofs.PairLaws.{PairFine, pair_fine}
 use Rattle.settings_reader.specs.ReadSettings.{no_settings, with_pair, end_refusal, settings_from, head_refusal, read_settings}
-use Rattle.settings_reader.specs.declared.SettingsRead.{SettingsRead}
-use Rattle.settings_reader.specs.declared.SettingsRead.TheVariants.{Accepted, Refused}
 use Rattle.settings_reader.proofs.FileLaws.{HeadFine, head_fine}
 use Rattle.settings_writer.specs.WriteSettings.{option_refusal, settings_refusal, pair_octets, option_octets, pair_count, settings_octets, settings_write_refusal, settings_written, settings_buffer}
 use Rattle.settings_writer.proofs.LimitLaws.{taken_given, left_out_iff, settings_none}
 use Rattle.settings_theorems.specs.Theorems.{WritesBack}
+use Rattle.std.specs.Prelude.{Result, Ok, Err}
+use Rattle.refusals.specs.declared.Refusal.{Refusal}
 
 -- an answer that accepts was not refused
-accepted_given : (n : ℕ) (r : SettingsRead) (st : Settings) → answered Refused n r ≡ Accepted st → (n ≡ 0) × (r ≡ Accepted st)
+accepted_given : (n : ℕ) (r : Result Settings Refusal) (st : Settings) → answered Err n r ≡ Ok st → (n ≡ 0) × (r ≡ Ok st)
 accepted_given zero r st e = (refl, e)
 accepted_given (suc n) r st e = absurd (let z : ◌≡◌ {A = ℕ} 0 1 = cc in omega arith)
 
-accepted_same : (a b : Settings) → Accepted a ≡ Accepted b → a ≡ b
+accepted_same : (a b : Settings) → ◌≡◌ {A = Result Settings Refusal} (Ok a) (Ok b) → a ≡ b
 accepted_same a b e = cc
 
 -- ---- the pairs read so far, each of which may be missing yet
@@ -161,7 +161,7 @@ pair_whole version last s o p =
     ∙ varint_whole s o p.key_form
 
 kept : (version last : ℕ) (g : Settings) (n : ℕ) (s : List ℕ) (st : Settings) → Octets s → Held version last g
-    → settings_from version last g n s ≡ Accepted st → Kept version g n s st
+    → settings_from version last g n s ≡ Ok st → Kept version g n s st
 kept version last g zero s st o i e =
     let a = accepted_given _ _ _ e in
     kept_end version g st s (accepted_same g st a.1) i.fits a.0
@@ -185,9 +185,9 @@ kept version last g (suc n) s st o i e =
 
 -- ---- the file
 
-module _ (known : ℕ) (s : List ℕ) (st : Settings) (o : Octets s) (e : read_settings known s ≡ Accepted st) where
+module _ (known : ℕ) (s : List ℕ) (st : Settings) (o : Octets s) (e : read_settings known s ≡ Ok st) where
   given : (head_refusal known s ≡ 0)
-      × (settings_from (varint_value s) 0 (no_settings (varint_value s)) (varint_value (after_varint s)) (after_pair s) ≡ Accepted st)
+      × (settings_from (varint_value s) 0 (no_settings (varint_value s)) (varint_value (after_varint s)) (after_pair s) ≡ Ok st)
   unfolding read_settings
   given = accepted_given _ _ _ e
 

@@ -10,7 +10,6 @@ use native.Mathlib.Omega.{arith}
 use lib.ListN.{length}
 use lib.Dec.{ltb, eqb}
 use Rattle.refusals.specs.Refusals.{◌▹◌, when, refusal_of}
-use Rattle.refusals.specs.declared.Written.TheVariants.{Refused}
 use Rattle.refusals.proofs.TestLaws.{ltb_iff, both}
 use Rattle.refusals.proofs.RefusalLaws.{first_none, rest_none, when_all, chain_all, chain_iff, first_only, when_given}
 use Rattle.refusals.proofs.ReasonLaws.{given, one, unequal}
@@ -19,6 +18,7 @@ use Rattle.settings.specs.Settings.{version_refusal, highest_key, key_refusal, v
 use Rattle.settings.specs.declared.Settings.{Settings}
 use Rattle.settings.proofs.LimitLaws.{version_unknown_iff, version_all, key_taken_iff, key_all, value_all}
 use Rattle.settings_writer.specs.WriteSettings.{option_refusal, settings_refusal, settings_octets, settings_write_refusal, settings_written}
+use Rattle.std.specs.Prelude.{Err}
 
 -- ---- a key that may be left out
 
@@ -129,7 +129,7 @@ module _ (s : Settings) where
 
 -- the writer answers the refusal with the number that these laws speak of
 pub write_refused_iff : (s : Settings) (old : List ℕ) (n : ℕ)
-    → (settings_written s old ≡ Refused (refusal_of (suc n))) ↔ (settings_write_refusal s (length old) ≡ suc n)
+    → (settings_written s old ≡ Err (refusal_of (suc n))) ↔ (settings_write_refusal s (length old) ≡ suc n)
 unfolding settings_written
 write_refused_iff s old n = written_iff (settings_write_refusal s (length old)) n (length (settings_octets s))
 

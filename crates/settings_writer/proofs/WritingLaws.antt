@@ -15,11 +15,11 @@ use Rattle.varint.proofs.WrittenLaws.{octets_most}
 use Rattle.settings.specs.declared.Settings.{Settings}
 use Rattle.settings_writer.specs.WriteSettings.{pair_octets, option_octets, pair_count, settings_octets, settings_refusal, settings_write_refusal}
 
-pair_most : (key value : ℕ) → length (pair_octets key value) ≤ 20
+pub pair_most : (key value : ℕ) → length (pair_octets key value) ≤ 20
 pair_most key value =
     omega (arith, length-append (varint_octets key) (varint_octets value), octets_most key, octets_most value)
 
-option_most : (given : Bool) (key value : ℕ) → length (option_octets given key value) ≤ 20
+pub option_most : (given : Bool) (key value : ℕ) → length (option_octets given key value) ≤ 20
 option_most true key value = pair_most key value
 option_most false key value = omega arith
 
@@ -34,19 +34,6 @@ unfolding settings_octets
 settings_length s =
     five_length (varint_octets s.version) (varint_octets (pair_count s)) (pair_octets 1 s.largest) (option_octets s.timed 2 s.interval)
     (option_octets s.paired 3 s.partner)
-
--- of any settings; those that a file holds need far fewer (settings_theorems: AcceptedLaws)
-pub settings_below : (s : Settings) → length (settings_octets s) ≤ 80
-settings_below s =
-    omega (
-      arith,
-      settings_length s,
-      octets_most s.version,
-      octets_most (pair_count s),
-      pair_most 1 s.largest,
-      option_most s.timed 2 s.interval,
-      option_most s.paired 3 s.partner,
-    )
 
 -- two parts, put one after the other
 pub put_two : (at n : ℕ) (a b old : List ℕ) → n ≡ at + length a → at + length (a ++ b) ≤ length old → put n b (put at a old) ≡ put at (a ++ b) old

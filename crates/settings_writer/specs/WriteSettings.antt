@@ -1,13 +1,13 @@
 -- R18.8: a settings file, written: which settings are refused, and the octets of the others.
 -- Assumes nothing.
-use Rattle.std.specs.Prelude.{ℕ, ◌+◌, Bool, not, cond, List, [], ◌++◌, length, ltb, eqb}
+use Rattle.std.specs.Prelude.{ℕ, ◌+◌, Bool, not, cond, List, [], ◌++◌, length, ltb, eqb, Result}
 use Rattle.refusals.specs.Refusals.{◌▹◌, when}
 use Rattle.refusals.specs.Tests.{bit}
 use Rattle.refusals.specs.Writing.{written_of, buffer_after}
-use Rattle.refusals.specs.declared.Written.{Written}
 use Rattle.varint.specs.Varint.{varint_octets}
 use Rattle.settings.specs.Settings.{version_refusal, key_refusal, value_refusal}
 use Rattle.settings.specs.declared.Settings.{Settings}
+use Rattle.refusals.specs.declared.Refusal.{Refusal}
 
 -- ---- which settings no file holds
 
@@ -50,7 +50,7 @@ settings_write_refusal s room = settings_refusal s ▹ when (ltb room (length (s
 
 -- R4.1
 module _ (s : Settings) (old : List ℕ) where
-  unfoldable pub settings_written : Written
+  unfoldable pub settings_written : Result ℕ Refusal
   settings_written = written_of (settings_write_refusal s (length old)) (length (settings_octets s))
 
   unfoldable pub settings_buffer : List ℕ

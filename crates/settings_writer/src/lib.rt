@@ -4,36 +4,35 @@
 ghost use Rattle.std.specs.Prelude.{◌≡◌, ◌+◌, ◌≤◌, length};
 ghost use Rattle.octets.specs.Put.{put};
 ghost use Rattle.settings_writer.specs.WriteSettings.{option_refusal, settings_refusal, settings_write_refusal, pair_octets, option_octets, pair_count, settings_octets, settings_written, settings_buffer};
+ghost use Rattle.refusals.specs.Faults.{refused};
 
-use refusals::Written;
+use refusals::{Fault, Refusal};
 use settings::Settings;
 
-// Refusal 25 of what a key that may be left out holds; 0 for none.
-fn option_refusal(version: u64, given: bool, key: u64, value: u64) -> u64
-    ensures { result ≡ option_refusal version given key value }
+// Refusal 25 of what a key that may be left out holds.
+#[tactic(auto, unfolding(crate::specs::WriteSettings::option_refusal))]
+fn option_refusal(version: u64, given: bool, key: u64, value: u64) -> Result<(), Fault>
+    ensures { refused result ≡ option_refusal version given key value }
 {
     if given {
-        return refusals::first(
-            settings::key_refusal(version, 0, key),
-            settings::value_refusal(key, value),
-        );
+        settings::key_refusal(version, 0, key)?;
+        settings::value_refusal(key, value)
+    } else if value == 0 {
+        Ok(())
+    } else {
+        Err(Fault::Settings)
     }
-    if value == 0 {
-        return 0;
-    }
-    25
 }
 
-// Refusals 24 and 25 of settings to be written; 0 for none.
-fn settings_refusal(s: Settings) -> u64
-    ensures { result ≡ settings_refusal s }
+// Refusals 24 and 25 of settings to be written.
+#[tactic(auto, unfolding(crate::specs::WriteSettings::settings_refusal))]
+fn settings_refusal(s: Settings) -> Result<(), Fault>
+    ensures { refused result ≡ settings_refusal s }
 {
-    let version = settings::version_refusal(2, s.version);
-    let largest = settings::value_refusal(1, s.largest);
-    let interval = option_refusal(s.version, s.timed, 2, s.interval);
-    let partner = option_refusal(s.version, s.paired, 3, s.partner);
-    let keys = refusals::first(largest, refusals::first(interval, partner));
-    refusals::first(version, keys)
+    settings::version_refusal(2, s.version)?;
+    settings::value_refusal(1, s.largest)?;
+    option_refusal(s.version, s.timed, 2, s.interval)?;
+    option_refusal(s.version, s.paired, 3, s.partner)
 }
 
 fn pair_count(s: Settings) -> u64
@@ -42,6 +41,7 @@ fn pair_count(s: Settings) -> u64
     1 + (refusals::bit_of(s.timed) + refusals::bit_of(s.paired))
 }
 
+#[tactic(auto, using(varint::proofs::WrittenLaws::octets_most))]
 fn pair_size(key: u64, value: u64) -> usize
     ensures { result ≡ length (pair_octets key value) }
 {
@@ -51,13 +51,11 @@ fn pair_size(key: u64, value: u64) -> usize
 fn option_size(given: bool, key: u64, value: u64) -> usize
     ensures { result ≡ length (option_octets given key value) }
 {
-    if given {
-        return pair_size(key, value);
-    }
-    0
+    if given { pair_size(key, value) } else { 0 }
 }
 
 // How many octets the file has.
+#[tactic(auto, using(varint::proofs::WrittenLaws::octets_most, crate::proofs::WritingLaws::pair_most, crate::proofs::WritingLaws::option_most, crate::proofs::WritingLaws::settings_length))]
 fn settings_size(s: Settings) -> usize
     ensures { result ≡ length (settings_octets s) }
 {
@@ -66,18 +64,16 @@ fn settings_size(s: Settings) -> usize
     head + (pair_size(1, s.largest) + options)
 }
 
-// The refusal of settings to be written into so much room; 0 for none.
-fn write_refusal(s: Settings, room: usize) -> u64
-    ensures { result ≡ settings_write_refusal s room }
+// The refusal of settings to be written into so much room.
+#[tactic(auto, unfolding(crate::specs::WriteSettings::settings_write_refusal))]
+fn write_refusal(s: Settings, room: usize) -> Result<(), Fault>
+    ensures { refused result ≡ settings_write_refusal s room }
 {
-    let n = settings_refusal(s);
-    if n != 0 {
-        return n;
-    }
+    settings_refusal(s)?;
     if room < settings_size(s) {
-        return 20;
+        return Err(Fault::NoRoom);
     }
-    0
+    Ok(())
 }
 
 // A pair's octets from `at` on; hands back the place after them.
@@ -90,18 +86,21 @@ fn put_pair(out: &mut [u8], at: usize, key: u64, value: u64) -> usize
     varint::write(out, next, value)
 }
 
+#[tactic(auto, using(octets::proofs::PutLaws::put_nil))]
 fn put_option(out: &mut [u8], at: usize, given: bool, key: u64, value: u64) -> usize
     requires { at + length (option_octets given key value) ≤ length out.old }
     ensures { (result ≡ at + length (option_octets given key value))
         × (out.new ≡ put at (option_octets given key value) out.old) }
 {
     if given {
-        return put_pair(out, at, key, value);
+        put_pair(out, at, key, value)
+    } else {
+        at
     }
-    at
 }
 
 // The octets of settings that are not refused, and their number.
+#[tactic(auto, using(crate::proofs::WritingLaws::settings_length))]
 fn put_settings(out: &mut [u8], s: Settings) -> usize
     requires { length (settings_octets s) ≤ length out.old }
     ensures { (result ≡ length (settings_octets s)) × (out.new ≡ put 0 (settings_octets s) out.old) }
@@ -114,12 +113,10 @@ fn put_settings(out: &mut [u8], s: Settings) -> usize
 }
 
 // Writes a plant's settings into a lent buffer.
-pub fn write_settings(out: &mut [u8], s: Settings) -> Written
+#[tactic(auto, using(refusals::proofs::FaultLaws::fault_answers, crate::proofs::WritingLaws::writable), unfolding(crate::specs::WriteSettings::settings_written, crate::specs::WriteSettings::settings_buffer))]
+pub fn write_settings(out: &mut [u8], s: Settings) -> Result<usize, Refusal>
     ensures { (result ≡ settings_written s out.old) × (out.new ≡ settings_buffer s out.old) }
 {
-    let n = write_refusal(s, out.len());
-    if n != 0 {
-        return Written::Refused(refusals::refuse(n));
-    }
-    Written::Size(put_settings(out, s))
+    write_refusal(s, out.len())?;
+    Ok(put_settings(out, s))
 }

@@ -5,11 +5,14 @@ ghost use Rattle.std.specs.Prelude.{◌≡◌, ◌≤◌, length};
 ghost use Rattle.header.specs.FirstWord.{descriptor_octets, status_of};
 ghost use Rattle.header.specs.Start.{word_of};
 ghost use Rattle.packet_status.specs.Status.{success_refusal, status_refusal, hole_count, success_of, read_status, hole_refusal, indexed_hole, read_hole};
+ghost use Rattle.refusals.specs.Faults.{refused};
 
-use packet_status::{FailureStatus, HoleRead, StatusRead, SuccessStatus};
+use packet_status::{FailureStatus, Status, SuccessStatus};
+use refusals::{Fault, Refusal};
 use runs::Hole;
 
 // The fields of a success STATUS that is not refused.
+#[tactic(auto, using(packet_status::proofs::StatusLaws::success_there, packet_status::proofs::StatusLaws::progress_none, packet_status::proofs::StatusLaws::response_none, header::proofs::FirstWordLaws::octets_width, header::proofs::FirstWordLaws::octets_le, octets::proofs::NumberLaws::width_some), unfolding(packet_status::specs::Status::success_of))]
 fn success_fields(p: &[u8]) -> SuccessStatus
     requires { (8 ≤ length p.now) × (success_refusal p.now ≡ 0) }
     ensures { result ≡ success_of p.now }
@@ -33,6 +36,7 @@ fn success_fields(p: &[u8]) -> SuccessStatus
 }
 
 // How many holes a success STATUS lists that is not refused.
+#[tactic(auto, using(packet_status::proofs::StatusLaws::status_long, packet_status::proofs::StatusLaws::status_success, packet_status::proofs::StatusLaws::success_there, header::proofs::FirstWordLaws::octets_width, octets::proofs::NumberLaws::width_some))]
 pub fn hole_count(p: &[u8]) -> usize
     requires { (status_refusal p.now ≡ 0) × (status_of (word_of p.now) ≡ 0) }
     ensures { result ≡ hole_count p.now }
@@ -44,78 +48,67 @@ pub fn hole_count(p: &[u8]) -> usize
 }
 
 // Reads a packet that has to be STATUS. Of a failure STATUS nothing after the Id is read.
-pub fn read_status(p: &[u8]) -> StatusRead
+#[tactic(auto, using(packet_status::proofs::StatusLaws::status_long, packet_status::proofs::StatusLaws::status_success, packet_status::proofs::StatusLaws::failure_accepted, refusals::proofs::FaultLaws::fault_answers), unfolding(packet_status::specs::Status::read_status, packet_status::specs::Status::failure_of))]
+pub fn read_status(p: &[u8]) -> Result<Status, Refusal>
     ensures { result ≡ read_status p.now }
 {
-    let n = packet_status::status_refusal(p);
-    if n != 0 {
-        return StatusRead::Refused(refusals::refuse(n));
-    }
+    packet_status::status_refusal(p)?;
     let h = first_word::split(first_word::word(p));
-    let code = h.status;
-    if code == 0 {
-        return StatusRead::Success(success_fields(p));
+    if h.status == 0 {
+        return Ok(Status::Success(success_fields(p)));
     }
-    StatusRead::Failure(FailureStatus {
+    Ok(Status::Failure(FailureStatus {
         flags: h.flags,
         id: first_word::id(p),
-        status: code,
-    })
+        status: h.status,
+    }))
 }
 
-// The refusal of the hole with this index, counted from 0; 0 for none.
-fn hole_refusal(p: &[u8], index: u64) -> u64
-    ensures { result ≡ hole_refusal index p.now }
+// The refusal of the hole with this index, counted from 0.
+#[tactic(auto, using(packet_status::proofs::StatusLaws::status_long, packet_status::proofs::StatusLaws::status_success), unfolding(packet_status::specs::Status::hole_refusal))]
+fn hole_refusal(p: &[u8], index: u64) -> Result<(), Fault>
+    ensures { refused result ≡ hole_refusal index p.now }
 {
-    let n = packet_status::status_refusal(p);
-    if n != 0 {
-        return n;
-    }
+    packet_status::status_refusal(p)?;
     let head = first_word::split(first_word::word(p));
     if head.status != 0 {
-        return 11;
+        return Err(Fault::Holes);
     }
-    let fields = success_fields(p);
-    if fields.count as u64 <= index {
-        return 19;
+    if hole_count(p) as u64 <= index {
+        return Err(Fault::NoSuchHole);
     }
-    0
+    Ok(())
 }
 
-// The hole with this index, of a success STATUS whose list has it and whose descriptors have d octets.
-pub fn hole_of_width(p: &[u8], index: usize, d: usize) -> Hole
-    requires { (hole_refusal index p.now ≡ 0) × (d ≡ descriptor_octets (word_of p.now)) }
+// The hole with this index, of a success STATUS whose list has it and whose descriptors have D octets.
+#[tactic(auto, using(packet_status::proofs::StatusLaws::hole_long, packet_status::proofs::StatusLaws::hole_within, packet_status::proofs::StatusLaws::hole_start, packet_status::proofs::StatusLaws::hole_end, header::proofs::FirstWordLaws::octets_width), unfolding(packet_status::specs::Status::indexed_hole))]
+pub fn hole_of_width<const D: usize>(p: &[u8], index: usize) -> Hole
+    requires { (hole_refusal index p.now ≡ 0) × (D ≡ descriptor_octets (word_of p.now)) }
     ensures { result ≡ indexed_hole index p.now }
 {
-    let holes = 8 + descriptors::timestamp_octets(first_word::word(p)) + 2 * d;
-    hole_list::hole_at(p, holes + index * (2 * d), d)
+    let holes = 8 + descriptors::timestamp_octets(first_word::word(p)) + 2 * D;
+    hole_list::hole_at(p, holes + index * (2 * D), D)
 }
 
-// The same for every width. Each is a literal, for which the compiler makes one load of each number.
+// The same for every width. Each is a constant, for which the compiler makes one load of each number.
+#[tactic(auto, using(packet_status::proofs::StatusLaws::hole_long, packet_status::proofs::StatusLaws::octets_wide))]
 pub fn listed_hole(p: &[u8], index: usize) -> Hole
     requires { hole_refusal index p.now ≡ 0 }
     ensures { result ≡ indexed_hole index p.now }
 {
-    let d = descriptors::descriptor_octets(first_word::word(p));
-    if d == 2 {
-        return hole_of_width(p, index, 2);
+    match descriptors::descriptor_octets(first_word::word(p)) {
+        2 => hole_of_width::<2>(p, index),
+        4 => hole_of_width::<4>(p, index),
+        8 => hole_of_width::<8>(p, index),
+        _ => hole_of_width::<16>(p, index),
     }
-    if d == 4 {
-        return hole_of_width(p, index, 4);
-    }
-    if d == 8 {
-        return hole_of_width(p, index, 8);
-    }
-    hole_of_width(p, index, 16)
 }
 
 // One pair of the hole list of a success STATUS.
-pub fn read_hole(p: &[u8], index: u64) -> HoleRead
+#[tactic(auto, using(refusals::proofs::FaultLaws::fault_answers), unfolding(packet_status::specs::Status::read_hole))]
+pub fn read_hole(p: &[u8], index: u64) -> Result<Hole, Refusal>
     ensures { result ≡ read_hole index p.now }
 {
-    let n = hole_refusal(p, index);
-    if n != 0 {
-        return HoleRead::Refused(refusals::refuse(n));
-    }
-    HoleRead::Accepted(listed_hole(p, index as usize))
+    hole_refusal(p, index)?;
+    Ok(listed_hole(p, index as usize))
 }

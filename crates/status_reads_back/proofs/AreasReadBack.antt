@@ -8,7 +8,6 @@ use mathlib.Core.Option.{Option, none, some}
 use native.Mathlib.Omega.{arith}
 use lib.ListN.{length, take}
 use Rattle.refusals.specs.Refusals.{refusal_of}
-use Rattle.refusals.specs.declared.Written.TheVariants as written
 use Rattle.transfer.specs.declared.Key.{Key}
 use Rattle.transfer.specs.Transfers.{Transfer}
 use Rattle.transfer_status.specs.WriteStatus.{transfer_buffer}
@@ -21,6 +20,7 @@ use Rattle.area.proofs.JudgeLaws.{held_valid}
 use Rattle.area.proofs.OperationLaws.{from_held}
 use Rattle.status_reads_back.specs.ReadsBack.{AreaReads, AreasReadBack}
 use Rattle.status_reads_back.proofs.TransferReads.{buffer_reads}
+use Rattle.std.specs.Prelude.{Ok, Err}
 
 module _ (a : List ℕ) (id k : ℕ) (unasked : Bool) (old : List ℕ) (n : ℕ) where
   abbrev Reads : Type 0
@@ -34,7 +34,7 @@ module _ (a : List ℕ) (id k : ℕ) (unasked : Bool) (old : List ℕ) (n : ℕ)
       from_held old (λ u. status_buffer u id k unasked old) a t e ∙ ap (λ (o : Option Key). buffer_for o (runs_of t id) (stamp_of t id) k unasked old) f
 
   open_in : (t : List Transfer) → table_of a ≡ some t → (o : Option Key) → find id (keys t) ≡ o
-      → written_for o (runs_of t id) (stamp_of t id) k unasked old ≡ written.Size n → Reads
+      → written_for o (runs_of t id) (stamp_of t id) k unasked old ≡ Ok n → Reads
   unfolding written_for
   open_in t e none f q = absurd (let z : ◌≡◌ {A = ℕ} 0 1 = cc in omega arith)
   open_in t e (some key) f q =
@@ -49,7 +49,7 @@ module _ (a : List ℕ) (id k : ℕ) (unasked : Bool) (old : List ℕ) (n : ℕ)
       }
 
   in_table : (o : Option (List Transfer)) → table_of a ≡ o
-      → from_found (written.Refused (refusal_of 22)) (λ t. status_written t id k unasked old) o ≡ written.Size n → Reads
+      → from_found (Err (refusal_of 22)) (λ t. status_written t id k unasked old) o ≡ Ok n → Reads
   unfolding from_found status_written
   in_table none e q = absurd (let z : ◌≡◌ {A = ℕ} 0 1 = cc in omega arith)
   in_table (some t) e q = open_in t e (find id (keys t)) refl q

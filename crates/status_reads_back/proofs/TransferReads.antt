@@ -6,12 +6,10 @@ use mathlib.Core.Bool.{Bool}
 use mathlib.Core.List.{List}
 use lib.ListN.{length, take}
 use Rattle.octets.proofs.PutLaws.{take_put}
-use Rattle.refusals.specs.declared.Written.TheVariants as written
 use Rattle.refusals.proofs.WritingLaws.{written_size}
 use Rattle.runs.specs.Runs.{Run}
 use Rattle.runs.specs.Holes.{holes}
 use Rattle.runs.specs.declared.Hole.{Hole}
-use Rattle.packet_status.specs.declared.HoleRead.TheVariants as hole-read
 use Rattle.packet.specs.Read.{of_status, read_type}
 use Rattle.packet.proofs.CaseLaws.{read_typed}
 use Rattle.transfer.specs.declared.Key.{Key}
@@ -20,6 +18,7 @@ use Rattle.transfer_status.specs.WriteStatus.{size_refusal, status_packet, trans
 use Rattle.transfer_status.proofs.StatusSize.{status_fits, holes_sent_at}
 use Rattle.transfer_status.proofs.StatusReads.{status_typed, status_read, status_stamp_read, status_holes_read, status_hole_read, status_hole_past}
 use Rattle.status_reads_back.specs.ReadsBack.{ReadsAs}
+use Rattle.std.specs.Prelude.{Ok}
 
 module _ (x : Transfer) (fine : TransferFine x) (k : ℕ) (unasked : Bool) (room : ℕ) where
   packet_reads : size_refusal (length x.stamp) x.key.width (length (holes x.runs)) k room ≡ 0
@@ -33,12 +32,12 @@ module _ (x : Transfer) (fine : TransferFine x) (k : ℕ) (unasked : Bool) (room
         listed = status_holes_read x k unasked room fine;
         by_index = λ i default h.
             status_hole_read x k unasked room fine allowed i default h
-            ∙ ap (λ (y : Hole). hole-read.Accepted y) (holes_sent_at (length x.stamp) x.key.width k room (holes x.runs) i default h);
+            ∙ ap (λ (y : Hole). Ok y) (holes_sent_at (length x.stamp) x.key.width k room (holes x.runs) i default h);
         no_more = λ i h. status_hole_past x k unasked room fine allowed i h;
       }
 
 pub buffer_reads : (key : Key) (rs : List Run) (s : List ℕ) → TransferFine (transfer_of key rs s) → (k : ℕ) (unasked : Bool) (old : List ℕ) (n : ℕ)
-    → transfer_written key rs s k unasked old ≡ written.Size n
+    → transfer_written key rs s k unasked old ≡ Ok n
     → ReadsAs key rs s k unasked (length old) (take n (transfer_buffer key rs s k unasked old))
 unfolding transfer_written transfer_buffer
 buffer_reads key rs s fine k unasked old n e =

@@ -1,18 +1,16 @@
 -- R7.9: a STATUS that was written reads back with its fields, timestamp and holes, for every area and every marks, every Id, k and buffer, unasked or
 -- not: where writing answers a size, so many octets of the buffer are read as a packet (packet: Read).
 -- Assumes nothing.
-use Rattle.std.specs.Prelude.{ℕ, ◌+◌, ◌<◌, ◌≤◌, ◌≡◌, Bool, List, length, take, drop, get_or}
+use Rattle.std.specs.Prelude.{ℕ, ◌+◌, ◌<◌, ◌≤◌, ◌≡◌, Bool, List, length, take, drop, get_or, Ok, Err}
 use Rattle.std.proofs.Math.Option.{some}
 use Rattle.refusals.specs.Refusals.{refusal_of}
-use Rattle.refusals.specs.declared.Written.TheVariants as written
 use Rattle.runs.specs.Runs.{Run}
 use Rattle.runs.specs.Holes.{holes}
 use Rattle.runs.specs.declared.Hole.{Hole}
 use Rattle.packet_status.specs.Status.{hole_list, read_hole}
-use Rattle.packet_status.specs.declared.HoleRead.TheVariants as hole-read
 use Rattle.packet_status.specs.declared.SuccessStatus.{SuccessStatus}
 use Rattle.packet.specs.Read.{read_packet}
-use Rattle.packet.specs.declared.Read.TheVariants as read
+use Rattle.packet.specs.declared.Packet.TheVariants as read
 use Rattle.success_status.specs.SuccessStatus.{fields_read}
 use Rattle.transfer.specs.declared.Key.{Key}
 use Rattle.transfer.specs.Transfers.{Transfer}
@@ -39,11 +37,11 @@ module _ (key : Key) (rs : List Run) (s : List ℕ) (k : ℕ) (unasked : Bool) (
 
 -- the octets p read so: as a success STATUS with these fields, this timestamp and these holes, each hole by its index, and no hole more
 pub record ReadsAs (key : Key) (rs : List Run) (s : List ℕ) (k : ℕ) (unasked : Bool) (room : ℕ) (p : List ℕ) : Type 0 where
-  pub fields : read_packet p ≡ read.Success (told key rs s k unasked room)
+  pub fields : read_packet p ≡ Ok (read.Success (told key rs s k unasked room))
   pub stamp : take (length s) (drop 8 p) ≡ s
   pub listed : hole_list p ≡ sent key rs s k unasked room
-  pub by_index : (i : ℕ) (default : Hole) → i < length (sent key rs s k unasked room) → read_hole i p ≡ hole-read.Accepted (get_or (holes rs) (k + i) default)
-  pub no_more : (i : ℕ) → length (sent key rs s k unasked room) ≤ i → read_hole i p ≡ hole-read.Refused (refusal_of 19)
+  pub by_index : (i : ℕ) (default : Hole) → i < length (sent key rs s k unasked room) → read_hole i p ≡ Ok (get_or (holes rs) (k + i) default)
+  pub no_more : (i : ℕ) → length (sent key rs s k unasked room) ≤ i → read_hole i p ≡ Err (refusal_of 19)
 
 -- ---- on areas: the area holds a table, and the Id is open in it
 
@@ -56,11 +54,11 @@ pub record AreaReads (a : List ℕ) (id k : ℕ) (unasked : Bool) (room : ℕ) (
   pub reads : ReadsAs key (runs_of table id) (stamp_of table id) k unasked room p
 
 abbrev pub AreasReadBack : Type 0
-AreasReadBack = (a : List ℕ) (id k : ℕ) (unasked : Bool) (buffer : List ℕ) (n : ℕ) → area_status_written a id k unasked buffer ≡ written.Size n
+AreasReadBack = (a : List ℕ) (id k : ℕ) (unasked : Bool) (buffer : List ℕ) (n : ℕ) → area_status_written a id k unasked buffer ≡ Ok n
     → AreaReads a id k unasked (length buffer) (take n (area_status_buffer a id k unasked buffer))
 
 -- ---- on marks, with the record that goes with them
 
 abbrev pub MarksReadBack : Type 0
-MarksReadBack = (h : Held) (s : List ℕ) (k : ℕ) (unasked : Bool) (buffer : List ℕ) (n : ℕ) → marks_written h s k unasked buffer ≡ written.Size n
+MarksReadBack = (h : Held) (s : List ℕ) (k : ℕ) (unasked : Bool) (buffer : List ℕ) (n : ℕ) → marks_written h s k unasked buffer ≡ Ok n
     → ReadsAs h.key (marked_runs s) (kept_octets h.kept) k unasked (length buffer) (take n (marks_buffer h s k unasked buffer))

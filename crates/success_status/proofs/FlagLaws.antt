@@ -41,9 +41,12 @@ module _ (kept : Bool) (f : Fields) where
   abbrev word : ℕ
   word = word_for 4 (status_flags kept f)
 
+  parts_fit : (width_bits f.width < 4) × (bit kept ≤ 1) × (bit f.partial ≤ 1) × (bit f.unasked ≤ 1)
+  parts_fit = (width_bits_lt f.width, bit_le kept, bit_le f.partial, bit_le f.unasked)
+
   pub flags_fit : status_flags kept f < 2 ^ 24
   unfolding status_flags
-  flags_fit = omega (arith, width_bits_lt f.width, bit_le kept, bit_le f.partial, bit_le f.unasked)
+  flags_fit = omega (arith, parts_fit)
 
   pub flags_mark : mark_of word ≡ 1
   flags_mark = mark_for 4 (status_flags kept f) (omega arith) flags_fit
@@ -56,7 +59,7 @@ module _ (kept : Bool) (f : Fields) where
 
   flags_width : width_of word ≡ width_bits f.width
   unfolding status_flags
-  flags_width = omega (arith, width_bits_lt f.width, bit_le kept, bit_le f.partial, bit_le f.unasked)
+  flags_width = omega (arith, parts_fit)
 
   pub flags_octets : Width f.width → descriptor_octets word ≡ f.width
   flags_octets w = ap (λ (n : ℕ). 2 * 2 ^ n) flags_width ∙ width_bits_octets w
@@ -64,28 +67,28 @@ module _ (kept : Bool) (f : Fields) where
   -- R7.10: bit 12
   pub flags_timestamp : timestamp_octets word ≡ 16 * bit kept
   unfolding status_flags
-  flags_timestamp = omega (arith, width_bits_lt f.width, bit_le kept, bit_le f.partial, bit_le f.unasked)
+  flags_timestamp = omega (arith, parts_fit)
 
   pub flags_stamped : bits 32 word 12 12 ≡ bit kept
   unfolding status_flags
-  flags_stamped = omega (arith, width_bits_lt f.width, bit_le kept, bit_le f.partial, bit_le f.unasked)
+  flags_stamped = omega (arith, parts_fit)
 
   pub flags_partial : partial_of word ≡ bit f.partial
   unfolding status_flags
-  flags_partial = omega (arith, width_bits_lt f.width, bit_le kept, bit_le f.partial, bit_le f.unasked)
+  flags_partial = omega (arith, parts_fit)
 
   pub flags_unasked : bits 32 word 15 15 ≡ bit f.unasked
   unfolding status_flags
-  flags_unasked = omega (arith, width_bits_lt f.width, bit_le kept, bit_le f.partial, bit_le f.unasked)
+  flags_unasked = omega (arith, parts_fit)
 
   pub flags_status : status_of word ≡ 0
   unfolding status_flags
-  flags_status = omega (arith, width_bits_lt f.width, bit_le kept, bit_le f.partial, bit_le f.unasked)
+  flags_status = omega (arith, parts_fit)
 
   -- R7.6: all other flags are 0
   pub flags_others : (bits 32 word 10 11 ≡ 0) × (bits 32 word 13 13 ≡ 0) × (bits 32 word 16 31 ≡ 0)
   unfolding status_flags
-  flags_others = (omega (arith, width_bits_lt f.width, bit_le kept, bit_le f.partial, bit_le f.unasked), omega (arith, width_bits_lt f.width, bit_le kept, bit_le f.partial, bit_le f.unasked), omega (arith, width_bits_lt f.width, bit_le kept, bit_le f.partial, bit_le f.unasked))
+  flags_others = (omega (arith, parts_fit), omega (arith, parts_fit), omega (arith, parts_fit))
 
 -- bit 12 tells how many octets of timestamp there are
 pub stamp_told : (s : List ℕ) → Stamp s → 16 * bit (stamped s) ≡ length s

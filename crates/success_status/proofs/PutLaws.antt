@@ -1,25 +1,21 @@
 -- A success STATUS put into a buffer part after part: its fields, then its holes.
 -- Assumes nothing.
 use Prim.Native.Nat.{ℕ, ◌+◌, ◌≤◌}
-use mathlib.Core.Path.{◌≡◌, refl, ◌∙◌}
+use mathlib.Core.Path.{◌≡◌, ◌∙◌}
 use mathlib.Core.List.{List, ◌++◌, append_assoc}
 use native.Mathlib.Omega.{arith}
 use lib.ListN.{length, length-append}
-use Rattle.octets.specs.Numbers.{be_digits}
 use Rattle.octets.specs.Put.{put}
-use Rattle.octets.proofs.NumberLaws.{length_digits}
 use Rattle.octets.proofs.PutLaws.{put_next}
-use Rattle.timestamp.specs.Timestamps.{stamped}
-use Rattle.header.specs.FirstWord.{word_for}
 use Rattle.runs.specs.declared.Hole.{Hole}
 use Rattle.hole_list.specs.Pairs.{pairs}
 use Rattle.hole_list.proofs.PairLaws.{pairs_length}
 use Rattle.success_status.specs.declared.Fields.{Fields}
-use Rattle.success_status.specs.SuccessStatus.{front_size, status_size, status_flags, front_octets, status_octets}
+use Rattle.success_status.specs.SuccessStatus.{front_size, status_size, front_octets, status_octets}
 use Rattle.success_status.proofs.SizeLaws.{front_length}
 
 -- five parts, one after the other, from the start on
-puts : (a b s c d old : List ℕ) (m n at e : ℕ) → length a ≡ m → m + length b ≡ n → n + length s ≡ at → at + length c ≡ e
+pub puts : (a b s c d old : List ℕ) (m n at e : ℕ) → length a ≡ m → m + length b ≡ n → n + length s ≡ at → at + length c ≡ e
     → e + length d ≤ length old
     → put e d (put at c (put n s (put m b (put 0 a old)))) ≡ put 0 (a ++ (b ++ (s ++ (c ++ d)))) old
 puts a b s c d old m n at e la lb ls lc room =
@@ -33,24 +29,6 @@ puts a b s c d old m n at e la lb ls lc room =
       put_next 0 e (((a ++ b) ++ s) ++ c) d old (omega arith) room,
     )
     (simp append_assoc)
-
--- word, Id, timestamp, Progress and In-Response-To
-module _ (f : Fields) (s : List ℕ) (flags word at : ℕ) (old x₁ x₂ x₃ x₄ x₅ : List ℕ) (room : front_size (length s) f.width ≤ length old)
-    (g : flags ≡ status_flags (stamped s) f) (e : word ≡ word_for 4 flags) (p : at ≡ 8 + length s)
-    (e₁ : x₁ ≡ put 0 (be_digits 4 word) old)
-    (e₂ : x₂ ≡ put 4 (be_digits 4 f.id) x₁)
-    (e₃ : x₃ ≡ put 8 s x₂)
-    (e₄ : x₄ ≡ put at (be_digits f.width f.progress) x₃)
-    (e₅ : x₅ ≡ put (at + f.width) (be_digits f.width f.response) x₄) where
-  pub fields_put : x₅ ≡ put 0 (front_octets f s) old
-  unfolding front_octets
-  fields_put =
-      let d = f.width in
-      let l : length (be_digits d f.progress) ≡ d = length_digits d f.progress in
-      let m : length (be_digits d f.response) ≡ d = length_digits d f.response in
-      e₅ ∙ rw (e₄, e₃, e₂, e₁, e, g)
-      (puts (be_digits 4 (word_for 4 (status_flags (stamped s) f))) (be_digits 4 f.id) s (be_digits d f.progress) (be_digits d f.response)
-      old 4 8 at (at + d) refl refl (omega arith) (omega arith) (omega arith))
 
 -- the holes after the fields are the whole packet
 pub holes_put : (f : Fields) (s : List ℕ) (hs : List Hole) (old x y : List ℕ) → status_size (length s) f.width (length hs) ≤ length old

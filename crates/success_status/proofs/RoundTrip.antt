@@ -23,13 +23,13 @@ use Rattle.hole_list.specs.Pairs.{pairs}
 use Rattle.hole_list.proofs.AcceptedLaws.{list_well_iff}
 use Rattle.hole_list.proofs.PairsRead.{Held, HolesHeld, number_read, number_none, number_after, pairs_read, pairs_none}
 use Rattle.packet_status.specs.Status.{holes_at, progress_of, response_of, list_octets, list_descriptors, hole_count, hole_list, partial_told, unasked_told, DescriptorsFine, success_refusal, status_refusal, success_of, read_status, read_hole}
-use Rattle.packet_status.specs.declared.StatusRead.TheVariants.{Success}
-use Rattle.packet_status.specs.declared.HoleRead.TheVariants as hole-read
+use Rattle.packet_status.specs.declared.Status.TheVariants.{Success}
 use Rattle.packet_status.proofs.StatusLaws.{success_none, hole_read_listed, hole_past_list}
 use Rattle.success_status.specs.declared.Fields.{Fields}
 use Rattle.success_status.specs.SuccessStatus.{front_size, status_size, status_flags, front_octets, status_octets, fields_read}
 use Rattle.success_status.proofs.SizeLaws.{status_length}
 use Rattle.success_status.proofs.FlagLaws.{flags_fit, flags_mark, flags_type, flags_flags, flags_octets, flags_timestamp, flags_partial, flags_unasked, flags_status, stamp_told}
+use Rattle.std.specs.Prelude.{Ok, Err}
 
 -- numbers that fit their fields
 pub record FieldsFit (f : Fields) (s : List ℕ) (hs : List Hole) : Type 0 where
@@ -147,17 +147,17 @@ module _ (f : Fields) (s : List ℕ) (hs : List Hole) where
       unfolding status_refusal
       status_taken = rw (typed_written, eq-eqb (status_of (word_of x)) 0 code_written) success
 
-      pub status_read_written : read_status x ≡ Success (fields_read f s (length hs))
+      pub status_read_written : read_status x ≡ Ok (Success (fields_read f s (length hs)))
       unfolding read_status success_of
       status_read_written =
           let flags : flags_of (word_of x) ≡ status_flags (stamped s) f = ap flags_of word_written ∙ flags_flags (stamped s) f in
           rw (status_taken, code_written, flags, ident, count_written, progress_written, response_written, holes_at_lem, octets, stamp)
 
       -- each hole that was written is read by its index, and no other
-      pub hole_read_written : (index : ℕ) (default : Hole) → index < length hs → read_hole index x ≡ hole-read.Accepted (get_or hs index default)
+      pub hole_read_written : (index : ℕ) (default : Hole) → index < length hs → read_hole index x ≡ Ok (get_or hs index default)
       hole_read_written index default h =
           hole_read_listed x status_taken code_written index default (rw holes_written h)
-          ∙ ap (λ (l : List Hole). hole-read.Accepted (get_or l index default)) holes_written
+          ∙ ap (λ (l : List Hole). Ok (get_or l index default)) holes_written
 
-      pub hole_past_written : (index : ℕ) → length hs ≤ index → read_hole index x ≡ hole-read.Refused (refusal_of 19)
+      pub hole_past_written : (index : ℕ) → length hs ≤ index → read_hole index x ≡ Err (refusal_of 19)
       hole_past_written index h = hole_past_list x status_taken code_written index (rw holes_written h)

@@ -35,22 +35,21 @@ pub fn status_size(stamp: usize, width: usize, holes: usize) -> usize
     front_size(stamp, width) + 2 * width * holes
 }
 
+// The width bits of a descriptor's octets.
+#[tactic(auto, unfolding(crate::specs::SuccessStatus::width_bits))]
 fn width_bits(width: usize) -> u64
     ensures { result ≡ width_bits width }
 {
-    if width == 2 {
-        return 0;
+    match width {
+        2 => 0,
+        4 => 1,
+        8 => 2,
+        _ => 3,
     }
-    if width == 4 {
-        return 1;
-    }
-    if width == 8 {
-        return 2;
-    }
-    3
 }
 
 // The flags: the width in bits 8 and 9, then bit 12, bit 14 and bit 15.
+#[tactic(auto, using(crate::proofs::FlagLaws::flags_or))]
 fn status_flags(stamped: bool, f: Fields) -> u64
     ensures { result ≡ status_flags stamped f }
 {
@@ -62,6 +61,7 @@ fn status_flags(stamped: bool, f: Fields) -> u64
 }
 
 // What stands before the holes: the word with the flags, the Id, the timestamp, Progress and In-Response-To.
+#[tactic(auto, using(crate::proofs::PutLaws::puts, crate::proofs::FlagLaws::flags_fit, timestamp::proofs::KeptLaws::kept_stamped, octets::proofs::NumberLaws::length_digits), unfolding(crate::specs::SuccessStatus::front_octets))]
 pub fn put_fields(out: &mut [u8], f: Fields, kept: Kept)
     requires { front_size (length (kept_octets kept)) f.width ≤ length out.old }
     ensures { out.new ≡ put 0 (front_octets f (kept_octets kept)) out.old }

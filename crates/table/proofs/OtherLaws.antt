@@ -10,10 +10,8 @@ use Rattle.refusals.specs.Refusals.{refusal_of}
 use Rattle.refusals.specs.declared.Refusal.{Refusal}
 use Rattle.packet_metadata.specs.Metadata.{read_metadata}
 use Rattle.packet_metadata.specs.declared.Metadata.{Metadata}
-use Rattle.packet_metadata.specs.declared.MetadataRead.TheVariants as metadata-read
 use Rattle.packet_data.specs.Data.{read_data}
 use Rattle.packet_data.specs.declared.Data.{Data}
-use Rattle.packet_data.specs.declared.DataRead.TheVariants as data-read
 use Rattle.transfer.specs.declared.Key.{Key}
 use Rattle.transfer.specs.Transfers.{Transfer, key_of}
 use Rattle.transfer.specs.Record.{stamp_in}
@@ -22,15 +20,13 @@ use Rattle.table.specs.Open.{open_packet, open_accepted}
 use Rattle.table.specs.Record.{grown, record_packet, record_accepted}
 use Rattle.table.specs.Close.{close_found, close_id}
 use Rattle.table.specs.declared.Opened.TheVariants as opened
-use Rattle.table.specs.declared.Recorded.TheVariants as recorded
-use Rattle.table.specs.declared.Finished.TheVariants as finished
 use Rattle.table.proofs.TableLaws.{find_add_other, runs_add_other, stamp_add_other, keys_set, runs_set_other, stamp_set_other, find_remove_other, runs_remove_other, stamp_remove_other}
 use Rattle.table.proofs.OpenLaws.{open_cases}
 use Rattle.table.proofs.RecordLaws.{record_cases}
 use Rattle.table.specs.Outcome.{Outcome}
 use Rattle.table.specs.declared.Opened.{Opened}
-use Rattle.table.specs.declared.Recorded.{Recorded}
-use Rattle.table.specs.declared.Finished.{Finished}
+use Rattle.std.specs.Prelude.{Result, Ok, Err, ⊤}
+use Rattle.transfer.specs.declared.Receipt.{Receipt}
 
 -- what u holds for an Id is what t holds for it: open or not, width, length, the received offsets, and the timestamp
 pub record Kept (t u : List Transfer) (i : ℕ) : Type 0 where
@@ -44,10 +40,10 @@ kept t i = record { key = refl; runs = refl; stamp = refl }
 -- ---- another Id
 
 -- i is not the Id of the METADATA
-pub open_other : (t : List Transfer) (packet : List ℕ) (i : ℕ) → ((m : Metadata) → read_metadata packet ≡ metadata-read.Accepted m → m.id ≡ i → ⊥)
+pub open_other : (t : List Transfer) (packet : List ℕ) (i : ℕ) → ((m : Metadata) → read_metadata packet ≡ Ok m → m.id ≡ i → ⊥)
     → Kept t (open_packet t packet).table i
 open_other t packet i n =
-    open_cases (λ (o : Outcome Opened). Kept t o.table i) t packet (λ r. kept t i) (λ m e f. kept t i)
+    open_cases (λ (o : Outcome (Result Opened Refusal)). Kept t o.table i) t packet (λ r. kept t i) (λ m e f. kept t i)
     (λ m e f w l.
     record {
       key = find_add_other i (key_of m) t (n m e);
@@ -56,10 +52,10 @@ open_other t packet i n =
     })
 
 -- i is not the Id of the DATA
-pub record_other : (t : List Transfer) (packet : List ℕ) (i : ℕ) → ((d : Data) → read_data packet ≡ data-read.Accepted d → d.id ≡ i → ⊥)
+pub record_other : (t : List Transfer) (packet : List ℕ) (i : ℕ) → ((d : Data) → read_data packet ≡ Ok d → d.id ≡ i → ⊥)
     → Kept t (record_packet t packet).table i
 record_other t packet i n =
-    record_cases (λ (o : Outcome Recorded). Kept t o.table i) t packet (λ r. kept t i)
+    record_cases (λ (o : Outcome (Result Receipt Refusal)). Kept t o.table i) t packet (λ r. kept t i)
     (λ d k e f j l.
     record {
       key = ap (find i) (keys_set d.id (grown t d) (stamp_in packet d) t);
@@ -68,9 +64,9 @@ record_other t packet i n =
     })
 
 -- refused, and the table stays; or the Id is open, and it is removed
-pub close_cases : (P : Outcome Finished → Type 0) (t : List Transfer) (id : ℕ)
-    → P (record { answer = finished.Refused (refusal_of 12); table = t })
-    → ((k : Key) → find id (keys t) ≡ some k → P (record { answer = finished.Done; table = remove id t }))
+pub close_cases : (P : Outcome (Result ⊤ Refusal) → Type 0) (t : List Transfer) (id : ℕ)
+    → P (record { answer = Err (refusal_of 12); table = t })
+    → ((k : Key) → find id (keys t) ≡ some k → P (record { answer = Ok tt; table = remove id t }))
     → P (close_id t id)
 unfolding close_id close_found
 close_cases P t id refused done = go (find id (keys t)) refl
@@ -81,29 +77,29 @@ close_cases P t id refused done = go (find id (keys t)) refl
 
 pub close_other : (t : List Transfer) (id i : ℕ) → (id ≡ i → ⊥) → Kept t (close_id t id).table i
 close_other t id i n =
-    close_cases (λ (o : Outcome Finished). Kept t o.table i) t id (kept t i)
+    close_cases (λ (o : Outcome (Result ⊤ Refusal)). Kept t o.table i) t id (kept t i)
     (λ k e. record { key = find_remove_other id i t n; runs = runs_remove_other id i t n; stamp = stamp_remove_other id i t n })
 
 -- ---- a refusal
 
 pub open_kept : (t : List Transfer) (packet : List ℕ) → open_accepted (open_packet t packet).answer ≡ false → (open_packet t packet).table ≡ t
 open_kept t packet =
-    open_cases (λ (o : Outcome Opened). open_accepted o.answer ≡ false → o.table ≡ t) t packet (λ r e. refl) (λ m q f e. refl)
+    open_cases (λ (o : Outcome (Result Opened Refusal)). open_accepted o.answer ≡ false → o.table ≡ t) t packet (λ r e. refl) (λ m q f e. refl)
     (λ m q f w l e. absurd (let z : ◌≡◌ {A = ℕ} 0 1 = cc in omega arith))
 
-pub open_refused : (t : List Transfer) (packet : List ℕ) (r : Refusal) → (open_packet t packet).answer ≡ opened.Refused r → (open_packet t packet).table ≡ t
+pub open_refused : (t : List Transfer) (packet : List ℕ) (r : Refusal) → (open_packet t packet).answer ≡ Err r → (open_packet t packet).table ≡ t
 open_refused t packet r e = open_kept t packet (ap open_accepted e)
 
 pub record_kept : (t : List Transfer) (packet : List ℕ) → record_accepted (record_packet t packet).answer ≡ false → (record_packet t packet).table ≡ t
 record_kept t packet =
-    record_cases (λ (o : Outcome Recorded). record_accepted o.answer ≡ false → o.table ≡ t) t packet (λ r e. refl)
+    record_cases (λ (o : Outcome (Result Receipt Refusal)). record_accepted o.answer ≡ false → o.table ≡ t) t packet (λ r e. refl)
     (λ d k q f j l e. absurd (let z : ◌≡◌ {A = ℕ} 0 1 = cc in omega arith))
 
-pub record_refused : (t : List Transfer) (packet : List ℕ) (r : Refusal) → (record_packet t packet).answer ≡ recorded.Refused r
+pub record_refused : (t : List Transfer) (packet : List ℕ) (r : Refusal) → (record_packet t packet).answer ≡ Err r
     → (record_packet t packet).table ≡ t
 record_refused t packet r e = record_kept t packet (ap record_accepted e)
 
-pub close_refused : (t : List Transfer) (id : ℕ) (r : Refusal) → (close_id t id).answer ≡ finished.Refused r → (close_id t id).table ≡ t
+pub close_refused : (t : List Transfer) (id : ℕ) (r : Refusal) → (close_id t id).answer ≡ Err r → (close_id t id).table ≡ t
 close_refused t id r =
-    close_cases (λ (o : Outcome Finished). o.answer ≡ finished.Refused r → o.table ≡ t) t id (λ e. refl)
+    close_cases (λ (o : Outcome (Result ⊤ Refusal)). o.answer ≡ Err r → o.table ≡ t) t id (λ e. refl)
     (λ k q e. absurd (let z : ◌≡◌ {A = ℕ} 0 1 = cc in omega arith))

@@ -10,33 +10,33 @@ use Rattle.refusals.proofs.RefusalLaws.{first_none, rest_none}
 use Rattle.transfer.proofs.ExtendLaws.{extended_canonical, extended_count, key_stop, runs_few, few_runs}
 use Rattle.packet_data.specs.Data.{data_refusal, data_of, read_data}
 use Rattle.packet_data.specs.declared.Data.{Data}
-use Rattle.packet_data.specs.declared.DataRead.TheVariants as data-read
 use Rattle.transfer.specs.declared.Key.{Key}
 use Rattle.transfer.specs.Transfers.{Transfer}
 use Rattle.runs.specs.Runs.{Canonical}
 use Rattle.table.specs.Tables.{keys, find, runs_of, set_runs}
 use Rattle.table.specs.Record.{data_judged, record_refusal, grown, absorbed_in, adds_in, record_as, record_data, record_read, record_packet}
 use Rattle.transfer.specs.Record.{stop_of, stamp_in, receipt, runs_refusal}
-use Rattle.table.specs.declared.Recorded.TheVariants.{Accepted, Refused}
 use Rattle.table.specs.Outcome.{Outcome}
-use Rattle.table.specs.declared.Recorded.{Recorded}
+use Rattle.std.specs.Prelude.{Result, Ok, Err}
+use Rattle.refusals.specs.declared.Refusal.{Refusal}
+use Rattle.transfer.specs.declared.Receipt.{Receipt}
 
 -- accepted, with the runs grown, and the timestamp that the packet brings
-abbrev pub recorded_as : List Transfer → List ℕ → Data → Key → Outcome Recorded
+abbrev pub recorded_as : List Transfer → List ℕ → Data → Key → Outcome (Result Receipt Refusal)
 recorded_as t packet d k =
-    record { answer = Accepted (receipt k (grown t d) (absorbed_in t d) (adds_in t d)); table = set_runs d.id (grown t d) (stamp_in packet d) t }
+    record { answer = Ok (receipt k (grown t d) (absorbed_in t d) (adds_in t d)); table = set_runs d.id (grown t d) (stamp_in packet d) t }
 
 -- refused, with a number that is not 0 (R1.5), and the table stays; or the Id is open with k, nothing of 12 to 15 is given, and there
 -- is room
-pub record_cases : (P : Outcome Recorded → Type 0) (t : List Transfer) (packet : List ℕ)
-    → ((n : ℕ) → P (record { answer = Refused (refusal_of (suc n)); table = t }))
-    → ((d : Data) (k : Key) → read_data packet ≡ data-read.Accepted d → find d.id (keys t) ≡ some k → data_judged (some k) d ≡ 0
+pub record_cases : (P : Outcome (Result Receipt Refusal) → Type 0) (t : List Transfer) (packet : List ℕ)
+    → ((n : ℕ) → P (record { answer = Err (refusal_of (suc n)); table = t }))
+    → ((d : Data) (k : Key) → read_data packet ≡ Ok d → find d.id (keys t) ≡ some k → data_judged (some k) d ≡ 0
     → length (grown t d) ≤ 64 → P (recorded_as t packet d k))
     → P (record_packet t packet)
 unfolding record_packet record_read record_data record_as record_refusal read_data
 record_cases P t packet refused taken = go (data_refusal packet) refl
   where
-    judged : (d : Data) (o : Option Key) (n : ℕ) → read_data packet ≡ data-read.Accepted d → find d.id (keys t) ≡ o
+    judged : (d : Data) (o : Option Key) (n : ℕ) → read_data packet ≡ Ok d → find d.id (keys t) ≡ o
         → record_refusal o (grown t d) d ≡ n → P (record_as n o (grown t d) t d (stamp_in packet d))
     judged d none zero e q z = refused 11
     judged d (some k) zero e q z =
@@ -44,12 +44,12 @@ record_cases P t packet refused taken = go (data_refusal packet) refl
         (runs_few (grown t d) (rest_none (data_judged (some k) d) _ z))
     judged d o (suc n) e q z = refused n
 
-    go : (n : ℕ) → data_refusal packet ≡ n → P (record_read t packet (answered data-read.Refused n (data-read.Accepted (data_of packet))))
+    go : (n : ℕ) → data_refusal packet ≡ n → P (record_read t packet (answered Err n (Ok (data_of packet))))
     go zero e = judged (data_of packet) (find (data_of packet).id (keys t)) _ (rw e) refl refl
     go (suc n) e = refused n
 
 -- and then it is accepted
-pub record_taken : (t : List Transfer) (packet : List ℕ) (d : Data) (k : Key) → read_data packet ≡ data-read.Accepted d
+pub record_taken : (t : List Transfer) (packet : List ℕ) (d : Data) (k : Key) → read_data packet ≡ Ok d
     → find d.id (keys t) ≡ some k → data_judged (some k) d ≡ 0 → length (grown t d) ≤ 64 → record_packet t packet ≡ recorded_as t packet d k
 unfolding record_packet record_read record_data record_as record_refusal
 record_taken t packet d k e q j n =

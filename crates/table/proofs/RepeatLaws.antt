@@ -13,7 +13,6 @@ use Rattle.timestamp.specs.Timestamps.{renewed}
 use Rattle.timestamp.proofs.StampLaws.{none_renewed, renewed_twice}
 use Rattle.packet_data.specs.Data.{read_data}
 use Rattle.packet_data.specs.declared.Data.{Data}
-use Rattle.packet_data.specs.declared.DataRead.TheVariants as data-read
 use Rattle.runs.specs.Runs.{Run, Member, Canonical}
 use Rattle.transfer.specs.declared.Key.{Key}
 use Rattle.transfer.specs.Transfers.{Transfer}
@@ -23,12 +22,13 @@ use Rattle.transfer.proofs.FieldLaws.{data_some}
 use Rattle.table.specs.Tables.{Valid, keys, find, runs_of, stamp_of, set_runs}
 use Rattle.table.specs.Outcome.{Outcome}
 use Rattle.table.specs.Record.{data_judged, grown, absorbed_in, adds_in, record_packet, record_accepted}
-use Rattle.table.specs.declared.Recorded.{Recorded}
-use Rattle.table.specs.declared.Recorded.TheVariants.{Accepted, Refused}
 use Rattle.table.proofs.TableLaws.{set_cases, keys_set, runs_head, runs_tail, runs_set_same, stamp_head, stamp_tail, stamp_set_same}
 use Rattle.table.proofs.FindLaws.{found_fine}
 use Rattle.table.proofs.RecordLaws.{record_cases, record_taken, recorded_as}
 use Rattle.table.proofs.ValidLaws.{record_valid}
+use Rattle.std.specs.Prelude.{Result, Ok, Err}
+use Rattle.refusals.specs.declared.Refusal.{Refusal}
+use Rattle.transfer.specs.declared.Receipt.{Receipt}
 
 -- the runs that an Id has, set again, with a timestamp that renews nothing
 set_known : (i : ℕ) (rs : List Run) (s : List ℕ) (t : List Transfer) → runs_of t i ≡ rs → renewed s (stamp_of t i) ≡ stamp_of t i → set_runs i rs s t ≡ t
@@ -72,9 +72,9 @@ module _ (t : List Transfer) (d : Data) where
 
 -- where 12 to 15 are not given, DATA whose offsets were all received is accepted, adds nothing, and is told how far the transfer is,
 -- that it absorbed one run, and that it added nothing. Where it brings a timestamp, that is kept
-pub record_known : (t : List Transfer) (packet : List ℕ) (d : Data) (k : Key) → Valid t → read_data packet ≡ data-read.Accepted d
+pub record_known : (t : List Transfer) (packet : List ℕ) (d : Data) (k : Key) → Valid t → read_data packet ≡ Ok d
     → find d.id (keys t) ≡ some k → key_refusal k d ≡ 0 → Known t d
-    → record_packet t packet ≡ record { answer = Accepted (receipt k (runs_of t d.id) 1 0); table = set_runs d.id (runs_of t d.id) (stamp_in packet d) t }
+    → record_packet t packet ≡ record { answer = Ok (receipt k (runs_of t d.id) 1 0); table = set_runs d.id (runs_of t d.id) (stamp_in packet d) t }
 unfolding grown absorbed_in data_judged
 record_known t packet d k v e f j known =
     let x = (found_fine t v d.id k f).fine in
@@ -84,15 +84,15 @@ record_known t packet d k v e f j known =
     let none : adds_in t d ≡ 0 = (grown_new t d (data_some packet d e) x.canonical).1 known in
     let few : length (grown t d) ≤ 64 = rw same x.few in
     record_taken t packet d k e f j few
-    ∙ ap₂ (λ (rs : List Run) (n : ℕ). record { answer = Accepted (receipt k rs n (adds_in t d)); table = set_runs d.id rs (stamp_in packet d) t }) same one
-    ∙ ap (λ (m : ℕ). record { answer = Accepted (receipt k (runs_of t d.id) 1 m); table = set_runs d.id (runs_of t d.id) (stamp_in packet d) t }) none
+    ∙ ap₂ (λ (rs : List Run) (n : ℕ). record { answer = Ok (receipt k rs n (adds_in t d)); table = set_runs d.id rs (stamp_in packet d) t }) same one
+    ∙ ap (λ (m : ℕ). record { answer = Ok (receipt k (runs_of t d.id) 1 m); table = set_runs d.id (runs_of t d.id) (stamp_in packet d) t }) none
 
 -- the answer of a recording, with one run absorbed and nothing added
-abbrev pub with_one : Recorded → Recorded
-with_one (Accepted x) = Accepted (record { reached = x.reached; absorbed = 1; adds = 0 })
-with_one (Refused r) = Refused r
+abbrev pub with_one : Result Receipt Refusal → Result Receipt Refusal
+with_one (Ok x) = Ok (record { reached = x.reached; absorbed = 1; adds = 0 })
+with_one (Err r) = Err r
 
-abbrev pub repeated : Outcome Recorded → Outcome Recorded
+abbrev pub repeated : Outcome (Result Receipt Refusal) → Outcome (Result Receipt Refusal)
 repeated o = record { answer = with_one o.answer; table = o.table }
 
 -- an accepted packet that is recorded again right away: the table stays, the transfer has come as far, one run is absorbed,
@@ -101,10 +101,10 @@ pub record_repeat : (t : List Transfer) (packet : List ℕ) → Octets packet �
     → record_packet (record_packet t packet).table packet ≡ repeated (record_packet t packet)
 unfolding grown data_judged
 record_repeat t packet o v a =
-    record_cases (λ (o : Outcome Recorded). record_accepted o.answer ≡ true → record_packet o.table packet ≡ repeated o) t packet
+    record_cases (λ (o : Outcome (Result Receipt Refusal)). record_accepted o.answer ≡ true → record_packet o.table packet ≡ repeated o) t packet
     (λ r q. absurd (let z : ◌≡◌ {A = ℕ} 0 1 = cc in omega arith)) (λ d k e f j l q. again d k e f j l) a
   where
-    again : (d : Data) (k : Key) → read_data packet ≡ data-read.Accepted d → find d.id (keys t) ≡ some k → data_judged (some k) d ≡ 0
+    again : (d : Data) (k : Key) → read_data packet ≡ Ok d → find d.id (keys t) ≡ some k → data_judged (some k) d ≡ 0
         → length (grown t d) ≤ 64 → record_packet (recorded_as t packet d k).table packet ≡ repeated (recorded_as t packet d k)
     again d k e f j l =
         let s : List ℕ = stamp_in packet d in
@@ -114,6 +114,6 @@ record_repeat t packet o v a =
         record_known u packet d k (rw (record_taken t packet d k e f j l) at (record_valid t packet o v)) e
         (ap (find d.id) (keys_set d.id (grown t d) s t) ∙ f) j
         (λ o p q. rw has ((extended_member (runs_of t d.id) d o).1 (inl (p, q))))
-        ∙ ap (λ (v : List Transfer). record { answer = Accepted (receipt k (runs_of u d.id) 1 0); table = v })
+        ∙ ap (λ (v : List Transfer). record { answer = Ok (receipt k (runs_of u d.id) 1 0); table = v })
         (set_known d.id (runs_of u d.id) s u refl (ap (renewed s) kept ∙ renewed_twice s (stamp_of t d.id) ∙ sym kept))
-        ∙ ap (λ (rs : List Run). record { answer = Accepted (receipt k rs 1 0); table = u }) has
+        ∙ ap (λ (rs : List Run). record { answer = Ok (receipt k rs 1 0); table = u }) has

@@ -8,8 +8,6 @@ use mathlib.Core.Logic.{◌⊎◌, inl, inr}
 use mathlib.Core.Option.{Option, none, some}
 use native.Mathlib.Omega.{arith}
 use lib.ListN.{length, take, drop, get_or}
-use Rattle.refusals.specs.declared.Written.{Written}
-use Rattle.refusals.specs.declared.Written.TheVariants.{Size, Refused}
 use Rattle.refusals.specs.declared.Refusal.{Refusal}
 use Rattle.runs.specs.Runs.{Run}
 use Rattle.transfer.specs.declared.Key.{Key}
@@ -20,6 +18,7 @@ use Rattle.table.specs.Tables.{Valid, keys, find, runs_of, stamp_of}
 use Rattle.table.specs.WriteStatus.{written_for, buffer_for, status_written, status_buffer}
 use Rattle.table.proofs.TableLaws.{stamp_none}
 use Rattle.table.proofs.FineLaws.{fine_found}
+use Rattle.std.specs.Prelude.{Ok, Err}
 
 -- what a table keeps is a timestamp or none
 pub stamp_valid : (i : ℕ) (t : List Transfer) → Valid t → Stamp (stamp_of t i)
@@ -74,21 +73,21 @@ module _ (t u : List Transfer) (vt : Valid t) (vu : Valid u) (id : ℕ) (key-sam
 
 module _ (t : List Transfer) (v : Valid t) (id k : ℕ) (unasked : Bool) (old : List ℕ) where
   -- the timestamp that is kept stands in the places 8 to 23 of a STATUS that is written
-  pub carried : (size : ℕ) → status_written t id k unasked old ≡ Size size
+  pub carried : (size : ℕ) → status_written t id k unasked old ≡ Ok size
       → take (length (stamp_of t id)) (drop 8 (status_buffer t id k unasked old)) ≡ stamp_of t id
   unfolding status_written written_for status_buffer buffer_for
   carried size = go (find id (keys t))
     where
-      go : (o : Option Key) → written_for o (runs_of t id) (stamp_of t id) k unasked old ≡ Size size
+      go : (o : Option Key) → written_for o (runs_of t id) (stamp_of t id) k unasked old ≡ Ok size
           → take (length (stamp_of t id)) (drop 8 (buffer_for o (runs_of t id) (stamp_of t id) k unasked old)) ≡ stamp_of t id
       go none e = absurd (let z : ◌≡◌ {A = ℕ} 0 1 = cc in omega arith)
       go (some key) e = stamp_carried key (runs_of t id) k unasked old (stamp_of t id) size e
 
   -- a refusal leaves the buffer
-  pub refused_buffer : (r : Refusal) → status_written t id k unasked old ≡ Refused r → status_buffer t id k unasked old ≡ old
+  pub refused_buffer : (r : Refusal) → status_written t id k unasked old ≡ Err r → status_buffer t id k unasked old ≡ old
   unfolding status_written written_for status_buffer buffer_for
   refused_buffer r = go (find id (keys t))
     where
-      go : (o : Option Key) → written_for o (runs_of t id) (stamp_of t id) k unasked old ≡ Refused r → buffer_for o (runs_of t id) (stamp_of t id) k unasked old ≡ old
+      go : (o : Option Key) → written_for o (runs_of t id) (stamp_of t id) k unasked old ≡ Err r → buffer_for o (runs_of t id) (stamp_of t id) k unasked old ≡ old
       go none e = refl
       go (some key) e = refused_stays key (runs_of t id) k unasked old (stamp_of t id) r e

@@ -14,11 +14,10 @@ use Rattle.octets.specs.Put.{put}
 use Rattle.octets.proofs.NumberLaws.{width_some}
 use Rattle.refusals.specs.Refusals.{refusal_of}
 use Rattle.runs.specs.declared.Hole.{Hole}
-use Rattle.refusals.specs.declared.Written.TheVariants.{Size, Refused}
 use Rattle.refusals.proofs.WritingLaws.{written_refused, buffer_refused}
 use Rattle.packet_status.specs.Status.{hole_list, read_status}
-use Rattle.packet_status.specs.declared.StatusRead.{StatusRead}
-use Rattle.packet_status.specs.declared.StatusRead.TheVariants.{Success}
+use Rattle.packet_status.specs.declared.Status.{Status}
+use Rattle.packet_status.specs.declared.Status.TheVariants.{Success}
 use Rattle.runs.specs.Runs.{Run}
 use Rattle.runs.specs.Holes.{holes}
 use Rattle.transfer.specs.declared.Key.{Key}
@@ -30,6 +29,8 @@ use Rattle.transfer_status.specs.WriteStatus.{holes_sent, partial_sent, fields_s
 use Rattle.table.proofs.FindLaws.{Found, found_fine}
 use Rattle.transfer_status.proofs.StatusSize.{status_fits, status_size_lem, status_size_fits}
 use Rattle.transfer_status.proofs.StatusReads.{status_read, status_holes_read}
+use Rattle.std.specs.Prelude.{Result, Ok, Err}
+use Rattle.refusals.specs.declared.Refusal.{Refusal}
 
 module _ (t : List Transfer) (v : Valid t) (id k : ℕ) (unasked : Bool) (old : List ℕ) (key : Key) (found : find id (keys t) ≡ some key)
     (ok : transfer_refused key (runs_of t id) (stamp_of t id) k unasked old ≡ 0) where
@@ -64,7 +65,7 @@ module _ (t : List Transfer) (v : Valid t) (id k : ℕ) (unasked : Bool) (old : 
   buffer_is = rw (found, ok, sent_size, zero-add)
 
   -- R7.7: the size
-  pub status_written_size : status_written t id k unasked old ≡ Size size
+  pub status_written_size : status_written t id k unasked old ≡ Ok size
   unfolding status_written written_for transfer_written
   status_written_size = rw (found, ok, sent_size)
 
@@ -82,8 +83,8 @@ module _ (t : List Transfer) (v : Valid t) (id k : ℕ) (unasked : Bool) (old : 
   status_buffer_rest = rw buffer_is (drop_at (status_packet key rs s k unasked (length old)) (drop size old) size sent_size)
 
   -- the fields that are written, with the Id i
-  abbrev fields_with : ℕ → StatusRead
-  fields_with i = Success (fields_read (fields_sent (record { id = i; width = d; length = key.length }) rs (partial_sent ts d k (length old) (length (holes rs))) unasked) s (length sent))
+  abbrev fields_with : ℕ → Result Status Refusal
+  fields_with i = Ok (Success (fields_read (fields_sent (record { id = i; width = d; length = key.length }) rs (partial_sent ts d k (length old) (length (holes rs))) unasked) s (length sent)))
 
   allowed : (k ≡ 0) ⊎ (k < length (holes rs))
   allowed = (status_fits ts d (length (holes rs)) k (length old) ok).allowed
@@ -99,12 +100,12 @@ module _ (t : List Transfer) (v : Valid t) (id k : ℕ) (unasked : Bool) (old : 
 
 -- where it is refused, the answer is the refusal, and the buffer keeps what it held: 12 where the Id is not open, 19 and 20 where it is
 module _ (t : List Transfer) (id k : ℕ) (unasked : Bool) (old : List ℕ) where
-  pub status_twelve : find id (keys t) ≡ none → (status_written t id k unasked old ≡ Refused (refusal_of 12)) × (status_buffer t id k unasked old ≡ old)
+  pub status_twelve : find id (keys t) ≡ none → (status_written t id k unasked old ≡ Err (refusal_of 12)) × (status_buffer t id k unasked old ≡ old)
   unfolding status_written written_for status_buffer buffer_for
   status_twelve e = (rw e, rw e)
 
   module _ (key : Key) (found : find id (keys t) ≡ some key) (no : transfer_refused key (runs_of t id) (stamp_of t id) k unasked old ≡ 0 → ⊥) where
-    pub status_refused_answer : status_written t id k unasked old ≡ Refused (refusal_of (transfer_refused key (runs_of t id) (stamp_of t id) k unasked old))
+    pub status_refused_answer : status_written t id k unasked old ≡ Err (refusal_of (transfer_refused key (runs_of t id) (stamp_of t id) k unasked old))
     unfolding status_written written_for transfer_written
     status_refused_answer = rw found (sym (written_refused (transfer_refused key (runs_of t id) (stamp_of t id) k unasked old) _ no))
 

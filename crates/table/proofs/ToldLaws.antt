@@ -7,10 +7,8 @@ use mathlib.Core.Logic.{◌⊎◌, ⊎_elim, ◌↔◌}
 use native.Mathlib.Omega.{arith}
 use Rattle.packet_metadata.specs.Metadata.{read_metadata}
 use Rattle.packet_metadata.specs.declared.Metadata.{Metadata}
-use Rattle.packet_metadata.specs.declared.MetadataRead.TheVariants as metadata-read
 use Rattle.packet_data.specs.Data.{read_data}
 use Rattle.packet_data.specs.declared.Data.{Data}
-use Rattle.packet_data.specs.declared.DataRead.TheVariants as data-read
 use Rattle.transfer.specs.declared.Reached.{Reached}
 use Rattle.transfer.specs.declared.Receipt.{Receipt}
 use Rattle.transfer.specs.Transfers.{Transfer, key_of, reached}
@@ -25,20 +23,20 @@ use Rattle.table.specs.Record.{grown, absorbed_in, adds_in, record_packet}
 use Rattle.table.specs.Told.{Told, Counted}
 use Rattle.table.specs.declared.Opened.{Opened}
 use Rattle.table.specs.declared.Opened.TheVariants as opened
-use Rattle.table.specs.declared.Recorded.{Recorded}
-use Rattle.table.specs.declared.Recorded.TheVariants as recorded
 use Rattle.table.proofs.TableLaws.{find_add_same, runs_add_same, keys_set, runs_set_same}
 use Rattle.table.proofs.FineLaws.{runs_canonical}
 use Rattle.table.proofs.OpenLaws.{open_cases}
 use Rattle.table.proofs.RecordLaws.{record_cases, grown_canonical, grown_count}
 use Rattle.table.proofs.RepeatLaws.{Known, grown_new, grown_same, grown_stays}
+use Rattle.std.specs.Prelude.{Result, Ok}
+use Rattle.refusals.specs.declared.Refusal.{Refusal}
 
 -- an accepted recording tells of the packet's Id in the table after it, and of the runs that were there before it: how many were
 -- absorbed, and whether something was added, which is so unless all its offsets were received, and unless the received set stays as it
 -- is; where it brings no timestamp, unless the table stays
 pub record Recording (t u : List Transfer) (packet : List ℕ) (x : Receipt) : Type 0 where
   pub brought : Data
-  pub read : read_data packet ≡ data-read.Accepted brought
+  pub read : read_data packet ≡ Ok brought
   pub told : Told u brought.id x.reached
   pub number : x.absorbed ≡ absorbed_in t brought
   pub counted : Counted t u brought.id x.absorbed
@@ -46,10 +44,10 @@ pub record Recording (t u : List Transfer) (packet : List ℕ) (x : Receipt) : T
   pub same : (x.adds ≡ 0) ↔ (runs_of u brought.id ≡ runs_of t brought.id)
   pub stays : stamp_in packet brought ≡ [] → (x.adds ≡ 0) ↔ (u ≡ t)
 
-pub record_told : (t : List Transfer) (packet : List ℕ) (x : Receipt) → Valid t → (record_packet t packet).answer ≡ recorded.Accepted x
+pub record_told : (t : List Transfer) (packet : List ℕ) (x : Receipt) → Valid t → (record_packet t packet).answer ≡ Ok x
     → Recording t (record_packet t packet).table packet x
 record_told t packet x v a =
-    record_cases (λ (o : Outcome Recorded). o.answer ≡ recorded.Accepted x → Recording t o.table packet x) t packet
+    record_cases (λ (o : Outcome (Result Receipt Refusal)). o.answer ≡ Ok x → Recording t o.table packet x) t packet
     (λ r q. absurd (let z : ◌≡◌ {A = ℕ} 0 1 = cc in omega arith))
     (λ d k e f j l q.
     let is : receipt k (grown t d) (absorbed_in t d) (adds_in t d) ≡ x = cc in
@@ -75,12 +73,12 @@ record_told t packet x v a =
 
 -- and so does an opening: a transfer that is new, or that was open already
 pub open_told : (t : List Transfer) (packet : List ℕ) (x : Reached) → Valid t
-    → ((open_packet t packet).answer ≡ opened.New x) ⊎ ((open_packet t packet).answer ≡ opened.AlreadyOpen x)
-    → (m : Metadata) × (read_metadata packet ≡ metadata-read.Accepted m) × Told (open_packet t packet).table m.id x
+    → ((open_packet t packet).answer ≡ Ok (opened.New x)) ⊎ ((open_packet t packet).answer ≡ Ok (opened.AlreadyOpen x))
+    → (m : Metadata) × (read_metadata packet ≡ Ok m) × Told (open_packet t packet).table m.id x
 open_told t packet x v a =
     open_cases
-    (λ (o : Outcome Opened). (o.answer ≡ opened.New x) ⊎ (o.answer ≡ opened.AlreadyOpen x)
-    → (m : Metadata) × (read_metadata packet ≡ metadata-read.Accepted m) × Told o.table m.id x)
+    (λ (o : Outcome (Result Opened Refusal)). (o.answer ≡ Ok (opened.New x)) ⊎ (o.answer ≡ Ok (opened.AlreadyOpen x))
+    → (m : Metadata) × (read_metadata packet ≡ Ok m) × Told o.table m.id x)
     t packet
     (λ r q. absurd (⊎_elim (λ p. let z : ◌≡◌ {A = ℕ} 0 1 = cc in omega arith) (λ p. let z : ◌≡◌ {A = ℕ} 0 1 = cc in omega arith) q))
     (λ m e f q.

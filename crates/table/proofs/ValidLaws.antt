@@ -28,8 +28,9 @@ use Rattle.table.proofs.OtherLaws.{close_cases}
 use Rattle.transfer.proofs.FieldLaws.{MetadataKnown, metadata_known, data_some}
 use Rattle.table.specs.Outcome.{Outcome}
 use Rattle.table.specs.declared.Opened.{Opened}
-use Rattle.table.specs.declared.Recorded.{Recorded}
-use Rattle.table.specs.declared.Finished.{Finished}
+use Rattle.std.specs.Prelude.{Result, ⊤}
+use Rattle.refusals.specs.declared.Refusal.{Refusal}
+use Rattle.transfer.specs.declared.Receipt.{Receipt}
 
 pub fresh_valid : Valid []
 fresh_valid = record { few = omega arith; fine = tt }
@@ -49,7 +50,7 @@ empty_fine m h =
 
 pub open_valid : (t : List Transfer) (packet : List ℕ) → Octets packet → Valid t → Valid (open_packet t packet).table
 open_valid t packet o v =
-    open_cases (λ (x : Outcome Opened). Valid x.table) t packet (λ r. v) (λ m e f. v)
+    open_cases (λ (x : Outcome (Result Opened Refusal)). Valid x.table) t packet (λ r. v) (λ m e f. v)
     (λ m e f w l.
     record {
       few = rw (length_add (key_of m) t) (omega (arith, length_keys t));
@@ -64,7 +65,7 @@ grown_fine t d s k v f payload stop few new =
 
 pub record_valid : (t : List Transfer) (packet : List ℕ) → Octets packet → Valid t → Valid (record_packet t packet).table
 record_valid t packet o v =
-    record_cases (λ (x : Outcome Recorded). Valid x.table) t packet (λ r. v)
+    record_cases (λ (x : Outcome (Result Receipt Refusal)). Valid x.table) t packet (λ r. v)
     (λ d k e f j l.
     record {
       few = rw (length_set d.id (grown t d) (stamp_in packet d) t) v.few;
@@ -74,5 +75,5 @@ record_valid t packet o v =
 
 pub close_valid : (t : List Transfer) (id : ℕ) → Valid t → Valid (close_id t id).table
 close_valid t id v =
-    close_cases (λ (x : Outcome Finished). Valid x.table) t id v
+    close_cases (λ (x : Outcome (Result ⊤ Refusal)). Valid x.table) t id v
     (λ k e. record { few = let h : length t ≤ 16 = v.few in omega (arith, length_remove id t); fine = fine_remove 0 id t v.fine })

@@ -1,18 +1,18 @@
 -- R6.4, R6.5: opening by METADATA.
 -- Assumes nothing.
-use Rattle.std.specs.Prelude.{ℕ, zero, suc, Bool, true, false, cond, ◌&&◌, List, [], length, ltb, eqb}
+use Rattle.std.specs.Prelude.{ℕ, zero, suc, Bool, true, false, cond, ◌&&◌, List, [], length, ltb, eqb, Result, Ok, Err}
 use Rattle.std.proofs.Math.Option.{Option, none, some}
 use Rattle.refusals.specs.Refusals.{refusal_of}
 use Rattle.packet_metadata.specs.Metadata.{read_metadata}
-use Rattle.packet_metadata.specs.declared.MetadataRead.{MetadataRead}
-use Rattle.packet_metadata.specs.declared.MetadataRead.TheVariants as metadata-read
 use Rattle.transfer.specs.declared.Key.{Key}
 use Rattle.transfer.specs.Transfers.{Transfer, key_of, reached}
 use Rattle.transfer.specs.Opening.{new_refusal}
 use Rattle.table.specs.Tables.{keys, find, runs_of, add}
 use Rattle.table.specs.declared.Opened.{Opened}
-use Rattle.table.specs.declared.Opened.TheVariants.{New, AlreadyOpen, Refused}
+use Rattle.table.specs.declared.Opened.TheVariants.{New, AlreadyOpen}
 use Rattle.table.specs.Outcome.{Outcome}
+use Rattle.refusals.specs.declared.Refusal.{Refusal}
+use Rattle.packet_metadata.specs.declared.Metadata.{Metadata}
 
 pub data Verdict : Type 0 where
   new : Verdict
@@ -33,23 +33,23 @@ judge_found (some j) count n k = cond (eqb j.width k.width && eqb j.length k.len
 unfoldable pub judge_open : List Key → ℕ → Key → Verdict
 judge_open ks n k = judge_found (find k.id ks) (length ks) n k
 
-unfoldable pub open_as : Verdict → List Transfer → Key → Outcome Opened
-open_as new t k = record { answer = New (reached k []); table = add k t }
-open_as already t k = record { answer = AlreadyOpen (reached k (runs_of t k.id)); table = t }
-open_as (refuse n) t k = record { answer = Refused (refusal_of n); table = t }
+unfoldable pub open_as : Verdict → List Transfer → Key → Outcome (Result Opened Refusal)
+open_as new t k = record { answer = Ok (New (reached k [])); table = add k t }
+open_as already t k = record { answer = Ok (AlreadyOpen (reached k (runs_of t k.id))); table = t }
+open_as (refuse n) t k = record { answer = Err (refusal_of n); table = t }
 
-unfoldable pub open_key : List Transfer → ℕ → Key → Outcome Opened
+unfoldable pub open_key : List Transfer → ℕ → Key → Outcome (Result Opened Refusal)
 open_key t n k = open_as (judge_open (keys t) n k) t k
 
 -- R6.4: the reader's refusals, then 18, 23, 17
-unfoldable pub open_read : List Transfer → MetadataRead → Outcome Opened
-open_read t (metadata-read.Accepted m) = open_key t (new_refusal m.flags) (key_of m)
-open_read t (metadata-read.Refused r) = record { answer = Refused r; table = t }
+unfoldable pub open_read : List Transfer → Result Metadata Refusal → Outcome (Result Opened Refusal)
+open_read t (Ok m) = open_key t (new_refusal m.flags) (key_of m)
+open_read t (Err r) = record { answer = Err r; table = t }
 
-unfoldable pub open_packet : List Transfer → List ℕ → Outcome Opened
+unfoldable pub open_packet : List Transfer → List ℕ → Outcome (Result Opened Refusal)
 open_packet t packet = open_read t (read_metadata packet)
 
-abbrev pub open_accepted : Opened → Bool
-open_accepted (New r) = true
-open_accepted (AlreadyOpen r) = true
-open_accepted (Refused r) = false
+abbrev pub open_accepted : Result Opened Refusal → Bool
+open_accepted (Ok (New r)) = true
+open_accepted (Ok (AlreadyOpen r)) = true
+open_accepted (Err r) = false

@@ -7,7 +7,6 @@ use mathlib.Core.Option.{Option, none, some}
 use mathlib.Core.Logic.{◌⊎◌, inl, inr, ⊎_elim, ◌↔◌}
 use native.Mathlib.Omega.{arith}
 use lib.ListN.{length}
-use borrow.Author.Tests.{eq-eqb, ne_eqb}
 use Rattle.refusals.specs.Refusals.{◌▹◌}
 use Rattle.refusals.proofs.ReasonLaws.{Reasons, given, one, unequal, below, ◌▸◌}
 use Rattle.runs.specs.Runs.{Run}
@@ -101,18 +100,3 @@ pub not_22 : (t u : List Transfer) (id : ℕ) → merge_refusal t u id ≡ 22 �
 unfolding merge_refusal keys_refusal runs_refusal
 not_22 t u id e =
     ((others (joined_runs t u id) 22 (λ z. omega arith) (λ j k. ⊥) (λ j k. given (reasons (joined_runs t u id) j k) 22) (find id (keys t)) (find id (keys u))).0 e).4
-
--- ---- two keys, test by test, as the code finds them
-
-module _ (j k : Key) where
-  pub two_widths : (j.width ≡ k.width → ⊥) → 13 ≡ keys_refusal (some j) (some k)
-  unfolding keys_refusal
-  two_widths n = rw (ne_eqb j.width k.width n)
-
-  pub two_lengths : j.width ≡ k.width → (j.length ≡ k.length → ⊥) → 18 ≡ keys_refusal (some j) (some k)
-  unfolding keys_refusal
-  two_lengths e n = rw (eq-eqb j.width k.width e, ne_eqb j.length k.length n)
-
-  pub one_key : j.width ≡ k.width → j.length ≡ k.length → 0 ≡ keys_refusal (some j) (some k)
-  unfolding keys_refusal
-  one_key e l = rw (eq-eqb j.width k.width e, eq-eqb j.length k.length l)

@@ -22,9 +22,9 @@ use Rattle.table.specs.Outcome.{Outcome}
 use Rattle.table.proofs.TableLaws.{find_id, keys_set, runs_set_same, runs_set_other, stamp_set_same, stamp_set_other, length_set}
 use Rattle.table.proofs.FineLaws.{fine_found, fine_set, runs_canonical}
 use Rattle.table_merge.specs.Merge.{joined_runs, merge_refusal, merge_as, merge_table, merge_accepted}
-use Rattle.table_merge.specs.declared.Merged.{Merged}
-use Rattle.table_merge.specs.declared.Merged.TheVariants.{Joined, Refused}
 use Rattle.table_merge.proofs.LimitLaws.{none_iff}
+use Rattle.std.specs.Prelude.{Result, Ok, Err}
+use Rattle.transfer.specs.declared.Reached.{Reached}
 
 -- ---- the cases
 
@@ -49,25 +49,25 @@ module _ (t u : List Transfer) (id : ℕ) (m : Mergeable t u id) where
   merge_refusal_none = (none_iff t u id).1 (m.key, m.key, m.first, m.second, ((refl, refl), m.few))
 
   -- accepted, with the runs joined and the timestamp that was kept
-  abbrev pub merged_as : Outcome Merged
-  merged_as = record { answer = Joined (reached m.key (joined_runs t u id)); table = set_runs id (joined_runs t u id) [] t }
+  abbrev pub merged_as : Outcome (Result Reached Refusal)
+  merged_as = record { answer = Ok (reached m.key (joined_runs t u id)); table = set_runs id (joined_runs t u id) [] t }
 
   pub merge_taken : merge_table t u id ≡ merged_as
   unfolding merge_table merge_as
   merge_taken = rw (merge_refusal_none, m.first)
 
 pub merge_given : (t u : List Transfer) (id : ℕ) → (merge_refusal t u id ≡ 0 → ⊥)
-    → merge_table t u id ≡ record { answer = Refused (refusal_of (merge_refusal t u id)); table = t }
+    → merge_table t u id ≡ record { answer = Err (refusal_of (merge_refusal t u id)); table = t }
 unfolding merge_table merge_as
 merge_given t u id z = go (merge_refusal t u id) (find id (keys t)) z
   where
-    go : (n : ℕ) (o : Option Key) → (n ≡ 0 → ⊥) → merge_as n o (joined_runs t u id) [] t id ≡ record { answer = Refused (refusal_of n); table = t }
+    go : (n : ℕ) (o : Option Key) → (n ≡ 0 → ⊥) → merge_as n o (joined_runs t u id) [] t id ≡ record { answer = Err (refusal_of n); table = t }
     go zero o z = absurd (z refl)
     go (suc n) o z = refl
 
 -- refused, with a number that is not 0 (R1.5), and the table stays; or it is accepted
-pub merge_cases : (P : Outcome Merged → Type 0) (t u : List Transfer) (id : ℕ)
-    → ((n : ℕ) → P (record { answer = Refused (refusal_of (suc n)); table = t })) → ((m : Mergeable t u id) → P (merged_as t u id m))
+pub merge_cases : (P : Outcome (Result Reached Refusal) → Type 0) (t u : List Transfer) (id : ℕ)
+    → ((n : ℕ) → P (record { answer = Err (refusal_of (suc n)); table = t })) → ((m : Mergeable t u id) → P (merged_as t u id m))
     → P (merge_table t u id)
 merge_cases P t u id refused taken = go (merge_refusal t u id) refl
   where
@@ -78,32 +78,32 @@ merge_cases P t u id refused taken = go (merge_refusal t u id) refl
 -- what is accepted could be merged
 pub merge_accepted_lem : (t u : List Transfer) (id : ℕ) → merge_accepted (merge_table t u id).answer ≡ true → Mergeable t u id
 merge_accepted_lem t u id =
-    merge_cases (λ (o : Outcome Merged). merge_accepted o.answer ≡ true → Mergeable t u id) t u id
+    merge_cases (λ (o : Outcome (Result Reached Refusal)). merge_accepted o.answer ≡ true → Mergeable t u id) t u id
     (λ n e. absurd (let z : ◌≡◌ {A = ℕ} 0 1 = cc in omega arith)) (λ m e. m)
 
 -- ---- what it leaves
 
 -- R1.6: a refusal leaves the table
-pub merge_refused : (t u : List Transfer) (id : ℕ) (r : Refusal) → (merge_table t u id).answer ≡ Refused r → (merge_table t u id).table ≡ t
+pub merge_refused : (t u : List Transfer) (id : ℕ) (r : Refusal) → (merge_table t u id).answer ≡ Err r → (merge_table t u id).table ≡ t
 merge_refused t u id r =
-    merge_cases (λ (x : Outcome Merged). x.answer ≡ Refused r → x.table ≡ t) t u id (λ n e. refl)
+    merge_cases (λ (x : Outcome (Result Reached Refusal)). x.answer ≡ Err r → x.table ≡ t) t u id (λ n e. refl)
     (λ m e. absurd (let z : ◌≡◌ {A = ℕ} 0 1 = cc in omega arith))
 
 -- the same Ids are open, with the same widths and lengths
 pub merge_keys : (t u : List Transfer) (id : ℕ) → keys (merge_table t u id).table ≡ keys t
 merge_keys t u id =
-    merge_cases (λ (x : Outcome Merged). keys x.table ≡ keys t) t u id (λ n. refl) (λ m. keys_set id (joined_runs t u id) [] t)
+    merge_cases (λ (x : Outcome (Result Reached Refusal)). keys x.table ≡ keys t) t u id (λ n. refl) (λ m. keys_set id (joined_runs t u id) [] t)
 
 -- no other Id's runs change
 pub merge_other : (t u : List Transfer) (id i : ℕ) → (id ≡ i → ⊥) → runs_of (merge_table t u id).table i ≡ runs_of t i
 merge_other t u id i n =
-    merge_cases (λ (x : Outcome Merged). runs_of x.table i ≡ runs_of t i) t u id (λ k. refl)
+    merge_cases (λ (x : Outcome (Result Reached Refusal)). runs_of x.table i ≡ runs_of t i) t u id (λ k. refl)
     (λ m. runs_set_other id i (joined_runs t u id) [] t n)
 
 -- nor any timestamp
 pub merge_stamp : (t u : List Transfer) (id i : ℕ) → stamp_of (merge_table t u id).table i ≡ stamp_of t i
 merge_stamp t u id i =
-    merge_cases (λ (x : Outcome Merged). stamp_of x.table i ≡ stamp_of t i) t u id (λ n. refl) (λ m. at m.key m.first (ℕ_discrete id i))
+    merge_cases (λ (x : Outcome (Result Reached Refusal)). stamp_of x.table i ≡ stamp_of t i) t u id (λ n. refl) (λ m. at m.key m.first (ℕ_discrete id i))
   where
     at : (k : Key) → find id (keys t) ≡ some k → Dec (id ≡ i) → stamp_of (set_runs id (joined_runs t u id) [] t) i ≡ stamp_of t i
     at k f (yes e) = rw (← e) (stamp_set_same id (joined_runs t u id) [] t k f ∙ none_renewed (stamp_of t id))
@@ -111,7 +111,7 @@ merge_stamp t u id i =
 
 module _ (t u : List Transfer) (id : ℕ) (m : Mergeable t u id) where
   pub merge_set : (merge_table t u id).table ≡ set_runs id (joined_runs t u id) [] t
-  merge_set = ap (λ (x : Outcome Merged). x.table) (merge_taken t u id m)
+  merge_set = ap (λ (x : Outcome (Result Reached Refusal)). x.table) (merge_taken t u id m)
 
   pub merge_runs : runs_of (merge_table t u id).table id ≡ joined_runs t u id
   merge_runs = rw (merge_taken t u id m) (runs_set_same id (joined_runs t u id) [] t m.key m.first)
@@ -146,7 +146,7 @@ joined_fine t u id m v w =
 
 pub merge_valid : (t u : List Transfer) (id : ℕ) → Valid t → Valid u → Valid (merge_table t u id).table
 merge_valid t u id v w =
-    merge_cases (λ (x : Outcome Merged). Valid x.table) t u id (λ n. v)
+    merge_cases (λ (x : Outcome (Result Reached Refusal)). Valid x.table) t u id (λ n. v)
     (λ m.
     record {
       few = rw (length_set id (joined_runs t u id) [] t) v.few;

@@ -18,9 +18,9 @@ use Rattle.table.specs.Tables.{Valid, runs_of}
 use Rattle.table.specs.Outcome.{Outcome}
 use Rattle.table_merge.specs.Merge.{joined_runs, merge_table}
 use Rattle.table_merge.specs.Merging.{Either, Merging}
-use Rattle.table_merge.specs.declared.Merged.{Merged}
-use Rattle.table_merge.specs.declared.Merged.TheVariants.{Joined}
 use Rattle.table_merge.proofs.MergeLaws.{Mergeable, merge_cases, merge_keys, merge_other, merge_stamp, merge_runs, merge_member, joined_canonical}
+use Rattle.std.specs.Prelude.{Result, Ok}
+use Rattle.refusals.specs.declared.Refusal.{Refusal}
 
 -- ---- what is told of a received set, in terms of the offsets that are in it
 
@@ -70,8 +70,8 @@ module _ (t u : List Transfer) (id : ℕ) (v : Valid t) (w : Valid u) where
         hole_iff = λ o. rw (merge_runs t u id m) (told_hole m.key (joined_runs t u id) c E in_set o);
       }
 
-  pub merge_told : (x : Reached) → (merge_table t u id).answer ≡ Joined x → Merging t u (merge_table t u id).table id x
+  pub merge_told : (x : Reached) → (merge_table t u id).answer ≡ Ok x → Merging t u (merge_table t u id).table id x
   merge_told x =
-      merge_cases (λ (o : Outcome Merged). o.answer ≡ Joined x → Merging t u (merge_table t u id).table id x) t u id
+      merge_cases (λ (o : Outcome (Result Reached Refusal)). o.answer ≡ Ok x → Merging t u (merge_table t u id).table id x) t u id
       (λ n e. absurd (let z : ◌≡◌ {A = ℕ} 0 1 = cc in omega arith))
       (λ m e. let is : reached m.key (joined_runs t u id) ≡ x = cc in subst (Merging t u (merge_table t u id).table id) is (merging m))

@@ -4,26 +4,22 @@
 ghost use Rattle.std.specs.Prelude.{◌≡◌};
 ghost use Rattle.std.proofs.Math.Option.{some};
 ghost use Rattle.table_merge.specs.Merge.{keys_refusal};
+ghost use Rattle.refusals.specs.Faults.{refused};
 
-use refusals::Refusal;
-use transfer::{Key, Reached};
+use refusals::Fault;
+use transfer::Key;
 
 // What merging answers.
-#[derive(Clone, Copy)]
-pub enum Merged {
-    Joined(Reached),
-    Refused(Refusal),
-}
-
-// 13 where the widths differ, then 18 where the lengths do; 0 for none.
-pub fn keys_refusal(first: Key, second: Key) -> u64
-    ensures { result ≡ keys_refusal (some first) (some second) }
+// 13 where the widths differ, then 18 where the lengths do.
+#[tactic(auto, unfolding(crate::specs::Merge::keys_refusal))]
+pub fn keys_refusal(first: Key, second: Key) -> Result<(), Fault>
+    ensures { refused result ≡ keys_refusal (some first) (some second) }
 {
     if first.width != second.width {
-        return 13;
+        return Err(Fault::OtherWidth);
     }
     if first.length != second.length {
-        return 18;
+        return Err(Fault::OtherFile);
     }
-    0
+    Ok(())
 }

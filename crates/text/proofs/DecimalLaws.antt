@@ -1,45 +1,33 @@
--- One digit after the other, from the last to the first. Assumes nothing.
-use Prim.Native.Nat.{ℕ, zero, suc, ◌+◌, ◌-◌, ◌/◌, ◌%◌, ◌<◌, ◌≤◌}
+-- The digits of a number are those that the library writes. Assumes nothing.
+use Prim.Native.Nat.{ℕ, zero, suc, ◌+◌, ◌/◌, ◌%◌, ◌^◌, ◌<◌, ◌≤◌}
 use mathlib.Core.Path.{◌≡◌, refl, sym, ◌∙◌}
-use mathlib.Core.List.{List, [], ◌∷◌}
-use native.Mathlib.Nat.{not-suc-le-zero, le_of_suc-le-suc}
-use native.Mathlib.Numerals.{add-one}
+use mathlib.Core.List.{List, [], ◌∷◌, append-nil}
 use native.Mathlib.Omega.{arith}
 use borrow.Author.Tests.{lt-ltb, le-ltb}
-use lib.ListN.{length, drop, set}
-use Rattle.text.specs.Decimal.{decimal_onto}
+use Rattle.std.specs.Fmt.{decimal}
+use Rattle.std.proofs.lemmas.Fmt.{PrependsLastDigit, decimal_from_prepends, length-decimal-le}
+use Rattle.text.specs.Decimal.{decimal_onto, decimal_of}
 
--- what stands from a place on, once an octet was written there
-pub drop_set : (t : List ℕ) (i v : ℕ) → i < length t → drop i (set t i v) ≡ v ∷ drop (suc i) t
-drop_set [] i v h = absurd (not-suc-le-zero h)
-drop_set (x ∷ xs) zero v h = refl
-drop_set (x ∷ xs) (suc i) v h = drop_set xs i v (le_of_suc-le-suc h)
+-- at most k digits of n, in front of those that follow
+onto : ℕ → ℕ → List ℕ → List ℕ
+onto zero n r = r
+onto (suc k) n r = decimal_onto k n r
 
-small : (i n : ℕ) (r : List ℕ) → n < 10 → decimal_onto i n r ≡ (48 + n % 10) ∷ r
-unfolding decimal_onto
-small zero n r h = refl
-small (suc k) n r h = rw (lt-ltb n 10 h)
+prepends : PrependsLastDigit onto
+unfolding decimal_onto onto
+prepends = record {
+  one = λ k n acc small. one k n acc small;
+  more = λ k n acc large. more k n acc large;
+}
+  where
+    one : (k n : ℕ) (acc : List ℕ) → n < 10 → onto (suc k) n acc ≡ (48 + n) ∷ acc
+    one zero n acc h = let e : n % 10 ≡ n = omega arith in rw e
+    one (suc k) n acc h = let e : n % 10 ≡ n = omega arith in rw (lt-ltb n 10 h, e)
 
-large : (i n : ℕ) (r : List ℕ) → 0 < i → 10 ≤ n → decimal_onto i n r ≡ decimal_onto (i - 1) (n / 10) ((48 + n % 10) ∷ r)
-unfolding decimal_onto
-large zero n r z h = absurd (not-suc-le-zero z)
-large (suc k) n r z h = let e : suc k - 1 ≡ k = omega arith in rw (le-ltb n 10 h, e)
+    more : (k n : ℕ) (acc : List ℕ) → 10 ≤ n → onto (suc k) n acc ≡ onto k (n / 10) ((48 + n % 10) ∷ acc)
+    more zero n acc h = refl
+    more (suc k) n acc h = rw (le-ltb n 10 h)
 
-first : (i n : ℕ) (r : List ℕ) → i ≡ 0 → decimal_onto i n r ≡ (48 + n % 10) ∷ r
-unfolding decimal_onto
-first i n r z = rw z
-
--- the only digit that is left, below 10
-pub digit_small : (t : List ℕ) (i n : ℕ) → i < length t → n < 10 → drop i (set t i (48 + n % 10)) ≡ decimal_onto i n (drop (i + 1) t)
-digit_small t i n f h = rw add-one (drop_set t i (48 + n % 10) f ∙ sym (small i n (drop (suc i) t) h))
-
--- the digit at the first place
-pub digit_first : (t : List ℕ) (i n : ℕ) → i < length t → i ≡ 0 → drop i (set t i (48 + n % 10)) ≡ decimal_onto i n (drop (i + 1) t)
-digit_first t i n f z = rw add-one (drop_set t i (48 + n % 10) f ∙ sym (first i n (drop (suc i) t) z))
-
--- a digit before which there are others
-pub digit_next : (t : List ℕ) (i n : ℕ) → i < length t → 0 < i → 10 ≤ n
-    → decimal_onto (i - 1) (n / 10) (drop (i - 1 + 1) (set t i (48 + n % 10))) ≡ decimal_onto i n (drop (i + 1) t)
-digit_next t i n f z h =
-    let e : i - 1 + 1 ≡ i = omega arith in
-    rw (e, drop_set t i (48 + n % 10) f, add-one i) (sym (large i n (drop (suc i) t) z h))
+pub decimal_is : (n : ℕ) → n < 2 ^ 64 → decimal n ≡ decimal_of n
+unfolding decimal_of onto
+decimal_is n h = sym (decimal_from_prepends onto prepends 20 n [] h (length-decimal-le 20 n (omega arith) (omega arith) h) ∙ append-nil (decimal n))

@@ -1,12 +1,15 @@
 // Lines of text in a buffer: words, numbers in decimal and octets in hex, each put after what stands there already.
-// A line that has no room is cut at the buffer's end. Nothing here knows of Saratoga.
+// A line that has no room is cut at the buffer's end. Nothing here knows of Saratoga. A line is a lent buffer and the place where it ends:
+// a `fmt::Write` of our own would be no plainer, since its calls answer an error that never comes.
 #![tactic(auto)]
 
-ghost use Rattle.std.specs.Prelude.{◌≡◌, [], ◌∷◌, ◌<◌, ◌≤◌, length, drop};
+ghost use Rattle.std.specs.Prelude.{◌≡◌, [], ◌∷◌, ◌<◌, ◌≤◌, length};
 ghost use Rattle.octets.specs.Numbers.{be_digits};
 ghost use Rattle.text.specs.Added.{Added};
 ghost use Rattle.text.specs.Decimal.{decimal_of};
 ghost use Rattle.text.specs.Hex.{glyph, hex_of};
+
+use itoa::Buffer;
 
 // One octet after the line so far, which ends at `at`.
 pub fn push(out: &mut [u8], at: usize, b: u8) -> usize
@@ -21,37 +24,14 @@ pub fn push(out: &mut [u8], at: usize, b: u8) -> usize
 }
 
 // A word after the line so far.
+#[tactic(auto, using(crate::proofs::AddedLaws::added_part))]
 pub fn put_text(out: &mut [u8], at: usize, s: &[u8]) -> usize
     requires { at ≤ length out.old }
     ensures { Added out.old at s.now out.new result }
 {
-    let mut next = at;
-    let mut i = 0;
-    while i < s.len() {
-        next = push(out, next, s[i]);
-        i += 1;
-    }
-    next
-}
-
-// The decimal digits of n, at the end of `text`, and where they start.
-fn spell(n: u64, text: &mut [u8]) -> usize
-    requires { length text.old ≡ 20 }
-    ensures { (result < 20) × (drop result text.new ≡ decimal_of n) }
-{
-    let mut rest = n;
-    let mut i = 19;
-    while 0 < i {
-        if rest < 10 {
-            text[i] = 48 + (rest % 10) as u8;
-            return i;
-        }
-        text[i] = 48 + (rest % 10) as u8;
-        rest = rest / 10;
-        i -= 1;
-    }
-    text[i] = 48 + (rest % 10) as u8;
-    i
+    let n = s.len().min(out.len() - at);
+    octets::copy_into(out, at, &s[..n]);
+    at + n
 }
 
 // A number in decimal after the line so far.
@@ -59,9 +39,7 @@ pub fn put_decimal(out: &mut [u8], at: usize, n: u64) -> usize
     requires { at ≤ length out.old }
     ensures { Added out.old at (decimal_of n) out.new result }
 {
-    let mut digits = [0u8; 20];
-    let start = spell(n, &mut digits);
-    put_text(out, at, &digits[start..])
+    put_text(out, at, Buffer::new().format(n).as_bytes())
 }
 
 // A hex digit.
@@ -69,7 +47,7 @@ fn digit(d: u8) -> u8
     requires { d < 16 }
     ensures { result ≡ glyph d }
 {
-    if d < 10 { 48 + d } else { 87 + d }
+    if d < 10 { b'0' + d } else { b'a' + (d - 10) }
 }
 
 // Octets in hex after the line so far.
@@ -78,12 +56,9 @@ pub fn put_hex(out: &mut [u8], at: usize, s: &[u8]) -> usize
     ensures { Added out.old at (hex_of s.now) out.new result }
 {
     let mut next = at;
-    let mut i = 0;
-    while i < s.len() {
-        let b = s[i];
+    for b in s {
         let high = push(out, next, digit(b / 16));
         next = push(out, high, digit(b % 16));
-        i += 1;
     }
     next
 }

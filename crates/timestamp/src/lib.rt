@@ -5,7 +5,8 @@ ghost use Rattle.std.specs.Prelude.{◌≡◌, true, ◌+◌, ◌≤◌, length}
 ghost use Rattle.octets.specs.Put.{put};
 ghost use Rattle.timestamp.specs.Timestamps.{kept_octets, stamp_from};
 
-// Whether a timestamp is kept, and then its first eight octets and its last eight, each as a number.
+// Whether a timestamp is kept, and then its first eight octets and its last eight, each as a number. It is no Option: C's record of a
+// bitmap has these three numbers, and C gets back those that it handed in, also where no timestamp is kept.
 #[derive(Clone, Copy)]
 pub struct Kept {
     pub stamped: bool,
@@ -14,6 +15,7 @@ pub struct Kept {
 }
 
 // The timestamp that stands from `at` on, or none.
+#[tactic(auto, using(crate::proofs::KeptLaws::kept_read, crate::proofs::KeptLaws::read_none))]
 pub fn read_stamp(s: &[u8], at: usize, stamped: bool) -> Kept
     requires { stamped ≡ true → at + 16 ≤ length s.now }
     ensures { kept_octets result ≡ stamp_from stamped at s.now }
@@ -33,6 +35,7 @@ pub fn read_stamp(s: &[u8], at: usize, stamped: bool) -> Kept
 }
 
 // How many octets it has.
+#[tactic(auto, using(crate::proofs::KeptLaws::kept_sixteen, crate::proofs::KeptLaws::kept_zero))]
 pub fn stamp_octets(kept: Kept) -> usize
     ensures { result ≡ length (kept_octets kept) }
 {
@@ -40,6 +43,7 @@ pub fn stamp_octets(kept: Kept) -> usize
 }
 
 // The timestamp, where there is one, from the place `at` on. Answers the place behind it.
+#[tactic(auto, using(crate::proofs::KeptLaws::kept_sixteen, crate::proofs::KeptLaws::kept_zero, crate::proofs::KeptLaws::kept_put, crate::proofs::KeptLaws::kept_put_none))]
 pub fn put_stamp(out: &mut [u8], at: usize, kept: Kept) -> usize
     requires { at + length (kept_octets kept) ≤ length out.old }
     ensures after { result ≡ at + length (kept_octets kept) }

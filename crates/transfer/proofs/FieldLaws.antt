@@ -16,12 +16,11 @@ use Rattle.directory_entry.specs.Entry.{properties_of, entry_of}
 use Rattle.directory_entry.proofs.EntryLaws.{entry_fine}
 use Rattle.packet_metadata.specs.Metadata.{entry_at, metadata_refusal, metadata_of, read_metadata}
 use Rattle.packet_metadata.specs.declared.Metadata.{Metadata}
-use Rattle.packet_metadata.specs.declared.MetadataRead.TheVariants as metadata-read
 use Rattle.packet_metadata.proofs.MetadataLaws.{metadata_fine, metadata_given}
 use Rattle.packet_data.specs.Data.{payload_at, data_refusal, data_of, read_data}
 use Rattle.packet_data.specs.declared.Data.{Data}
-use Rattle.packet_data.specs.declared.DataRead.TheVariants as data-read
 use Rattle.packet_data.proofs.DataLaws.{data_fine, data_given}
+use Rattle.std.specs.Prelude.{Ok}
 
 pub record MetadataKnown (m : Metadata) : Type 0 where
   pub id_fits : m.id < 2 ^ 32
@@ -42,7 +41,7 @@ fields_known s o z =
       size_held = descriptor_lt (size_octets (properties_of e)) 2 e (octets_drop (entry_at (word_of s)) s o) g.size;
     }
 
-pub metadata_known : (s : List ℕ) (m : Metadata) → Octets s → read_metadata s ≡ metadata-read.Accepted m → MetadataKnown m
+pub metadata_known : (s : List ℕ) (m : Metadata) → Octets s → read_metadata s ≡ Ok m → MetadataKnown m
 metadata_known s m o e = let g = metadata_given s m e in rw (← g.1) (fields_known s o g.0)
 
 some_payload : (s : List ℕ) → data_refusal s ≡ 0 → 0 < (data_of s).length
@@ -50,5 +49,5 @@ unfolding data_of
 some_payload s z = let f = data_fine s z in let h : payload_at (word_of s) < length s = f.more in omega arith
 
 -- R9.10: DATA that is taken has a payload
-pub data_some : (s : List ℕ) (d : Data) → read_data s ≡ data-read.Accepted d → 0 < d.length
+pub data_some : (s : List ℕ) (d : Data) → read_data s ≡ Ok d → 0 < d.length
 data_some s d e = let g = data_given s d e in rw (← g.1) (some_payload s g.0)

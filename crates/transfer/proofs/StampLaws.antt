@@ -17,9 +17,9 @@ use Rattle.header.specs.FirstWord.{bits, timestamp_octets}
 use Rattle.header.specs.Start.{word_of}
 use Rattle.packet_data.specs.Data.{payload_at, data_refusal, data_of, read_data}
 use Rattle.packet_data.specs.declared.Data.{Data}
-use Rattle.packet_data.specs.declared.DataRead.TheVariants as data-read
 use Rattle.packet_data.proofs.DataLaws.{data_fine, data_given}
 use Rattle.transfer.specs.Record.{stamp_in}
+use Rattle.std.specs.Prelude.{Ok}
 
 fields_stamp : (s : List ℕ) → Octets s → data_refusal s ≡ 0 → Stamp (stamp_in s (data_of s))
 unfolding stamp_in data_of
@@ -34,7 +34,7 @@ fields_stamp s o z =
     two (suc (suc b)) h = absurd (omega arith)
 
 -- an accepted packet brings 16 octets or none
-pub stamp_known : (s : List ℕ) (d : Data) → Octets s → read_data s ≡ data-read.Accepted d → Stamp (stamp_in s d)
+pub stamp_known : (s : List ℕ) (d : Data) → Octets s → read_data s ≡ Ok d → Stamp (stamp_in s d)
 stamp_known s d o e = let g = data_given s d e in rw (← g.1) (fields_stamp s o g.0)
 
 fields_bit : (s : List ℕ) → data_refusal s ≡ 0 → stamped (stamp_in s (data_of s)) ≡ eqb (bits 32 (word_of s) 12 12) 1
@@ -63,10 +63,10 @@ fields_renewed s old z =
     two (suc (suc b)) h l = absurd (omega arith)
 
 -- exactly where its bit 12 is set
-pub stamp_bit : (s : List ℕ) (d : Data) → read_data s ≡ data-read.Accepted d → stamped (stamp_in s d) ≡ eqb (bits 32 (word_of s) 12 12) 1
+pub stamp_bit : (s : List ℕ) (d : Data) → read_data s ≡ Ok d → stamped (stamp_in s d) ≡ eqb (bits 32 (word_of s) 12 12) 1
 stamp_bit s d e = let g = data_given s d e in rw (← g.1) (fields_bit s g.0)
 
 -- what is kept after an accepted packet: its octets 8 to 23 where bit 12 is set, and else what was kept
-pub renewed_by : (s : List ℕ) (d : Data) (old : List ℕ) → read_data s ≡ data-read.Accepted d
+pub renewed_by : (s : List ℕ) (d : Data) (old : List ℕ) → read_data s ≡ Ok d
     → renewed (stamp_in s d) old ≡ cond (eqb (bits 32 (word_of s) 12 12) 1) (take 16 (drop 8 s)) old
 renewed_by s d old e = let g = data_given s d e in rw (← g.1) (fields_renewed s old g.0)

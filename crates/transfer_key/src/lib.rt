@@ -5,9 +5,11 @@ ghost use Rattle.std.specs.Prelude.{◌≡◌, []};
 ghost use Rattle.transfer.specs.Transfers.{key_of, length_test, reached};
 ghost use Rattle.transfer.specs.Record.{key_refusal};
 ghost use Rattle.transfer.specs.Opening.{new_refusal};
+ghost use Rattle.refusals.specs.Faults.{refused};
 
 use packet_data::Data;
 use packet_metadata::Metadata;
+use refusals::Fault;
 use transfer::{Key, Reached};
 
 // The key that METADATA opens.
@@ -21,12 +23,16 @@ pub fn key_of(m: Metadata) -> Key
     }
 }
 
-// What METADATA of a new Id is refused with, by its flags: 23 for a CRC-32c; 0 for none.
-pub fn new_refusal(flags: u64) -> u64
-    ensures { result ≡ new_refusal flags }
+// What METADATA of a new Id is refused with, by its flags: 23 for a CRC-32c.
+#[tactic(auto, unfolding(transfer::specs::Opening::new_refusal))]
+pub fn new_refusal(flags: u64) -> Result<(), Fault>
+    ensures { refused result ≡ new_refusal flags }
 {
     let h = first_word::split(flags);
-    if h.sum == 1 { 23 } else { 0 }
+    if h.sum == 1 {
+        return Err(Fault::OldChecksum);
+    }
+    Ok(())
 }
 
 // How far a transfer has come that was just opened.
@@ -55,25 +61,26 @@ pub fn length_ok(width: u64, length: u64) -> bool
     width == 16
 }
 
-// 13, 14 and 15 for DATA of a transfer with this key; 0 for none. No sum is made that could wrap.
-pub fn key_refusal(key: Key, d: Data) -> u64
-    ensures { result ≡ key_refusal key d }
+// 13, 14 and 15 for DATA of a transfer with this key. No sum is made that could wrap.
+#[tactic(auto, unfolding(transfer::specs::Record::key_refusal))]
+pub fn key_refusal(key: Key, d: Data) -> Result<(), Fault>
+    ensures { refused result ≡ key_refusal key d }
 {
     if d.width != key.width {
-        return 13;
+        return Err(Fault::OtherWidth);
     }
     let octets = d.length as u64;
     if key.length < octets {
-        return 14;
+        return Err(Fault::PastEnd);
     }
     if key.length - octets < d.offset {
-        return 14;
+        return Err(Fault::PastEnd);
     }
     if d.eod != 1 {
-        return 0;
+        return Ok(());
     }
     if d.offset + octets != key.length {
-        return 15;
+        return Err(Fault::NotTheEnd);
     }
-    0
+    Ok(())
 }

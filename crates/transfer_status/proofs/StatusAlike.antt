@@ -15,7 +15,6 @@ use Rattle.octets.specs.Put.{put}
 use Rattle.timestamp.specs.Timestamps.{Stamp, stamped}
 use Rattle.timestamp.proofs.StampLaws.{stamp_length}
 use Rattle.refusals.specs.Writing.{written_of, buffer_after}
-use Rattle.refusals.specs.declared.Written.TheVariants.{Size, Refused}
 use Rattle.refusals.specs.declared.Refusal.{Refusal}
 use Rattle.header.specs.FirstWord.{word_for}
 use Rattle.runs.specs.Runs.{Run}
@@ -28,6 +27,7 @@ use Rattle.success_status.proofs.SizeLaws.{status_length}
 use Rattle.transfer.specs.declared.Key.{Key}
 use Rattle.transfer_status.specs.WriteStatus.{size_refusal, holes_sent, partial_sent, fields_sent, status_packet, transfer_written, transfer_buffer}
 use Rattle.transfer_status.proofs.StatusSize.{status_size_lem}
+use Rattle.std.specs.Prelude.{Ok, Err}
 
 -- ---- what stands before the timestamp, and behind it
 
@@ -125,11 +125,11 @@ module _ (key : Key) (rs : List Run) (k : ℕ) (unasked : Bool) (old : List ℕ)
         go (suc r) = refl
 
   -- the timestamp stands after the Id, where the STATUS is written
-  pub stamp_carried : (s : List ℕ) (size : ℕ) → transfer_written key rs s k unasked old ≡ Size size → take (length s) (drop 8 (transfer_buffer key rs s k unasked old)) ≡ s
+  pub stamp_carried : (s : List ℕ) (size : ℕ) → transfer_written key rs s k unasked old ≡ Ok size → take (length s) (drop 8 (transfer_buffer key rs s k unasked old)) ≡ s
   unfolding transfer_written transfer_buffer
   stamp_carried s size = go (size_refusal (length s) key.width (length (holes rs)) k (length old))
     where
-      go : (r : ℕ) → written_of r (length (status_packet key rs s k unasked (length old))) ≡ Size size
+      go : (r : ℕ) → written_of r (length (status_packet key rs s k unasked (length old))) ≡ Ok size
           → take (length s) (drop 8 (buffer_after r (status_packet key rs s k unasked (length old)) old)) ≡ s
       go zero e =
           rw (packet_parts s, drop_at (front_for (stamped s) (length s)) (s ++ back_for (length s)) 8 (front_length (stamped s) (fields_for (length s))))
@@ -137,11 +137,11 @@ module _ (key : Key) (rs : List Run) (k : ℕ) (unasked : Bool) (old : List ℕ)
       go (suc r) e = absurd (let z : ◌≡◌ {A = ℕ} 0 1 = cc in omega arith)
 
   -- where it is refused, the buffer stays
-  pub refused_stays : (s : List ℕ) (r : Refusal) → transfer_written key rs s k unasked old ≡ Refused r → transfer_buffer key rs s k unasked old ≡ old
+  pub refused_stays : (s : List ℕ) (r : Refusal) → transfer_written key rs s k unasked old ≡ Err r → transfer_buffer key rs s k unasked old ≡ old
   unfolding transfer_written transfer_buffer
   refused_stays s r = go (size_refusal (length s) key.width (length (holes rs)) k (length old))
     where
-      go : (n : ℕ) → written_of n (length (status_packet key rs s k unasked (length old))) ≡ Refused r
+      go : (n : ℕ) → written_of n (length (status_packet key rs s k unasked (length old))) ≡ Err r
           → buffer_after n (status_packet key rs s k unasked (length old)) old ≡ old
       go zero e = absurd (let z : ◌≡◌ {A = ℕ} 0 1 = cc in omega arith)
       go (suc n) e = refl

@@ -29,8 +29,7 @@ use Rattle.hole_list.proofs.AcceptedLaws.{HoleListAccepted, LastAccepted, ListAc
 use Rattle.hole_list.proofs.ApartLaws.{apart_well}
 use Rattle.hole_list.proofs.PairsRead.{Held, HolesHeld, apart_held}
 use Rattle.packet_status.specs.Status.{progress_of, response_of, hole_list, status_refusal, read_status, read_hole}
-use Rattle.packet_status.specs.declared.StatusRead.TheVariants.{Success}
-use Rattle.packet_status.specs.declared.HoleRead.TheVariants as hole-read
+use Rattle.packet_status.specs.declared.Status.TheVariants.{Success}
 use Rattle.success_status.specs.SuccessStatus.{status_size, status_flags, fields_read}
 use Rattle.success_status.specs.declared.Fields.{Fields}
 use Rattle.success_status.proofs.RoundTrip.{FieldsFit, word_written, stamp_written, progress_written, response_written, holes_written, typed_written, status_taken, status_read_written, hole_read_written, hole_past_written}
@@ -39,6 +38,7 @@ use Rattle.transfer_status.specs.WriteStatus.{hole_room, holes_sent, partial_sen
 use Rattle.transfer_status.proofs.StatusSize.{holes_sent_count}
 use Rattle.transfer_status.proofs.StatusPartial.{none_whole, whole_sent}
 use Rattle.transfer_status.proofs.StatusResponse.{told, response_complete, response_not}
+use Rattle.std.specs.Prelude.{Ok, Err}
 
 module _ (x : Transfer) (k : ℕ) (unasked : Bool) (room : ℕ) (fine : TransferFine x) where
   abbrev d : ℕ
@@ -192,15 +192,15 @@ module _ (x : Transfer) (k : ℕ) (unasked : Bool) (room : ℕ) (fine : Transfer
     status_accepted = status_taken fields x.stamp sent fields_fit status_list_well short
 
     -- its fields are those that were written
-    pub status_read : read_status packet ≡ Success (fields_read fields x.stamp (length sent))
+    pub status_read : read_status packet ≡ Ok (Success (fields_read fields x.stamp (length sent)))
     unfolding status_packet
     status_read = status_read_written fields x.stamp sent fields_fit status_list_well short
 
     -- each hole that was written is read by its index, and no other
-    pub status_hole_read : (index : ℕ) (default : Hole) → index < length sent → read_hole index packet ≡ hole-read.Accepted (get_or sent index default)
+    pub status_hole_read : (index : ℕ) (default : Hole) → index < length sent → read_hole index packet ≡ Ok (get_or sent index default)
     unfolding status_packet
     status_hole_read = hole_read_written fields x.stamp sent fields_fit status_list_well short
 
-    pub status_hole_past : (index : ℕ) → length sent ≤ index → read_hole index packet ≡ hole-read.Refused (refusal_of 19)
+    pub status_hole_past : (index : ℕ) → length sent ≤ index → read_hole index packet ≡ Err (refusal_of 19)
     unfolding status_packet
     status_hole_past = hole_past_written fields x.stamp sent fields_fit status_list_well short

@@ -12,7 +12,6 @@ use Rattle.octets.specs.Numbers.{Width}
 use Rattle.octets.specs.Put.{put}
 use Rattle.octets.proofs.NumberLaws.{width_some}
 use Rattle.refusals.specs.Refusals.{refusal_of}
-use Rattle.refusals.specs.declared.Written.TheVariants.{Size, Refused}
 use Rattle.refusals.proofs.WritingLaws.{written_refused, buffer_refused}
 use Rattle.runs.specs.declared.Hole.{Hole}
 use Rattle.runs.specs.Runs.{Run}
@@ -26,6 +25,7 @@ use Rattle.success_status.proofs.PutLaws.{holes_put}
 use Rattle.transfer.specs.declared.Key.{Key}
 use Rattle.transfer_status.specs.WriteStatus.{size_refusal, hole_room, holes_sent, partial_sent, fields_sent, status_packet, transfer_refused, transfer_written, transfer_buffer}
 use Rattle.transfer_status.proofs.StatusSize.{status_fits, skip_there, hole_room_iff}
+use Rattle.std.specs.Prelude.{Ok, Err}
 
 -- taking as many as there are, or fewer
 take_least : (n : ℕ) (l : List Hole) → take (min (length l) n) l ≡ take n l
@@ -54,7 +54,7 @@ module _ (key : Key) (rs : List Run) (s : List ℕ) (k : ℕ) (unasked : Bool) (
   number = transfer_refused key rs s k unasked old
 
   pub transfer_refused_lem : (n : ℕ) → n ≡ number → (n ≡ 0 → ⊥)
-      → (Refused (refusal_of n) ≡ transfer_written key rs s k unasked old) × (old ≡ transfer_buffer key rs s k unasked old)
+      → (Err (refusal_of n) ≡ transfer_written key rs s k unasked old) × (old ≡ transfer_buffer key rs s k unasked old)
   unfolding transfer_written transfer_buffer
   transfer_refused_lem n e h = (rw e (written_refused number _ (λ z. h (e ∙ z))), buffer_refused number _ old (λ z. h (e ∙ z)))
 
@@ -69,7 +69,7 @@ module _ (key : Key) (rs : List Run) (s : List ℕ) (k : ℕ) (unasked : Bool) (
         → n ≡ min (length hs - k) (hole_room ts d (length old)) → size ≡ status_size ts d n
         → x ≡ put 0 (front_octets (fields_sent key rs p unasked) s) old
         → y ≡ put (front_size ts d) (pairs d (take n (drop k hs))) x
-        → (Size size ≡ transfer_written key rs s k unasked old) × (y ≡ transfer_buffer key rs s k unasked old)
+        → (Ok size ≡ transfer_written key rs s k unasked old) × (y ≡ transfer_buffer key rs s k unasked old)
     unfolding transfer_written transfer_buffer
     transfer_written_lem p n size x y e g z a b =
         let q = packet_is p n e g in

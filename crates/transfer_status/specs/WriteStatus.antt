@@ -1,15 +1,15 @@
 -- R7.1 to R7.8, R7.10: which fields and holes the STATUS of one transfer has, after k holes are skipped, unasked or not.
 -- Assumes nothing.
-use Rattle.std.specs.Prelude.{ℕ, zero, suc, ◌*◌, ◌-◌, ◌/◌, Bool, cond, not, ◌&&◌, ◌||◌, List, length, take, drop, ltb, eqb}
+use Rattle.std.specs.Prelude.{ℕ, zero, suc, ◌*◌, ◌-◌, ◌/◌, Bool, cond, not, ◌&&◌, ◌||◌, List, length, take, drop, ltb, eqb, Result}
 use Rattle.refusals.specs.Refusals.{◌▹◌, when}
 use Rattle.refusals.specs.Writing.{written_of, buffer_after}
-use Rattle.refusals.specs.declared.Written.{Written}
 use Rattle.runs.specs.Runs.{Run}
 use Rattle.runs.specs.Holes.{edge, holes, progress, complete}
 use Rattle.runs.specs.declared.Hole.{Hole}
 use Rattle.success_status.specs.SuccessStatus.{front_size, status_size, status_octets}
 use Rattle.success_status.specs.declared.Fields.{Fields}
 use Rattle.transfer.specs.declared.Key.{Key}
+use Rattle.refusals.specs.declared.Refusal.{Refusal}
 
 -- ---- 19 and 20, with ts octets of timestamp, descriptors of d octets and n holes
 
@@ -75,7 +75,7 @@ module _ (key : Key) (rs : List Run) (s : List ℕ) (k : ℕ) (unasked : Bool) (
   abbrev pub transfer_refused : ℕ
   transfer_refused = size_refusal (length s) key.width (length (holes rs)) k (length old)
 
-  unfoldable pub transfer_written : Written
+  unfoldable pub transfer_written : Result ℕ Refusal
   transfer_written = written_of transfer_refused (length (status_packet key rs s k unasked (length old)))
 
   unfoldable pub transfer_buffer : List ℕ

@@ -1,7 +1,8 @@
 -- R18.1, R18.2: numbers worked by hand, and octets that begin with none.
 -- Assumes nothing.
 use mathlib.Core.Path.{◌≡◌, refl}
-use mathlib.Core.List.{[], ◌∷◌}
+use Prim.Native.Nat.{ℕ}
+use mathlib.Core.List.{List, [], ◌∷◌}
 use Rattle.varint.specs.Varint.{octet_refusal, varint_octets, varint_refusal, varint_in}
 
 module _ where
@@ -17,13 +18,16 @@ module _ where
   unfolding varint_octets
   written_largest = refl
 
-  read_300 : varint_in (0xac ∷ 2 ∷ 7 ∷ []) ≡ record { refusal = 0; value = 300; size = 2 }
-  unfolding varint_in varint_refusal octet_refusal
-  read_300 = refl
+  read_300 : (varint_refusal (0xac ∷ 2 ∷ 7 ∷ []) ≡ 0) × (varint_in (0xac ∷ 2 ∷ 7 ∷ []) ≡ record { value = 300; size = 2 })
+  unfolding varint_refusal octet_refusal
+  read_300 = (refl, refl)
 
-  read_largest : varint_in (255 ∷ 255 ∷ 255 ∷ 255 ∷ 255 ∷ 255 ∷ 255 ∷ 255 ∷ 255 ∷ 1 ∷ []) ≡ record { refusal = 0; value = 0xffff_ffff_ffff_ffff; size = 10 }
-  unfolding varint_in varint_refusal octet_refusal
-  read_largest = refl
+  abbrev largest : List ℕ
+  largest = 255 ∷ 255 ∷ 255 ∷ 255 ∷ 255 ∷ 255 ∷ 255 ∷ 255 ∷ 255 ∷ 1 ∷ []
+
+  read_largest : (varint_refusal largest ≡ 0) × (varint_in largest ≡ record { value = 0xffff_ffff_ffff_ffff; size = 10 })
+  unfolding varint_refusal octet_refusal
+  read_largest = (refl, refl)
 
   -- the file ends first
   nothing : varint_refusal [] ≡ 1

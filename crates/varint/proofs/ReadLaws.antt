@@ -13,11 +13,10 @@ use lib.Seq.{drop_at, length-take-le}
 use lib.Dec.{ltb, eqb}
 use borrow.Author.Tests.{lt-ltb, le-ltb, eq-eqb}
 use Rattle.octets.specs.Numbers.{Octets}
-use Rattle.refusals.specs.Refusals.{◌▹◌, when}
+use Rattle.refusals.specs.Refusals.{when}
 use Rattle.refusals.proofs.TestLaws.{eqb_iff, ltb_iff, and_iff, both, test_not}
 use Rattle.refusals.proofs.RefusalLaws.{first_none, rest_none, failed}
-use Rattle.varint.specs.Varint.{groups, varint_octets, octet_refusal, refusal_from, varint_refusal, varint_value, varint_size, after_varint, varint_or, varint_in}
-use Rattle.varint.specs.declared.Varint.{Varint}
+use Rattle.varint.specs.Varint.{groups, varint_octets, octet_refusal, refusal_from, varint_refusal, varint_value, varint_size, after_varint, varint_in}
 use Rattle.varint.proofs.WrittenLaws.{below_or, octets_some, octets_most}
 
 -- ---- one octet
@@ -166,9 +165,8 @@ module _ (n : ℕ) (r : List ℕ) (h : n < 2 ^ 64) where
   pub after_written : after_varint (varint_octets n ++ r) ≡ r
   after_written = rw size_written (drop_at (varint_octets n) r (length (varint_octets n)) refl)
 
-  pub varint_read_written : varint_in (varint_octets n ++ r) ≡ record { refusal = 0; value = n; size = length (varint_octets n) }
-  unfolding varint_in
-  varint_read_written = rw (refusal_written, value_written, size_written)
+  pub varint_read_written : (varint_refusal (varint_octets n ++ r) ≡ 0) × (varint_in (varint_octets n ++ r) ≡ record { value = n; size = length (varint_octets n) })
+  varint_read_written = (refusal_written, rw (value_written, size_written))
 
 -- R18.1: the octets of a number that was read are its form
 module _ (s : List ℕ) (o : Octets s) (ok : varint_refusal s ≡ 0) where
@@ -201,36 +199,3 @@ module _ (s : List ℕ) (o : Octets s) (ok : varint_refusal s ≡ 0) where
 pub one_form : (s t : List ℕ) → Octets s → Octets t → varint_refusal s ≡ 0 → varint_refusal t ≡ 0 → varint_value s ≡ varint_value t
     → take (varint_size s) s ≡ take (varint_size t) t
 one_form s t o p a b e = varint_written_read s o a ∙ rw e (sym (varint_written_read t p b))
-
--- ---- the reader's answer, taken apart
-
-module _ (r : Varint) (s : List ℕ) (e : r ≡ varint_in s) where
-  pub told_refusal : r.refusal ≡ varint_refusal s
-  unfolding varint_in
-  told_refusal = ap (λ (q : Varint). q.refusal) e ∙ go (varint_refusal s)
-    where
-      go : (n : ℕ) → (varint_or n (varint_value s) (varint_size s)).refusal ≡ n
-      go zero = refl
-      go (suc n) = refl
-
-  -- its refusal, and then one of its value
-  pub told_judged : (judge : ℕ → ℕ) → r.refusal ▹ judge r.value ≡ varint_refusal s ▹ judge (varint_value s)
-  unfolding varint_in
-  told_judged judge = ap (λ (q : Varint). q.refusal ▹ judge q.value) e ∙ go (varint_refusal s)
-    where
-      go : (n : ℕ) → (varint_or n (varint_value s) (varint_size s)).refusal ▹ judge (varint_or n (varint_value s) (varint_size s)).value ≡ n ▹ judge (varint_value s)
-      go zero = refl
-      go (suc n) = refl
-
-  -- where it is none
-  module _ (none : r.refusal ≡ 0) where
-    pub told_none : varint_refusal s ≡ 0
-    told_none = sym told_refusal ∙ none
-
-    pub told_value : r.value ≡ varint_value s
-    unfolding varint_in
-    told_value = ap (λ (q : Varint). q.value) e ∙ rw told_none
-
-    pub told_size : r.size ≡ varint_size s
-    unfolding varint_in
-    told_size = ap (λ (q : Varint). q.size) e ∙ rw told_none

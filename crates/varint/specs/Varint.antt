@@ -43,10 +43,6 @@ varint_size (x ∷ xs) = let later = varint_size xs in cond (ltb x 128) 1 (suc l
 abbrev pub after_varint : List ℕ → List ℕ
 after_varint s = drop (varint_size s) s
 
--- the number with its size, or the refusal
-abbrev pub varint_or : ℕ → ℕ → ℕ → Varint
-varint_or zero value size = record { refusal = 0; value = value; size = size }
-varint_or (suc n) value size = record { refusal = suc n; value = 0; size = 0 }
-
-unfoldable pub varint_in : List ℕ → Varint
-varint_in s = varint_or (varint_refusal s) (varint_value s) (varint_size s)
+-- a number that is not refused: its value with its size
+abbrev pub varint_in : List ℕ → Varint
+varint_in s = record { value = varint_value s; size = varint_size s }

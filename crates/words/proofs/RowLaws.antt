@@ -155,16 +155,8 @@ module _ (a : List ℕ) (k n i j v : ℕ) (in_row : i ≤ j) (to_end : j ≤ n)
   splice_one b e f =
       f ∙ put_same ((k + i) * 8) ((k + j) * 8) ((n - j) * 8) (le_digits 8 v) a (omega (arith, length_low_digits 8 v)) (omega arith)
 
-  pub splice_moved : (b c : List ℕ) → b ≡ put ((k + i + 1) * 8) later a → c ≡ put_word (k + i) v b → c ≡ spliced_row a k n i j v
+  pub splice_moved : (b c : List ℕ) → b ≡ put ((k + i) * 8 + 8) later a → c ≡ put_word (k + i) v b → c ≡ spliced_row a k n i j v
   unfolding spliced_row
   splice_moved b c e f =
       let l : length later ≡ (n - j) * 8 = length_later in
-      f ∙ rw e (put_ahead ((k + i) * 8) ((k + i + 1) * 8) (le_digits 8 v) later a (omega (arith, length_low_digits 8 v)) (omega arith))
-
-  pub splice_up : (b c : List ℕ) → i ≡ j → b ≡ put ((k + i) * 8 + 8) (take ((n - i) * 8) (drop ((k + i) * 8) a)) a
-      → c ≡ put_word (k + i) v b → c ≡ spliced_row a k n i j v
-  splice_up b c h e f =
-      let w : (k + i) * 8 + 8 ≡ (k + i + 1) * 8 = omega arith in
-      let m : (n - i) * 8 ≡ (n - j) * 8 = omega arith in
-      let q : (k + i) * 8 ≡ (k + j) * 8 = omega arith in
-      splice_moved b c (e ∙ (λ x. put (w x) (take (m x) (drop (q x) a)) a)) f
+      f ∙ rw e (put_ahead ((k + i) * 8) ((k + i) * 8 + 8) (le_digits 8 v) later a (omega (arith, length_low_digits 8 v)) (omega arith))

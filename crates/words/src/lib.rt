@@ -21,33 +21,23 @@ pub fn put_word(buf: &mut [u8], k: usize, v: u64)
 }
 
 // Of the n words from word k on, those from the i-th up to the j-th give way to v. Where it is one word, none moves.
+#[tactic(auto, using(octets::proofs::PutLaws::copied_put, crate::proofs::RowLaws::splice_one, crate::proofs::RowLaws::splice_moved))]
 pub fn splice(buf: &mut [u8], k: usize, n: usize, i: usize, j: usize, v: u64)
     requires { (i ≤ j) × (j ≤ n) × ((k + n) * 8 ≤ length buf.old) × ((k + i + 1 + (n - j)) * 8 ≤ length buf.old) }
     ensures { buf.new ≡ spliced_row buf.old k n i j v }
 {
-    let at = k + i;
-    if i + 1 == j {
-        put_word(buf, at, v);
-        return;
+    let at = (k + i) * 8;
+    if i + 1 != j {
+        buf.copy_within((k + j) * 8..(k + n) * 8, at + 8);
     }
-    if i == j {
-        let from = at * 8;
-        octets_stored::move_up(buf, from, from + 8, (n - i) * 8);
-        put_word(buf, at, v);
-        return;
-    }
-    octets_stored::move_down(buf, (k + j) * 8, (at + 1) * 8, (n - j) * 8);
-    put_word(buf, at, v);
+    put_word(buf, k + i, v);
 }
 
 // The n words from word `from` on come to stand from word `to` on as well.
+#[tactic(auto, using(octets::proofs::PutLaws::copied_put), unfolding(crate::specs::Words::moved_words))]
 pub fn move_words(buf: &mut [u8], from: usize, to: usize, n: usize)
     requires { ((from + n) * 8 ≤ length buf.old) × ((to + n) * 8 ≤ length buf.old) }
     ensures { buf.new ≡ moved_words buf.old from to n }
 {
-    if from < to {
-        octets_stored::move_up(buf, from * 8, to * 8, n * 8);
-        return;
-    }
-    octets_stored::move_down(buf, from * 8, to * 8, n * 8);
+    buf.copy_within(from * 8..(from + n) * 8, to * 8);
 }

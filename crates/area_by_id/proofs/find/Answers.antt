@@ -7,23 +7,23 @@ use borrow.Author.Tests.{not-true, not-false}
 use Rattle.area.specs.Judge.{judged}
 use Rattle.area.proofs.AreaLaws.{judged_unheld}
 use Rattle.area.specs.Used.{UsedPlace}
-use Rattle.area_listing.specs.declared.Listed.TheVariants.{Open}
 use Rattle.area.proofs.UsedLaws.{used_place, open_used}
 use Rattle.area_by_id.proofs.ByIdLaws.{found_unheld, found_free, found_open}
+use Rattle.std.specs.Prelude.{Ok}
 use Rattle.area_by_id.proofs.find.Goals as goal
 
 pub returns-then-not-judge : goal.returns-then-not-judge
 returns-then-not-judge c =
     let a = c.args in
     let j = c.judge in
-    rw c.refuse.ensures (sym (found_unheld a.area.now a.id (judged_unheld a.area.now (sym j.ensures ∙ c.if-not-judge.true))))
+    rw c.into.ensures (sym (found_unheld a.area.now a.id (judged_unheld a.area.now (sym j.ensures ∙ c.if-not-judge.true))))
 
 pub returns-then-not-place : goal.returns-then-not-place
 returns-then-not-place c =
     let passed : judged c.args.area.now ≡ true = sym c.judge.ensures ∙ c.if-not-judge.false in
     let a = c.args in
     let p = c.find_place-place in
-    rw c.refuse-then-not-place.ensures
+    rw c.into-then-not-place.ensures
     (sym (found_free a.area.now a.id passed p.result p.ensures (not-true p.result.«open» c.if-not-place.true)))
 
 pub listing_at-requires : goal.listing_at-requires
@@ -39,4 +39,4 @@ returns c =
     let is_open : c.find_place-place.result.«open» ≡ true = not-false c.find_place-place.result.«open» c.if-not-place.false in
     let a = c.args in
     let p = c.find_place-place in
-    ap Open c.listing_at.ensures ∙ sym (found_open a.area.now a.id passed p.result p.ensures is_open)
+    ap Ok c.listing_at.ensures ∙ sym (found_open a.area.now a.id passed p.result p.ensures is_open)

@@ -9,26 +9,26 @@ use borrow.Author.Rules.{rules}
 use borrow.Author.Tests.{not-true, not-false}
 use Rattle.runs.specs.Holes.{holes}
 use Rattle.run_rows.specs.Rows.{runs_in}
-use Rattle.packet_status.specs.declared.HoleRead.TheVariants.{Accepted}
 use Rattle.area.specs.Judge.{judged}
 use Rattle.area.proofs.AreaLaws.{judged_unheld}
 use Rattle.area.specs.Used.{UsedPlace}
 use Rattle.area.proofs.UsedLaws.{used_place, open_used}
 use Rattle.area_by_id.proofs.ByIdLaws.{hole_unheld, hole_free, hole_past, hole_there}
+use Rattle.std.specs.Prelude.{Ok}
 use Rattle.area_by_id.proofs.transfer_hole.Goals as goal
 
 pub returns-then-not-judge : goal.returns-then-not-judge
 returns-then-not-judge c =
     let a = c.args in
     let j = c.judge in
-    rw c.refuse.ensures (sym (hole_unheld a.area.now a.id a.index (judged_unheld a.area.now (sym j.ensures ∙ c.if-not-judge.true))))
+    rw c.into.ensures (sym (hole_unheld a.area.now a.id a.index (judged_unheld a.area.now (sym j.ensures ∙ c.if-not-judge.true))))
 
 pub returns-then-not-kept : goal.returns-then-not-kept
 returns-then-not-kept c =
     let passed : judged c.args.area.now ≡ true = sym c.judge.ensures ∙ c.if-not-judge.false in
     let a = c.args in
     let p = c.find_place-kept in
-    rw c.refuse-then-not-kept.ensures
+    rw c.into-then-not-kept.ensures
     (sym (hole_free a.area.now a.id passed p.result p.ensures a.index (not-true p.result.«open» c.if-not-kept.true)))
 
 pub rows_at-rows-requires : goal.rows_at-rows-requires
@@ -51,7 +51,7 @@ returns-then-holes-index c =
     let is_open : c.find_place-kept.result.«open» ≡ true = not-false c.find_place-kept.result.«open» c.if-not-kept.false in
     let a = c.args in
     let p = c.find_place-kept in
-    rw c.refuse-then-holes-index.ensures
+    rw c.into-then-holes-index.ensures
     (sym (hole_past a.area.now a.id passed p.result p.ensures is_open c.rows_at-rows.result c.rows_at-rows.ensures a.index (omega (arith, c.hole_count-holes.ensures))))
 
 pub hole_at-requires : goal.hole_at-requires
@@ -69,5 +69,5 @@ returns c =
     let below : let a = c.args in a.index < length (holes (runs_in a.area.now c.rows_at-rows.result)) = omega (arith, c.hole_count-holes.ensures) in
     let a = c.args in
     let p = c.find_place-kept in
-    ap Accepted c.hole_at.ensures
+    ap Ok c.hole_at.ensures
     ∙ sym (hole_there a.area.now a.id passed p.result p.ensures is_open c.rows_at-rows.result c.rows_at-rows.ensures a.index below)

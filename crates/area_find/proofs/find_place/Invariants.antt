@@ -1,5 +1,4 @@
--- `area_find::find_place` meets its contract. The loop's invariant: the Ids at the places behind are below. The measure is how many
--- places are left.
+-- `area_find::find_place` meets its contract. The loop's invariant: the Ids at the places behind are below.
 -- Assumes nothing.
 use Prim.Native.Nat.{◌-◌}
 use native.Mathlib.Omega.{arith}
@@ -9,6 +8,3 @@ use Rattle.area_find.proofs.find_place.Given as goal
 
 abbrev pub invariant-loop-i : goal.invariant-loop-i
 invariant-loop-i l = Search l.area l.id l.n l.i
-
-abbrev pub decreases-loop-i : goal.decreases-loop-i
-decreases-loop-i l = l.n - l.i

@@ -1,4 +1,4 @@
--- `area_fresh::put_words` meets its contract. The loop's invariant: the first i words are put. The measure is how many are left.
+-- `area_fresh::put_words` meets its contract. The loop's invariant: the first i words are put.
 -- Assumes nothing.
 use borrow.Author.Rules.{rules}
 use native.Mathlib.Omega.{arith}
@@ -11,6 +11,3 @@ use Rattle.area_fresh.proofs.put_words.Given as goal
 
 abbrev pub invariant-loop-i : goal.invariant-loop-i
 invariant-loop-i l = (l.i ≤ length l.ws) × WordsPut l.initial.area l.area l.k l.ws l.i
-
-abbrev pub decreases-loop-i : goal.decreases-loop-i
-decreases-loop-i l = length l.ws - l.i

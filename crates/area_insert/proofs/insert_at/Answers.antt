@@ -1,8 +1,12 @@
 -- `area_insert::insert_at` meets its contract. The loop's invariant: the places after q are those of the table that comes,
--- the others as they were. The measure is q.
+-- the others as they were.
 -- Assumes nothing.
 use borrow.Author.Rules.{rules}
 use native.Mathlib.Omega.{arith}
+use Prim.Native.Nat.{ℕ, ◌+◌, ◌-◌}
+use mathlib.Core.Path.{◌≡◌, subst}
+use Rattle.area_move.specs.Moves.{Copied}
+use Rattle.area_move.specs.Blocks.{blocks}
 use Rattle.transfer.specs.Transfers.{empty}
 use Rattle.area.proofs.JudgeLaws.{judged_passed}
 use Rattle.area_insert.proofs.PutInLaws.{Opening, open_start, open_long, open_fits, open_next, open_end}
@@ -25,7 +29,8 @@ copy_transfer-requires c =
 pub loop-q-preserved : goal.loop-q-preserved
 loop-q-preserved c =
     let l = c.loop-q in
-    open_next _ _ _ _ _ _ l.invariant (omega arith) _ c.copy_transfer.ensures
+    let up : l.q - 1 + 1 ≡ l.q = omega arith in
+    open_next _ _ _ _ _ _ l.invariant (omega arith) _ (subst (λ (q : ℕ). Copied l.area c.copy_transfer.new.area (l.q - 1) q blocks) up c.copy_transfer.ensures)
 
 pub returns : goal.returns
 returns c =

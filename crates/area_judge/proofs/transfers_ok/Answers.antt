@@ -21,21 +21,21 @@ overflow_add-least c =
     let h = c.head-id in
     let a = c.args in
     let l = c.loop-i in
-    omega (arith, h.ensures, id_small a.area.now l.i (sym t.ensures ∙ c.if-transfer_ok.true))
+    omega (arith, h.ensures, id_small a.area.now l.i (sym t.ensures ∙ c.if-not-transfer_ok.false))
 
 pub loop-i-preserved : goal.loop-i-preserved
 loop-i-preserved c =
     let l = c.loop-i in
     let t = c.transfer_ok in
     let h = c.head-id in
-    (omega arith, fine_more _ _ _ _ _ l.invariant.1 _ (omega arith) h.ensures _ (omega arith) t.ensures c.if-transfer_ok.true)
+    (omega arith, fine_more _ _ _ _ _ l.invariant.1 _ (omega arith) h.ensures _ (omega arith) t.ensures c.if-not-transfer_ok.false)
 
-pub returns-else-transfer_ok : goal.returns-else-transfer_ok
-returns-else-transfer_ok c =
+pub returns-then-not-transfer_ok : goal.returns-then-not-transfer_ok
+returns-then-not-transfer_ok c =
     let l = c.loop-i in
     let t = c.transfer_ok in
     let h = c.head-id in
-    fine_not _ _ _ _ _ l.invariant.1 _ (omega arith) h.ensures _ (omega arith) t.ensures c.if-transfer_ok.false
+    fine_not _ _ _ _ _ l.invariant.1 _ (omega arith) h.ensures _ (omega arith) t.ensures c.if-not-transfer_ok.true
 
 pub returns : goal.returns
 returns c =

@@ -12,6 +12,3 @@ use Rattle.area_judge.proofs.transfers_ok.Given as goal
 
 abbrev pub invariant-loop-i : goal.invariant-loop-i
 invariant-loop-i l = (l.i ≤ l.n) × (fine_test l.least (transfers_from l.area l.i (l.n - l.i)) ≡ fine_test 0 (transfers_from l.area 0 l.n))
-
-abbrev pub decreases-loop-i : goal.decreases-loop-i
-decreases-loop-i l = l.n - l.i

@@ -2,9 +2,9 @@
 -- Assumes nothing.
 use borrow.Author.Rules.{rules}
 use mathlib.Core.Path.{sym, ap, ◌∙◌}
-use Rattle.table_merge.specs.declared.Merged.TheVariants.{Refused}
 use Rattle.area_union.proofs.JoinLaws.{both, both_as}
 use Rattle.area_merge.proofs.MergeLaws.{merge_unheld, merge_unheld_second, merge_held}
+use Rattle.std.specs.Prelude.{Err}
 use Rattle.area_merge.proofs.merge.Goals as goal
 
 pub returns-then-judge-2 : goal.returns-then-judge-2
@@ -14,11 +14,11 @@ returns-then-judge-2 c =
 
 pub returns-then-judge : goal.returns-then-judge
 returns-then-judge c =
-    both (ap Refused c.refuse.ensures)
+    both (ap Err c.into.ensures)
     (merge_unheld_second c.args.area.now c.args.other.now c.args.id (sym c.judge.ensures ∙ c.if-judge.true)
     (sym c.judge-then-judge.ensures ∙ c.if-judge-2.false) (λ i. (c.slice_known-1.given i).fits))
 
 pub returns : goal.returns
 returns c =
-    both (ap Refused c.refuse-2.ensures)
+    both (ap Err c.into-2.ensures)
     (merge_unheld c.args.area.now c.args.other.now c.args.id (sym c.judge.ensures ∙ c.if-judge.false))

@@ -2,36 +2,83 @@
 -- Assumes nothing.
 use native.Mathlib.Omega.{arith}
 use borrow.Author.Rules.{rules}
-use mathlib.Core.Path.{◌≡◌, ap, ◌∙◌}
-use mathlib.Core.Bool.{Bool}
-use Rattle.table.specs.declared.Recorded.TheVariants.{Accepted, Refused}
+use Prim.Native.Nat.{ℕ}
+use mathlib.Core.Path.{◌≡◌, refl, sym, ap, ◌∙◌}
+use mathlib.Core.Bool.{Bool, true}
+use Rattle.std.specs.Prelude.{Ok, Err}
+use Rattle.std.proofs.lemmas.Result.{err_from_is_err_and}
+use Rattle.refusals.specs.Faults.{number_of}
+use Rattle.refusals.proofs.FaultLaws.{fault_some}
+use Rattle.packet_data.specs.Data.{data_refusal}
 use Rattle.area.specs.Judge.{judged}
 use Rattle.area_locate.specs.Locate.{unread_as}
-use Rattle.area_record.proofs.DecideLaws.{passed, locate_asks, cut_asks, join_asks, keep_asks, steps_refused, steps_taken}
+use Rattle.area_record.proofs.DecideLaws.{passed, unread_refused, locate_asks, keep_asks, place_refused, runs_refused, steps_taken}
 use Rattle.area_record.proofs.record.Goals as goal
 
-pub locate-t-requires : goal.locate-t-requires
-locate-t-requires c =
-    let unread_is : c.unread-unread.result ≡ unread_as (judged c.args.area.now) c.args.packet.now = c.unread-unread.ensures ∙ ap (λ (b : Bool). unread_as b c.args.packet.now) c.judge-held.ensures in
-    locate_asks _ _ _ unread_is _ c.brought-d.ensures
+pub returns-in_err-unread : goal.returns-in_err-unread
+returns-in_err-unread c =
+    let a = c.args.area.now in
+    let s = c.args.packet.now in
+    let f = c.in_err-unread.field-0.0 in
+    let p = err_from_is_err_and c.from_residual.result c.from_residual.ensures.1 in
+    let told = unread_refused a s (λ i. (c.slice_known-1.given i).fits) (number_of f) (c.in_err-unread.ensures ∙ ap (λ (b : Bool). unread_as b s) c.judge-held.ensures) (fault_some f) in
+    (p.1 ∙ ap Err p.2 ∙ told.0, told.1)
 
-pub returns-then-c-ne0 : goal.returns-then-c-ne0
-returns-then-c-ne0 c =
-    let unread_is : c.unread-unread.result ≡ unread_as (judged c.args.area.now) c.args.packet.now = c.unread-unread.ensures ∙ ap (λ (b : Bool). unread_as b c.args.packet.now) c.judge-held.ensures in
-    let told = steps_refused _ _ _ unread_is _ c.brought-d.ensures _ c.locate-t.ensures _ c.cut-c.ensures
-    (λ i. (c.slice_known-1.given i).fits) (omega arith) in
-    (ap Refused c.refuse.ensures ∙ told.0, told.1)
+pub data_fields-d-requires : goal.data_fields-d-requires
+data_fields-d-requires c =
+    let a = c.args.area.now in
+    let s = c.args.packet.now in
+    let known : (judged a ≡ true) × (data_refusal s ≡ 0) = passed a s (sym (c.in_ok-unread.ensures ∙ ap (λ (b : Bool). unread_as b s) c.judge-held.ensures)) in
+    known.1
+
+pub locate-requires : goal.locate-requires
+locate-requires c =
+    let a = c.args.area.now in
+    let s = c.args.packet.now in
+    let known : (judged a ≡ true) × (data_refusal s ≡ 0) = passed a s (sym (c.in_ok-unread.ensures ∙ ap (λ (b : Bool). unread_as b s) c.judge-held.ensures)) in
+    locate_asks a s known.0 known.1 _ c.data_fields-d.ensures
+
+pub returns-in_err-t : goal.returns-in_err-t
+returns-in_err-t c =
+    let a = c.args.area.now in
+    let s = c.args.packet.now in
+    let known : (judged a ≡ true) × (data_refusal s ≡ 0) = passed a s (sym (c.in_ok-unread.ensures ∙ ap (λ (b : Bool). unread_as b s) c.judge-held.ensures)) in
+    let f = c.in_err-t.field-0.0 in
+    let p = err_from_is_err_and c.from_residual-in_err-t.result c.from_residual-in_err-t.ensures.1 in
+    let told = place_refused a s known.0 known.1 _ c.data_fields-d.ensures (number_of f) c.in_err-t.ensures in
+    (p.1 ∙ ap Err p.2 ∙ told.0, told.1)
+
+pub cut-requires : goal.cut-requires
+cut-requires c =
+    c.in_ok-t.ensures.0
+
+pub returns-in_err-c : goal.returns-in_err-c
+returns-in_err-c c =
+    let a = c.args.area.now in
+    let s = c.args.packet.now in
+    let known : (judged a ≡ true) × (data_refusal s ≡ 0) = passed a s (sym (c.in_ok-unread.ensures ∙ ap (λ (b : Bool). unread_as b s) c.judge-held.ensures)) in
+    let f = c.in_err-c.field-0.0 in
+    let p = err_from_is_err_and c.from_residual-in_err-c.result c.from_residual-in_err-c.ensures.1 in
+    let told = runs_refused a s known.0 known.1 _ c.data_fields-d.ensures c.in_ok-t.t c.in_ok-t.ensures.1 (number_of f) c.in_err-c.ensures in
+    (p.1 ∙ ap Err p.2 ∙ told.0, told.1)
+
+pub join-s-requires : goal.join-s-requires
+join-s-requires c =
+    (c.in_ok-t.ensures.0, c.in_ok-c.ensures)
 
 pub keep_stamp-requires : goal.keep_stamp-requires
 keep_stamp-requires c =
-    let unread_is : c.unread-unread.result ≡ unread_as (judged c.args.area.now) c.args.packet.now = c.unread-unread.ensures ∙ ap (λ (b : Bool). unread_as b c.args.packet.now) c.judge-held.ensures in
+    let a = c.args.area.now in
+    let s = c.args.packet.now in
+    let known : (judged a ≡ true) × (data_refusal s ≡ 0) = passed a s (sym (c.in_ok-unread.ensures ∙ ap (λ (b : Bool). unread_as b s) c.judge-held.ensures)) in
     let f = c.join-s.ensures.fits in
-    let brings = keep_asks _ _ _ unread_is _ c.brought-d.ensures _ c.locate-t.ensures _ c.cut-c.ensures (omega arith) in
-    (omega arith, f.place_low, brings)
+    (omega arith, f.place_low, keep_asks a s known.0 known.1 _ c.data_fields-d.ensures)
 
 pub returns : goal.returns
 returns c =
-    let unread_is : c.unread-unread.result ≡ unread_as (judged c.args.area.now) c.args.packet.now = c.unread-unread.ensures ∙ ap (λ (b : Bool). unread_as b c.args.packet.now) c.judge-held.ensures in
-    let told = steps_taken _ _ _ unread_is _ c.brought-d.ensures _ c.locate-t.ensures _ c.cut-c.ensures
-    (λ i. (c.shared_slice_known-1.given i).fits) _ c.join-s.ensures (omega arith) _ _ c.put_runs.ensures c.keep_stamp.ensures in
-    (ap Accepted c.receipt.ensures ∙ told.0, told.1)
+    let a = c.args.area.now in
+    let s = c.args.packet.now in
+    let known : (judged a ≡ true) × (data_refusal s ≡ 0) = passed a s (sym (c.in_ok-unread.ensures ∙ ap (λ (b : Bool). unread_as b s) c.judge-held.ensures)) in
+    let told = steps_taken a s known.0 known.1 _ c.data_fields-d.ensures _ c.in_ok-t.ensures.1
+    (λ i. omega (arith, c.type_inv.packet i)) _ _ c.join-s.ensures _ _ c.put_runs.ensures c.keep_stamp.ensures in
+    (ap Ok c.receipt.ensures ∙ told.0, told.1)

@@ -1,9 +1,10 @@
 -- `area_remove::remove_at` meets its contract. The loop's invariant: the places before q are those of the table that comes,
--- the others as they were. The measure is how many places are left.
+-- the others as they were.
 -- Assumes nothing.
 use borrow.Author.Rules.{rules}
 use native.Mathlib.Omega.{arith}
 use Prim.Native.Nat.{◌-◌}
+use Rattle.area.proofs.PlaceLaws.{read_holds}
 use Rattle.area.proofs.JudgeLaws.{judged_passed}
 use Rattle.area_remove.proofs.TakeOutLaws.{Closing, close_start, close_long, close_fits, close_next, close_end}
 use Rattle.area_remove.proofs.remove_at.Goals as goal
@@ -11,6 +12,10 @@ use Rattle.area_remove.proofs.remove_at.Goals as goal
 pub open_count-n-requires : goal.open_count-n-requires
 open_count-n-requires c =
     (judged_passed c.args.area.now c.requires.0).0
+
+pub overflow_sub-q-end : goal.overflow_sub-q-end
+overflow_sub-q-end c =
+    omega (arith, c.open_count-n.ensures, (read_holds c.args.area.now).count, c.requires.1)
 
 pub loop-q-init : goal.loop-q-init
 loop-q-init c =

@@ -1,5 +1,5 @@
 -- `area_remove::remove_at` meets its contract. The loop's invariant: the places before q are those of the table that comes,
--- the others as they were. The measure is how many places are left.
+-- the others as they were.
 -- Assumes nothing.
 use borrow.Author.Rules.{rules}
 use native.Mathlib.Omega.{arith}
@@ -10,6 +10,3 @@ use Rattle.area_remove.proofs.remove_at.Given as goal
 
 abbrev pub invariant-loop-q : goal.invariant-loop-q
 invariant-loop-q l = Closing l.initial.area l.area l.place l.n l.q
-
-abbrev pub decreases-loop-q : goal.decreases-loop-q
-decreases-loop-q l = l.n - l.q

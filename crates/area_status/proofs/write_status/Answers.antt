@@ -16,7 +16,7 @@ returns-then-not-judge c =
     let a = c.args in
     let j = c.judge in
     let k = status_unheld a.area.now a.id a.skip a.unasked a.out.now (judged_unheld a.area.now (sym j.ensures ∙ c.if-not-judge.true)) in
-    (rw c.refuse.ensures k.0, k.1)
+    (rw c.into.ensures k.0, k.1)
 
 pub returns-then-not-place : goal.returns-then-not-place
 returns-then-not-place c =
@@ -25,7 +25,7 @@ returns-then-not-place c =
     let p = c.find_place-place in
     let k = status_missing a.area.now a.id a.skip a.unasked a.out.now passed p.result p.ensures
     (not-true p.result.«open» c.if-not-place.true) in
-    (rw c.refuse-then-not-place.ensures k.0, k.1)
+    (rw c.into-then-not-place.ensures k.0, k.1)
 
 pub key_at-key-requires : goal.key_at-key-requires
 key_at-key-requires c =

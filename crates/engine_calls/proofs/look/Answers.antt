@@ -1,6 +1,5 @@
 -- `engine_calls::look` meets its contract: what `look` answers, in numbers. Assumes nothing.
 use mathlib.Core.Path.{ap, ◌∙◌}
-use borrow.Author.Rules.{rules}
 use Rattle.engine_answers.specs.EngineAnswers.{look_answer}
 use Rattle.engine_calls.proofs.look.Goals as goal
 

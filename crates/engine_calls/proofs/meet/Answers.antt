@@ -1,6 +1,5 @@
 -- `engine_calls::meet` meets its contract: what `meet` answers, in numbers. Assumes nothing.
 use mathlib.Core.Path.{ap, ◌∙◌}
-use borrow.Author.Rules.{rules}
 use Rattle.engine_answers.specs.EngineAnswers.{meeting_answer}
 use Rattle.engine_calls.proofs.meet.Goals as goal
 

@@ -1,6 +1,5 @@
 -- `engine_calls::next` meets its contract: what `decide` answers, in numbers. Assumes nothing.
 use mathlib.Core.Path.{ap, ◌∙◌}
-use borrow.Author.Rules.{rules}
 use Rattle.engine_answers.specs.EngineAnswers.{next_answer}
 use Rattle.engine_calls.proofs.next.Goals as goal
 

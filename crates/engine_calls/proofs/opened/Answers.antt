@@ -1,6 +1,5 @@
 -- `engine_calls::opened` meets its contract: what `open` answers, in numbers. Assumes nothing.
 use mathlib.Core.Path.{ap, ◌∙◌}
-use borrow.Author.Rules.{rules}
 use Rattle.engine_answers.specs.EngineAnswers.{meeting_answer}
 use Rattle.engine_calls.proofs.opened.Goals as goal
 

@@ -1,6 +1,5 @@
 -- `engine_calls::reported` meets its contract: what `reported` answers, in numbers. Assumes nothing.
 use mathlib.Core.Path.{ap, ◌∙◌}
-use borrow.Author.Rules.{rules}
 use Rattle.engine_answers.specs.EngineAnswers.{done_by}
 use Rattle.engine_calls.proofs.reported.Goals as goal
 

@@ -1,6 +1,5 @@
 -- `engine_calls::start` meets its contract: what `start` answers, in numbers. Assumes nothing.
 use mathlib.Core.Path.{ap, ◌∙◌}
-use borrow.Author.Rules.{rules}
 use Rattle.engine_answers.specs.EngineAnswers.{done_by}
 use Rattle.engine_calls.proofs.start.Goals as goal
 

@@ -1,6 +1,5 @@
 -- `engine_calls::stored` meets its contract: what `store` answers, in numbers. Assumes nothing.
 use mathlib.Core.Path.{ap, ◌∙◌}
-use borrow.Author.Rules.{rules}
 use Rattle.engine_answers.specs.EngineAnswers.{look_answer}
 use Rattle.engine_calls.proofs.stored.Goals as goal
 

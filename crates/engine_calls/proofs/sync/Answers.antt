@@ -1,6 +1,5 @@
 -- `engine_calls::sync` meets its contract: what `begin` answers, in numbers. Assumes nothing.
 use mathlib.Core.Path.{ap, ◌∙◌}
-use borrow.Author.Rules.{rules}
 use Rattle.engine_answers.specs.EngineAnswers.{sync_answer}
 use Rattle.engine_calls.proofs.sync.Goals as goal
 

@@ -1,6 +1,5 @@
 -- `engine_calls::tell` meets its contract: what `tell` answers, in numbers. Assumes nothing.
 use mathlib.Core.Path.{ap, ◌∙◌}
-use borrow.Author.Rules.{rules}
 use Rattle.engine_answers.specs.EngineAnswers.{letter_answer}
 use Rattle.engine_calls.proofs.tell.Goals as goal
 

@@ -1,5 +1,4 @@
 -- `engine_change::heard_slot` meets its contract. Assumes nothing.
-use borrow.Author.Rules.{rules}
 use Rattle.engine_model.specs.Snapshots.{heard_at}
 use Rattle.engine_change.proofs.heard_slot.Goals as goal
 

@@ -4,7 +4,6 @@ use mathlib.Core.Path.{ap, ◌∙◌}
 use native.Mathlib.Numerals.{add-one}
 use native.Mathlib.Omega.{arith}
 use lib.ListN.{length}
-use borrow.Author.Rules.{rules}
 use Rattle.area.specs.Layout.{transfer_places}
 use Rattle.area.specs.Places.{read_table, KeptAt}
 use Rattle.engine_state.specs.Layout.{state_octets}

@@ -1,15 +1,12 @@
 -- `engine_change::make` meets its contract: room, the transfer, the next file number. Assumes nothing.
-use Prim.Native.Nat.{suc, ◌≤◌, ◌<◌}
+use Prim.Native.Nat.{suc, ◌<◌}
 use mathlib.Core.Path.{◌≡◌, ap, ◌∙◌}
 use mathlib.Core.Bool.{true}
 use native.Mathlib.Numerals.{add-one}
 use native.Mathlib.Omega.{arith}
-use lib.ListN.{length}
-use borrow.Author.Rules.{rules}
 use Rattle.words.specs.Words.{word_at}
 use Rattle.area.specs.Layout.{transfer_places}
 use Rattle.area.specs.Judge.{judged}
-use Rattle.engine_state.specs.Layout.{state_octets}
 use Rattle.engine_state.proofs.StateLaws.{Held, held_known}
 use Rattle.engine_change.proofs.MadeLaws.{Making, make_known}
 use Rattle.engine_change.proofs.ChangeLaws.{room_has, made_is}

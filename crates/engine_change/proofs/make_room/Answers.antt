@@ -1,6 +1,5 @@
 -- `engine_change::make_room` meets its contract. Assumes nothing.
 use native.Mathlib.Omega.{arith}
-use borrow.Author.Rules.{rules}
 use Rattle.engine_change.proofs.ChangeLaws.{emptied_one, emptied_none}
 use Rattle.engine_change.proofs.make_room.Goals as goal
 

@@ -1,7 +1,6 @@
 -- `engine_change::take` meets its contract: an Id that is open stands at the place that the search gives. Assumes nothing.
 use mathlib.Core.Path.{◌≡◌}
 use mathlib.Core.Bool.{true}
-use borrow.Author.Rules.{rules}
 use Rattle.area.specs.Judge.{judged}
 use Rattle.engine_state.proofs.StateLaws.{held_known}
 use Rattle.engine_meet.proofs.HeldLaws.{open_place}

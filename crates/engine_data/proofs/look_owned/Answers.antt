@@ -1,8 +1,6 @@
 -- `engine_data::look_owned` meets its contract: packets of the owner alone, from their first octet on or from a later offset.
 -- Assumes nothing.
 use native.Mathlib.Omega.{arith}
-use borrow.Author.Rules.{rules}
-use borrow.Author.Tests.{not-true, not-false}
 use mathlib.Core.Path.{◌≡◌, sym, ap, ◌∙◌}
 use Rattle.area.specs.Places.{read_table, place_of, place_in}
 use Rattle.area.specs.declared.Place.{Place}
@@ -34,18 +32,18 @@ pub returns-then-d-a : goal.returns-then-d-a
 unfolding place_in
 returns-then-d-a c =
     let place_is : c.find_place-place.result.at ≡ place_of c.args.d.id (read_table c.args.state.now) = ap (λ (x : Place). x.at) c.find_place-place.ensures in
-    is_over_lem _ _ c.requires _ place_is _ c.slot_at-slot.ensures _ _ (sym c.same_sender.ensures ∙ c.if-not-same_sender.false) _ c.later_of-a.ensures (omega arith)
+    is_over_lem _ _ c.requires _ place_is _ c.slot_at-slot.ensures _ _ (sym c.same_sender.ensures ∙ c.if-not-same_sender.false) _ c.max-a.ensures (omega arith)
 
 pub stretch_at-requires : goal.stretch_at-requires
 unfolding place_in
 stretch_at-requires c =
     let place_is : c.find_place-place.result.at ≡ place_of c.args.d.id (read_table c.args.state.now) = ap (λ (x : Place). x.at) c.find_place-place.ensures in
-    let l = c.later_of-a.ensures in
+    let l = c.max-a.ensures in
     (c.requires, place_is, file_is _ _ c.requires _ place_is _ c.slot_at-slot.ensures, omega arith, omega arith)
 
 pub returns : goal.returns
 unfolding place_in
 returns c =
     let place_is : c.find_place-place.result.at ≡ place_of c.args.d.id (read_table c.args.state.now) = ap (λ (x : Place). x.at) c.find_place-place.ensures in
-    is_more _ _ c.requires _ place_is _ c.slot_at-slot.ensures _ _ (sym c.same_sender.ensures ∙ c.if-not-same_sender.false) _ c.later_of-a.ensures (omega arith)
+    is_more _ _ c.requires _ place_is _ c.slot_at-slot.ensures _ _ (sym c.same_sender.ensures ∙ c.if-not-same_sender.false) _ c.max-a.ensures (omega arith)
     _ c.stretch_at.ensures

@@ -1,5 +1,4 @@
 -- `engine_data::store` meets its contract: what was to be done is looked at again, and then it is recorded. Assumes nothing.
-use borrow.Author.Rules.{rules}
 use Rattle.engine_data.proofs.StoreLaws.{look_known_of, stored_is}
 use Rattle.engine_data.proofs.store.Goals as goal
 

@@ -1,6 +1,4 @@
 -- `engine_data::store_known` meets its contract: a stretch that differs from its file ends the transfer or waits. Assumes nothing.
-use borrow.Author.Rules.{rules}
-use borrow.Author.Tests.{not-true, not-false}
 use Rattle.engine_data.proofs.StoreLaws.{known_bad, known_well}
 use Rattle.engine_data.proofs.store_known.Goals as goal
 

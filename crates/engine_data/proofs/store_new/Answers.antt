@@ -1,6 +1,4 @@
 -- `engine_data::store_new` meets its contract: a write that failed changes nothing. Assumes nothing.
-use borrow.Author.Rules.{rules}
-use borrow.Author.Tests.{not-true, not-false}
 use Rattle.engine_data.proofs.StoreLaws.{new_bad, new_well}
 use Rattle.engine_data.proofs.store_new.Goals as goal
 

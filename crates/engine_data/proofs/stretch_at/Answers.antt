@@ -1,6 +1,5 @@
 -- `engine_data::stretch_at` meets its contract: the rows of the place say how far octets are alike. Assumes nothing.
 use native.Mathlib.Omega.{arith}
-use borrow.Author.Rules.{rules}
 use Rattle.engine_data.proofs.StretchLaws.{place_asks, rows_asks, is_known, is_new}
 use Rattle.engine_data.proofs.stretch_at.Goals as goal
 

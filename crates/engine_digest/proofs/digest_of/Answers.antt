@@ -4,7 +4,6 @@ use mathlib.Core.List.{List}
 use mathlib.Core.Path.{◌≡◌}
 use lib.ListN.{take, drop}
 use native.Mathlib.Omega.{arith}
-use borrow.Author.Rules.{rules}
 use Rattle.octets.specs.Numbers.{le_value}
 use Rattle.md5_blocks.specs.Md5.{md5}
 use Rattle.engine_slots.specs.declared.Digest.{Digest}

@@ -1,6 +1,5 @@
 -- `engine_due::is_at_end` meets its contract, case by case. Assumes nothing.
 use native.Mathlib.Omega.{arith}
-use borrow.Author.Rules.{rules}
 use mathlib.Core.Path.{◌≡◌, ◌∙◌}
 use Rattle.engine_due.specs.Due.{is_over}
 use Rattle.engine_due.proofs.DueLaws.{end_lingered, end_complete, end_never, end_forgotten}

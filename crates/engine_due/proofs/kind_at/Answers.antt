@@ -1,6 +1,5 @@
 -- `engine_due::kind_at` meets its contract: the four tests, in their order. Assumes nothing.
 use native.Mathlib.Omega.{arith}
-use borrow.Author.Rules.{rules}
 use mathlib.Core.Path.{◌≡◌, ◌∙◌}
 use Rattle.words.specs.Words.{word_at}
 use Rattle.area.specs.Layout.{id_field, head_at}

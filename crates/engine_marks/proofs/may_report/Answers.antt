@@ -1,9 +1,7 @@
 -- `engine_marks::may_report` meets its contract: it may have its name, and has it in what is synced. Assumes nothing.
-use borrow.Author.Rules.{rules}
 use native.Mathlib.Omega.{arith}
 use mathlib.Core.Path.{◌≡◌, sym, ◌∙◌}
 use mathlib.Core.Bool.{true}
-use borrow.Author.Tests.{not-true, not-false}
 use Rattle.engine_model.specs.Engine.{may_name}
 use Rattle.engine_model.proofs.FitLaws.{complete_open}
 use Rattle.engine_state.specs.State.{engine_in}

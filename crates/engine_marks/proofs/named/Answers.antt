@@ -1,8 +1,6 @@
 -- `engine_marks::named` meets its contract: nothing is written where it may not be so. Assumes nothing.
-use borrow.Author.Rules.{rules}
 use mathlib.Core.Path.{◌≡◌, sym, ◌∙◌}
 use mathlib.Core.Bool.{true}
-use borrow.Author.Tests.{not-true, not-false}
 use Rattle.engine_model.specs.Engine.{may_name}
 use Rattle.engine_state.specs.State.{engine_in, held_state}
 use Rattle.engine_state.proofs.StateLaws.{Held, held_known}

@@ -1,7 +1,5 @@
 -- `engine_may::may_name` meets its contract. Assumes nothing.
 use native.Mathlib.Omega.{arith}
-use borrow.Author.Rules.{rules}
-use borrow.Author.Tests.{not-true, not-false}
 use mathlib.Core.Path.{ap, ◌∙◌}
 use Rattle.area.specs.Judge.{judged}
 use Rattle.engine_state.specs.Layout.{synced_octet}

@@ -2,16 +2,15 @@
 use mathlib.Core.Path.{◌≡◌, sym, ap, ◌∙◌}
 use mathlib.Core.Bool.{true}
 use native.Mathlib.Omega.{arith}
-use borrow.Author.Rules.{rules}
 use borrow.Author.Tests.{not-true, not-false}
 use Rattle.area.specs.Places.{read_table, KeptAt}
 use Rattle.area.specs.Judge.{judged}
 use Rattle.area.proofs.KeptLaws.{place_open, place_free, kept_known}
-use Rattle.engine_slots.specs.declared.Meeting.TheVariants as meeting
 use Rattle.engine_state.proofs.StateLaws.{held_known, free_closed}
 use Rattle.engine_meet.proofs.RoomLaws.{ended_none}
 use Rattle.engine_meet.proofs.SlotLaws.{end_waits, end_told}
 use Rattle.engine_state.specs.State.{snapshot_in}
+use Rattle.std.specs.Prelude.{Err}
 use Rattle.engine_meet.proofs.meet_ended.Goals as goal
 
 pub find_place-place-requires : goal.find_place-place-requires
@@ -23,7 +22,7 @@ pub returns-then-not-place : goal.returns-then-not-place
 returns-then-not-place c =
     let held : judged c.args.state.now ≡ true = (held_known c.args.state.now c.requires).now_judged in
     let a = c.args.state.now in
-    ap meeting.Refused c.refuse.ensures
+    ap Err c.into.ensures
     ∙ sym (ended_none (snapshot_in a) c.args.id
     (free_closed a c.args.id held _ (place_free c.args.id (read_table a) c.find_place-place.result c.find_place-place.ensures (not-true _ c.if-not-place.true))))
 

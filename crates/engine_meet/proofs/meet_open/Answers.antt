@@ -3,7 +3,6 @@ use Prim.Native.Nat.{◌<◌, ◌≤◌}
 use mathlib.Core.Path.{◌≡◌, ◌∙◌}
 use mathlib.Core.Bool.{true}
 use native.Mathlib.Omega.{arith}
-use borrow.Author.Rules.{rules}
 use Rattle.words.specs.Words.{word_at}
 use Rattle.area.specs.Layout.{transfer_places}
 use Rattle.area.specs.Judge.{judged}
@@ -11,6 +10,7 @@ use Rattle.engine_state.specs.Layout.{state_octets}
 use Rattle.engine_state.proofs.StateLaws.{held_known, kept_used}
 use lib.ListN.{length}
 use Rattle.engine_meet.proofs.SlotLaws.{kept_told, other_waits, other_opens}
+use Rattle.refusals.specs.Faults.{refused}
 use Rattle.engine_meet.proofs.meet_open.Goals as goal
 
 pub slot_at-slot-requires : goal.slot_at-slot-requires
@@ -28,7 +28,7 @@ key_at-requires c =
 pub returns-then-same_digest : goal.returns-then-same_digest
 returns-then-same_digest c =
     let g = c.args in
-    kept_told g.state.now g.key g.digest g.next g.unwanted g.at c.requires.1 c.slot_at-slot.result c.slot_at-slot.ensures _ c.same_digest.ensures
+    kept_told g.state.now g.key g.digest g.next (refused g.unwanted) g.at c.requires.1 c.slot_at-slot.result c.slot_at-slot.ensures _ c.same_digest.ensures
     c.if-same_digest.true c.key_at.result c.key_at.ensures _ c.meet_same.ensures
 
 pub busy-requires : goal.busy-requires
@@ -39,7 +39,7 @@ busy-requires c =
 pub returns-then-busy : goal.returns-then-busy
 returns-then-busy c =
     let g = c.args in
-    other_waits g.state.now g.key g.digest g.next g.unwanted g.at c.requires.1 c.slot_at-slot.result c.slot_at-slot.ensures _ c.same_digest.ensures
+    other_waits g.state.now g.key g.digest g.next (refused g.unwanted) g.at c.requires.1 c.slot_at-slot.result c.slot_at-slot.ensures _ c.same_digest.ensures
     c.if-same_digest.false _ c.busy.ensures c.if-busy.true
 
 pub open_count-others-requires : goal.open_count-others-requires
@@ -60,5 +60,5 @@ returns c =
     let known : (state_octets ≤ length c.args.state.now) × (c.args.at < transfer_places) × (0 < word_at c.args.state.now 0) = let a = c.args.state.now in let u = kept_used a c.args.key.id c.args.at held c.requires.1 in ((held_known a c.requires.0).long, omega (arith, u.0, u.1), omega (arith, u.0)) in
     let g = c.args in
     c.meet_new.ensures
-    ∙ other_opens g.state.now g.key g.digest g.next g.unwanted g.at c.requires.1 c.slot_at-slot.result c.slot_at-slot.ensures _ c.same_digest.ensures
+    ∙ other_opens g.state.now g.key g.digest g.next (refused g.unwanted) g.at c.requires.1 c.slot_at-slot.result c.slot_at-slot.ensures _ c.same_digest.ensures
     c.if-same_digest.false _ c.busy.ensures c.if-busy.false held _ (omega (arith, c.open_count-others.ensures, known.2))

@@ -2,7 +2,6 @@
 use mathlib.Core.Path.{◌≡◌, refl, ◌∙◌}
 use mathlib.Core.Bool.{true}
 use native.Mathlib.Omega.{arith}
-use borrow.Author.Rules.{rules}
 use Rattle.area.specs.Places.{read_table}
 use Rattle.area.specs.Judge.{judged}
 use Rattle.area.proofs.KeptLaws.{place_open, place_free}
@@ -12,6 +11,7 @@ use Rattle.engine_state.specs.State.{snapshot_in, number_in}
 use Rattle.engine_state.proofs.StateLaws.{held_known}
 use Rattle.engine_meet.proofs.SlotLaws.{free_opens}
 use Rattle.engine_meet.proofs.ReadLaws.{read_ended, read_other}
+use Rattle.refusals.specs.Faults.{refused}
 use Rattle.engine_meet.proofs.meet_read.Goals as goal
 
 pub returns-then-says_ended : goal.returns-then-says_ended
@@ -52,5 +52,5 @@ returns c =
     c.key_of-key.result c.key_of-key.ensures _ c.says_ended.ensures _ c.if-says_ended.false _ c.new_refusal-unwanted.ensures (digest_of c.args.packet.now) refl
     _ c.number-next.ensures
     (c.meet_new.ensures
-    ∙ free_opens a c.key_of-key.result (digest_of c.args.packet.now) c.number-next.result c.new_refusal-unwanted.result _ held
+    ∙ free_opens a c.key_of-key.result (digest_of c.args.packet.now) c.number-next.result (refused c.new_refusal-unwanted.result) _ held
     (place_free c.key_of-key.result.id (read_table a) c.find_place-place.result c.find_place-place.ensures c.if-place.false) _ c.open_count.ensures)

@@ -1,18 +1,17 @@
 -- `engine_meet::meet_same` meets its contract: 18, or kept. Assumes nothing.
 use mathlib.Core.Path.{ap, ◌∙◌}
 use native.Mathlib.Omega.{arith}
-use borrow.Author.Rules.{rules}
-use Rattle.engine_slots.specs.declared.Meeting.TheVariants as meeting
 use Rattle.engine_meet.proofs.CaseLaws.{other_width, other_length, same_key}
+use Rattle.std.specs.Prelude.{Err}
 use Rattle.engine_meet.proofs.meet_same.Goals as goal
 
 pub returns-then-held-key : goal.returns-then-held-key
 returns-then-held-key c =
-    ap meeting.Refused c.refuse.ensures ∙ other_width _ _ _ (λ q. omega arith)
+    ap Err c.into.ensures ∙ other_width _ _ _ (λ q. omega arith)
 
 pub returns-then-held-key-2 : goal.returns-then-held-key-2
 returns-then-held-key-2 c =
-    ap meeting.Refused c.refuse-then-held-key-2.ensures ∙ other_length _ _ _ (omega arith) (λ q. omega arith)
+    ap Err c.into-then-held-key-2.ensures ∙ other_length _ _ _ (omega arith) (λ q. omega arith)
 
 pub returns : goal.returns
 returns c =

@@ -1,8 +1,5 @@
 -- `engine_next::any_urgent` meets its contract: what is left of the slots decides. Assumes nothing.
 use native.Mathlib.Omega.{arith}
-use native.Mathlib.Nat.{sub-zero}
-use Prim.Native.Nat.{◌-◌, ◌≤◌}
-use borrow.Author.Rules.{rules}
 use mathlib.Core.Path.{◌≡◌, ◌∙◌}
 use Rattle.words.specs.Words.{word_at}
 use Rattle.engine_slots.specs.Slots.{slots_from}

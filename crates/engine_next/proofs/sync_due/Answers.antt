@@ -1,7 +1,5 @@
 -- `engine_next::sync_due` meets its contract, case by case. Assumes nothing.
 use native.Mathlib.Omega.{arith}
-use borrow.Author.Rules.{rules}
-use borrow.Author.Tests.{not-true, not-false}
 use mathlib.Core.Path.{◌≡◌, ◌∙◌}
 use Rattle.engine_state.specs.State.{engine_in}
 use Rattle.engine_state.proofs.StateLaws.{Held, held_known}

@@ -2,21 +2,20 @@
 use mathlib.Core.Path.{◌≡◌, sym, ap, ◌∙◌}
 use mathlib.Core.Bool.{true}
 use native.Mathlib.Omega.{arith}
-use borrow.Author.Rules.{rules}
 use borrow.Author.Tests.{not-true, not-false}
 use Rattle.area.specs.Places.{read_table, KeptAt}
 use Rattle.area.proofs.KeptLaws.{place_open, place_free}
 use Rattle.engine_state.specs.State.{held_state}
 use Rattle.engine_state.proofs.StateLaws.{Held, held_known, free_closed, kept_open, kept_used}
-use Rattle.engine_open.specs.declared.Closed.TheVariants as closed
 use Rattle.engine_open.proofs.OpenedLaws.{close_unheld, close_none, close_waits, close_gone}
+use Rattle.std.specs.Prelude.{Err}
 use Rattle.engine_open.proofs.close.Goals as goal
 
 pub returns-then-not-held : goal.returns-then-not-held
 returns-then-not-held c =
     let a = c.args in
     let g = close_unheld a.state.now a.id a.spoilt (sym c.held.ensures ∙ c.if-not-held.true) in
-    (ap closed.Refused c.refuse.ensures ∙ g.0, g.1)
+    (ap Err c.into.ensures ∙ g.0, g.1)
 
 pub find_place-place-requires : goal.find_place-place-requires
 find_place-place-requires c =
@@ -33,7 +32,7 @@ returns-then-not-place c =
     let g =
     close_none s a.id a.spoilt held
     (free_closed s a.id known.now_judged _ (place_free a.id (read_table s) c.find_place-place.result c.find_place-place.ensures (not-true _ c.if-not-place.true))) in
-    (ap closed.Refused c.refuse-then-not-place.ensures ∙ g.0, g.1)
+    (ap Err c.into-then-not-place.ensures ∙ g.0, g.1)
 
 pub slot_at-slot-requires : goal.slot_at-slot-requires
 slot_at-slot-requires c =

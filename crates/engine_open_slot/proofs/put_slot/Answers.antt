@@ -1,5 +1,4 @@
 -- `engine_open_slot::put_slot` meets its contract: the slot stands at the place of its transfer. Assumes nothing.
-use borrow.Author.Rules.{rules}
 use Rattle.engine_open_slot.proofs.OpenLaws.{place_low, slot_put}
 use Rattle.engine_open_slot.proofs.put_slot.Goals as goal
 

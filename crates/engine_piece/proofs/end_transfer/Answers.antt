@@ -1,5 +1,4 @@
 -- `engine_piece::end_transfer` meets its contract: nothing changes while the page is busy. Assumes nothing.
-use borrow.Author.Rules.{rules}
 use mathlib.Core.Path.{sym, ◌∙◌}
 use Rattle.engine_state.proofs.StateLaws.{held_known}
 use Rattle.engine_piece.proofs.HeardLaws.{busy_stays, idle_ends}

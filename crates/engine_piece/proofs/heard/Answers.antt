@@ -1,6 +1,5 @@
 -- `engine_piece::heard` meets its contract: the slot of the Id changes, and there is something to save. Assumes nothing.
 use native.Mathlib.Omega.{arith}
-use borrow.Author.Rules.{rules}
 use mathlib.Core.Path.{◌≡◌, ap}
 use Rattle.area.specs.Places.{read_table, place_of, place_in}
 use Rattle.area.specs.declared.Place.{Place}

@@ -1,5 +1,4 @@
 -- `engine_piece::is_busy` meets its contract: by the slot at the place of the Id. Assumes nothing.
-use borrow.Author.Rules.{rules}
 use mathlib.Core.Path.{◌≡◌, ap}
 use Rattle.area.specs.Places.{read_table, place_of, place_in}
 use Rattle.area.specs.declared.Place.{Place}
@@ -18,6 +17,6 @@ returns-then-is_complete c =
     let place_is : c.find_place-place.result.at ≡ place_of c.args.id (read_table c.args.state.now) = ap (λ (x : Place). x.at) c.find_place-place.ensures in
     busy_by _ _ _ place_is c.requires.kept _ c.slot_at-slot.ensures _ c.is_complete.ensures c.if-is_complete.true
 
-pub returns : goal.returns
-returns c =
+pub returns-else-is_complete : goal.returns-else-is_complete
+returns-else-is_complete c =
     busy_not _ _ _ c.is_complete.ensures c.if-is_complete.false

@@ -1,6 +1,5 @@
 -- `engine_piece::store_piece` meets its contract: the stretch is recorded, then its transfer heard. Assumes nothing.
 use native.Mathlib.Omega.{arith}
-use borrow.Author.Rules.{rules}
 use Rattle.engine_state.proofs.StateLaws.{held_known}
 use Rattle.engine_piece.proofs.PieceLaws.{fields_asks, recorded_is, recorded_known, piece_is}
 use Rattle.engine_piece.proofs.store_piece.Goals as goal
@@ -21,7 +20,7 @@ record_fields-requires c =
 
 pub heard-requires : goal.heard-requires
 heard-requires c =
-    recorded_known _ _ _ c.requires _ c.data_fields-d.ensures (λ i. (c.shared_slice_known-1.given i).fits) _
+    recorded_known _ _ _ c.requires _ c.data_fields-d.ensures (λ i. omega (arith, c.type_inv.packet i)) _
     (recorded_is _ _ _ c.requires _ c.data_fields-d.ensures _ c.piece_of.ensures _ c.record_fields.ensures)
 
 pub returns : goal.returns

@@ -1,6 +1,5 @@
 -- `engine_piece::take` meets its contract: the Id is taken out, and there is something to save. Assumes nothing.
 use native.Mathlib.Omega.{arith}
-use borrow.Author.Rules.{rules}
 use mathlib.Core.Path.{sym, ap, subst}
 use Rattle.area.specs.Places.{read_table, place_in, KeptAt}
 use Rattle.area.specs.declared.Place.{Place}

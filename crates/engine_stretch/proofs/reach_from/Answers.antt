@@ -11,13 +11,13 @@ pub returns-then-a-start : goal.returns-then-a-start
 returns-then-a-start c =
     let s = c.args in
     before_run s.area.now s.rows s.a s.b c.loop-i.i (omega arith) _ c.word-stop.ensures c.loop-i.invariant.1 (omega arith) _
-    c.word-start.ensures _ (omega arith) c.lower.ensures
+    c.word-start.ensures _ (omega arith) c.min.ensures
 
 pub returns-then-a-stop : goal.returns-then-a-stop
 returns-then-a-stop c =
     let s = c.args in
     in_run s.area.now s.rows s.a s.b c.loop-i.i (omega arith) _ c.word-stop.ensures c.loop-i.invariant.1 (omega arith) _
-    c.word-start.ensures _ (omega arith) c.lower-then-a-stop.ensures
+    c.word-start.ensures _ (omega arith) c.min-then-a-stop.ensures
 
 pub loop-i-preserved : goal.loop-i-preserved
 loop-i-preserved c =

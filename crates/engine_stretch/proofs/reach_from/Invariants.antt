@@ -8,7 +8,4 @@ use Rattle.engine_stretch.proofs.ReachLaws.{Passed, passed_next, in_run, before_
 use Rattle.engine_stretch.proofs.reach_from.Given as goal
 
 abbrev pub invariant-loop-i : goal.invariant-loop-i
-invariant-loop-i l = (l.i ≤ l.n) × Passed l.area l.rows l.a l.b l.i
-
-abbrev pub decreases-loop-i : goal.decreases-loop-i
-decreases-loop-i l = l.n - l.i
+invariant-loop-i l = (l.i ≤ l.rows.count) × Passed l.area l.rows l.a l.b l.i

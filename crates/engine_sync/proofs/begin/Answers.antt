@@ -1,9 +1,8 @@
 -- `engine_sync::begin` meets its contract: nothing is written where none may begin. Assumes nothing.
-use borrow.Author.Rules.{rules}
 use native.Mathlib.Omega.{arith}
-use mathlib.Core.Path.{◌≡◌, sym, ◌∙◌}
+use mathlib.Core.Path.{◌≡◌, sym, ap, ◌∙◌}
 use mathlib.Core.Bool.{true}
-use borrow.Author.Tests.{not-true, not-false}
+use Rattle.std.specs.Prelude.{Err}
 use Rattle.engine_model.specs.Engine.{may_sync}
 use Rattle.engine_state.specs.State.{engine_in, held_state}
 use Rattle.engine_state.proofs.StateLaws.{held_known}
@@ -13,7 +12,8 @@ use Rattle.engine_sync.proofs.begin.Goals as goal
 pub returns-then-not-held : goal.returns-then-not-held
 returns-then-not-held c =
     let a = c.args in
-    begin_unheld a.state.now a.time (sym c.held.ensures ∙ c.if-not-held.true)
+    let told = begin_unheld a.state.now a.time (sym c.held.ensures ∙ c.if-not-held.true) in
+    (ap Err c.into.ensures ∙ told.0, told.1)
 
 pub may_begin-requires : goal.may_begin-requires
 may_begin-requires c =

@@ -1,8 +1,6 @@
 -- `engine_sync::end` meets its contract: only the sync under way changes anything. Assumes nothing.
-use borrow.Author.Rules.{rules}
 use mathlib.Core.Path.{◌≡◌, sym, ◌∙◌}
 use mathlib.Core.Bool.{true}
-use borrow.Author.Tests.{not-true, not-false}
 use Rattle.engine_model.specs.Snapshots.{is_some}
 use Rattle.engine_model.specs.Engine.{current}
 use Rattle.engine_state.specs.State.{engine_in, held_state}

@@ -1,5 +1,4 @@
 -- `engine_sync::is_current` meets its contract: its number, and that one is under way. Assumes nothing.
-use borrow.Author.Rules.{rules}
 use Rattle.engine_sync.proofs.SyncLaws.{is_this, is_other_lem}
 use Rattle.engine_sync.proofs.is_current.Goals as goal
 

@@ -1,5 +1,4 @@
 -- `engine_sync::may_begin` meets its contract: none is under way, and then the number. Assumes nothing.
-use borrow.Author.Rules.{rules}
 use native.Mathlib.Omega.{arith}
 use Rattle.engine_sync.proofs.SyncLaws.{under_way, none_under_way}
 use Rattle.engine_sync.proofs.may_begin.Goals as goal

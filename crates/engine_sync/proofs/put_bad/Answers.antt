@@ -1,5 +1,4 @@
 -- `engine_sync::put_bad` meets its contract: one part after the other. Assumes nothing.
-use borrow.Author.Rules.{rules}
 use Rattle.engine_sync.proofs.SyncLaws.{bad_put}
 use Rattle.engine_sync.proofs.put_bad.Goals as goal
 

@@ -1,5 +1,4 @@
 -- `engine_sync::put_good` meets its contract: one part after the other. Assumes nothing.
-use borrow.Author.Rules.{rules}
 use Rattle.engine_sync.proofs.SyncLaws.{good_put}
 use Rattle.engine_sync.proofs.put_good.Goals as goal
 

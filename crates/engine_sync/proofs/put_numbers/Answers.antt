@@ -1,5 +1,4 @@
 -- `engine_sync::put_numbers` meets its contract: one number after the other. Assumes nothing.
-use borrow.Author.Rules.{rules}
 use Rattle.engine_sync.proofs.StartLaws.{six_put}
 use Rattle.engine_sync.proofs.put_numbers.Goals as goal
 

@@ -1,10 +1,6 @@
 -- `engine_sync::put_three` meets its contract: what was saved is copied three times. Assumes nothing.
-use borrow.Author.Rules.{rules}
 use native.Mathlib.Omega.{arith}
-use mathlib.Core.Path.{sym}
 use lib.ListN.{length-take}
-use lib.Seq.{length-take-le}
-use Rattle.engine_slots.specs.Layout.{snapshot_octets}
 use Rattle.engine_sync.proofs.StartLaws.{three_put}
 use Rattle.engine_sync.proofs.put_three.Goals as goal
 

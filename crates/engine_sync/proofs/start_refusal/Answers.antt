@@ -1,9 +1,7 @@
 -- `engine_sync::start_refusal` meets its contract: each test after the one before it. Assumes nothing.
-use borrow.Author.Rules.{rules}
 use native.Mathlib.Omega.{arith}
 use mathlib.Core.Path.{◌≡◌, sym, ◌∙◌}
 use mathlib.Core.Bool.{true}
-use borrow.Author.Tests.{not-true, not-false}
 use Rattle.area.specs.Judge.{judged}
 use Rattle.engine_sync.proofs.StartLaws.{short_state, short_saved, no_table, last_number_lem, can_start}
 use Rattle.engine_sync.proofs.start_refusal.Goals as goal

@@ -1,9 +1,7 @@
 -- `engine_tell::is_unasked` meets its contract: by the slot of what is now, where it is for the same file. Assumes nothing.
-use borrow.Author.Rules.{rules}
 use mathlib.Core.Path.{◌≡◌, sym, ◌∙◌}
 use mathlib.Core.Bool.{true}
-use borrow.Author.Tests.{not-true, not-false}
-use Rattle.engine_state.proofs.StateLaws.{Held, held_known}
+use Rattle.engine_state.proofs.StateLaws.{held_known}
 use Rattle.engine_open_slot.specs.OpenSlot.{same_now}
 use Rattle.engine_open_slot.proofs.OpenLaws.{same_open, open_now}
 use Rattle.engine_tell.proofs.TellLaws.{unasked_other, unasked_same}

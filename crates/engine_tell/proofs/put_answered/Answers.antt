@@ -1,12 +1,9 @@
 -- `engine_tell::put_answered` meets its contract: only where it is for the same file. Assumes nothing.
-use borrow.Author.Rules.{rules}
 use mathlib.Core.Path.{◌≡◌, sym, ◌∙◌}
 use mathlib.Core.Bool.{true}
-use borrow.Author.Tests.{not-true, not-false}
-use Rattle.engine_state.proofs.StateLaws.{Held, held_known}
+use Rattle.engine_state.proofs.StateLaws.{held_known}
 use Rattle.engine_open_slot.specs.OpenSlot.{OpenIn, same_now}
 use Rattle.engine_open_slot.proofs.OpenLaws.{same_open, open_now}
-use Rattle.engine_tell.proofs.TellLaws.{answered_other, answered_same}
 use Rattle.engine_tell.proofs.put_answered.Goals as goal
 
 pub slot_of-slot-requires : goal.slot_of-slot-requires

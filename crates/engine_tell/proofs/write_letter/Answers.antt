@@ -1,6 +1,8 @@
 -- `engine_tell::write_letter` meets its contract: what is synced is told, to the owner there. Assumes nothing.
-use borrow.Author.Rules.{rules}
 use native.Mathlib.Omega.{arith}
+use mathlib.Core.Path.{refl, ap, ◌∙◌}
+use Rattle.std.specs.Prelude.{Ok, Err}
+use Rattle.std.proofs.lemmas.Result.{err_from_is_err_and}
 use Rattle.engine_state.proofs.StateLaws.{Held, held_known}
 use Rattle.engine_open_slot.proofs.OpenLaws.{open_synced}
 use Rattle.engine_tell.proofs.TellLaws.{letter_buffer_lem, letter_refused, letter_open, letter_sent}
@@ -31,21 +33,23 @@ slot_of-slot-requires c =
     let l = c.args.state.now in
     let h = held_known l c.requires in
     open_synced l c.args.id h
-    (letter_open l c.args.id c.requires c.is_unasked-unasked.result c.is_unasked-unasked.ensures c.args.out.now c.write_status-written.result
-    c.write_status-written.ensures.0 _ c.in-Size.is h.synced_judged)
+    (letter_open l c.args.id c.requires c.is_unasked-unasked.result c.is_unasked-unasked.ensures c.args.out.now (Ok c.in_ok-size.size)
+    c.in_ok-size.ensures.0 _ refl h.synced_judged)
 
-pub returns-in-Refused : goal.returns-in-Refused
-returns-in-Refused c =
-    let l = c.args.state.now in (
-      letter_refused l c.args.id c.requires c.is_unasked-unasked.result c.is_unasked-unasked.ensures c.args.out.now c.write_status-written.result
-          c.write_status-written.ensures.0 _ c.in-Refused.is,
-      letter_buffer_lem l c.args.id c.requires c.is_unasked-unasked.result c.is_unasked-unasked.ensures c.args.out.now _ c.write_status-written.ensures.1,
+pub returns-in_err-size : goal.returns-in_err-size
+returns-in_err-size c =
+    let l = c.args.state.now in
+    let r = c.in_err-size.field-0.0 in
+    let p = err_from_is_err_and c.from_residual.result c.from_residual.ensures.1 in (
+      p.1 ∙ ap Err p.2
+          ∙ letter_refused l c.args.id c.requires c.is_unasked-unasked.result c.is_unasked-unasked.ensures c.args.out.now (Err r) c.in_err-size.ensures.0 r refl,
+      letter_buffer_lem l c.args.id c.requires c.is_unasked-unasked.result c.is_unasked-unasked.ensures c.args.out.now _ c.in_err-size.ensures.1,
     )
 
-pub returns-in-Size : goal.returns-in-Size
-returns-in-Size c =
+pub returns : goal.returns
+returns c =
     let l = c.args.state.now in (
-      letter_sent l c.args.id c.requires c.is_unasked-unasked.result c.is_unasked-unasked.ensures c.args.out.now c.write_status-written.result
-          c.write_status-written.ensures.0 _ c.in-Size.is c.slot_of-slot.result c.slot_of-slot.ensures,
-      letter_buffer_lem l c.args.id c.requires c.is_unasked-unasked.result c.is_unasked-unasked.ensures c.args.out.now _ c.write_status-written.ensures.1,
+      letter_sent l c.args.id c.requires c.is_unasked-unasked.result c.is_unasked-unasked.ensures c.args.out.now (Ok c.in_ok-size.size)
+          c.in_ok-size.ensures.0 _ refl c.slot_of-slot.result c.slot_of-slot.ensures,
+      letter_buffer_lem l c.args.id c.requires c.is_unasked-unasked.result c.is_unasked-unasked.ensures c.args.out.now _ c.in_ok-size.ensures.1,
     )

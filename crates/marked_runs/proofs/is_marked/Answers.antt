@@ -1,8 +1,5 @@
 -- `marked_runs::is_marked` meets its contract: the mask tells the bit. Assumes nothing.
-use borrow.Author.Rules.{rules}
 use Rattle.marks.proofs.MarkLaws.{mark_read}
-use Rattle.marked_runs.proofs.is_marked.Reads as reads
-use Rattle.marked_runs.proofs.is_marked.Lts as lts
 use Rattle.marked_runs.proofs.is_marked.Goals as goal
 
 pub returns : goal.returns

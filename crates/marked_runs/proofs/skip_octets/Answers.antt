@@ -1,14 +1,10 @@
 -- `marked_runs::skip_octets` meets its contract: an octet that is blank is passed over, and after the last octet of a word the words after it.
 -- Assumes nothing.
-use Prim.Native.Nat.{◌*◌, ◌-◌, ◌≤◌}
 use mathlib.Core.Path.{◌≡◌}
-use mathlib.Core.Bool.{not}
 use native.Mathlib.Omega.{arith}
-use borrow.Author.Rules.{rules}
 use lib.ListN.{get_or}
-use Rattle.marks.specs.Marks.{marked, mark_octets}
-use Rattle.marks.specs.Walk.{AllAre, blank_octet}
-use Rattle.marked_runs.proofs.WalkLaws.{all_none, octets_passed, octets_skipped}
+use Rattle.marks.specs.Walk.{blank_octet}
+use Rattle.marked_runs.proofs.WalkLaws.{octets_passed, octets_skipped}
 use Rattle.marked_runs.proofs.skip_octets.Goals as goal
 
 pub loop-k-preserved-then-k-eq0 : goal.loop-k-preserved-then-k-eq0

@@ -1,11 +1,6 @@
 -- `marked_runs::skip_words` meets its contract: a word that is blank is passed over. Assumes nothing.
-use Prim.Native.Nat.{◌*◌, ◌-◌, ◌≤◌}
-use mathlib.Core.Bool.{not}
 use native.Mathlib.Omega.{arith}
-use borrow.Author.Rules.{rules}
-use Rattle.marks.specs.Marks.{marked, mark_count}
-use Rattle.marks.specs.Walk.{AllAre}
-use Rattle.marked_runs.proofs.WalkLaws.{all_none, words_step}
+use Rattle.marked_runs.proofs.WalkLaws.{words_step}
 use Rattle.marked_runs.proofs.skip_words.Goals as goal
 
 pub loop-k-preserved : goal.loop-k-preserved

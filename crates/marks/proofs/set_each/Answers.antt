@@ -1,10 +1,7 @@
 -- `marks::set_each` meets its contract. The loop's invariant: the marks that are left, set in the octets as they are now, make all of
 -- them set. Assumes nothing.
-use Prim.Native.Nat.{◌-◌, ◌≤◌}
-use mathlib.Core.Path.{◌≡◌, refl, ◌∙◌}
+use mathlib.Core.Path.{◌∙◌}
 use native.Mathlib.Omega.{arith}
-use lib.ListN.{length}
-use Rattle.marks.specs.Marks.{with_marks}
 use Rattle.marks.proofs.LoopLaws.{marks_step, marks_end}
 use Rattle.marks.proofs.set_each.Goals as goal
 

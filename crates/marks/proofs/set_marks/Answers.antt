@@ -1,7 +1,6 @@
 -- `marks::set_marks` meets its contract: three stretches, one after the other, or one. Assumes nothing.
 use Prim.Native.Nat.{◌+◌, ◌/◌}
 use native.Mathlib.Omega.{arith}
-use borrow.Author.Rules.{rules}
 use Rattle.marks.proofs.LoopLaws.{marks_parts}
 use Rattle.marks.proofs.set_marks.Goals as goal
 

@@ -1,12 +1,10 @@
 -- `octets::write_number` meets its contract: the octets that are still to be written, in front of what stands after them, always give the whole.
 -- Assumes nothing.
-use Prim.Native.Nat.{◌+◌, ◌≤◌}
+use Prim.Native.Nat.{◌+◌}
 use mathlib.Core.Path.{◌≡◌, refl, sym, ◌∙◌}
-use mathlib.Core.List.{◌++◌}
 use native.Mathlib.Omega.{arith}
 use lib.Seq.{take-set-le}
-use lib.ListN.{length, take, drop, length-set}
-use Rattle.octets.specs.Numbers.{be_onto, be_digits}
+use lib.ListN.{drop, length-set}
 use Rattle.octets.specs.Put.{put}
 use Rattle.octets.proofs.NumberLaws.{write_step, write_end, onto_append, length_digits}
 use Rattle.octets.proofs.write_number.Goals as goal

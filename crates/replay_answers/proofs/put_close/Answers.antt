@@ -5,16 +5,16 @@ use Rattle.replay_answers.specs.AnswerLines.{close_text}
 use borrow.Author.Rules.{rules}
 use Rattle.replay_answers.proofs.put_close.Goals as goal
 
-pub returns-in-Done : goal.returns-in-Done
+pub returns-in-Ok : goal.returns-in-Ok
 unfolding close_text
-returns-in-Done c =
+returns-in-Ok c =
     let a = c.args in
-    added_as (ap (close_text a.number a.id) (sym c.in-Done.is))
+    added_as (ap (close_text a.number a.id) (sym c.in-Ok.is))
     c.put_closed.ensures
 
-pub returns-in-Refused : goal.returns-in-Refused
+pub returns-in-Err : goal.returns-in-Err
 unfolding close_text
-returns-in-Refused c =
+returns-in-Err c =
     let a = c.args in
-    added_as (ap (close_text a.number a.id) (sym c.in-Refused.is))
+    added_as (ap (close_text a.number a.id) (sym c.in-Err.is))
     c.put_refused.ensures

@@ -5,16 +5,16 @@ use Rattle.replay_answers.specs.AnswerLines.{fresh_text}
 use borrow.Author.Rules.{rules}
 use Rattle.replay_answers.proofs.put_fresh.Goals as goal
 
-pub returns-in-Done : goal.returns-in-Done
+pub returns-in-Ok : goal.returns-in-Ok
 unfolding fresh_text
-returns-in-Done c =
+returns-in-Ok c =
     let a = c.args in
-    added_as (ap (fresh_text a.number) (sym c.in-Done.is))
+    added_as (ap (fresh_text a.number) (sym c.in-Ok.is))
     c.put_plain.ensures
 
-pub returns-in-Refused : goal.returns-in-Refused
+pub returns-in-Err : goal.returns-in-Err
 unfolding fresh_text
-returns-in-Refused c =
+returns-in-Err c =
     let a = c.args in
-    added_as (ap (fresh_text a.number) (sym c.in-Refused.is))
+    added_as (ap (fresh_text a.number) (sym c.in-Err.is))
     c.put_refused.ensures

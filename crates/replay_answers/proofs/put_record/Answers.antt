@@ -1,21 +1,23 @@
 -- `replay_answers::put_record` meets its contract: a line for each case. Assumes nothing.
 use mathlib.Core.Path.{sym, ap}
-use Rattle.packet_data.specs.declared.DataRead.{DataRead}
 use Rattle.text.proofs.AddedLaws.{added_as}
 use Rattle.replay_answers.specs.AnswerLines.{record_text}
 use borrow.Author.Rules.{rules}
+use Rattle.std.specs.Prelude.{Result}
+use Rattle.refusals.specs.declared.Refusal.{Refusal}
+use Rattle.packet_data.specs.declared.Data.{Data}
 use Rattle.replay_answers.proofs.put_record.Goals as goal
 
-pub returns-in-Accepted : goal.returns-in-Accepted
+pub returns-in-Ok : goal.returns-in-Ok
 unfolding record_text
-returns-in-Accepted c =
+returns-in-Ok c =
     let a = c.args in
-    added_as (ap (λ (x : DataRead). record_text a.number x a.a) (sym c.in-Accepted.is))
+    added_as (ap (λ (x : Result Data Refusal). record_text a.number x a.a) (sym c.in-Ok.is))
     c.put_recording.ensures
 
-pub returns-in-Refused : goal.returns-in-Refused
+pub returns-in-Err : goal.returns-in-Err
 unfolding record_text
-returns-in-Refused c =
+returns-in-Err c =
     let a = c.args in
-    added_as (ap (λ (x : DataRead). record_text a.number x a.a) (sym c.in-Refused.is))
+    added_as (ap (λ (x : Result Data Refusal). record_text a.number x a.a) (sym c.in-Err.is))
     c.put_refused.ensures

@@ -5,16 +5,16 @@ use Rattle.replay_answers.specs.AnswerLines.{recording_text}
 use borrow.Author.Rules.{rules}
 use Rattle.replay_answers.proofs.put_recording.Goals as goal
 
-pub returns-in-Accepted : goal.returns-in-Accepted
+pub returns-in-Ok : goal.returns-in-Ok
 unfolding recording_text
-returns-in-Accepted c =
+returns-in-Ok c =
     let a = c.args in
-    added_as (ap (recording_text a.number a.d) (sym c.in-Accepted.is))
+    added_as (ap (recording_text a.number a.d) (sym c.in-Ok.is))
     c.put_recorded.ensures
 
-pub returns-in-Refused : goal.returns-in-Refused
+pub returns-in-Err : goal.returns-in-Err
 unfolding recording_text
-returns-in-Refused c =
+returns-in-Err c =
     let a = c.args in
-    added_as (ap (recording_text a.number a.d) (sym c.in-Refused.is))
+    added_as (ap (recording_text a.number a.d) (sym c.in-Err.is))
     c.put_refused.ensures

@@ -14,6 +14,3 @@ use Rattle.replay_check.proofs.check_pieces.Given as goal
 
 abbrev pub invariant-loop-i : goal.invariant-loop-i
 invariant-loop-i l = (l.i ≤ l.n) × (l.k ≡ check_all (hole_list l.status) l.largest l.initial.k (pieces_in l.s l.i))
-
-abbrev pub decreases-loop-i : goal.decreases-loop-i
-decreases-loop-i l = l.n - l.i

@@ -1,5 +1,4 @@
 -- `replay_fields::put_reached` meets its contract: one part after the other. Assumes nothing.
-use borrow.Author.Rules.{rules}
 use mathlib.Core.Path.{ap}
 use Rattle.text.proofs.AddedLaws.{◌then◌, added_as}
 use Rattle.replay_fields.specs.Fields.{field}

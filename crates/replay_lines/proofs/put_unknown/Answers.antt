@@ -1,5 +1,4 @@
 -- `replay_lines::put_unknown` meets its contract: one part after the other. Assumes nothing.
-use borrow.Author.Rules.{rules}
 use Rattle.text.proofs.AddedLaws.{◌then◌}
 use Rattle.replay_lines.specs.Lines.{unknown_line}
 use Rattle.replay_lines.proofs.put_unknown.Goals as goal
@@ -7,6 +6,6 @@ use Rattle.replay_lines.proofs.put_unknown.Goals as goal
 pub returns : goal.returns
 unfolding unknown_line
 returns c =
-    c.put_decimal-a.ensures
-    then c.put_number-b.ensures
+    c.put_decimal-at.ensures
+    then c.put_number-at.ensures
     then c.push.ensures

@@ -13,24 +13,24 @@ pub put_refused-requires : goal.put_refused-requires
 put_refused-requires c =
     c.requires
 
-pub shape_of-out-in-Joined : goal.shape_of-out-in-Joined
-shape_of-out-in-Joined c =
+pub shape_of-out-in-Ok : goal.shape_of-out-in-Ok
+shape_of-out-in-Ok c =
     c.put_joined.ensures.size
 
-pub returns-in-Joined : goal.returns-in-Joined
+pub returns-in-Ok : goal.returns-in-Ok
 unfolding merge_text
-returns-in-Joined c =
+returns-in-Ok c =
     let a = c.args in
-    added_as (ap (merge_text a.number a.id) (sym c.in-Joined.is))
+    added_as (ap (merge_text a.number a.id) (sym c.in-Ok.is))
     c.put_joined.ensures
 
-pub shape_of-out-in-Refused : goal.shape_of-out-in-Refused
-shape_of-out-in-Refused c =
+pub shape_of-out-in-Err : goal.shape_of-out-in-Err
+shape_of-out-in-Err c =
     c.put_refused.ensures.size
 
-pub returns-in-Refused : goal.returns-in-Refused
+pub returns-in-Err : goal.returns-in-Err
 unfolding merge_text
-returns-in-Refused c =
+returns-in-Err c =
     let a = c.args in
-    added_as (ap (merge_text a.number a.id) (sym c.in-Refused.is))
+    added_as (ap (merge_text a.number a.id) (sym c.in-Err.is))
     c.put_refused.ensures

@@ -22,6 +22,3 @@ invariant-loop-i l =
     (l.i ≤ l.count)
     × (l.cursor ≡ cursor_after (hole_list l.status) l.largest l.initial.cursor l.i)
     × Added l.initial.out l.at (pieces_text (plan_of l.largest (hole_list l.status)) l.i) l.out l.next
-
-abbrev pub decreases-loop-i : goal.decreases-loop-i
-decreases-loop-i l = l.count - l.i

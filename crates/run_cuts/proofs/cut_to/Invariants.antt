@@ -1,8 +1,6 @@
 -- `run_cuts::cut_to` meets its contract. The loop's invariant: the place lies from `low` to `top`. Assumes nothing.
-use borrow.Author.Rules.{rules}
-use native.Mathlib.Omega.{arith}
 use Prim.Native.Nat.{◌-◌}
-use Rattle.run_cuts.proofs.CutLaws.{Halves, halves_start, halves_right, halves_left, halves_end}
+use Rattle.run_cuts.proofs.CutLaws.{Halves}
 use Rattle.run_cuts.proofs.cut_to.Given as goal
 
 abbrev pub invariant-loop-low : goal.invariant-loop-low

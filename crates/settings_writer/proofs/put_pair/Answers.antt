@@ -1,5 +1,4 @@
 -- `settings_writer::put_pair` meets its contract: the key, and the value after it. Assumes nothing.
-use borrow.Author.Rules.{rules}
 use lib.ListN.{length-append}
 use native.Mathlib.Omega.{arith}
 use Rattle.varint.specs.Varint.{varint_octets}

@@ -1,5 +1,4 @@
 -- `settings_writer::put_settings` meets its contract: the parts stand one after the other. Assumes nothing.
-use borrow.Author.Rules.{rules}
 use Prim.Native.Nat.{ℕ, ◌+◌}
 use mathlib.Core.Path.{◌≡◌, ap, ◌∙◌}
 use lib.ListN.{length}
@@ -8,30 +7,6 @@ use Rattle.varint.specs.Varint.{varint_octets}
 use Rattle.settings_writer.specs.WriteSettings.{pair_octets, option_octets, pair_count, settings_octets}
 use Rattle.settings_writer.proofs.WritingLaws.{settings_length, put_five}
 use Rattle.settings_writer.proofs.put_settings.Goals as goal
-
-pub write-count-requires : goal.write-count-requires
-write-count-requires c =
-    omega (arith, settings_length c.args.s)
-
-pub write-first-requires : goal.write-first-requires
-write-first-requires c =
-    let s = c.args.s in
-    omega (arith, settings_length s, ap (λ (n : ℕ). length (varint_octets n)) c.pair_count.ensures)
-
-pub put_pair-second-requires : goal.put_pair-second-requires
-put_pair-second-requires c =
-    let second : c.write-first.result ≡ c.write-count.result + length (varint_octets (pair_count c.args.s)) = c.write-first.ensures.0 ∙ ap (λ (n : ℕ). c.write-count.result + length (varint_octets n)) c.pair_count.ensures in
-    omega (arith, settings_length c.args.s, second)
-
-pub put_option-third-requires : goal.put_option-third-requires
-put_option-third-requires c =
-    let second : c.write-first.result ≡ c.write-count.result + length (varint_octets (pair_count c.args.s)) = c.write-first.ensures.0 ∙ ap (λ (n : ℕ). c.write-count.result + length (varint_octets n)) c.pair_count.ensures in
-    omega (arith, settings_length c.args.s, second)
-
-pub put_option-requires : goal.put_option-requires
-put_option-requires c =
-    let second : c.write-first.result ≡ c.write-count.result + length (varint_octets (pair_count c.args.s)) = c.write-first.ensures.0 ∙ ap (λ (n : ℕ). c.write-count.result + length (varint_octets n)) c.pair_count.ensures in
-    omega (arith, settings_length c.args.s, second)
 
 pub returns : goal.returns
 unfolding settings_octets

@@ -1,14 +1,11 @@
 -- `text::put_number` meets its contract. Assumes nothing.
-use mathlib.Core.Path.{◌≡◌, sym, ap, ◌∙◌}
+use mathlib.Core.Path.{◌≡◌, ap, ◌∙◌}
 use lib.ListN.{take}
-use lib.Seq.{length-take-le}
-use native.Mathlib.Omega.{arith}
 use Rattle.octets.specs.Numbers.{be_digits}
 use Rattle.octets.proofs.PutLaws.{take_put}
 use Rattle.octets.proofs.NumberLaws.{length_digits}
 use Rattle.text.specs.Hex.{hex_of}
 use Rattle.text.proofs.AddedLaws.{added_as}
-use borrow.Author.Rules.{rules}
 use Rattle.text.proofs.put_number.Goals as goal
 
 pub returns : goal.returns

@@ -18,9 +18,9 @@ hole_room-requires c =
     let a = c.args in
     fields_room a.stamp a.width a.holes a.skip a.room c.requires.0 c.requires.1 c.requires.2
 
-pub returns : goal.returns
+pub returns-else-skip-gt0 : goal.returns-else-skip-gt0
 unfolding partial_sent
-returns c =
+returns-else-skip-gt0 c =
     let a = c.args in
     let n : a.holes - a.skip ≡ a.holes = omega arith in
     rw (le-ltb 0 a.skip (omega arith), n, c.hole_room.ensures)

@@ -15,12 +15,12 @@ not_below : (k n : ℕ) → leb n k ≡ not (ltb k n)
 not_below k n =
     ⊎_elim (λ (h : n ≤ k). rw (le-leb n k h, le-ltb k n h)) (λ (h : k < n). rw (lt-leb n k h, lt-ltb k n h)) (le_or_lt n k)
 
-pub returns-then-skip-eq0 : goal.returns-then-skip-eq0
+pub returns-then-skip-ne0 : goal.returns-then-skip-ne0
 unfolding skips_too_many
-returns-then-skip-eq0 c =
-    rw (eq-eqb c.args.skip 0 (omega arith))
-
-pub returns : goal.returns
-unfolding skips_too_many
-returns c =
+returns-then-skip-ne0 c =
     rw (ne_eqb c.args.skip 0 (omega arith)) (not_below c.args.skip c.args.holes)
+
+pub returns-else-skip-ne0 : goal.returns-else-skip-ne0
+unfolding skips_too_many
+returns-else-skip-ne0 c =
+    rw (eq-eqb c.args.skip 0 (omega arith))

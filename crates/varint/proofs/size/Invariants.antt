@@ -1,10 +1,8 @@
 -- `varint::size` meets its contract: one octet for each group taken away, and those of what is left. Assumes nothing.
 use Prim.Native.Nat.{◌+◌, ◌^◌, ◌<◌}
 use mathlib.Core.Path.{◌≡◌}
-use native.Mathlib.Omega.{arith}
 use lib.ListN.{length}
 use Rattle.varint.specs.Varint.{varint_octets}
-use Rattle.varint.proofs.WrittenLaws.{length_small, length_large, octets_most}
 use Rattle.varint.proofs.size.Given as goal
 
 abbrev pub invariant-loop-rest : goal.invariant-loop-rest

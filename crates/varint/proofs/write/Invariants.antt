@@ -1,12 +1,10 @@
 -- `varint::write` meets its contract: the octets that are still to be written, put on the buffer as it is, always give the whole.
 -- Assumes nothing.
 use Prim.Native.Nat.{◌+◌, ◌^◌, ◌<◌}
-use mathlib.Core.Path.{◌≡◌, refl, sym, ◌∙◌}
-use native.Mathlib.Omega.{arith}
-use lib.ListN.{length, length-set}
+use mathlib.Core.Path.{◌≡◌}
+use lib.ListN.{length}
 use Rattle.octets.specs.Put.{put}
 use Rattle.varint.specs.Varint.{varint_octets}
-use Rattle.varint.proofs.WrittenLaws.{length_small, length_large, octets_some, write_step, write_last}
 use Rattle.varint.proofs.write.Given as goal
 
 abbrev pub invariant-loop-rest : goal.invariant-loop-rest

@@ -263,16 +263,24 @@ pub fn next_answer(a: Result<Next, Refusal>) -> NextAnswer
 
 // ---- a refusal, or none
 
-#[tactic(auto, unfolding(refusals::specs::Refusals::code_of))]
-pub fn done_by(a: Result<(), Fault>) -> DoneAnswer
+// It takes any number, not only those that a fault has: docs/PROVED.md names its definition, so its callers may be others than ours.
+pub fn done_by(number: u64) -> DoneAnswer
+    ensures { result ≡ done_by number }
+{
+    let refusal = refusals::refuse(number);
+    DoneAnswer {
+        number,
+        code: refusal.code,
+    }
+}
+
+// The same, of what a call of ours answers.
+pub fn done_answer(a: Result<(), Fault>) -> DoneAnswer
     ensures { result ≡ done_by (refused a) }
 {
     match a {
-        Ok(()) => DoneAnswer { number: 0, code: 0 },
-        Err(fault) => DoneAnswer {
-            number: fault.number(),
-            code: Refusal::from(fault).code,
-        },
+        Ok(()) => done_by(0),
+        Err(fault) => done_by(fault.number()),
     }
 }
 

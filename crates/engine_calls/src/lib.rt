@@ -21,7 +21,7 @@ pub fn start(state: &mut [u8], saved: &[u8], sync: u64, file: u64) -> DoneAnswer
     ensures { (result ≡ done_by (start_refusal state.old saved.now sync))
         × (state.new ≡ started_state state.old saved.now sync file) }
 {
-    engine_answers::done_by(engine_sync::start(state, saved, sync, file))
+    engine_answers::done_answer(engine_sync::start(state, saved, sync, file))
 }
 
 pub fn meet(state: &[u8], packet: &[u8]) -> MeetingAnswer
@@ -99,13 +99,13 @@ pub fn tell(state: &mut [u8], id: u64, out: &mut [u8]) -> LetterAnswer
 pub fn named(state: &mut [u8], id: u64, well: u64) -> DoneAnswer
     ensures { (result ≡ done_by (held_refusal state.old)) × (state.new ≡ named_state state.old id (is_yes well)) }
 {
-    engine_answers::done_by(engine_marks::named(state, id, well != 0))
+    engine_answers::done_answer(engine_marks::named(state, id, well != 0))
 }
 
 pub fn reported(state: &mut [u8], id: u64) -> DoneAnswer
     ensures { (result ≡ done_by (held_refusal state.old)) × (state.new ≡ reported_state state.old id) }
 {
-    engine_answers::done_by(engine_marks::reported(state, id))
+    engine_answers::done_answer(engine_marks::reported(state, id))
 }
 
 pub fn close(state: &mut [u8], id: u64, spoilt: u64) -> ClosedAnswer
@@ -123,5 +123,5 @@ pub fn sync(state: &mut [u8], time: u64) -> SyncAnswer
 pub fn synced(state: &mut [u8], sync: u64, good: u64) -> DoneAnswer
     ensures { (result ≡ done_by (held_refusal state.old)) × (state.new ≡ ended_state state.old sync (is_yes good)) }
 {
-    engine_answers::done_by(engine_sync::end(state, sync, good != 0))
+    engine_answers::done_answer(engine_sync::end(state, sync, good != 0))
 }

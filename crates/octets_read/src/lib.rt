@@ -16,8 +16,7 @@ pub fn read_number(s: &[u8], at: usize, d: usize) -> Option<u64>
     Some(read_narrow(s, at, d))
 }
 
-// The number that two, four or eight octets stand for, with no loop: one load for each width. Each begins with its own last octet;
-// what all of them began with, the compiler would read before the tests, and then the rest octet by octet.
+// The number that two, four or eight octets stand for, with no loop: each width is one `from_be_bytes`, which compiles to one load.
 fn read_narrow(s: &[u8], at: usize, d: usize) -> u64
     requires { Width d × (d ≤ 8) × (at + d ≤ length s.now) }
     ensures { result ≡ be_value (take d (drop at s.now)) }

@@ -43,9 +43,9 @@ fn read_full<R: Read>(input: &mut R, buf: &mut [u8]) -> usize
 
 // Passes over n octets of the input, and says whether they were there.
 fn skip<R: Read>(input: &mut R, n: u64) -> bool {
-    let mut space = [0u8; 4096];
     let mut left = n; // likewise
     while 0 < left {
+        let mut space = [0u8; 4096]; // here, since most records skip nothing
         let room = within(left, space.len());
         let got = read_full(input, &mut space[..room]);
         if got == 0 {

@@ -9,6 +9,8 @@ use borrow.Author.Tests.{le-ltb, ne_eqb}
 use Rattle.refusals.specs.Refusals.{answered}
 use Rattle.settings.specs.declared.Settings.{Settings}
 use Rattle.settings_pairs.specs.Pairs.{key_in, value_in, after_pair, pair_refusal}
+use Rattle.settings.proofs.LimitLaws.{highest_le}
+use Rattle.settings_pairs.proofs.PairLaws.{pair_fine}
 use Rattle.settings_reader.specs.ReadSettings.{with_pair, settings_from}
 use Rattle.std.specs.Prelude.{Ok, Err}
 
@@ -18,6 +20,14 @@ pub from_step : (version last : ℕ) (got : Settings) (left : ℕ) (s : List ℕ
     ≡ answered Err (pair_refusal version last s) (settings_from version (key_in s) (with_pair (key_in s) (value_in s) got) (left - 1) (after_pair s))
 from_step version last got zero s h = absurd (omega arith)
 from_step version last got (suc n) s h = let e : suc n - 1 ≡ n = omega arith in rw e
+
+-- a pair that is taken has a key above the last one, and none is above 3
+module _ (version last : ℕ) (s : List ℕ) (e : pair_refusal version last s ≡ 0) where
+  pub key_rises : last < key_in s
+  key_rises = (pair_fine version last s e).rises
+
+  pub key_le : key_in s ≤ 3
+  key_le = omega (arith, (pair_fine version last s e).had, highest_le version)
 
 -- no pair is left
 module _ (version last : ℕ) (got : Settings) (s : List ℕ) where

@@ -1,7 +1,7 @@
 // A plant's settings file, read: a version, a count, then pairs of a key and a value with rising keys (R18.6).
 #![tactic(auto)]
 
-ghost use Rattle.std.specs.Prelude.{◌≡◌, ◌≤◌, length, drop};
+ghost use Rattle.std.specs.Prelude.{◌≡◌, ◌≤◌, min, length, drop};
 ghost use Rattle.settings_reader.specs.ReadSettings.{no_settings, with_pair, settings_from, read_settings};
 
 use refusals::{Fault, Refusal};
@@ -44,9 +44,15 @@ fn with_pair(key: u64, value: u64, got: Settings) -> Settings
     }
 }
 
-// Reads the pairs, `count` of them, from `start` on. Keys rise and are at most 3, so the loop has at most four turns, whatever the
-// count. Refusals 1 and 25.
-#[tactic(auto, using(refusals::proofs::FaultLaws::fault_answers, settings_pairs::proofs::PairLaws::after_both, crate::proofs::WalkLaws::from_step))]
+// How many turns the loop over `count` pairs needs: keys rise and none is above 3, so a fourth pair is refused, whatever the count is.
+fn turns(count: u64) -> u64
+    ensures { result ≡ min count 4 }
+{
+    count.min(4)
+}
+
+// Reads the pairs, `count` of them, from `start` on. Refusals 1 and 25.
+#[tactic(auto, using(refusals::proofs::FaultLaws::fault_answers, settings_pairs::proofs::PairLaws::after_both, crate::proofs::WalkLaws::from_step, crate::proofs::WalkLaws::key_rises, crate::proofs::WalkLaws::key_le))]
 fn read_pairs(file: &[u8], start: usize, version: u64, count: u64) -> Result<Settings, Refusal>
     requires { start ≤ length file.now }
     ensures { result ≡ settings_from version 0 (no_settings version) count (drop start file.now) }
@@ -55,7 +61,7 @@ fn read_pairs(file: &[u8], start: usize, version: u64, count: u64) -> Result<Set
     let mut last: u64 = 0;
     let mut got = no_settings(version);
     // named, since the invariant speaks of it
-    for _turn in 0..count {
+    for _turn in 0..turns(count) {
         let pair = settings_pairs::read_pair(file, at, version, last)?;
         got = with_pair(pair.key, pair.value, got);
         last = pair.key;

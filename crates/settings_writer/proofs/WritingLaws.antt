@@ -35,6 +35,19 @@ settings_length s =
     five_length (varint_octets s.version) (varint_octets (pair_count s)) (pair_octets 1 s.largest) (option_octets s.timed 2 s.interval)
     (option_octets s.paired 3 s.partner)
 
+-- of any settings; those that a file holds need far fewer (settings_theorems: AcceptedLaws)
+pub settings_below : (s : Settings) → length (settings_octets s) ≤ 80
+settings_below s =
+    omega (
+      arith,
+      settings_length s,
+      octets_most s.version,
+      octets_most (pair_count s),
+      pair_most 1 s.largest,
+      option_most s.timed 2 s.interval,
+      option_most s.paired 3 s.partner,
+    )
+
 -- two parts, put one after the other
 pub put_two : (at n : ℕ) (a b old : List ℕ) → n ≡ at + length a → at + length (a ++ b) ≤ length old → put n b (put at a old) ≡ put at (a ++ b) old
 put_two at n a b old e h = put_next at n a b old (sym e) (omega (arith, length-append a b))

@@ -47,6 +47,6 @@ returns c =
     let z : metadata_refusal p ≡ 0 = sym c.in_ok-metadata_refusal.ensures in
     by_judged (Err (refusal_of 22)) (λ t. open_packet t p) a passed _
     (packet_read (read_table a) p _ c.key_of.result z
-    (c.new_refusal-unwanted.ensures ∙ ap (λ (c : Metadata). new_refusal c.flags) c.metadata_fields-fields.ensures)
+    (c.refused_number-unwanted.ensures ∙ c.new_refusal.ensures ∙ ap (λ (c : Metadata). new_refusal c.flags) c.metadata_fields-fields.ensures)
     (c.key_of.ensures ∙ ap (λ (c : Metadata). key_of c) c.metadata_fields-fields.ensures))
     _ c.open_key.ensures.0 _ c.open_key.ensures.1

@@ -2,7 +2,7 @@
 -- Assumes nothing.
 use native.Mathlib.Omega.{arith}
 use borrow.Author.Rules.{rules}
-use mathlib.Core.Path.{◌≡◌, sym, ap, ◌∙◌}
+use mathlib.Core.Path.{sym, ap, ◌∙◌}
 use Rattle.table.specs.Outcome.{Outcome}
 use Rattle.table.specs.declared.Opened.{Opened}
 use Rattle.table.specs.declared.Opened.TheVariants as opened
@@ -16,10 +16,6 @@ use Rattle.area_met.proofs.OpenLaws.{met_any, met_table, open_unwanted, open_ful
 use Rattle.std.specs.Prelude.{Result, Ok, Err}
 use Rattle.refusals.specs.declared.Refusal.{Refusal}
 use Rattle.transfer.specs.declared.Reached.{Reached}
-use Rattle.refusals.specs.Faults.{number_of, refused}
-use Rattle.refusals.specs.Refusals.{refusal_of}
-use Rattle.refusals.proofs.FaultLaws.{fault_some}
-use Rattle.std.proofs.lemmas.Result.{err_from_is_err_and}
 use Rattle.area_open_key.proofs.open_key.Goals as goal
 
 pub met-requires : goal.met-requires
@@ -30,19 +26,16 @@ pub returns-then-place : goal.returns-then-place
 returns-then-place c =
     let a = c.args.area.now in
     let h = place_open c.args.key.id (read_table a) c.find_place-place.result c.find_place-place.ensures c.if-place.true in (
-      c.met.ensures ∙ sym (ap (λ (o : Outcome (Result Opened Refusal)). o.answer) (met_any (read_table a) (refused c.args.unwanted) c.args.key _ h)),
-      kept_area a c.requires (λ i. (c.slice_known-1.given i).fits) _ (met_table (read_table a) (refused c.args.unwanted) c.args.key _ h),
+      c.met.ensures ∙ sym (ap (λ (o : Outcome (Result Opened Refusal)). o.answer) (met_any (read_table a) c.args.unwanted c.args.key _ h)),
+      kept_area a c.requires (λ i. (c.slice_known-1.given i).fits) _ (met_table (read_table a) c.args.unwanted c.args.key _ h),
     )
 
-pub returns-in_err-unwanted : goal.returns-in_err-unwanted
-returns-in_err-unwanted c =
+pub returns-then-unwanted-ne0 : goal.returns-then-unwanted-ne0
+returns-then-unwanted-ne0 c =
     let free : FreeAt c.args.key.id (read_table c.args.area.now) c.find_place-place.result.at = place_free c.args.key.id (read_table c.args.area.now) c.find_place-place.result c.find_place-place.ensures c.if-place.false in
     let a = c.args.area.now in
-    let f = c.in_err-unwanted.field-0.0 in
-    let n : refused c.args.unwanted ≡ number_of f = ap refused c.in_err-unwanted.was in
-    let p = err_from_is_err_and c.from_residual.result c.from_residual.ensures.1 in
-    let e = open_unwanted (read_table a) c.args.key _ free (judged_passed a c.requires).1.fine (refused c.args.unwanted) (λ z. fault_some f (sym n ∙ z)) in (
-      p.1 ∙ ap Err (p.2 ∙ ap refusal_of (sym n)) ∙ sym (ap (λ (o : Outcome (Result Opened Refusal)). o.answer) e),
+    let e = open_unwanted (read_table a) c.args.key _ free (judged_passed a c.requires).1.fine c.args.unwanted (λ z. omega arith) in (
+      ap Err c.refuse.ensures ∙ sym (ap (λ (o : Outcome (Result Opened Refusal)). o.answer) e),
       kept_area a c.requires (λ i. (c.slice_known-1.given i).fits) _ (ap (λ (o : Outcome (Result Opened Refusal)). o.table) e),
     )
 
@@ -54,7 +47,7 @@ pub returns-then-open_count : goal.returns-then-open_count
 returns-then-open_count c =
     let free : FreeAt c.args.key.id (read_table c.args.area.now) c.find_place-place.result.at = place_free c.args.key.id (read_table c.args.area.now) c.find_place-place.result c.find_place-place.ensures c.if-place.false in
     let a = c.args.area.now in
-    let e = open_full (read_table a) c.args.key _ free (judged_passed a c.requires).1.fine (refused c.args.unwanted) (ap refused c.in_ok-unwanted.was)
+    let e = open_full (read_table a) c.args.key _ free (judged_passed a c.requires).1.fine c.args.unwanted (omega arith)
     (omega (arith, c.open_count.ensures, (read_holds a).count)) in (
       ap Err c.into.ensures ∙ sym (ap (λ (o : Outcome (Result Opened Refusal)). o.answer) e),
       kept_area a c.requires (λ i. (c.slice_known-1.given i).fits) _ (ap (λ (o : Outcome (Result Opened Refusal)). o.table) e),
@@ -70,7 +63,7 @@ pub returns : goal.returns
 returns c =
     let free : FreeAt c.args.key.id (read_table c.args.area.now) c.find_place-place.result.at = place_free c.args.key.id (read_table c.args.area.now) c.find_place-place.result c.find_place-place.ensures c.if-place.false in
     let a = c.args.area.now in
-    let e = open_new (read_table a) c.args.key _ free (judged_passed a c.requires).1.fine (refused c.args.unwanted) (ap refused c.in_ok-unwanted.was)
+    let e = open_new (read_table a) c.args.key _ free (judged_passed a c.requires).1.fine c.args.unwanted (omega arith)
     (omega (arith, c.open_count.ensures, (read_holds a).count)) in (
       ap (λ (r : Reached). Ok (opened.New r)) c.reached_new.ensures ∙ sym (ap (λ (o : Outcome (Result Opened Refusal)). o.answer) e),
       c.insert_at.ensures ∙ sym (ap (λ (o : Outcome (Result Opened Refusal)). stored_in a o.table) e),

@@ -5,4 +5,4 @@ use Rattle.engine_calls.proofs.named.Goals as goal
 
 pub returns : goal.returns
 returns c =
-    (c.done_by.ensures ∙ ap done_by c.named.ensures.0, c.named.ensures.1)
+    (c.done_answer.ensures ∙ ap done_by c.named.ensures.0, c.named.ensures.1)

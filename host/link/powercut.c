@@ -8,7 +8,8 @@
  *     changes        what was done to it since: lines "make INODE NAME" and "rename INODE NAME NEW-NAME"
  *
  * The call whose number is POWERCUT, counted from 1, doesn't return: the program ends there with status 98. One call is made at a time,
- * whichever thread makes it.
+ * whichever thread makes it. With POWERCUT_WAIT each call of another thread than the first is made that many milliseconds late, as by a
+ * slow disk: by then the first has done and said all that it does without waiting for it.
  */
 #define _GNU_SOURCE
 #define _FILE_OFFSET_BITS 64
@@ -17,6 +18,7 @@
 #include <errno.h>
 #include <fcntl.h>
 #include <inttypes.h>
+#include <poll.h>
 #include <pthread.h>
 #include <stdio.h>
 #include <stdlib.h>
@@ -34,6 +36,14 @@ void flush_output(void);
 
 static long calls;
 static pthread_mutex_t one_at_a_time = PTHREAD_MUTEX_INITIALIZER;
+
+static void begin_call(void)
+{
+    const char *wait = getenv("POWERCUT_WAIT");
+    if (wait != NULL && gettid() != getpid())
+        poll(NULL, 0, atoi(wait));
+    pthread_mutex_lock(&one_at_a_time);
+}
 
 /* Counts a call, and ends the program at the one named. What was said was said: in the main thread, whose lines they are. */
 static void call(void)
@@ -113,7 +123,7 @@ int __wrap_fsync(int fd);
 
 int __wrap_openat(int directory, const char *name, int flags, ...)
 {
-    pthread_mutex_lock(&one_at_a_time);
+    begin_call();
     int fd = opened(directory, name, flags, 0666), error = errno;
     pthread_mutex_unlock(&one_at_a_time);
     errno = error;
@@ -127,7 +137,7 @@ int __wrap_openat64(int directory, const char *name, int flags, ...)
 
 ssize_t __wrap_pwrite(int fd, const void *octets, size_t count, off_t offset)
 {
-    pthread_mutex_lock(&one_at_a_time);
+    begin_call();
     ssize_t done = written(fd, octets, count, offset);
     pthread_mutex_unlock(&one_at_a_time);
     return done;
@@ -154,7 +164,7 @@ static int renamed(int directory, const char *name, int other, const char *new_n
 
 int __wrap_renameat(int directory, const char *name, int other, const char *new_name)
 {
-    pthread_mutex_lock(&one_at_a_time);
+    begin_call();
     int status = renamed(directory, name, other, new_name);
     pthread_mutex_unlock(&one_at_a_time);
     return status;
@@ -163,7 +173,7 @@ int __wrap_renameat(int directory, const char *name, int other, const char *new_
 /* Not a call at which the power goes: whether the name is still there is seen at the next one. */
 int __wrap_unlinkat(int directory, const char *name, int flags)
 {
-    pthread_mutex_lock(&one_at_a_time);
+    begin_call();
     keep(directory, name);
     int status = __real_unlinkat(directory, name, flags), error = errno;
     pthread_mutex_unlock(&one_at_a_time);
@@ -202,7 +212,7 @@ static void forced(int fd)
 
 int __wrap_fsync(int fd)
 {
-    pthread_mutex_lock(&one_at_a_time);
+    begin_call();
     forced(fd);
     pthread_mutex_unlock(&one_at_a_time);
     return 0;

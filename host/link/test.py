@@ -674,13 +674,14 @@ def threads_ended(program, place, step=9):
     return threaded.ended(program, place, two_transfers, nothing_promised_is_missing, step)
 
 
-def threads_cut(program, place, plain=None, step=9):
-    return threaded.power_cuts(program, plain, place, two_transfers, nothing_promised_is_missing, step)
+def threads_cut(program, place, plain=None, step=9, waits=(0, 5)):
+    return threaded.power_cuts(program, plain, place, two_transfers, nothing_promised_is_missing, step, waits)
 
 
 ENDED, CUT, FULL = "ended", "power cut", "calls that fail"
 # Which test finds it: a function, or how the program is built for it and a function.
 TWO, TWO_CUT = (ENDED, cut_everywhere), (CUT, lambda program, place: power_cuts(program, None, place))
+SLOW_CUT = (CUT, lambda program, place: threads_cut(program, place, waits=(20,)))  # what is said too early is said before the cut
 REPLACED = (ENDED, lambda program, place: cut_everywhere(program, place, plant.two_files_of_one_id))
 SPOILT = (ENDED, lambda program, place: cut_everywhere(program, place, sheets.spoilt))
 
@@ -709,7 +710,7 @@ WRONG = {
     "writes the area in place": (
         TWO, 'snprintf(new_name, sizeof new_name, "%s.new", name);', 'snprintf(new_name, sizeof new_name, "%s", name);'),
     "tells the engine that a sync is good while the thread is at work": (
-        (CUT, threads_cut), "    start_worker(&syncer, run_sync, NULL);\n",
+        SLOW_CUT, "    start_worker(&syncer, run_sync, NULL);\n",
         "    start_worker(&syncer, run_sync, NULL);\n    saratoga_engine_synced(state, sizeof state, sync.sync, 1);\n"),
     "answers before the area is saved": (
         TWO, "    start_worker(&syncer, run_sync, NULL);\n",

@@ -90,8 +90,9 @@ def ended(program, place, make, whole, step):
     return places
 
 
-def power_cuts(program, plain, place, make, whole, step):
-    """The power goes at calls of either thread. Gives the number of calls that were tried."""
+def power_cuts(program, plain, place, make, whole, step, waits=(0, 5)):
+    """The power goes at calls of either thread, where the disk makes the other thread's wait so many milliseconds and where it doesn't. Gives
+    the number of calls that were tried."""
     originals, octets = make()
     packets, chance = packets_of(octets), random.Random(618)
     count, calls, without = 0, 0, 0
@@ -100,7 +101,8 @@ def power_cuts(program, plain, place, make, whole, step):
         here, disk = os.path.join(place, f"{count}"), os.path.join(place, f"{count}-disk")
         os.mkdir(here)
         os.mkdir(disk)
-        lines, told, status = sent(program, here, packets, chance.choice((0.0005, 0.01)), POWERCUT=str(count), POWERCUT_DISK=disk)
+        lines, told, status = sent(program, here, packets, chance.choice((0.0005, 0.01)), POWERCUT=str(count), POWERCUT_DISK=disk,
+                                   POWERCUT_WAIT=str(chance.choice(waits)))
         check(status in (0, CUT), f"call {count}: {told}")
         for number, how in enumerate(("none", "names", "octets", "some", "some")):
             left = os.path.join(place, f"{count}-{number}")

@@ -674,14 +674,14 @@ def threads_ended(program, place, step=9):
     return threaded.ended(program, place, two_transfers, nothing_promised_is_missing, step)
 
 
-def threads_cut(program, place, plain=None, step=9, waits=(0, 5)):
-    return threaded.power_cuts(program, plain, place, two_transfers, nothing_promised_is_missing, step, waits)
+def threads_cut(program, place, plain=None, step=9, **paces):
+    return threaded.power_cuts(program, plain, place, two_transfers, nothing_promised_is_missing, step, **paces)
 
 
 ENDED, CUT, FULL = "ended", "power cut", "calls that fail"
 # Which test finds it: a function, or how the program is built for it and a function.
 TWO, TWO_CUT = (ENDED, cut_everywhere), (CUT, lambda program, place: power_cuts(program, None, place))
-SLOW_CUT = (CUT, lambda program, place: threads_cut(program, place, waits=(20,)))  # what is said too early is said before the cut
+SLOW_CUT = (CUT, lambda program, place: threads_cut(program, place, paces=(threaded.SLOW,)))  # whatever the machine's own speed
 REPLACED = (ENDED, lambda program, place: cut_everywhere(program, place, plant.two_files_of_one_id))
 SPOILT = (ENDED, lambda program, place: cut_everywhere(program, place, sheets.spoilt))
 

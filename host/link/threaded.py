@@ -10,6 +10,9 @@ import subprocess
 from harness import after_the_cut, check, holds, run, stem
 
 ENDED, CUT = 99, 98  # exit status at a place between two writes, and at a power cut
+# The seconds between two packets, and the milliseconds that the disk makes each call of the thread wait: a sync is over before the next packet
+# comes, and what is said without waiting for the sync is said well before it has written anything.
+SLOW = (0.15, 5)
 
 
 def packets_of(octets):
@@ -38,6 +41,8 @@ def sent(program, place, packets, pause, **environment):
                 first = process.stdout.readline()
             heard = []
             for packet in packets:
+                if process.poll() is not None:
+                    break
                 sender.sendto(packet, ("127.0.0.1", port))
                 heard += answers(sender)
             for _ in range(100):  # the last are answered once they are on disk
@@ -90,9 +95,8 @@ def ended(program, place, make, whole, step):
     return places
 
 
-def power_cuts(program, plain, place, make, whole, step, waits=(0, 5)):
-    """The power goes at calls of either thread, where the disk makes the other thread's wait so many milliseconds and where it doesn't. Gives
-    the number of calls that were tried."""
+def power_cuts(program, plain, place, make, whole, step, paces=((0.0005, 0), (0.01, 0), SLOW)):
+    """The power goes at calls of either thread; one of the paces is chosen for each. Gives the number of calls that were tried."""
     originals, octets = make()
     packets, chance = packets_of(octets), random.Random(618)
     count, calls, without = 0, 0, 0
@@ -101,8 +105,8 @@ def power_cuts(program, plain, place, make, whole, step, waits=(0, 5)):
         here, disk = os.path.join(place, f"{count}"), os.path.join(place, f"{count}-disk")
         os.mkdir(here)
         os.mkdir(disk)
-        lines, told, status = sent(program, here, packets, chance.choice((0.0005, 0.01)), POWERCUT=str(count), POWERCUT_DISK=disk,
-                                   POWERCUT_WAIT=str(chance.choice(waits)))
+        pause, wait = chance.choice(paces)
+        lines, told, status = sent(program, here, packets, pause, POWERCUT=str(count), POWERCUT_DISK=disk, POWERCUT_WAIT=str(wait))
         check(status in (0, CUT), f"call {count}: {told}")
         for number, how in enumerate(("none", "names", "octets", "some", "some")):
             left = os.path.join(place, f"{count}-{number}")
